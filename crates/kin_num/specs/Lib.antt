@@ -1,0 +1,3 @@
+pub mod Quadratic
+pub mod Canonical
+pub mod Instants

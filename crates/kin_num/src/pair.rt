@@ -1,0 +1,70 @@
+//! The sign of u + v * sqrt(d).
+
+ghost use Rattle.std.specs.Prelude.{◌≡◌, ◌≤◌, ◌<◌, ◌^◌, pos, unsigned_abs, ◌+◌, ◌*◌, ◌-ℤ◌, ◌*ℤ◌};
+ghost use Rattle.kin_algebra.specs.Signs.{pair_sign_of};
+
+use kin_algebra::sign::Sign;
+
+/// A product that fits.
+fn product(a: i128, b: i128) -> i128
+    requires { unsigned_abs a * unsigned_abs b < 2 ^ 127 }
+    ensures value { result ≡ a *ℤ b }
+    ensures size { unsigned_abs result ≡ unsigned_abs a * unsigned_abs b }
+{
+    a * b
+}
+
+/// A difference that fits.
+fn difference(a: i128, b: i128) -> i128
+    requires { unsigned_abs a + unsigned_abs b < 2 ^ 127 }
+    ensures value { result ≡ a -ℤ b }
+    ensures size { unsigned_abs result ≤ unsigned_abs a + unsigned_abs b }
+{
+    a - b
+}
+
+/// The square of `u` less `d` times the square of `v`.
+fn excess(u: i128, v: i128, d: i128) -> i128
+    requires u_small { unsigned_abs u ≤ 2 ^ 62 }
+    requires v_small { unsigned_abs v ≤ 2 ^ 31 }
+    requires d_small { unsigned_abs d < 2 ^ 63 }
+    ensures { result ≡ u *ℤ u -ℤ v *ℤ v *ℤ d }
+{
+    difference(product(u, u), product(product(v, v), d))
+}
+
+/// The sign of `u + v * sqrt(d)`.
+pub fn pair_sign(u: i64, v: i64, d: u64) -> Sign
+    requires u_small { unsigned_abs u ≤ 2 ^ 62 }
+    requires v_small { unsigned_abs v ≤ 2 ^ 31 }
+    requires d_small { d < 2 ^ 63 }
+    ensures { result ≡ pair_sign_of u v (pos d) }
+{
+    if d == 0 {
+        return Sign::of(i128::from(u));
+    }
+    let (u, v, d) = (i128::from(u), i128::from(v), i128::from(d));
+    match (Sign::of(u), Sign::of(v)) {
+        (Sign::Zero, other) => other,
+        (own, Sign::Zero) => own,
+        (Sign::Plus, Sign::Plus) => Sign::Plus,
+        (Sign::Minus, Sign::Minus) => Sign::Minus,
+        (Sign::Plus, Sign::Minus) => Sign::of(excess(u, v, d)),
+        (Sign::Minus, Sign::Plus) => Sign::of(excess(u, v, d)).opposite(),
+    }
+}
+
+#[cfg(test)]
+mod tests {
+    use super::*;
+    use std::test::Fail;
+
+    #[test]
+    fn signs_of_sums(rt: HostRuntime) -> Result<(), Fail> {
+        assert_eq!(rt; pair_sign(-3, 2, 2), Sign::Minus);
+        assert_eq!(rt; pair_sign(-2, 2, 2), Sign::Plus);
+        assert_eq!(rt; pair_sign(-2, 1, 4), Sign::Zero);
+        assert_eq!(rt; pair_sign(5, -7, 0), Sign::Plus);
+        Ok(())
+    }
+}
