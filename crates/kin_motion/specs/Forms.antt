@@ -1,0 +1,67 @@
+-- The polynomials of forms.
+use Rattle.std.specs.Prelude.{ℤ, pos, ◌+ℤ◌, ◌-ℤ◌, ◌*ℤ◌, ℕ, List, Option, Some, None}
+use Rattle.kin_algebra.specs.declared.sign.Sign.{Sign}
+use Rattle.kin_num.specs.declared.instant.Moment.{Moment}
+use Rattle.kin_num.specs.Quadratic.{Quadratic}
+use Rattle.kin_num.specs.Instants.{sign_at}
+use Rattle.kin_motion.specs.declared.form.Form.{Form}
+use Rattle.kin_motion.specs.declared.form.Form.TheVariants.{Line, Turn, Slope, Dist}
+use Rattle.kin_motion.specs.Course.{Course, motion_of}
+
+-- slope*t + start
+pub record Linear : Type 0 where
+  pub slope : ℤ
+  pub start : ℤ
+
+abbrev pub minus : Linear → Linear → Linear
+minus p q = record { slope = p.slope -ℤ q.slope; start = p.start -ℤ q.start }
+
+abbrev pub product : Linear → Linear → Quadratic
+product p q = record { a = p.slope *ℤ q.slope; b = p.slope *ℤ q.start +ℤ p.start *ℤ q.slope; c = p.start *ℤ q.start }
+
+abbrev pub plus : Quadratic → Quadratic → Quadratic
+plus p q = record { a = p.a +ℤ q.a; b = p.b +ℤ q.b; c = p.c +ℤ q.c }
+
+abbrev pub difference : Quadratic → Quadratic → Quadratic
+difference p q = record { a = p.a -ℤ q.a; b = p.b -ℤ q.b; c = p.c -ℤ q.c }
+
+abbrev pub x_of_course : Option Course → Linear
+x_of_course (Some c) = record { slope = c.u; start = c.x }
+x_of_course None = record { slope = pos 0; start = pos 0 }
+
+abbrev pub y_of_course : Option Course → Linear
+y_of_course (Some c) = record { slope = c.v; start = c.y }
+y_of_course None = record { slope = pos 0; start = pos 0 }
+
+-- where point i is, as polynomials in t
+abbrev pub x_of : List (Option Course) → ℕ → Linear
+x_of ms i = x_of_course (motion_of ms i)
+
+abbrev pub y_of : List (Option Course) → ℕ → Linear
+y_of ms i = y_of_course (motion_of ms i)
+
+-- the step from i to j
+abbrev pub x_step : List (Option Course) → ℕ → ℕ → Linear
+x_step ms i j = minus (x_of ms j) (x_of ms i)
+
+abbrev pub y_step : List (Option Course) → ℕ → ℕ → Linear
+y_step ms i j = minus (y_of ms j) (y_of ms i)
+
+-- dx*x + dy*y + off
+abbrev pub along : ℤ → ℤ → ℤ → Linear → Linear → Quadratic
+along dx dy off x y = record { a = pos 0; b = dx *ℤ x.slope +ℤ dy *ℤ y.slope; c = dx *ℤ x.start +ℤ dy *ℤ y.start +ℤ off }
+
+-- the squared distance of two points
+abbrev pub square_of_step : List (Option Course) → ℕ → ℕ → Quadratic
+square_of_step ms i j = plus (product (x_step ms i j) (x_step ms i j)) (product (y_step ms i j) (y_step ms i j))
+
+-- the polynomial that a form names
+unfoldable pub polynomial_of : List (Option Course) → Form → Quadratic
+polynomial_of ms (Line dx dy off i j) = along dx dy off (x_step ms i j) (y_step ms i j)
+polynomial_of ms (Turn i j k) = difference (product (x_step ms i j) (y_step ms i k)) (product (y_step ms i j) (x_step ms i k))
+polynomial_of ms (Slope i j k l) = difference (product (y_step ms i j) (x_step ms k l)) (product (y_step ms k l) (x_step ms i j))
+polynomial_of ms (Dist i j k l) = difference (square_of_step ms k l) (square_of_step ms i j)
+
+-- the sign of a form at a moment
+unfoldable pub sign_of_form : List (Option Course) → Form → Moment → Sign
+sign_of_form ms f m = sign_at (polynomial_of ms f) m

@@ -1,0 +1,52 @@
+//! Kinetic structures.
+
+ghost use Rattle.std.specs.Prelude.{◌≡◌, Bool, List, OnOk};
+ghost use Rattle.kin_motion.specs.declared.fact.Placed.{Placed};
+ghost use Rattle.kin_motion.specs.Scene.{Scene, IsReal};
+ghost use Rattle.kin_motion.specs.Kinetics.{HaveSameLive, AllHold, ListsFailing, HasChanged};
+
+use crate::fact::{Delta, Placed};
+use crate::signs::Signs;
+use kin_num::memory::NoMemory;
+use kin_num::steps::Steps;
+use std::sync::ledger::Ledger;
+
+/// A structure that keeps an answer and the facts that prove it.
+pub trait Kinetic {
+    /// Its live facts.
+    ghost facts: { Self → List Placed };
+
+    /// The facts that the caller leaves out of `failed`, such as those that name a number marked
+    /// as leaving.
+    ghost is_spared: { Self → Placed → Bool };
+
+    /// What `settle` asks of the scene, such as that the members, with the entering numbers and
+    /// without the leaving ones, are exactly the live numbers.
+    ghost ready: { Self → Scene → Type 0 };
+
+    /// No mark and no told edit stands.
+    ghost at_rest: { Self → Type 0 };
+
+    /// The content and the facts are those of the definition in this scene.
+    ghost settled: { Self → Scene → Type 0 };
+
+    /// What the determination law asks of the scene besides the facts.
+    ghost grounded: { Self → Scene → Type 0 };
+
+    fn settle<O: Signs, L: Ledger>(
+        &mut self,
+        now: &O,
+        failed: &[Placed],
+        out: &mut Delta,
+        steps: &mut Steps<L>,
+    ) -> Result<(), NoMemory>
+        requires real { IsReal (O.scene now.now) }
+        requires ready { ready self.old (O.scene now.now) }
+        requires failing { ListsFailing (facts self.old) (is_spared self.old) (O.scene now.now) failed.now }
+        ensures rest { OnOk result (at_rest self.new) }
+        ensures settled { OnOk result (settled self.new (O.scene now.now)) }
+        ensures delta { OnOk result (HasChanged (facts self.old) (facts self.new) out.old out.new) };
+
+    /// The facts alone determine the content and the facts.
+    ghost determined: { (k : Self) (v w : Scene) → at_rest k → settled k v → HaveSameLive v w → IsReal w → grounded k w → AllHold w (facts k) → settled k w };
+}

@@ -1,0 +1,36 @@
+//! The same moment with every y negated.
+
+ghost use Rattle.kin_motion.specs.Scene.{Scene, turned};
+
+use crate::form::Form;
+use crate::signs::Signs;
+use kin_algebra::sign::Sign;
+use kin_num::steps::Steps;
+use std::sync::ledger::Ledger;
+
+#[derive(Drop)]
+pub struct Mirror<'a, O: Signs> {
+    pub inner: &'a O,
+}
+
+impl<O: Signs> Signs for Mirror<'_, O> {
+    ghost scene = { λ s. turned (O.scene s.inner.now) };
+
+    fn sign<L: Ledger>(&self, form: &Form, steps: &mut Steps<L>) -> Sign {
+        match *form {
+            Form::Line { dx, dy, off, i, j } => self.inner.sign(
+                &Form::Line {
+                    dx,
+                    dy: -dy,
+                    off,
+                    i,
+                    j,
+                },
+                steps,
+            ),
+            Form::Turn { i, j, k } => self.inner.sign(form, steps).opposite(),
+            Form::Slope { i, j, k, l } => self.inner.sign(form, steps).opposite(),
+            Form::Dist { i, j, k, l } => self.inner.sign(form, steps),
+        }
+    }
+}
