@@ -59,7 +59,10 @@ mod tests {
         let alloc = rt.alloc();
         assert_eq!(rt; line(alloc, &[])?.as_slice(), b"none\n".as_slice());
         assert_eq!(rt; line(alloc, &[5])?.as_slice(), b"5\n".as_slice());
-        assert_eq!(rt; line(alloc, &[1, 0, 4095])?.as_slice(), b"1 0 4095\n".as_slice());
+        assert_eq!(rt;
+            line(alloc, &[1, 0, 4095])?.as_slice(),
+            b"1 0 4095\n".as_slice()
+        );
         Ok(())
     }
 }

@@ -39,10 +39,7 @@ fn put_root(out: &mut Vec<u8>, a: i64, b: i64, c: i64, upper: bool) -> Result<()
     let a = digits(&mut first, a);
     let b = digits(&mut second, b);
     let c = digits(&mut third, c);
-    put_pieces(
-        out,
-        &[b"r(", a, b",", b, b",", c, b",", side(upper), b")"],
-    )
+    put_pieces(out, &[b"r(", a, b",", b, b",", c, b",", side(upper), b")"])
 }
 
 fn side(upper: bool) -> &'static [u8]
@@ -105,9 +102,21 @@ mod tests {
     fn just_after_is_marked(rt: HostRuntime) -> Result<(), Fail> {
         let at = Instant::of(Shape::Ratio { n: 5, d: 1 });
         let mut out = Vec::new(rt.alloc());
-        put_moment(&mut out, &Moment { at, phase: Phase::At })?;
+        put_moment(
+            &mut out,
+            &Moment {
+                at,
+                phase: Phase::At,
+            },
+        )?;
         put_bytes(&mut out, b" ")?;
-        put_moment(&mut out, &Moment { at, phase: Phase::After })?;
+        put_moment(
+            &mut out,
+            &Moment {
+                at,
+                phase: Phase::After,
+            },
+        )?;
         assert_eq!(rt; out.as_slice(), b"5 5+".as_slice());
         Ok(())
     }

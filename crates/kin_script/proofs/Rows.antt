@@ -1,10 +1,9 @@
 -- The grammar, tried on worked scripts by computing.
-use Rattle.std.proofs.Common.{◌≡◌, ℕ, refl, List, [], ◌∷◌, Ok, Err, pos, false}
-use Rattle.std.specs.Prelude.{codes, Result}
+use Rattle.std.proofs.Common.{refl, [], ◌∷◌, pos, false}
+use Rattle.std.specs.Prelude.{codes}
 use lib.IntN.{neg_ℤ}
 use Rattle.kin_motion.specs.declared.keep.Keep.TheVariants as keep
 use Rattle.kin_script.specs.declared.command.Command.TheVariants.{Insert, AtRatio, Order}
-use Rattle.kin_script.specs.declared.script.Script.{Script}
 use Rattle.kin_script.specs.Lines.{lines_of, words_of, pieces_of}
 use Rattle.kin_script.specs.Left.{numbered}
 use Rattle.kin_script.specs.Numbers.{digits_after, numeral_of, natural_of, integer_of, ratio_of}
