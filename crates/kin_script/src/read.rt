@@ -1,6 +1,6 @@
 //! The reader.
 
-ghost use Rattle.std.specs.Prelude.{◌≡◌, ◌≤◌, ◌<◌, ◌^◌, [], ◌∷◌, List, length, IfOk, OnOk, Some, None, MatchResult};
+ghost use Rattle.std.specs.Prelude.{◌≡◌, ◌≤◌, ◌<◌, ◌^◌, ◌==◌, [], ◌∷◌, List, length, IfOk, OnOk, Some, None, MatchResult};
 ghost use Rattle.kin_script.specs.declared.read.ReadError.TheVariants.{NoMemory};
 ghost use Rattle.kin_script.specs.Left.{Numbered, with_words, after};
 ghost use Rattle.kin_script.specs.Grammar.{script_of, script_of_lines, behind_size, with_setting};
@@ -58,6 +58,13 @@ impl Draft {
         }
     }
 
+    /// Whether no command was read yet.
+    fn is_in_header(&self) -> bool
+        ensures { result ≡ (length self.now.commands == 0) }
+    {
+        self.commands.is_empty()
+    }
+
     /// Takes a line of the header.
     fn set(&mut self, number: u32, setting: Setting) -> Result<(), ReadError>
         requires setting { IsSettingInRange setting }
@@ -90,7 +97,7 @@ impl Draft {
         ensures line { (ls : List Numbered) → Continues result (reads self.old ((line.entry.number, line.entry.words) ∷ ls)) (reads self.new ls) }
         ensures range { IsDraftInRange self.new }
     {
-        if self.commands.is_empty() {
+        if self.is_in_header() {
             if let Some(setting) = setting_of(line.words.again()) {
                 return self.set(line.number, setting);
             }
