@@ -1,5 +1,5 @@
 -- What one read or write says of the end, and what a write of several pieces appends.
-use Rattle.std.specs.Prelude.{◌≡◌, ◌<◌, ℕ, zero, suc, Bool, true, false, List, Option, Result, Ok, Err, IfOk, take}
+use Rattle.std.specs.Prelude.{◌<◌, ℕ, zero, suc, Bool, true, false, List, Option, Result, Ok, Err, IfOk, take}
 use Rattle.std.specs.Io.KnownBytes.{Appends}
 
 -- whether the end was found last, after a read into a buffer of this length

@@ -35,10 +35,12 @@ pub trait Source {
         ensures cause { HasCause (faults self.old) (faults self.new) result };
 }
 
-/// Why not all bytes were taken.
+/// Why not all bytes were taken. Some from the front may have been.
 #[derive(Clone, Copy, Debug, PartialEq, Eq)]
 pub enum Taken {
+    /// A read failed.
     Fault,
+    /// There are more bytes than the limit: one more was taken.
     TooLong,
     NoMemory,
 }
@@ -59,9 +61,10 @@ impl From<Failed> for Taken {
     }
 }
 
+/// The most bytes of one read, so that a long input costs few calls of the system.
 const BLOCK: usize = 65536;
 
-/// So many bytes. Apart, since a list of 65536 zeros that a goal names would be computed.
+/// So many bytes. Apart, since a goal that names a list of 65536 zeros would compute it.
 fn zeros(alloc: Global, count: usize) -> Result<Vec<u8>, AllocError>
     ensures { IfOk result (λ block. vec_len block ≡ count) }
 {
@@ -85,13 +88,17 @@ fn take_some<S: Source>(source: &mut S, all: &mut Vec<u8>, block: &mut [u8]) -> 
     Ok(count)
 }
 
-/// All bytes up to the end of the input, at most so many.
+/// All bytes up to the end of the input, at most `limit`. Takes memory for what was read and for
+/// one block.
 pub fn read_all<S: Source>(alloc: Global, source: &mut S, limit: u32) -> Result<Vec<u8>, Taken>
     requires { limit < 2 ^ 31 }
+    // All bytes were taken, or a prefix.
     ensures whole { IfOk result (λ all. IsWhole (S.left source.old) (S.left source.new) (S.ended source.new) limit all.items) }
     ensures too_long { IsErrOf result Taken.TooLong → Takes (S.left source.old) (S.left source.new) (λ n. n ≡ limit + 1) }
     ensures fault { IsErrOf result Taken.Fault → Takes (S.left source.old) (S.left source.new) (λ n. n ≤ limit) }
     ensures no_memory { IsErrOf result Taken.NoMemory → Takes (S.left source.old) (S.left source.new) (λ n. n ≤ limit + 1) }
+
+    // A fault comes only from the source.
     ensures later { S.faults source.old ≤ S.faults source.new }
     ensures cause { IsErrOf result Taken.Fault → Rose (S.faults source.old) (S.faults source.new) }
 {

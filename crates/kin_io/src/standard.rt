@@ -91,3 +91,75 @@ impl<W: Write + Drop> Sink for StdSink<W> {
         }
     }
 }
+
+#[cfg(test)]
+mod tests {
+    use super::*;
+    use crate::sink::write_all;
+    use crate::source::{Taken, read_all};
+    use std::io;
+    use std::test::Fail;
+
+    /// Is interrupted once, and then gives one text and the end.
+    #[derive(Drop)]
+    struct Interrupted {
+        calls: u32,
+    }
+
+    impl Read for Interrupted {
+        fn read(&mut self, buf: &mut [u8]) -> io::Result<usize> {
+            self.calls = self.calls.saturating_add(1);
+            match self.calls {
+                1 => Err(io::Error::from(io::ErrorKind::Interrupted)),
+                2 if buf.len() >= 2 => {
+                    buf[..2].copy_from_slice(b"at");
+                    Ok(2)
+                }
+                _ => Ok(0),
+            }
+        }
+    }
+
+    #[test]
+    fn an_interrupted_read_fails_and_the_next_goes_on(rt: HostRuntime) -> Result<(), Fail> {
+        let mut source = StdSource::new(Interrupted { calls: 0 });
+        let first = read_all(rt.alloc(), &mut source, 10);
+        assert!(rt; matches!(first, Err(Taken::Fault)));
+        let all = read_all(rt.alloc(), &mut source, 10)?;
+        assert!(rt; all.as_slice() == b"at".as_slice());
+        Ok(())
+    }
+
+    /// Takes a few bytes, and then none. Counts its flushes.
+    #[derive(Drop)]
+    struct Narrow {
+        room: usize,
+        flushes: u32,
+    }
+
+    impl Write for Narrow {
+        fn write(&mut self, buf: &[u8]) -> io::Result<usize> {
+            let count = buf.len().min(self.room).min(2);
+            self.room -= count;
+            Ok(count)
+        }
+
+        fn flush(&mut self) -> io::Result<()> {
+            self.flushes = self.flushes.saturating_add(1);
+            Ok(())
+        }
+    }
+
+    #[test]
+    fn each_write_is_flushed_and_an_empty_one_fails(rt: HostRuntime) -> Result<(), Fail> {
+        let mut sink = StdSink::new(Narrow {
+            room: 5,
+            flushes: 0,
+        });
+        assert!(rt; write_all(&mut sink, b"0 1\n").is_ok());
+        assert!(rt; sink.inner.flushes == 2);
+        assert!(rt; write_all(&mut sink, b"0 1\n").is_err());
+        assert!(rt; sink.faults == 1);
+        Ok(())
+    }
+}
