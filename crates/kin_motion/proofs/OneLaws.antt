@@ -1,15 +1,15 @@
 -- There is one extreme point at most, one hull cycle, and one closest pair.
-use Rattle.std.proofs.Common.{◌≡◌, ◌≢◌, ◌⊎◌, inl, inr, refl, sym, ap, ap₂, ◌∙◌, subst, List, [], ◌∷◌, ℕ, ◌<◌, arith, true, false, ℤ, pos}
-use Rattle.std.specs.Prelude.{Option, Some, None}
+use Rattle.std.proofs.Common.{◌≡◌, ◌≢◌, ◌⊎◌, inl, inr, refl, sym, ap, ap₂, ◌∙◌, subst, List, [], ℕ, ◌<◌, arith, true, false, ℤ, pos}
+use Rattle.std.specs.Prelude.{Some, None}
 use Rattle.kin_algebra.specs.declared.sign.Sign.{Sign}
 use Rattle.kin_algebra.specs.declared.sign.Sign.TheVariants.{Minus, Zero, Plus}
 use Rattle.kin_algebra.specs.Signs.{opposite_of}
 use Rattle.kin_motion.specs.declared.form.Form.TheVariants.{Line, Dist}
 use Rattle.kin_motion.specs.Numbers.{IsIn}
 use Rattle.kin_motion.specs.Scene.{Scene, IsReal, turned}
-use Rattle.kin_motion.specs.Extremes.{IsExtreme, IsExtremePoint}
-use Rattle.kin_motion.specs.Chains.{IsHullCycle, round}
-use Rattle.kin_motion.specs.Octants.{IsClosestPair, IsClosest}
+use Rattle.kin_motion.specs.Extremes.{IsExtreme}
+use Rattle.kin_motion.specs.Chains.{round}
+use Rattle.kin_motion.specs.Octants.{IsClosestPair}
 use Rattle.kin_motion.specs.Theorems.{OneExtreme, OneHullCycle, OneClosest}
 use Rattle.kin_motion.proofs.RealLaws.{real_line_laws}
 use Rattle.kin_motion.proofs.TurnedLaws.{turned-real}
@@ -34,6 +34,7 @@ module _ (s : Scene) (r : IsReal s) (dx dy : ℤ) where
     where
       same : s.sign (Line dx dy (pos 0) i j) ≡ Zero
       same = level _ (a.farthest j b.member) (λ e. b.farthest i a.member (opposite i j ∙ e))
+
       at : (i < j) ⊎ ((i ≡ j) ⊎ (j < i)) → i ≡ j
       at (inl h) = absurd (b.least i a.member h (opposite i j ∙ ap opposite_of same))
       at (inr (inl e)) = e
@@ -65,12 +66,16 @@ module _ (s : Scene) (r : IsReal s) where
     where
       no_less : s.sign (Dist i j k l) ≢ Minus
       no_less = a.closest k l b.i_live b.j_live b.rising
+
       no_more : s.sign (Dist i j k l) ≢ Plus
       no_more e = b.closest i j a.i_live a.j_live a.rising (other_way i j k l ∙ ap opposite_of e)
+
       same : s.sign (Dist i j k l) ≡ Zero
       same = level _ no_more (not_minus _ no_less)
+
       back : s.sign (Dist k l i j) ≡ Zero
       back = other_way i j k l ∙ ap opposite_of same
+
       at : (i < k) ⊎ ((i ≡ k) ⊎ (k < i)) → (j < l) ⊎ ((j ≡ l) ⊎ (l < j)) → (i ≡ k) × (j ≡ l)
       at (inl h) t = absurd (b.least i j a.i_live a.j_live a.rising (inl h) back)
       at (inr (inr h)) t = absurd (a.least k l b.i_live b.j_live b.rising (inl h) same)
