@@ -1,0 +1,61 @@
+//! What holds of the definitions. Each function's contract is one law; none of them does anything.
+
+ghost use Rattle.kin_motion.specs.Agreements.{ChainAgrees, ClosestAgrees, CycleAgrees, ExtremeAgrees, OrderAgrees};
+ghost use Rattle.kin_motion.specs.Theorems.{OneClosest, OneExtreme, OneHullCycle, OneOctant, OneOrder, OneUpperChain, OrderIsDetermined, RealScenesHaveLaws, TurnedIsMirrored, TurnedIsReal};
+
+/// In the scene of any motions at any canonical moment, signs of lines, turns and squared
+/// distances add up and change sides as those of numbers do.
+pub fn real_scenes_have_laws()
+    ensures { RealScenesHaveLaws }
+{}
+
+/// After y is turned round, the signs are those of the motions with every y and v negated.
+pub fn turned_is_mirrored()
+    ensures signs { TurnedIsMirrored }
+    ensures real { TurnedIsReal }
+{}
+
+/// There is one order along a direction at most.
+pub fn one_order()
+    ensures { OneOrder }
+{}
+
+/// There is one extreme point along a direction at most.
+pub fn one_extreme()
+    ensures { OneExtreme }
+{}
+
+/// A set of points has one upper chain at most.
+pub fn one_upper_chain()
+    ensures { OneUpperChain }
+{}
+
+/// There is one hull cycle at most.
+pub fn one_hull_cycle()
+    ensures { OneHullCycle }
+{}
+
+/// There is one closest pair at most.
+pub fn one_closest()
+    ensures { OneClosest }
+{}
+
+/// Each other point is in exactly one octant of an apex, also one at the apex's place.
+pub fn one_octant()
+    ensures { OneOctant }
+{}
+
+/// The facts of an order determine it, and themselves.
+pub fn order_is_determined()
+    ensures { OrderIsDetermined }
+{}
+
+/// The functions that compute the answers give what the definitions ask for. So each answer
+/// exists, and an example may be computed.
+pub fn computed_answers_agree()
+    ensures order { OrderAgrees }
+    ensures extreme { ExtremeAgrees }
+    ensures chain { ChainAgrees }
+    ensures cycle { CycleAgrees }
+    ensures closest { ClosestAgrees }
+{}
