@@ -45,22 +45,22 @@ module _ (x : Number) (w t h : ℕ) (size : HasSize x w) (h_some : 0 < h) (enoug
   pub t_some : 0 < t
   t_some = omega arith
 
-  abbrev s : Sound x.radicand
+  abbrev pub s : Sound x.radicand
   s = size.sound
 
-  abbrev d : ℤ
+  abbrev pub d : ℤ
   d = x.radicand
 
-  abbrev o : OrderedRing Pair
+  abbrev pub o : OrderedRing Pair
   o = ring_over d s
 
-  abbrev H : Pair
+  abbrev pub H : Pair
   H = flat (pos h)
 
-  abbrev X : Pair
+  abbrev pub X : Pair
   X = pair x.whole x.root
 
-  w_some : 0 < w
+  pub w_some : 0 < w
   w_some = at x.divisor size.positive size.divisor_most
     where
       at : (q : ℤ) → sign_of q ≡ Plus → unsigned_abs q ≤ w → 0 < w
@@ -68,10 +68,10 @@ module _ (x : Number) (w t h : ℕ) (size : HasSize x w) (h_some : 0 < h) (enoug
       at (pos (suc n)) e k = omega (arith, k)
       at (negsuc n) e k = absurd (code e)
 
-  flat_positive : (n : ℕ) → 0 < n → sign_over d (flat (pos n)) ≡ Plus
+  pub flat_positive : (n : ℕ) → 0 < n → sign_over d (flat (pos n)) ≡ Plus
   flat_positive n h = sign_over-whole d s (pos n) ∙ some_sign n h
 
-  bounds : (p : Quadratic) → HasHeight p h → AreBounded o (flat p.a) (flat p.b) (flat p.c) (flat x.divisor) H (flat (pos w))
+  pub bounds : (p : Quadratic) → HasHeight p h → AreBounded o (flat p.a) (flat p.b) (flat p.c) (flat x.divisor) H (flat (pos w))
   bounds p k = record {
     a_most = flat_between d s h p.a k.a_most;
     b_most = flat_between d s h p.b k.b_most;
@@ -81,10 +81,10 @@ module _ (x : Number) (w t h : ℕ) (size : HasSize x w) (h_some : 0 < h) (enoug
     W_positive = flat_positive w w_some;
   }
 
-  conjugate_size : Between o (flat (pos w)) (conjugate X)
+  pub conjugate_size : Between o (flat (pos w)) (conjugate X)
   conjugate_size = pair_between d s size.root_bound size.radicand_most w x.whole (neg_ℤ x.root) (subst (λ n. unsigned_abs x.whole + n * size.root_bound ≤ w) (sym (size_negative x.root)) size.point_most)
 
-  fine_here : sign_over d (pair_plus (flat (pos t)) (pair_negative (fine o H (flat (pos w))))) ≡ Plus
+  pub fine_here : sign_over d (pair_plus (flat (pos t)) (pair_negative (fine o H (flat (pos w))))) ≡ Plus
   fine_here =
       ap (λ a. sign_over d (pair_plus (flat (pos t)) (pair_negative a))) (fine-in x s (pos h) (pos w))
       ∙ sign_over-whole d s (pos t -ℤ pos (12 * (h * h) * ((w * w) * (w * w))))
