@@ -12,7 +12,7 @@ use Rattle.kin_motion.specs.Kinetics.{AllHold, HaveSameLive}
 use Rattle.kin_motion.specs.Orders.{IsOrder, IsOrderFact}
 use Rattle.kin_motion.specs.Extremes.{IsExtremePoint}
 use Rattle.kin_motion.specs.Chains.{IsUpperChain, IsHullCycle}
-use Rattle.kin_motion.specs.Octants.{octants, is_in_octant, IsClosest}
+use Rattle.kin_motion.specs.Octants.{Octant, octants, is_in_octant, IsCandidate, IsClosest}
 
 -- signs are those of an ordered ring, as far as orders, chains and distances need
 pub record HasSignLaws (s : Scene) : Type 0 where
@@ -43,6 +43,10 @@ OneHullCycle = (s : Scene) (xs ys : List ℕ) → IsReal s → IsHullCycle s xs 
 -- there is one closest pair at most
 abbrev pub OneClosest : Type 0
 OneClosest = (s : Scene) (a b : Option (ℕ × ℕ)) → IsReal s → IsClosest s a → IsClosest s b → a ≡ b
+
+-- an apex has one candidate at most in an octant
+abbrev pub OneCandidate : Type 0
+OneCandidate = (s : Scene) (o : Octant) (p c d : ℕ) → IsReal s → IsCandidate s o p c → IsCandidate s o p d → c ≡ d
 
 -- each other point is in exactly one octant of the apex p
 abbrev pub OneOctant : Type 0
