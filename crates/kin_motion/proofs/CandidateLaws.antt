@@ -1,11 +1,11 @@
 -- The computed candidate is the candidate, and there is one at most.
-use Rattle.std.proofs.Common.{◌≡◌, ◌≢◌, ◌⊎◌, inl, inr, refl, sym, ap, ◌∙◌, subst, arith, List, [], ◌∷◌, ℕ, Bool, true, false, cond, not, ◌||◌, nat_eq, ℤ}
-use Rattle.std.specs.Prelude.{Option, Some, None, MatchOption}
+use Rattle.std.proofs.Common.{◌≡◌, ◌≢◌, ◌⊎◌, inl, inr, refl, sym, ap, ◌∙◌, subst, arith, List, [], ◌∷◌, ℕ, Bool, true, false, cond, not, ◌||◌, nat_eq}
+use Rattle.std.specs.Prelude.{Option, Some, None}
 use Rattle.std.proofs.lemmas.Bool.Decides.{nat_tests}
 use Rattle.kin_motion.specs.Numbers.{is_in, IsIn}
-use Rattle.kin_motion.specs.Scene.{Scene, IsReal}
+use Rattle.kin_motion.specs.Scene.{Scene}
 use Rattle.kin_motion.specs.Orders.{is_before}
-use Rattle.kin_motion.specs.Octants.{Reading, comes_after, Octant, octant_members, IsCandidate, IsCandidateAnswer, earlier_of, first_in, candidate_of}
+use Rattle.kin_motion.specs.Octants.{Reading, comes_after, octant_members, IsCandidateAnswer, earlier_of, first_in, candidate_of}
 use Rattle.kin_motion.specs.Laws.{HasLineLaws}
 use Rattle.kin_motion.specs.Agreements.{CandidateAgrees}
 use Rattle.kin_motion.specs.Theorems.{OneCandidate}
@@ -115,6 +115,7 @@ candidate_agrees s o p real = at (candidate_of s o p) refl
   where
     laws : HasLineLaws s
     laws = real_line_laws s real
+
     at : (a : Option ℕ) → candidate_of s o p ≡ a → IsCandidateAnswer s o p a
     at None e = λ c k. absurd (let clash : false ≡ true = subst (λ xs. IsIn c xs) (none_first s laws o.third (octant_members s o p) e) k.member in cc)
     at (Some c) e = let f = first_agrees s laws o.third (octant_members s o p) c e in record { member = f.0; first = f.1 }

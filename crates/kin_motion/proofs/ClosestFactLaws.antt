@@ -11,7 +11,7 @@ use Rattle.kin_motion.specs.Sets.{ListsExactly}
 use Rattle.kin_motion.specs.Scene.{Scene, IsReal, placed_at}
 use Rattle.kin_motion.specs.Orders.{IsOrderFact, neighbour_forms, order_of, order_facts}
 use Rattle.kin_motion.specs.Tournaments.{beats, item_in, IsNodeFact, tournament_facts}
-use Rattle.kin_motion.specs.Octants.{Near, left_is_nearer, distance_key, AreNearSlots, near_slots, Direction, eight_directions, IsWedgeFact, IsPairFact, IsClosestFact, wedge_facts_from, closest_facts}
+use Rattle.kin_motion.specs.Octants.{Near, left_is_nearer, distance_key, near_slots, Direction, eight_directions, IsWedgeFact, IsPairFact, wedge_facts_from}
 use Rattle.kin_motion.specs.Laws.{HasDistanceLaws}
 use Rattle.kin_motion.specs.Agreements.{OrderFactsAgree, ClosestFactsAgree}
 use Rattle.kin_motion.proofs.SetLaws.{contains_mapped, exactly_none, exactly_both, exactly_in_words, exactly_mapped}
@@ -40,7 +40,7 @@ module _ (s : Scene) (real : IsReal s) where
   orders_exact n (d ∷ ds) =
       exactly_in_words (order_facts s d.dx d.dy n ++ wedge_facts_from s (n + 1) ds) _ _ (λ p. (to p, from p))
       (exactly_both (order_facts s d.dx d.dy n) (wedge_facts_from s (n + 1) ds) (IsOrderFact s d.dx d.dy n) (IsFactOf (n + 1) ds) (order_facts_agree s d.dx d.dy n real) (orders_exact (n + 1) ds)
-       (λ p f g. let e = part_of_order s d.dx d.dy n p f in let h : p.part ≡ n + 1 + g.0 = g.3 in omega (arith, e, h)))
+      (λ p f g. let e = part_of_order s d.dx d.dy n p f in let h : p.part ≡ n + 1 + g.0 = g.3 in omega (arith, e, h)))
     where
       to : (p : Placed) → IsOrderFact s d.dx d.dy n p ⊎ IsFactOf (n + 1) ds p → IsFactOf n (d ∷ ds) p
       to p (inl f) =
@@ -114,9 +114,9 @@ module _ (size : ℕ) (s : Scene) (real : IsReal s) where
       let slots = near_agrees s real size in
       tournament_agrees s distance_key (nearer-otherwise s laws) (nearer_transitive s laws) (nearer-never s laws) (size + 3) (near_slots size s)
       (λ i j a e f.
-       let g = own-slot s real size i (near_slots size s) a slots (held_item (near_slots size s) i a e) in
-       let h = own-slot s real size j (near_slots size s) a slots (held_item (near_slots size s) j a f) in
-       sym g ∙ h)
+      let g = own-slot s real size i (near_slots size s) a slots (held_item (near_slots size s) i a e) in
+      let h = own-slot s real size j (near_slots size s) a slots (held_item (near_slots size s) j a f) in
+      sym g ∙ h)
       (let c = slots.count in omega (arith, c))
 
   pairs_exact : ListsExactly (map shifted (tournament_facts s distance_key (size + 3) (near_slots size s))) (IsPairFact size s)

@@ -1,16 +1,15 @@
 -- The computed facts of an extreme point are its facts.
-use Rattle.std.proofs.Common.{◌≡◌, ◌⊎◌, inl, inr, refl, sym, ap, ◌∙◌, arith, List, [], ◌∷◌, ℕ, zero, suc, ◌+◌, ◌^◌, ◌≤◌, Bool, true, false, cond, map, length, ℤ, pos, nat_lt}
-use Rattle.std.specs.Prelude.{Option, Some, None}
+use Rattle.std.proofs.Common.{◌≡◌, ◌⊎◌, inl, inr, refl, ap, ◌∙◌, arith, List, ℕ, zero, suc, ◌+◌, ◌^◌, Bool, true, false, cond, map, length, ℤ, pos, nat_lt}
+use Rattle.std.specs.Prelude.{Some, None}
 use Rattle.std.proofs.lemmas.Bool.Decides.{nat_tests}
 use Rattle.kin_algebra.specs.declared.sign.Sign.{Sign}
 use Rattle.kin_algebra.specs.declared.sign.Sign.TheVariants.{Minus, Zero, Plus}
 use Rattle.kin_algebra.specs.Signs.{opposite_of}
 use Rattle.kin_motion.specs.declared.form.Form.TheVariants.{Line}
 use Rattle.kin_motion.specs.Numbers.{is_in, numbers_from}
-use Rattle.kin_motion.specs.Sets.{ListsExactly}
-use Rattle.kin_motion.specs.Scene.{Scene, IsReal}
+use Rattle.kin_motion.specs.Scene.{Scene}
 use Rattle.kin_motion.specs.Tournaments.{beats, item_in}
-use Rattle.kin_motion.specs.Extremes.{left_is_farther, along_key, slot_of_point, point_slots, extreme_facts, IsExtremeFact}
+use Rattle.kin_motion.specs.Extremes.{left_is_farther, along_key, slot_of_point, point_slots}
 use Rattle.kin_motion.specs.Laws.{HasLineLaws}
 use Rattle.kin_motion.specs.Agreements.{ExtremeFactsAgree}
 use Rattle.kin_motion.proofs.RealLaws.{real_line_laws}

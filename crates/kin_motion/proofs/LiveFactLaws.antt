@@ -1,6 +1,6 @@
 -- The computed live facts are the live facts, and the computed failures are the failures.
-use Rattle.std.proofs.Common.{◌≡◌, ◌≢◌, ◌⊎◌, inl, inr, refl, sym, ap, ◌∙◌, subst, arith, List, [], ◌∷◌, ◌++◌, ℕ, zero, suc, ◌+◌, Bool, true, false, cond, not, map, ℤ, pos}
-use Rattle.std.specs.Prelude.{Option, Some, slice_get, Contains, ◌↔◌, filter}
+use Rattle.std.proofs.Common.{◌≡◌, ◌≢◌, ◌⊎◌, inl, inr, refl, sym, ap, ◌∙◌, subst, arith, List, [], ◌∷◌, ◌++◌, ℕ, zero, suc, ◌+◌, Bool, true, false, cond, not, map, pos}
+use Rattle.std.specs.Prelude.{Some, slice_get, Contains, ◌↔◌, filter}
 use Rattle.kin_algebra.specs.declared.sign.Sign.{Sign}
 use Rattle.kin_algebra.specs.declared.sign.Sign.TheVariants.{Minus, Zero, Plus}
 use Rattle.kin_num.specs.declared.instant.Moment.{Moment}
@@ -14,7 +14,7 @@ use Rattle.kin_motion.specs.Orders.{IsOrderFact, order_facts}
 use Rattle.kin_motion.specs.Live.{Certificate, IsKeepFact, IsLiveFact, ListsLive, keep_facts, owned_by, live_facts_from, live_facts}
 use Rattle.kin_motion.specs.Journal.{Setting, Failure, IsFailure, failures_at, seen_in, has_failed, is_listed_before, same_sign}
 use Rattle.kin_motion.specs.Agreements.{KeepsNoHull, LiveFactsAgree, FailuresAgree}
-use Rattle.kin_motion.proofs.SetLaws.{contains_none, contains_head, contains_tail, contains_cases, contains_mapped, contains_map, contains_at, exactly_none, exactly_both, exactly_in_words, exactly_mapped}
+use Rattle.kin_motion.proofs.SetLaws.{contains_none, contains_head, contains_tail, contains_cases, contains_mapped, contains_map, exactly_none, exactly_both, exactly_in_words, exactly_mapped}
 use Rattle.kin_motion.proofs.ExtremeFactLaws.{extreme_facts_agree}
 use Rattle.kin_motion.proofs.ClosestFactLaws.{order_facts_agree, part_of_order, closest_facts_agree}
 
@@ -44,9 +44,9 @@ module _ (size : ℕ) (s : Scene) (real : IsReal s) where
   keeps_exact n (keep ∷ keeps) none =
       exactly_in_words (map (owned_by n) (keep_facts size s keep) ++ live_facts_from (n + 1) size keeps s) _ _ (λ c. (to c, from c))
       (exactly_both (map (owned_by n) (keep_facts size s keep)) (live_facts_from (n + 1) size keeps s) (Owns n keep) (IsFactOf (n + 1) keeps)
-       (exactly_mapped (owned_by n) (keep_facts size s keep) (IsKeepFact size s keep) (owned_one n) (keep_exact keep (λ e. none (subst (λ (x : Keep). Contains (keep ∷ keeps) x) e (contains_head keep keeps)))))
-       (keeps_exact (n + 1) keeps (λ h. none (contains_tail keep Hull keeps h)))
-       (λ c f g. let e : c.structure ≡ n = ap (λ (x : Certificate). x.structure) f.2 in let h : c.structure ≡ n + 1 + g.0 = g.3 in omega (arith, e, h)))
+      (exactly_mapped (owned_by n) (keep_facts size s keep) (IsKeepFact size s keep) (owned_one n) (keep_exact keep (λ e. none (subst (λ (x : Keep). Contains (keep ∷ keeps) x) e (contains_head keep keeps)))))
+      (keeps_exact (n + 1) keeps (λ h. none (contains_tail keep Hull keeps h)))
+      (λ c f g. let e : c.structure ≡ n = ap (λ (x : Certificate). x.structure) f.2 in let h : c.structure ≡ n + 1 + g.0 = g.3 in omega (arith, e, h)))
     where
       to : (c : Certificate) → Owns n keep c ⊎ IsFactOf (n + 1) keeps c → IsFactOf n (keep ∷ keeps) c
       to c (inl (p, f, e)) =

@@ -1,11 +1,11 @@
 -- The computed slots of pairs are the slots of pairs, and there is one such list.
-use Rattle.std.proofs.Common.{◌≡◌, ◌⊎◌, inl, inr, refl, sym, ap, ◌∙◌, subst, arith, List, [], ◌∷◌, ◌++◌, ℕ, zero, suc, ◌+◌, ◌*◌, ◌/◌, ◌%◌, ◌^◌, ◌<◌, ◌≤◌, Bool, true, false, cond, length}
+use Rattle.std.proofs.Common.{◌≡◌, refl, sym, ap, ◌∙◌, subst, arith, List, [], ◌∷◌, ◌++◌, ℕ, zero, suc, ◌+◌, ◌*◌, ◌/◌, ◌%◌, ◌^◌, ◌<◌, Bool, true, false, cond, length}
 use Rattle.std.specs.Prelude.{Option, Some, None, slice_get, flat_map}
 use Rattle.std.proofs.lemmas.Nat.{pow-add}
 use Rattle.std.proofs.lemmas.Option.{slice_get_within}
-use Rattle.kin_motion.specs.Numbers.{is_in, IsIn, numbers_from}
+use Rattle.kin_motion.specs.Numbers.{is_in, numbers_from}
 use Rattle.kin_motion.specs.Scene.{Scene, IsReal}
-use Rattle.kin_motion.specs.Octants.{Octant, octants, candidate_of, IsCandidate, IsCandidateAnswer, Near, near, near_of, HoldsNear, AreNearSlots, near_slots_of_point, near_slots}
+use Rattle.kin_motion.specs.Octants.{Octant, octants, candidate_of, IsCandidateAnswer, Near, near, near_of, HoldsNear, AreNearSlots, near_slots_of_point, near_slots}
 use Rattle.kin_motion.proofs.CandidateLaws.{candidate_agrees, one_candidate}
 
 -- ---- places in lists

@@ -4,7 +4,6 @@ use Rattle.std.specs.Prelude.{Option, Some, None, Contains}
 use Rattle.std.proofs.lemmas.Bool.Decides.{nat_tests}
 use Rattle.std.proofs.lemmas.Nat.{pow-add}
 use Rattle.kin_motion.specs.declared.fact.Placed.{Placed}
-use Rattle.kin_motion.specs.Numbers.{numbers_from}
 use Rattle.kin_motion.specs.Sets.{ListsExactly}
 use Rattle.kin_motion.specs.Scene.{Scene, placed_at}
 use Rattle.kin_motion.specs.Tournaments.{Key, beats, IsBest, item_in, comes_to, is_under, items_from, items_under, best_of, IsNodeFact, node_fact, tournament_facts}
@@ -30,11 +29,14 @@ not_none (suc h) u v low e = at (either_true (nat_eq u v) (comes_to h (u / 2) v)
   where
     power : 2 ^ suc h ≡ 2 * 2 ^ h
     power = let p = pow-add 2 h 1 in let q : 2 ^ suc h ≡ 2 ^ (h + 1) = ap (λ (k : ℕ). 2 ^ k) (omega arith) in omega (arith, p, q)
+
     half : 2 ^ h ≤ u / 2
     half = omega (arith, power, low)
+
     positive : (h : ℕ) → 0 < 2 ^ h
     positive zero = omega arith
     positive (suc h) = let p = pow-add 2 h 1 in let q : 2 ^ suc h ≡ 2 ^ (h + 1) = ap (λ (k : ℕ). 2 ^ k) (omega arith) in let r = positive h in omega (arith, p, q, r)
+
     at : (nat_eq u v ≡ true) ⊎ (comes_to h (u / 2) v ≡ true) → (2 ^ h ≤ u / 2 → comes_to h (u / 2) v ≡ true → 0 < v) → 0 < v
     at (inl f) rest = let g : u ≡ v = grind (arith, nat_tests, f) in let p = positive h in omega (arith, g, low, power, p)
     at (inr f) rest = rest half f
@@ -97,7 +99,6 @@ module _ {Item : Type 0} (s : Scene) (key : Key Item)
     (never : (a : Item) → beats s key a a ≡ true → ⊥)
     (size : ℕ) (slots : List (Option Item))
     (apart : (i j : ℕ) (a : Item) → item_in slots i ≡ Some a → item_in slots j ≡ Some a → i ≡ j) where
-
   -- a node has one best item at most
   pub one_best : (among : ℕ → Bool) (a b : Item) → IsBest s key slots among a → IsBest s key slots among b → a ≡ b
   one_best among a b p q = at (nat_eq p.slot q.slot) refl
@@ -138,8 +139,10 @@ module _ {Item : Type 0} (s : Scene) (key : Key Item)
     where
       left_of : (p : Placed) → IsNodeFact s key size slots p → p.part ≡ v → (a : Item) × IsBest s key slots (is_under size (2 * v)) a
       left_of p f e = (f.left, subst (λ u. IsBest s key slots (is_under size (2 * u)) f.left) e f.left_best)
+
       right_of : (p : Placed) → IsNodeFact s key size slots p → p.part ≡ v → (a : Item) × IsBest s key slots (is_under size (2 * v + 1)) a
       right_of p f e = (f.right, subst (λ u. IsBest s key slots (is_under size (2 * u + 1)) f.right) e f.right_best)
+
       at : (x : Option Item) → best_of s key (items_under size (2 * v) slots) ≡ x → (y : Option Item) → best_of s key (items_under size (2 * v + 1) slots) ≡ y
           → ListsExactly (node_fact s key v x y) (λ p. IsNodeFact s key size slots p × (p.part ≡ v))
       at None e y f = exactly_none _ (λ p w. let l = left_of p w.0 w.1 in none_agrees (2 * v) l.0 e l.1)
@@ -162,11 +165,12 @@ module _ {Item : Type 0} (s : Scene) (key : Key Item)
   tournament_agrees fits =
       exactly_in_words (tournament_facts s key size slots) _ _ (λ p. (to p, from p))
       (exactly_in_turn
-       (λ v. node_fact s key v (best_of s key (items_under size (2 * v) slots)) (best_of s key (items_under size (2 * v + 1) slots)))
-       (λ v p. IsNodeFact s key size slots p × (p.part ≡ v)) node_exact (λ m n p w x. sym w.1 ∙ x.1) 1 (2 ^ size - 1))
+      (λ v. node_fact s key v (best_of s key (items_under size (2 * v) slots)) (best_of s key (items_under size (2 * v + 1) slots)))
+      (λ v p. IsNodeFact s key size slots p × (p.part ≡ v)) node_exact (λ m n p w x. sym w.1 ∙ x.1) 1 (2 ^ size - 1))
     where
       to : (p : Placed) → (n : ℕ) × (1 ≤ n) × (n < 1 + (2 ^ size - 1)) × (IsNodeFact s key size slots p × (p.part ≡ n)) → IsNodeFact s key size slots p
       to p w = w.3.0
+
       from : (p : Placed) → IsNodeFact s key size slots p → (n : ℕ) × (1 ≤ n) × (n < 1 + (2 ^ size - 1)) × (IsNodeFact s key size slots p × (p.part ≡ n))
       from p f =
           let low = within_slots slots f.left_best.slot f.left f.left_best.held in

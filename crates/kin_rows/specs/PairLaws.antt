@@ -1,5 +1,5 @@
 -- Two numbers in order along x and along y are settled, and their facts determine them.
-use Rattle.std.proofs.Common.{◌≡◌, ◌⊎◌, inl, inr, refl, sym, ap, ◌∙◌, subst, arith, [], ◌∷◌, ℕ, ℤ, pos, IsTrue}
+use Rattle.std.proofs.Common.{◌≡◌, ◌⊎◌, inl, inr, sym, ap, ◌∙◌, subst, arith, [], ◌∷◌, ℕ, ℤ, pos, IsTrue}
 use Rattle.std.specs.Prelude.{Contains}
 use Rattle.std.proofs.lemmas.List.Elements.{All-contains}
 use Rattle.kin_algebra.specs.declared.sign.Sign.{Sign}

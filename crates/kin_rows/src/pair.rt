@@ -57,7 +57,11 @@ fn ordered<O: Signs, L: Ledger>(now: &O, dx: i32, dy: i32, old: Row, steps: &mut
     ensures sign { (O.scene now.now).sign (Line dx dy (pos 0) result.first result.second) ≡ result.sign }
     ensures cost { steps.new ≡ steps.old + 1 }
 {
-    let Row { first: i, second: j, .. } = old;
+    let Row {
+        first: i,
+        second: j,
+        ..
+    } = old;
     let form = Form::Line {
         dx,
         dy,

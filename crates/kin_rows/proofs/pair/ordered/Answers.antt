@@ -1,4 +1,4 @@
-use Rattle.std.proofs.Common.{◌≡◌, refl, sym, ap, ◌∙◌, subst, arith, true, pos, nat_lt, w32}
+use Rattle.std.proofs.Common.{◌≡◌, sym, ap, ◌∙◌, arith, true, nat_lt, w32}
 use Rattle.std.proofs.lemmas.Bool.Decides.{nat_tests}
 use Rattle.std.proofs.lemmas.Int.{to_z-of_z}
 use Rattle.kin_algebra.specs.Signs.{opposite_of}
@@ -17,7 +17,7 @@ pub returns-in-Zero-clause-order : goal.returns-in-Zero-clause-order
 returns-in-Zero-clause-order g c =
     two_in_order _ _ _ _ _ (swapped _ _ _ c.requires.numbers)
     (let less : nat_lt c.args.old.second c.args.old.first ≡ true = grind (arith, nat_tests, c.if-i-j.true) in
-     ap (λ t. leads t c.args.old.second c.args.old.first) (returns-in-Zero-clause-sign g c ∙ c.in-Zero.is) ∙ less)
+    ap (λ t. leads t c.args.old.second c.args.old.first) (returns-in-Zero-clause-sign g c ∙ c.in-Zero.is) ∙ less)
 
 pub returns-in-Minus-clause-sign : goal.returns-in-Minus-clause-sign
 returns-in-Minus-clause-sign g c =

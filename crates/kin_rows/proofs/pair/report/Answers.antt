@@ -1,4 +1,4 @@
-use Rattle.std.proofs.Common.{[], ◌∷◌, subst, refl}
+use Rattle.std.proofs.Common.{[], ◌∷◌, subst}
 use Rattle.kin_motion.specs.declared.fact.Placed.{Placed}
 use Rattle.kin_motion.specs.Kinetics.{HasChanged}
 use Rattle.kin_motion.proofs.ChangeLaws.{nothing_changed}

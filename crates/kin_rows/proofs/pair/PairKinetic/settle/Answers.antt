@@ -11,5 +11,5 @@ pub returns-clause-delta : goal.returns-clause-delta
 returns-clause-delta g c =
     in_turn c.report-2.result
     (λ h. pair_changed c.args.self.now (record { by_x = c.ordered-self.result; by_y = c.ordered-self-2.result }) _ _ _ _ c.args.out.now c.report.new.out c.report-2.new.out
-     c.fact_along-old_x.ensures c.fact_along.ensures c.fact_along-old_y.ensures c.fact_along-2.ensures c.in_ok-report.ensures h)
+    c.fact_along-old_x.ensures c.fact_along.ensures c.fact_along-old_y.ensures c.fact_along-2.ensures c.in_ok-report.ensures h)
     c.report-2.ensures
