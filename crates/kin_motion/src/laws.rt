@@ -1,7 +1,7 @@
 //! What holds of the definitions. Each function's contract is one law; none of them does anything.
 
 ghost use Rattle.kin_motion.specs.Agreements.{CandidateAgrees, ChainAgrees, ClosestAgrees, ClosestFactsAgree, CycleAgrees, ExtremeAgrees, ExtremeFactsAgree, FailuresAgree, LiveFactsAgree, OrderAgrees, OrderFactsAgree};
-ghost use Rattle.kin_motion.specs.Theorems.{OneCandidate, OneClosest, OneExtreme, OneHullCycle, OneOctant, OneOrder, OneUpperChain, OrderIsDetermined, RealScenesHaveLaws, TurnedIsMirrored, TurnedIsReal};
+ghost use Rattle.kin_motion.specs.Theorems.{OneCandidate, OneClosest, OneExtreme, OneFirstFailure, OneHullCycle, OneJournal, OneNextBlock, OneOctant, OneOrder, OneUpperChain, OrderIsDetermined, RealScenesHaveLaws, TurnedIsMirrored, TurnedIsReal};
 
 /// In the scene of any motions at any canonical moment, signs of lines, turns and squared
 /// distances add up and change sides as those of numbers do.
@@ -53,6 +53,14 @@ pub fn one_octant()
 /// The facts of an order determine it, and themselves.
 pub fn order_is_determined()
     ensures { OrderIsDetermined }
+{}
+
+/// Seen from one moment, a fact has one first failure at most, there is one next block at most, and
+/// one journal up to a later moment.
+pub fn one_journal()
+    ensures failure { OneFirstFailure }
+    ensures block { OneNextBlock }
+    ensures journal { OneJournal }
 {}
 
 /// The functions that compute the answers give what the definitions ask for. So each answer
