@@ -1,5 +1,5 @@
 -- The order of canonical instants is total: of two different ones one is less.
-use Rattle.std.proofs.Common.{◌≡◌, ◌⊎◌, inl, inr, ℕ, true, false, sym, subst, ◌+◌, ◌*◌, ◌<◌, ◌^◌, pos, arith}
+use Rattle.std.proofs.Common.{◌≡◌, ◌⊎◌, inl, inr, ℕ, true, false, subst, ◌+◌, ◌*◌, ◌<◌, ◌^◌, pos, arith}
 use Rattle.std.specs.Prelude.{ℤ}
 use Rattle.kin_algebra.specs.declared.sign.Sign.{Sign}
 use Rattle.kin_algebra.specs.declared.sign.Sign.TheVariants.{Minus, Zero, Plus}

@@ -1,13 +1,13 @@
 -- What a polynomial's sign at a number says of its signs at the fractions around it.
-use Rattle.std.proofs.Common.{◌≡◌, ◌≢◌, inl, inr, ℕ, zero, suc, [], ◌∷◌, refl, sym, ap, ◌∙◌, subst, ◌+◌, ◌*◌, ◌≤◌, ◌<◌, arith, unsigned_abs}
-use Rattle.std.specs.Prelude.{ℤ, pos, negsuc, ◌+ℤ◌, ◌-ℤ◌, ◌*ℤ◌, ◌≤ℤ◌}
+use Rattle.std.proofs.Common.{◌≡◌, ◌≢◌, ℕ, zero, suc, [], ◌∷◌, refl, sym, ap, ◌∙◌, subst, ◌+◌, ◌*◌, ◌≤◌, ◌<◌, arith, unsigned_abs}
+use Rattle.std.specs.Prelude.{ℤ, pos, negsuc, ◌-ℤ◌}
 use Rattle.std.proofs.lemmas.Int.{ints}
 use lib.IntN.{neg_ℤ}
 use Rattle.kin_algebra.specs.declared.sign.Sign.{Sign}
 use Rattle.kin_algebra.specs.declared.sign.Sign.TheVariants.{Minus, Zero, Plus}
 use Rattle.kin_algebra.specs.Signs.{sign_of, opposite_of}
 use Rattle.kin_algebra.proofs.Ring.{by_ring, quotes}
-use Rattle.kin_algebra.proofs.Signs.{code, AtLeast, opposite-opposite}
+use Rattle.kin_algebra.proofs.Signs.{code, opposite-opposite}
 use Rattle.kin_algebra.proofs.OrderedRings.{OrderedRing}
 use Rattle.kin_algebra.proofs.Bounds.{Between, IsApart}
 use Rattle.kin_algebra.proofs.IntegerSigns.{sign_of-negative, sign_in}
@@ -17,7 +17,7 @@ use Rattle.kin_num.specs.Instants.{Number, sign_at_number}
 use Rattle.kin_num.proofs.Values.{value, negated, value-negated}
 use Rattle.kin_num.proofs.Nearness.{value_in, fine, AreBounded, near}
 use Rattle.kin_num.proofs.NumberRing.{flat, conjugate, ring_over, flat_some, flat_between, pair_between, positive_apart}
-use Rattle.kin_num.proofs.Near.{HasHeight, HasSize, IsFine, at_fraction, value-in, conjugate-in, fraction-in, fine-in, W, T, Q, E, point_size, divisor_size, Q_positive, Bracket, right_between, left_between}
+use Rattle.kin_num.proofs.Near.{HasHeight, HasSize, IsFine, at_fraction, value-in, conjugate-in, fraction-in, fine-in, E, point_size, Q_positive, Bracket, right_between, left_between}
 
 fine_left : (m t : ℕ) → m < t → sign_of (pos t -ℤ pos m) ≡ Plus
 fine_left m t h = sign_in Plus (pos t -ℤ pos m) (omega (arith, ints))

@@ -4,7 +4,7 @@ use Rattle.std.specs.Prelude.{pos}
 use Rattle.kin_algebra.specs.declared.sign.Sign.TheVariants.{Zero, Plus}
 use Rattle.kin_algebra.proofs.Ring.{by_identity, quotes_in}
 use Rattle.kin_algebra.proofs.OrderedRings.{OrderedRing, positive_sum, nonnegative_sum, positive_product, nonnegative_product, positive_cancel, sign_twice}
-use Rattle.kin_algebra.proofs.Bounds.{Between, product_between, sum_between, gap, IsApart, nearby, largest, value_decides}
+use Rattle.kin_algebra.proofs.Bounds.{Between, product_between, sum_between, gap, IsApart, nearby, value_decides}
 use Rattle.kin_algebra.specs.Signs.{product_of}
 use Rattle.kin_algebra.proofs.Signs.{AtLeast, product-Plus, product-Zero}
 

@@ -1,25 +1,25 @@
 -- Where a polynomial has sign 0 at a canonical instant.
-use Rattle.std.proofs.Common.{◌≡◌, ◌≢◌, inl, inr, ℕ, zero, suc, Bool, true, false, [], ◌∷◌, refl, sym, ap, ap₂, ◌∙◌, subst, arith}
-use Rattle.std.specs.Prelude.{ℤ, pos, negsuc, ◌+ℤ◌, ◌-ℤ◌, ◌*ℤ◌, ◌<ℤ◌}
+use Rattle.std.proofs.Common.{◌≡◌, ◌≢◌, inr, Bool, true, false, [], ◌∷◌, refl, sym, ap, ap₂, ◌∙◌, arith}
+use Rattle.std.specs.Prelude.{ℤ, pos, ◌+ℤ◌, ◌-ℤ◌, ◌*ℤ◌}
 use Rattle.std.proofs.lemmas.Int.{ints}
 use lib.IntN.{neg_ℤ}
 use Rattle.kin_algebra.specs.declared.sign.Sign.{Sign}
 use Rattle.kin_algebra.specs.declared.sign.Sign.TheVariants.{Minus, Zero, Plus}
 use Rattle.kin_algebra.specs.Signs.{sign_of, opposite_of, product_of, sum_sign_of, norm_of, pair_sign_of}
 use Rattle.kin_algebra.proofs.Ring.{by_ring, quotes}
-use Rattle.kin_algebra.proofs.Signs.{code, product-Zero}
+use Rattle.kin_algebra.proofs.Signs.{code}
 use Rattle.kin_algebra.proofs.OrderedRings.{positive_product, scale}
-use Rattle.kin_algebra.proofs.IntegerSigns.{ordered_integers, sign_of-negative, sign_of-times, sign_in, sign_out, zero_of}
-use Rattle.kin_algebra.proofs.Radicals.{Radical, pair_of_zero}
-use Rattle.kin_algebra.proofs.Pairs.{Pair, pair, pair_plus, pair_times, pair_negative, Sound, sign_over, sign_over-whole, ordered}
+use Rattle.kin_algebra.proofs.IntegerSigns.{ordered_integers, sign_of-negative, sign_in, zero_of}
+use Rattle.kin_algebra.proofs.Radicals.{pair_of_zero}
+use Rattle.kin_algebra.proofs.Pairs.{pair, pair_plus, pair_times, Sound, sign_over, sign_over-whole, ordered}
 use Rattle.kin_num.specs.declared.instant.Shape.{Shape}
 use Rattle.kin_num.specs.declared.instant.Shape.TheVariants.{Ratio, Root}
 use Rattle.kin_num.specs.Quadratic.{Quadratic}
-use Rattle.kin_num.specs.Canonical.{IsCanonicalForm, IsIrreducible, IsLowest, discriminant}
+use Rattle.kin_num.specs.Canonical.{IsCanonicalForm, IsIrreducible, discriminant}
 use Rattle.kin_num.specs.Instants.{Number, number_of, sign_at_number, sign_at_instant, whole_part, root_part, derivative}
-use Rattle.kin_num.proofs.Values.{value, irreducible-sound, irreducible-radical, canonical-sound}
+use Rattle.kin_num.proofs.Values.{value, irreducible-radical, canonical-sound}
 use Rattle.kin_num.proofs.NumberRing.{flat}
-use Rattle.kin_num.proofs.Divisors.{cancel_factor, same_primitive}
+use Rattle.kin_num.proofs.Divisors.{same_primitive}
 use Rattle.kin_num.proofs.RootSigns.{quadratic, side, pair_sign-positive, times_positive, double_plus}
 
 -- the divisor of a canonical instant is positive

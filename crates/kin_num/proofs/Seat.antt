@@ -1,17 +1,16 @@
 -- The sign of a polynomial at a moment of either phase is its sign at one number, the moment's seat.
-use Rattle.std.proofs.Common.{◌≡◌, ◌≢◌, inl, inr, ℕ, zero, suc, [], ◌∷◌, refl, sym, ap, ap₂, ◌∙◌, subst, ◌+◌, ◌*◌, ◌≤◌, ◌<◌, ◌^◌, arith, unsigned_abs}
-use Rattle.std.specs.Prelude.{ℤ, pos, negsuc, ◌+ℤ◌, ◌-ℤ◌, ◌*ℤ◌}
+use Rattle.std.proofs.Common.{◌≡◌, ◌≢◌, ℕ, [], ◌∷◌, refl, sym, ap, ap₂, ◌∙◌, subst, ◌*◌, ◌≤◌, ◌<◌, ◌^◌, arith, unsigned_abs}
+use Rattle.std.specs.Prelude.{ℤ, pos, ◌-ℤ◌, ◌*ℤ◌}
 use Rattle.std.proofs.lemmas.Int.{ints, unsigned_abs-mul}
 use Rattle.kin_algebra.specs.declared.sign.Sign.{Sign}
 use Rattle.kin_algebra.specs.declared.sign.Sign.TheVariants.{Minus, Zero, Plus}
-use Rattle.kin_algebra.specs.Signs.{sign_of, opposite_of, product_of, first_of}
+use Rattle.kin_algebra.specs.Signs.{sign_of, opposite_of, first_of}
 use Rattle.kin_algebra.proofs.Ring.{by_ring, quotes}
-use Rattle.kin_algebra.proofs.Signs.{code, product-Plus, opposite-opposite}
+use Rattle.kin_algebra.proofs.Signs.{code, opposite-opposite}
 use Rattle.kin_algebra.proofs.OrderedRings.{OrderedRing, scale, positive_product}
 use Rattle.kin_algebra.proofs.Bounds.{IsApart}
 use Rattle.kin_algebra.proofs.IntegerSigns.{ordered_integers}
 use Rattle.kin_algebra.proofs.Pairs.{Pair, pair, pair_plus, pair_times, Sound, sign_over, sign_over-whole, sign_over-negative}
-use Rattle.kin_num.specs.declared.instant.Shape.{Shape}
 use Rattle.kin_num.specs.declared.instant.Phase.{Phase}
 use Rattle.kin_num.specs.declared.instant.Phase.TheVariants.{At, After}
 use Rattle.kin_num.specs.declared.instant.Moment.{Moment}
@@ -21,7 +20,7 @@ use Rattle.kin_num.specs.Instants.{Number, number_of, sign_at_number, sign_at_in
 use Rattle.kin_num.proofs.Values.{value, negated, value-negated}
 use Rattle.kin_num.proofs.SignLaws.{derivative-negated}
 use Rattle.kin_num.proofs.Nearness.{value_in, slope_in, value_after, after, after_slope, after_second}
-use Rattle.kin_num.proofs.NumberRing.{flat, conjugate, ring_over, flat_some, pair_between, positive_apart}
+use Rattle.kin_num.proofs.NumberRing.{flat, conjugate, ring_over, flat_some, positive_apart}
 use Rattle.kin_num.proofs.Near.{HasHeight, HasSize, IsFine, value-in, conjugate-in, point_size, Q_positive}
 use Rattle.kin_num.proofs.Kept.{t_some, bounds, conjugate_size, fine_here, flat_positive, height-negated}
 use Rattle.kin_num.proofs.Sizes.{wide_size}

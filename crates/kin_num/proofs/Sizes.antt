@@ -1,12 +1,12 @@
 -- Sizes of instants and heights of their polynomials: of any canonical form, and under bounds.
-use Rattle.std.proofs.Common.{◌≡◌, ◌≢◌, ◌⊎◌, inl, inr, ℕ, zero, suc, true, false, [], ◌∷◌, refl, sym, ap, ◌∙◌, subst, ◌+◌, ◌*◌, ◌≤◌, ◌<◌, ◌^◌, arith, mul-le-mul, unsigned_abs}
-use Rattle.std.specs.Prelude.{ℤ, pos, negsuc, ◌+ℤ◌, ◌-ℤ◌, ◌*ℤ◌, ◌≤ℤ◌}
+use Rattle.std.proofs.Common.{◌≡◌, ℕ, zero, suc, true, false, refl, sym, subst, ◌+◌, ◌*◌, ◌≤◌, ◌<◌, ◌^◌, arith, mul-le-mul, unsigned_abs}
+use Rattle.std.specs.Prelude.{ℤ, pos, negsuc, ◌-ℤ◌, ◌*ℤ◌, ◌≤ℤ◌}
 use Rattle.std.proofs.lemmas.Int.{ints, unsigned_abs-mul}
 use lib.IntN.{neg_ℤ}
 use Rattle.kin_num.specs.declared.instant.Shape.{Shape}
 use Rattle.kin_num.specs.declared.instant.Shape.TheVariants.{Ratio, Root}
 use Rattle.kin_num.specs.Canonical.{IsCanonicalForm, IsWideShape, discriminant}
-use Rattle.kin_num.specs.Instants.{Number, number_of, line, derivative}
+use Rattle.kin_num.specs.Instants.{number_of, line, derivative}
 use Rattle.kin_num.proofs.Values.{canonical-sound}
 use Rattle.kin_num.proofs.Near.{HasHeight, HasSize}
 use Rattle.kin_num.proofs.RootSigns.{quadratic}
