@@ -1,0 +1,65 @@
+-- Sums and differences of products that fit their width.
+use Rattle.std.proofs.Common.{◌≡◌, ℕ, ◌+◌, ◌*◌, ◌<◌, ◌≤◌, ◌^◌, ℤ, pos, negsuc, ◌+ℤ◌, ◌-ℤ◌, ◌*ℤ◌, unsigned_abs, FitsSigned, to_z, of_z, refl, sym, ap, ◌∙◌, subst, arith, mul-le-mul}
+use Rattle.std.proofs.lemmas.Int.{ints, to_z-of_z, fits_signed_from_abs, unsigned_abs-mul}
+use mir.Syntax.{Width}
+use mir.Val.{hbits}
+
+abs-sum : (x y : ℤ) (m n : ℕ) → unsigned_abs x ≤ m → unsigned_abs y ≤ n → unsigned_abs (x +ℤ y) ≤ m + n
+abs-sum x y m n h k = omega (arith, ints)
+
+abs-difference : (x y : ℤ) (m n : ℕ) → unsigned_abs x ≤ m → unsigned_abs y ≤ n → unsigned_abs (x -ℤ y) ≤ m + n
+abs-difference x y m n h k = omega (arith, ints)
+
+pub abs-product : (x y : ℤ) (m n : ℕ) → unsigned_abs x ≤ m → unsigned_abs y ≤ n → unsigned_abs (x *ℤ y) ≤ m * n
+abs-product x y m n h k = omega (arith, unsigned_abs-mul x y, mul-le-mul h k)
+
+-- what the code's a * b + c * d and a * b - c * d give, where the products are at most k and l
+module _ (w : Width) (a b c d : ℤ) (k l : ℕ) (fa : FitsSigned w a) (fb : FitsSigned w b) (fc : FitsSigned w c) (fd : FitsSigned w d)
+    (first : unsigned_abs a * unsigned_abs b ≤ k) (second : unsigned_abs c * unsigned_abs d ≤ l) (room : k + l < 2 ^ hbits w) where
+  left : unsigned_abs (a *ℤ b) ≤ unsigned_abs a * unsigned_abs b
+  left = omega (arith, unsigned_abs-mul a b)
+
+  right : unsigned_abs (c *ℤ d) ≤ unsigned_abs c * unsigned_abs d
+  right = omega (arith, unsigned_abs-mul c d)
+
+  left_fits : FitsSigned w (a *ℤ b)
+  left_fits = fits_signed_from_abs w (a *ℤ b) (omega (arith, left))
+
+  right_fits : FitsSigned w (c *ℤ d)
+  right_fits = fits_signed_from_abs w (c *ℤ d) (omega (arith, right))
+
+  pub sum-size : unsigned_abs (a *ℤ b +ℤ c *ℤ d) ≤ unsigned_abs a * unsigned_abs b + unsigned_abs c * unsigned_abs d
+  sum-size = abs-sum (a *ℤ b) (c *ℤ d) _ _ left right
+
+  pub difference-size : unsigned_abs (a *ℤ b -ℤ c *ℤ d) ≤ unsigned_abs a * unsigned_abs b + unsigned_abs c * unsigned_abs d
+  difference-size = abs-difference (a *ℤ b) (c *ℤ d) _ _ left right
+
+  abbrev as_left : ℤ
+  as_left = to_z w (of_z w (to_z w (of_z w a) *ℤ to_z w (of_z w b)))
+
+  abbrev as_right : ℤ
+  as_right = to_z w (of_z w (to_z w (of_z w c) *ℤ to_z w (of_z w d)))
+
+  left_is : as_left ≡ a *ℤ b
+  left_is = let f = left_fits in simp to_z-of_z
+
+  right_is : as_right ≡ c *ℤ d
+  right_is = let f = right_fits in simp to_z-of_z
+
+  sum-raw : as_left +ℤ as_right ≡ a *ℤ b +ℤ c *ℤ d
+  sum-raw = rw (left_is, right_is)
+
+  difference-raw : as_left -ℤ as_right ≡ a *ℤ b -ℤ c *ℤ d
+  difference-raw = rw (left_is, right_is)
+
+  pub sum-fits : FitsSigned w (as_left +ℤ as_right)
+  sum-fits = subst (FitsSigned w) (sym sum-raw) (fits_signed_from_abs w (a *ℤ b +ℤ c *ℤ d) (omega (arith, sum-size)))
+
+  pub difference-fits : FitsSigned w (as_left -ℤ as_right)
+  difference-fits = subst (FitsSigned w) (sym difference-raw) (fits_signed_from_abs w (a *ℤ b -ℤ c *ℤ d) (omega (arith, difference-size)))
+
+  pub sum-value : to_z w (of_z w (as_left +ℤ as_right)) ≡ a *ℤ b +ℤ c *ℤ d
+  sum-value = to_z-of_z w (as_left +ℤ as_right) sum-fits ∙ sum-raw
+
+  pub difference-value : to_z w (of_z w (as_left -ℤ as_right)) ≡ a *ℤ b -ℤ c *ℤ d
+  difference-value = to_z-of_z w (as_left -ℤ as_right) difference-fits ∙ difference-raw
