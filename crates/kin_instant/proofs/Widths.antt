@@ -3,6 +3,7 @@ use Rattle.std.proofs.Common.{◌≡◌, ℕ, ◌+◌, ◌*◌, ◌<◌, ◌≤�
 use Rattle.std.proofs.lemmas.Int.{ints, to_z-of_z, fits_signed_from_abs, unsigned_abs-mul}
 use mir.Syntax.{Width}
 use mir.Val.{hbits}
+use lib.Signed.{mag}
 
 abs-sum : (x y : ℤ) (m n : ℕ) → unsigned_abs x ≤ m → unsigned_abs y ≤ n → unsigned_abs (x +ℤ y) ≤ m + n
 abs-sum x y m n h k = omega (arith, ints)
@@ -63,3 +64,23 @@ module _ (w : Width) (a b c d : ℤ) (k l : ℕ) (fa : FitsSigned w a) (fb : Fit
 
   pub difference-value : to_z w (of_z w (as_left -ℤ as_right)) ≡ a *ℤ b -ℤ c *ℤ d
   difference-value = to_z-of_z w (as_left -ℤ as_right) difference-fits ∙ difference-raw
+
+-- ---- what the code reads back
+pub clean : (w : Width) (x : ℤ) → mag x < 2 ^ hbits w → to_z w (of_z w x) ≡ x
+clean w x h = to_z-of_z w x (record { sfits = h })
+
+pub clean-abs : (w : Width) (x : ℤ) → unsigned_abs x < 2 ^ hbits w → to_z w (of_z w x) ≡ x
+clean-abs w x h = to_z-of_z w x (fits_signed_from_abs w x h)
+
+pub same_sums : (a b c d a' b' c' d' : ℤ) → a' ≡ a → b' ≡ b → c' ≡ c → d' ≡ d → a' *ℤ b' +ℤ c' *ℤ d' ≡ a *ℤ b +ℤ c *ℤ d
+same_sums a b c d a' b' c' d' p q r s = rw (p, q, r, s)
+
+pub same_differences : (a b c d a' b' c' d' : ℤ) → a' ≡ a → b' ≡ b → c' ≡ c → d' ≡ d → a' *ℤ b' -ℤ c' *ℤ d' ≡ a *ℤ b -ℤ c *ℤ d
+same_differences a b c d a' b' c' d' p q r s = rw (p, q, r, s)
+
+-- a product in the code
+pub product-raw : (w : Width) (a b a' b' : ℤ) → to_z w (of_z w a') ≡ a → to_z w (of_z w b') ≡ b → unsigned_abs (a *ℤ b) < 2 ^ hbits w → FitsSigned w (to_z w (of_z w a') *ℤ to_z w (of_z w b'))
+product-raw w a b a' b' p q h = rw (p, q) (fits_signed_from_abs w (a *ℤ b) h)
+
+pub product-value : (w : Width) (a b a' b' : ℤ) → to_z w (of_z w a') ≡ a → to_z w (of_z w b') ≡ b → unsigned_abs (a *ℤ b) < 2 ^ hbits w → to_z w (of_z w (to_z w (of_z w a') *ℤ to_z w (of_z w b'))) ≡ a *ℤ b
+product-value w a b a' b' p q h = rw (p, q) (clean-abs w (a *ℤ b) h)
