@@ -6,7 +6,6 @@ use Rattle.kin_algebra.proofs.Rings.{CommutativeRing, plus_left, times_four, zer
 
 infixl 6 ◌⊕◌ ◌⊖◌
 infixl 7 ◌⊗◌
-
 -- an expression over the variables 0, 1, 2, ..
 pub data Expr : Type 0 where
   var : ℕ → Expr

@@ -11,9 +11,19 @@ times_assoc_ℤ a b c =
     let ab = product_is a b in
     let bc = product_is b c in
     same_in _ _
-    (omega (arith, product_is (a *ℤ b) c, product_is a (b *ℤ c),
-    by (up c) ab.0, by (down c) ab.1, by (down c) ab.0, by (up c) ab.1,
-    by (up a) bc.0, by (down a) bc.1, by (down a) bc.0, by (up a) bc.1))
+    (omega (
+      arith,
+      product_is (a *ℤ b) c,
+      product_is a (b *ℤ c),
+      by (up c) ab.0,
+      by (down c) ab.1,
+      by (down c) ab.0,
+      by (up c) ab.1,
+      by (up a) bc.0,
+      by (down a) bc.1,
+      by (down a) bc.0,
+      by (up a) bc.1,
+    ))
   where
     by : {m n : ℕ} (k : ℕ) → m ≡ n → m * k ≡ n * k
     by k e = ap (λ x. x * k) e
@@ -22,8 +32,15 @@ pub times_plus_ℤ : (a b c : ℤ) → a *ℤ (b +ℤ c) ≡ a *ℤ b +ℤ a *�
 times_plus_ℤ a b c =
     let bc = sum_is_lem b c in
     same_in _ _
-    (omega (arith, product_is a (b +ℤ c), product_is a b, product_is a c, sum_is_lem (a *ℤ b) (a *ℤ c),
-    ap (λ x. x * up a) bc, ap (λ x. x * down a) bc))
+    (omega (
+      arith,
+      product_is a (b +ℤ c),
+      product_is a b,
+      product_is a c,
+      sum_is_lem (a *ℤ b) (a *ℤ c),
+      ap (λ x. x * up a) bc,
+      ap (λ x. x * down a) bc,
+    ))
 
 pub times_one_ℤ : (a : ℤ) → a *ℤ pos 1 ≡ a
 unfolding IntN.one
