@@ -2,6 +2,8 @@
 #![tactic(auto)]
 
 mod product;
+pub mod ratio;
 mod ratio_sign;
 mod root_sign;
+pub mod roots;
 pub mod sign;
