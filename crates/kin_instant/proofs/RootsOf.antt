@@ -1,5 +1,5 @@
 -- What `roots` answers, case by case.
-use Rattle.std.proofs.Common.{◌≡◌, ◌≢◌, ◌⊎◌, ◌↔◌, inl, inr, Some, refl, ap, ap₂, sym, ◌∙◌, subst, Bool, true, false, ℕ, zero, suc, [], ◌∷◌, arith, ℤ, pos, negsuc, ◌+ℤ◌, ◌-ℤ◌, ◌*ℤ◌, unsigned_abs, ◌^◌, ◌<◌, ◌≤◌}
+use Rattle.std.proofs.Common.{◌≡◌, ◌≢◌, ◌⊎◌, ◌↔◌, inl, inr, Some, refl, ap, ap₂, sym, ◌∙◌, subst, Bool, true, false, ℕ, zero, suc, [], ◌∷◌, arith, ℤ, pos, negsuc, ◌+ℤ◌, ◌-ℤ◌, ◌*ℤ◌, unsigned_abs, ◌^◌, ◌*◌, ◌<◌, ◌≤◌}
 use Rattle.std.specs.Prelude.{◌<ℤ◌}
 use Rattle.std.proofs.lemmas.Int.{ints}
 use lib.IntN.{neg_ℤ}
@@ -7,12 +7,12 @@ use Rattle.kin_algebra.specs.declared.sign.Sign.{Sign}
 use Rattle.kin_algebra.specs.declared.sign.Sign.TheVariants.{Minus, Zero, Plus}
 use Rattle.kin_algebra.specs.Signs.{sign_of, opposite_of, product_of, pair_sign_of}
 use Rattle.kin_algebra.proofs.Ring.{by_ring, quotes}
-use Rattle.kin_algebra.proofs.Signs.{code, opposite-opposite}
+use Rattle.kin_algebra.proofs.Signs.{code, same_from_product}
 use Rattle.kin_algebra.proofs.IntegerSigns.{sign_in, sign_out, sign_of-times, sign_of-negative, zero_of}
 use Rattle.kin_num.specs.declared.instant.Shape.{Shape}
 use Rattle.kin_num.specs.declared.instant.Shape.TheVariants.{Ratio, Root}
 use Rattle.kin_num.specs.Quadratic.{Quadratic}
-use Rattle.kin_num.specs.Canonical.{IsCanonical, IsCanonicalForm, IsLowest, IsIrreducible, discriminant}
+use Rattle.kin_num.specs.Canonical.{IsCanonical, IsCanonicalForm, IsLowest, IsIrreducible, HaveNoCommonDivisor, discriminant}
 use Rattle.kin_num.specs.Instants.{number_of, sign_at_instant, line}
 use Rattle.kin_num.specs.Order.{IsLess}
 use Rattle.kin_num.proofs.Values.{negated}
@@ -20,7 +20,7 @@ use Rattle.kin_num.proofs.SignLaws.{sign_at_instant-neg}
 use Rattle.kin_instant.specs.declared.roots.Roots.{Roots}
 use Rattle.kin_instant.specs.declared.roots.Roots.TheVariants.{Nowhere, One, Two, All}
 use Rattle.kin_instant.specs.Roots.{IsFraction, Lists, AreCanonical, IsRising, count_of, count_by, root_count, quadratic, AreRootsOf}
-use Rattle.kin_instant.proofs.Values.{sign-scaled, pair_sign-positive}
+use Rattle.kin_instant.proofs.Values.{sign-scaled, pair_sign-positive, pair_sign-scaled}
 use Rattle.kin_instant.proofs.Zeros.{line-zero, line-zero_at, quadratic-zero, root-zero_at, instant-negative, instant-split, instant-scaled}
 
 -- where p is zero, another polynomial is, and the other way round
@@ -186,3 +186,134 @@ double_root a b c root h e z r f k =
         either : {P : Type 0} → P ⊎ P → P
         either (inl p) = p
         either (inr p) = p
+
+-- ---- two roots
+not_plus : (s : Sign) → s ≡ Zero → s ≢ Plus
+not_plus s e f = code (sym e ∙ f)
+
+two_apart : (b root e : ℤ) → pos 0 <ℤ root → pos 0 <ℤ e → pos 0 <ℤ (e *ℤ ((pos 2 *ℤ root) *ℤ e))
+two_apart b root e h k = sign_out Plus _ (sign-scaled e ((pos 2 *ℤ root) *ℤ e) k ∙ sign-scaled (pos 2 *ℤ root) e (doubled_positive root h) ∙ sign_in Plus e k)
+
+upper_on_lower : (a b root m e : ℤ) → m *ℤ (pos 2 *ℤ a) ≡ (root -ℤ b) *ℤ e →
+    pos 0 *ℤ (m *ℤ m +ℤ pos 0 *ℤ pos 0 *ℤ pos 0) +ℤ (pos 2 *ℤ a) *ℤ m *ℤ e +ℤ neg_ℤ (neg_ℤ root -ℤ b) *ℤ e *ℤ e ≡ e *ℤ ((pos 2 *ℤ root) *ℤ e)
+upper_on_lower a b root m e h =
+    by_ring (a ∷ b ∷ root ∷ m ∷ e ∷ []) _ (e *ℤ (m *ℤ (pos 2 *ℤ a) +ℤ (root +ℤ b) *ℤ e)) (search quotes depth 24) (search quotes depth 24) refl
+    ∙ ap (λ (z : ℤ). e *ℤ (z +ℤ (root +ℤ b) *ℤ e)) h
+    ∙ by_ring (b ∷ root ∷ e ∷ []) _ _ (search quotes depth 24) (search quotes depth 24) refl
+
+-- the lesser root lies on its line, the greater one beyond it
+pub rising_fractions : (a b root : ℤ) → pos 0 <ℤ a → pos 0 <ℤ root → (r s : Shape) → IsFraction (neg_ℤ root -ℤ b) (pos 2 *ℤ a) r → IsFraction (root -ℤ b) (pos 2 *ℤ a) s → IsCanonical r → IsCanonical s → IsLess r s
+unfolding sign_at_instant
+rising_fractions a b root h k (Root _ _ _ _) s f g i j = absurd f
+rising_fractions a b root h k (Ratio m e) (Root _ _ _ _) f g i j = absurd g
+rising_fractions a b root h k (Ratio m e) (Ratio m' e') f g i j =
+    (neg_ℤ root -ℤ b, (pos 2 *ℤ a, record {
+      proper = doubled_positive a h;
+      first = not_plus _ (line-zero_at (neg_ℤ root -ℤ b) (pos 2 *ℤ a) m e f);
+      second = ap sign_of (upper_on_lower a b root m' e' g) ∙ sign_in Plus _ (two_apart b root e' k j.form.positive);
+    }))
+
+pub two_fractions : (a b c root : ℤ) → pos 0 <ℤ a → root *ℤ root ≡ discriminant a b c → pos 0 <ℤ root → (r s : Shape) → IsFraction (neg_ℤ root -ℤ b) (pos 2 *ℤ a) r → IsFraction (root -ℤ b) (pos 2 *ℤ a) s → IsCanonical r → IsCanonical s → AreRootsOf (quadratic a b c) (Two r s)
+two_fractions a b c root h e k r s f g i j = record {
+  canonical = (i, j);
+  exact = both;
+  rising = rising_fractions a b root h k r s f g i j;
+  number = sym (count_plus a b c Plus h (ap sign_of (sym e) ∙ sign-scaled root root k ∙ sign_in Plus root k));
+}
+  where
+    both : (w : Shape) → IsCanonicalForm w → (sign_at_instant (quadratic a b c) w ≡ Zero) ↔ ((w ≡ r) ⊎ (w ≡ s))
+    both w l =
+        let z = zero_factor _ _ _ (instant-split w l a b c root h e) in
+        let x = fraction_zeros (neg_ℤ root -ℤ b) (pos 2 *ℤ a) (doubled_positive a h) r f i w l in
+        let y = fraction_zeros (root -ℤ b) (pos 2 *ℤ a) (doubled_positive a h) s g j w l in
+        (λ t. there (z.0 t) x.0 y.0, λ t. z.1 (back t x.1 y.1))
+      where
+        there : {P P' Q Q' : Type 0} → P ⊎ Q → (P → P') → (Q → Q') → P' ⊎ Q'
+        there (inl p) u v = inl (u p)
+        there (inr q) u v = inr (v q)
+        back : {P P' Q Q' : Type 0} → P ⊎ Q → (P → P') → (Q → Q') → P' ⊎ Q'
+        back (inl p) u v = inl (u p)
+        back (inr q) u v = inr (v q)
+
+-- ---- two irrational roots
+middle_units : (a b m e : ℤ) → pos 0 *ℤ (neg_ℤ b *ℤ neg_ℤ b +ℤ m *ℤ m *ℤ e) +ℤ (pos 2 *ℤ a) *ℤ neg_ℤ b *ℤ (pos 2 *ℤ a) +ℤ neg_ℤ (neg_ℤ b) *ℤ (pos 2 *ℤ a) *ℤ (pos 2 *ℤ a) ≡ (pos 2 *ℤ a) *ℤ pos 0
+middle_units a b m e = by_ring (a ∷ b ∷ m ∷ e ∷ []) _ _ (search quotes depth 24) (search quotes depth 24) refl
+
+middle_surd : (a b m : ℤ) → pos 2 *ℤ pos 0 *ℤ neg_ℤ b *ℤ m +ℤ (pos 2 *ℤ a) *ℤ m *ℤ (pos 2 *ℤ a) ≡ (pos 2 *ℤ a) *ℤ ((pos 2 *ℤ a) *ℤ m)
+middle_surd a b m = by_ring (a ∷ b ∷ m ∷ []) _ _ (search quotes depth 24) (search quotes depth 24) refl
+
+pure_surd : (v d : ℤ) → pos 0 <ℤ d → pair_sign_of (pos 0) v d ≡ sign_of v
+pure_surd v d h = pair_sign-positive (pos 0) v d h
+
+middle_sign : (a b m e : ℤ) → pos 0 <ℤ a → pos 0 <ℤ e →
+    pair_sign_of (pos 0 *ℤ (neg_ℤ b *ℤ neg_ℤ b +ℤ m *ℤ m *ℤ e) +ℤ (pos 2 *ℤ a) *ℤ neg_ℤ b *ℤ (pos 2 *ℤ a) +ℤ neg_ℤ (neg_ℤ b) *ℤ (pos 2 *ℤ a) *ℤ (pos 2 *ℤ a)) (pos 2 *ℤ pos 0 *ℤ neg_ℤ b *ℤ m +ℤ (pos 2 *ℤ a) *ℤ m *ℤ (pos 2 *ℤ a)) e ≡ sign_of m
+middle_sign a b m e h real =
+    ap₂ (λ (u v : ℤ). pair_sign_of u v e) (middle_units a b m e) (middle_surd a b m)
+    ∙ pair_sign-scaled (pos 2 *ℤ a) (pos 0) ((pos 2 *ℤ a) *ℤ m) e (doubled_positive a h) real
+    ∙ pure_surd ((pos 2 *ℤ a) *ℤ m) e real ∙ sign-scaled (pos 2 *ℤ a) m (doubled_positive a h)
+
+-- the middle -b / 2a lies between the two roots
+pub rising_surds : (a b c : ℤ) → IsIrreducible a b c → IsLess (Root a b c false) (Root a b c true)
+unfolding sign_at_instant
+rising_surds a b c i =
+    (neg_ℤ b, (pos 2 *ℤ a, record {
+      proper = doubled_positive a i.positive;
+      first = λ e. code (sym (middle_sign a b (negsuc 0) (discriminant a b c) i.positive i.real) ∙ e);
+      second = middle_sign a b (pos 1) (discriminant a b c) i.positive i.real;
+    }))
+
+three_scaled : (g a b c a' b' c' : ℤ) → a ≡ a' *ℤ g → b ≡ b' *ℤ g → c ≡ c' *ℤ g → quadratic a b c ≡ quadratic (g *ℤ a') (g *ℤ b') (g *ℤ c')
+three_scaled g a b c a' b' c' e f h =
+    ap (λ (x : ℤ). quadratic x b c) (e ∙ turned a' g) ∙ ap (λ (x : ℤ). quadratic (g *ℤ a') x c) (f ∙ turned b' g) ∙ ap (quadratic (g *ℤ a') (g *ℤ b')) (h ∙ turned c' g)
+  where
+    turned : (x y : ℤ) → x *ℤ y ≡ y *ℤ x
+    turned x y = by_ring (x ∷ y ∷ []) _ _ (search quotes depth 16) (search quotes depth 16) refl
+
+pub two_surds : (a b c g a' b' c' : ℤ) → pos 0 <ℤ a → pos 0 <ℤ discriminant a b c → pos 0 <ℤ g → a ≡ a' *ℤ g → b ≡ b' *ℤ g → c ≡ c' *ℤ g → IsCanonical (Root a' b' c' false) → AreRootsOf (quadratic a b c) (Two (Root a' b' c' false) (Root a' b' c' true))
+two_surds a b c g a' b' c' h real k e f l i = record {
+  canonical = (i, record { form = i.form; small = i.small });
+  exact = λ w j. let same = ap (λ (p : Quadratic). sign_at_instant p w) (three_scaled g a b c a' b' c' e f l) ∙ instant-scaled w j g a' b' c' k in
+      (λ z. quadratic-zero w j a' b' c' i.form (sym same ∙ z), λ t. same ∙ listed w t);
+  rising = rising_surds a' b' c' i.form;
+  number = sym (count_plus a b c Plus h (sign_in Plus _ real));
+}
+  where
+    listed : (w : Shape) → (w ≡ Root a' b' c' false) ⊎ (w ≡ Root a' b' c' true) → sign_at_instant (quadratic a' b' c') w ≡ Zero
+    listed w (inl q) = ap (sign_at_instant (quadratic a' b' c')) q ∙ root-zero_at a' b' c' false
+    listed w (inr q) = ap (sign_at_instant (quadratic a' b' c')) q ∙ root-zero_at a' b' c' true
+
+-- ---- what is left of an irrational discriminant after division
+divided_discriminant : (g a b c : ℤ) → discriminant (a *ℤ g) (b *ℤ g) (c *ℤ g) ≡ (g *ℤ g) *ℤ discriminant a b c
+divided_discriminant g a b c = by_ring (g ∷ a ∷ b ∷ c ∷ []) _ _ (search quotes depth 24) (search quotes depth 24) refl
+
+pub discriminant_of : (g a b c a' b' c' : ℤ) → a ≡ a' *ℤ g → b ≡ b' *ℤ g → c ≡ c' *ℤ g → discriminant a b c ≡ (g *ℤ g) *ℤ discriminant a' b' c'
+discriminant_of g a b c a' b' c' e f h =
+    ap (λ (x : ℤ). discriminant x b c) e ∙ ap (λ (x : ℤ). discriminant (a' *ℤ g) x c) f ∙ ap (discriminant (a' *ℤ g) (b' *ℤ g)) h ∙ divided_discriminant g a' b' c'
+
+square_of : (g k : ℕ) → (pos g *ℤ pos g) *ℤ pos (k * k) ≡ pos ((g * k) * (g * k))
+square_of g k = ap pos (flat g k)
+  where
+    flat : (g k : ℕ) → g * g * (k * k) ≡ g * k * (g * k)
+    flat g k = omega arith
+
+pub irreducible_after : (a b c a' b' c' : ℤ) (g : ℕ) → 0 < g → pos 0 <ℤ a → pos 0 <ℤ discriminant a b c → ((k : ℕ) → pos (k * k) ≢ discriminant a b c) → a ≡ a' *ℤ pos g → b ≡ b' *ℤ pos g → c ≡ c' *ℤ pos g → HaveNoCommonDivisor a' b' c' → IsIrreducible a' b' c'
+irreducible_after a b c a' b' c' g some h real irrational e f l i = record {
+  positive = positive_factor a a' (pos g) h e g_positive;
+  primitive = i;
+  real = positive_factor (discriminant a b c) (discriminant a' b' c') (pos g *ℤ pos g) real (same ∙ turned (pos g *ℤ pos g) (discriminant a' b' c')) (sign_out Plus _ (sign-scaled (pos g) (pos g) g_positive ∙ sign_in Plus (pos g) g_positive));
+  irrational = λ k q. irrational (g * k) (sym (square_of g k) ∙ ap (λ (z : ℤ). (pos g *ℤ pos g) *ℤ z) q ∙ sym same);
+}
+  where
+    same : discriminant a b c ≡ (pos g *ℤ pos g) *ℤ discriminant a' b' c'
+    same = discriminant_of (pos g) a b c a' b' c' e f l
+    turned : (x y : ℤ) → x *ℤ y ≡ y *ℤ x
+    turned x y = by_ring (x ∷ y ∷ []) _ _ (search quotes depth 16) (search quotes depth 16) refl
+    -- a positive product with a positive factor
+    positive_factor : (x y z : ℤ) → pos 0 <ℤ x → x ≡ y *ℤ z → pos 0 <ℤ z → pos 0 <ℤ y
+    positive_factor x y z h e k = sign_out Plus y ((same_from_product _ _ (sym (sign_of-times y z) ∙ ap sign_of (sym e) ∙ sign_in Plus x h)).0 ∙ sign_in Plus z k)
+    g_positive : pos 0 <ℤ pos g
+    g_positive = omega (arith, ints)
+
+-- ---- what the code has, read as what it means
+pub fraction_read : (n d n' d' : ℤ) (r : Shape) → n' ≡ n → d' ≡ d → IsFraction n' d' r → IsFraction n d r
+fraction_read n d n' d' r e f h = subst (λ (x : ℤ). IsFraction x d r) e (subst (λ (y : ℤ). IsFraction n' y r) f h)

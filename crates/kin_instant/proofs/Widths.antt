@@ -1,9 +1,9 @@
 -- Sums and differences of products that fit their width.
-use Rattle.std.proofs.Common.{◌≡◌, ℕ, ◌+◌, ◌*◌, ◌<◌, ◌≤◌, ◌^◌, ℤ, pos, negsuc, ◌+ℤ◌, ◌-ℤ◌, ◌*ℤ◌, unsigned_abs, FitsSigned, to_z, of_z, refl, sym, ap, ◌∙◌, subst, arith, mul-le-mul}
+use Rattle.std.proofs.Common.{◌≡◌, ℕ, ◌+◌, ◌*◌, ◌<◌, ◌≤◌, ◌^◌, ℤ, pos, negsuc, ◌+ℤ◌, ◌-ℤ◌, ◌*ℤ◌, unsigned_abs, FitsSigned, Bool, true, false, w64, to_z, of_z, refl, sym, ap, ◌∙◌, subst, arith, mul-le-mul}
 use Rattle.std.proofs.lemmas.Int.{ints, to_z-of_z, fits_signed_from_abs, unsigned_abs-mul}
 use mir.Syntax.{Width}
 use mir.Val.{hbits}
-use lib.Signed.{mag}
+use lib.Signed.{mag, lt_z, ◌<ℤ◌, ◌≤ℤ◌}
 
 abs-sum : (x y : ℤ) (m n : ℕ) → unsigned_abs x ≤ m → unsigned_abs y ≤ n → unsigned_abs (x +ℤ y) ≤ m + n
 abs-sum x y m n h k = omega (arith, ints)
@@ -84,3 +84,13 @@ product-raw w a b a' b' p q h = rw (p, q) (fits_signed_from_abs w (a *ℤ b) h)
 
 pub product-value : (w : Width) (a b a' b' : ℤ) → to_z w (of_z w a') ≡ a → to_z w (of_z w b') ≡ b → unsigned_abs (a *ℤ b) < 2 ^ hbits w → to_z w (of_z w (to_z w (of_z w a') *ℤ to_z w (of_z w b'))) ≡ a *ℤ b
 product-value w a b a' b' p q h = rw (p, q) (clean-abs w (a *ℤ b) h)
+
+-- ---- tests
+pub less_out : (x y : ℤ) → lt_z x y ≡ true → x <ℤ y
+less_out x y e = grind (arith, ints)
+
+pub not_less_out : (x y : ℤ) → lt_z x y ≡ false → y ≤ℤ x
+not_less_out x y e = grind (arith, ints)
+
+pub nothing_out : (x : ℤ) → FitsSigned w64 x → of_z w64 x ≡ 0 → x ≡ pos 0
+nothing_out x f e = sym (to_z-of_z w64 x f) ∙ ap (to_z w64) e

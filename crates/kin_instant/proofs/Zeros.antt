@@ -19,7 +19,8 @@ use Rattle.kin_num.specs.Canonical.{IsCanonicalForm, IsLowest, IsIrreducible, di
 use Rattle.kin_num.specs.Instants.{Number, number_of, sign_at_number, sign_at_instant, derivative, line}
 use Rattle.kin_num.proofs.Values.{value, canonical-sound, irreducible-sound}
 use Rattle.kin_instant.specs.Roots.{quadratic}
-use Rattle.kin_instant.proofs.Lowest.{lowest_unique, primitive_unique, cancel_right}
+use Rattle.kin_num.proofs.Divisors.{cancel_factor, same_lowest}
+use Rattle.kin_num.proofs.RootZeros.{root_itself}
 
 positive_product : (a b : ℤ) → pos 0 <ℤ a → pos 0 <ℤ b → pos 0 <ℤ (a *ℤ b)
 positive_product a b h k = sign_out Plus (a *ℤ b) (sign_of-times a b ∙ ap₂ product_of (sign_in Plus a h) (sign_in Plus b k))
@@ -141,10 +142,10 @@ both_zero u v (pos (suc n)) h s e = pair_of_zero (pos (suc n)) (radical_of (pos 
 both_zero u v (negsuc n) h s e = absurd (omega (arith, ints))
 
 zero_product : (a b : ℤ) → a *ℤ b ≡ pos 0 → pos 0 <ℤ a → b ≡ pos 0
-zero_product a b e h = cancel_right b (pos 0) a h (flip a b e)
+zero_product a b e h = cancel_factor a b (pos 0) h (e ∙ nothing a)
   where
-    flip : (a b : ℤ) → a *ℤ b ≡ pos 0 → b *ℤ a ≡ pos 0 *ℤ a
-    flip a b e = omega (arith, ints, e)
+    nothing : (a : ℤ) → pos 0 ≡ a *ℤ pos 0
+    nothing a = omega (arith, ints)
 
 -- ---- lines
 -- a line through n/d is zero at the form of n/d in lowest terms
@@ -167,12 +168,12 @@ line-zero_at n d m e h = ap sign_of (ratio_on_line n d m e ∙ nothing_times e (
 -- m * d' = n' * e from m / e = n / d = n' / d'
 chained : (n d m e n' d' : ℤ) → pos 0 <ℤ d → m *ℤ d ≡ n *ℤ e → n' *ℤ d ≡ n *ℤ d' → m *ℤ d' ≡ n' *ℤ e
 chained n d m e n' d' h p q =
-    cancel_right (m *ℤ d') (n' *ℤ e) d h
-    (by_ring (m ∷ d' ∷ d ∷ []) (m *ℤ d' *ℤ d) ((m *ℤ d) *ℤ d') (search quotes depth 16) (search quotes depth 16) refl
+    cancel_factor d (m *ℤ d') (n' *ℤ e) h
+    (by_ring (m ∷ d' ∷ d ∷ []) (d *ℤ (m *ℤ d')) ((m *ℤ d) *ℤ d') (search quotes depth 16) (search quotes depth 16) refl
     ∙ ap (λ (z : ℤ). z *ℤ d') p
     ∙ by_ring (n ∷ e ∷ d' ∷ []) (n *ℤ e *ℤ d') ((n *ℤ d') *ℤ e) (search quotes depth 16) (search quotes depth 16) refl
     ∙ ap (λ (z : ℤ). z *ℤ e) (sym q)
-    ∙ by_ring (n' ∷ d ∷ e ∷ []) ((n' *ℤ d) *ℤ e) (n' *ℤ e *ℤ d) (search quotes depth 16) (search quotes depth 16) refl)
+    ∙ by_ring (n' ∷ d ∷ e ∷ []) ((n' *ℤ d) *ℤ e) (d *ℤ (n' *ℤ e)) (search quotes depth 16) (search quotes depth 16) refl)
 
 line_surd : (a b d m : ℤ) → pos 2 *ℤ pos 0 *ℤ neg_ℤ b *ℤ m +ℤ d *ℤ m *ℤ (pos 2 *ℤ a) ≡ (pos 2 *ℤ (d *ℤ a)) *ℤ m
 line_surd a b d m = by_ring (a ∷ b ∷ d ∷ m ∷ []) _ _ (search quotes depth 20) (search quotes depth 20) refl
@@ -188,7 +189,7 @@ pub line-zero : (w : Shape) → IsCanonicalForm w → (n d n' d' : ℤ) → pos 
 unfolding sign_at_instant
 line-zero (Ratio m e) i n d n' d' h j q z =
     let gone : m *ℤ d -ℤ n *ℤ e ≡ pos 0 = zero_product e (m *ℤ d -ℤ n *ℤ e) (sym (ratio_on_line n d m e) ∙ zero_of _ z) i.positive in
-    let same = lowest_unique m e n' d' i j (chained n d m e n' d' h (no_difference (m *ℤ d) (n *ℤ e) gone) q) in
+    let same = same_lowest m e n' d' i j (chained n d m e n' d' h (no_difference (m *ℤ d) (n *ℤ e) gone) q) in
     ap₂ Ratio same.0 same.1
 line-zero (Root a b c true) i n d n' d' h j q z = absurd (line_no_root a b d _ (discriminant a b c) (pos 1) i.positive h i.real (irreducible-sound a b c i) (λ e. absurd (omega (arith, ints, e))) z)
 line-zero (Root a b c false) i n d n' d' h j q z = absurd (line_no_root a b d _ (discriminant a b c) (negsuc 0) i.positive h i.real (irreducible-sound a b c i) (λ e. absurd (omega (arith, ints, e))) z)
@@ -212,62 +213,9 @@ unfolding sign_at_instant
 root-zero_at a b c true = ap₂ (λ (u v : ℤ). pair_sign_of u v (discriminant a b c)) (on_itself a b c (pos 1) refl) (on_itself_surd a b (pos 1)) ∙ nothing_pair (discriminant a b c)
 root-zero_at a b c false = ap₂ (λ (u v : ℤ). pair_sign_of u v (discriminant a b c)) (on_itself a b c (negsuc 0) refl) (on_itself_surd a b (negsuc 0)) ∙ nothing_pair (discriminant a b c)
 
--- no fraction is a root
-fraction_norm : (a b c n d : ℤ) → norm_of (pos 2 *ℤ a *ℤ n +ℤ b *ℤ d) d (discriminant a b c) ≡ (pos 4 *ℤ a) *ℤ (a *ℤ (n *ℤ n +ℤ pos 0 *ℤ pos 0 *ℤ pos 0) +ℤ b *ℤ n *ℤ d +ℤ c *ℤ d *ℤ d)
-fraction_norm a b c n d = by_ring (a ∷ b ∷ c ∷ n ∷ d ∷ []) _ _ (search quotes depth 24 fits 40000) (search quotes depth 24 fits 40000) refl
-
--- the two parts of a value at a root of another quadratic
-root_units_of : (p q r a b c m : ℤ) → m *ℤ m ≡ pos 1 →
-    p *ℤ (neg_ℤ b *ℤ neg_ℤ b +ℤ m *ℤ m *ℤ (b *ℤ b -ℤ pos 4 *ℤ a *ℤ c)) +ℤ q *ℤ neg_ℤ b *ℤ (pos 2 *ℤ a) +ℤ r *ℤ (pos 2 *ℤ a) *ℤ (pos 2 *ℤ a)
-    ≡ (pos 4 *ℤ a) *ℤ (a *ℤ r -ℤ c *ℤ p) -ℤ (pos 2 *ℤ b) *ℤ (a *ℤ q -ℤ b *ℤ p)
-root_units_of p q r a b c m e =
-    ap (λ (k : ℤ). p *ℤ (neg_ℤ b *ℤ neg_ℤ b +ℤ k *ℤ (b *ℤ b -ℤ pos 4 *ℤ a *ℤ c)) +ℤ q *ℤ neg_ℤ b *ℤ (pos 2 *ℤ a) +ℤ r *ℤ (pos 2 *ℤ a) *ℤ (pos 2 *ℤ a)) e
-    ∙ by_ring (p ∷ q ∷ r ∷ a ∷ b ∷ c ∷ []) _ _ (search quotes depth 24 fits 40000) (search quotes depth 24 fits 40000) refl
-
-root_surd_of : (p q a b m : ℤ) → pos 2 *ℤ p *ℤ neg_ℤ b *ℤ m +ℤ q *ℤ m *ℤ (pos 2 *ℤ a) ≡ pos 2 *ℤ (m *ℤ (a *ℤ q -ℤ b *ℤ p))
-root_surd_of p q a b m = by_ring (p ∷ q ∷ a ∷ b ∷ m ∷ []) _ _ (search quotes depth 24 fits 40000) (search quotes depth 24 fits 40000) refl
-
-half_zero : (z : ℤ) → pos 2 *ℤ z ≡ pos 0 → z ≡ pos 0
-half_zero z e = omega (arith, ints, e)
-
-unit_zero : (m z : ℤ) → m *ℤ m ≡ pos 1 → m *ℤ z ≡ pos 0 → z ≡ pos 0
-unit_zero m z e h =
-    sym (one z) ∙ ap (λ (k : ℤ). k *ℤ z) (sym e) ∙ by_ring (m ∷ z ∷ []) (m *ℤ m *ℤ z) (m *ℤ (m *ℤ z)) (search quotes depth 16) (search quotes depth 16) refl ∙ nothing_times m (m *ℤ z) h
-  where
-    one : (z : ℤ) → pos 1 *ℤ z ≡ z
-    one z = omega (arith, ints)
-
--- where (p, q, r) has sign 0 at a root of (a, b, c), the two are proportional
-proportional : (p q r a b c m : ℤ) → m *ℤ m ≡ pos 1 → pos 0 <ℤ a → pos 0 <ℤ discriminant a b c → Sound (discriminant a b c) →
-    pair_sign_of (p *ℤ (neg_ℤ b *ℤ neg_ℤ b +ℤ m *ℤ m *ℤ (b *ℤ b -ℤ pos 4 *ℤ a *ℤ c)) +ℤ q *ℤ neg_ℤ b *ℤ (pos 2 *ℤ a) +ℤ r *ℤ (pos 2 *ℤ a) *ℤ (pos 2 *ℤ a)) (pos 2 *ℤ p *ℤ neg_ℤ b *ℤ m +ℤ q *ℤ m *ℤ (pos 2 *ℤ a)) (discriminant a b c) ≡ Zero →
-    (a *ℤ q ≡ b *ℤ p) × (a *ℤ r ≡ c *ℤ p)
-proportional p q r a b c m e h real s z =
-    let both = both_zero _ _ (discriminant a b c) real s z in
-    let first : a *ℤ q -ℤ b *ℤ p ≡ pos 0 = unit_zero m _ e (half_zero _ (sym (root_surd_of p q a b m) ∙ both.1)) in
-    let second : (pos 4 *ℤ a) *ℤ (a *ℤ r -ℤ c *ℤ p) ≡ pos 0 =
-    less_nothing _ ((pos 2 *ℤ b) *ℤ (a *ℤ q -ℤ b *ℤ p)) (nothing_times (pos 2 *ℤ b) (a *ℤ q -ℤ b *ℤ p) first) (sym (root_units_of p q r a b c m e) ∙ both.0) in
-    (no_difference _ _ first, no_difference _ _ (zero_product (pos 4 *ℤ a) _ second (fourfold_positive a h)))
-  where
-    less_nothing : (x y : ℤ) → y ≡ pos 0 → x -ℤ y ≡ pos 0 → x ≡ pos 0
-    less_nothing x y e f = omega (arith, ints, e, f)
-    fourfold_positive : (a : ℤ) → pos 0 <ℤ a → pos 0 <ℤ (pos 4 *ℤ a)
-    fourfold_positive a h = omega (arith, ints)
-
-three : (a b c a' b' c' : ℤ) (upper : Bool) → (a ≡ a') × (b ≡ b') × (c ≡ c') → Root a b c upper ≡ Root a' b' c' upper
-three a b c a' b' c' upper e = ap (λ (x : ℤ). Root x b c upper) e.0 ∙ ap (λ (x : ℤ). Root a' x c upper) e.1 ∙ ap (λ (x : ℤ). Root a' b' x upper) e.2
-
 pub quadratic-zero : (w : Shape) → IsCanonicalForm w → (a b c : ℤ) → IsIrreducible a b c → sign_at_instant (quadratic a b c) w ≡ Zero → (w ≡ Root a b c false) ⊎ (w ≡ Root a b c true)
-unfolding sign_at_instant
-quadratic-zero (Ratio n d) i a b c j z =
-    let r = radical_of (discriminant a b c) j.real (irreducible-sound a b c j) in
-    let none : d ≡ pos 0 = (r.alone (pos 2 *ℤ a *ℤ n +ℤ b *ℤ d) d (fraction_norm a b c n d ∙ nothing_times (pos 4 *ℤ a) _ (zero_of _ z))).1 in
-    absurd (impossible d none i.positive)
+quadratic-zero w i a b c j z = which (root_itself a b c j w i z)
   where
-    impossible : (d : ℤ) → d ≡ pos 0 → pos 0 <ℤ d → ⊥
-    impossible d e h = omega (arith, ints, e)
-quadratic-zero (Root a' b' c' true) i a b c j z =
-    let e = proportional a b c a' b' c' (pos 1) refl i.positive i.real (irreducible-sound a' b' c' i) z in
-    inr (three a' b' c' a b c true (primitive_unique a' b' c' a b c i.positive j.positive i.primitive j.primitive e.0 e.1))
-quadratic-zero (Root a' b' c' false) i a b c j z =
-    let e = proportional a b c a' b' c' (negsuc 0) refl i.positive i.real (irreducible-sound a' b' c' i) z in
-    inl (three a' b' c' a b c false (primitive_unique a' b' c' a b c i.positive j.positive i.primitive j.primitive e.0 e.1))
+    which : (upper : Bool) × (w ≡ Root a b c upper) → (w ≡ Root a b c false) ⊎ (w ≡ Root a b c true)
+    which (true, e) = inr e
+    which (false, e) = inl e

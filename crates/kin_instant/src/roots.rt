@@ -47,14 +47,12 @@ fn line_roots(b: i64, c: i64) -> Roots
 
 /// The two rational roots of a quadratic, or its double one, where `root` is the square root of the discriminant.
 fn rational_roots(a: i64, b: i64, root: i64) -> Roots
-    ghost c: { ℤ }
     requires a_positive { pos 0 <ℤ a }
     requires a_small { unsigned_abs a ≤ 2 ^ 28 }
     requires b_small { unsigned_abs b ≤ 2 ^ 29 }
     requires root_small { unsigned_abs root ≤ 2 ^ 30 }
     requires root_positive { pos 0 ≤ℤ root }
-    requires square { root *ℤ root ≡ discriminant a b c }
-    ensures { AreRootsOf (quadratic a b c) result }
+    ensures { (c : ℤ) → root *ℤ root ≡ discriminant a b c → AreRootsOf (quadratic a b c) result }
 {
     let upper = ratio(root - b, 2 * a);
     if root == 0 {
