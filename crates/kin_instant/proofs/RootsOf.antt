@@ -207,11 +207,11 @@ unfolding sign_at_instant
 rising_fractions a b root h k (Root _ _ _ _) s f g i j = absurd f
 rising_fractions a b root h k (Ratio m e) (Root _ _ _ _) f g i j = absurd g
 rising_fractions a b root h k (Ratio m e) (Ratio m' e') f g i j =
-    (neg_ℤ root -ℤ b, (pos 2 *ℤ a, record {
+    (neg_ℤ root -ℤ b, pos 2 *ℤ a, record {
       proper = doubled_positive a h;
       first = not_plus _ (line-zero_at (neg_ℤ root -ℤ b) (pos 2 *ℤ a) m e f);
       second = ap sign_of (upper_on_lower a b root m' e' g) ∙ sign_in Plus _ (two_apart b root e' k j.form.positive);
-    }))
+    })
 
 pub two_fractions : (a b c root : ℤ) → pos 0 <ℤ a → root *ℤ root ≡ discriminant a b c → pos 0 <ℤ root → (r s : Shape) → IsFraction (neg_ℤ root -ℤ b) (pos 2 *ℤ a) r → IsFraction (root -ℤ b) (pos 2 *ℤ a) s → IsCanonical r → IsCanonical s → AreRootsOf (quadratic a b c) (Two r s)
 two_fractions a b c root h e k r s f g i j = record {
@@ -256,11 +256,11 @@ middle_sign a b m e h real =
 pub rising_surds : (a b c : ℤ) → IsIrreducible a b c → IsLess (Root a b c false) (Root a b c true)
 unfolding sign_at_instant
 rising_surds a b c i =
-    (neg_ℤ b, (pos 2 *ℤ a, record {
+    (neg_ℤ b, pos 2 *ℤ a, record {
       proper = doubled_positive a i.positive;
       first = λ e. code (sym (middle_sign a b (negsuc 0) (discriminant a b c) i.positive i.real) ∙ e);
       second = middle_sign a b (pos 1) (discriminant a b c) i.positive i.real;
-    }))
+    })
 
 three_scaled : (g a b c a' b' c' : ℤ) → a ≡ a' *ℤ g → b ≡ b' *ℤ g → c ≡ c' *ℤ g → quadratic a b c ≡ quadratic (g *ℤ a') (g *ℤ b') (g *ℤ c')
 three_scaled g a b c a' b' c' e f h =

@@ -1,5 +1,5 @@
 -- Sums and differences of products that fit their width.
-use Rattle.std.proofs.Common.{◌≡◌, ℕ, ◌+◌, ◌*◌, ◌<◌, ◌≤◌, ◌^◌, ℤ, pos, negsuc, ◌+ℤ◌, ◌-ℤ◌, ◌*ℤ◌, unsigned_abs, FitsSigned, Bool, true, false, w64, to_z, of_z, refl, sym, ap, ◌∙◌, subst, arith, mul-le-mul}
+use Rattle.std.proofs.Common.{◌≡◌, ℕ, ◌+◌, ◌*◌, ◌<◌, ◌≤◌, ◌^◌, ℤ, pos, negsuc, ◌+ℤ◌, ◌-ℤ◌, ◌*ℤ◌, unsigned_abs, FitsSigned, Bool, true, false, w64, to_z, of_z, refl, sym, ap, ap₂, ◌∙◌, subst, arith, mul-le-mul}
 use Rattle.std.proofs.lemmas.Int.{ints, to_z-of_z, fits_signed_from_abs, unsigned_abs-mul}
 use mir.Syntax.{Width}
 use mir.Val.{hbits}
@@ -94,3 +94,22 @@ not_less_out x y e = grind (arith, ints)
 
 pub nothing_out : (x : ℤ) → FitsSigned w64 x → of_z w64 x ≡ 0 → x ≡ pos 0
 nothing_out x f e = sym (to_z-of_z w64 x f) ∙ ap (to_z w64) e
+
+-- ---- differences and doubles of small numbers
+small_fits : (z : ℤ) → unsigned_abs z ≤ 2 ^ 33 → FitsSigned w64 z
+small_fits z h = fits_signed_from_abs w64 z (omega arith)
+
+pub small_difference-fits : (x y x' y' : ℤ) → x' ≡ x → y' ≡ y → unsigned_abs x ≤ 2 ^ 32 → unsigned_abs y ≤ 2 ^ 32 → FitsSigned w64 (x' -ℤ y')
+small_difference-fits x y x' y' e f h k = rw (e, f) (small_fits (x -ℤ y) (abs-difference x y (2 ^ 32) (2 ^ 32) h k))
+
+pub small_difference-value : (x y x' y' : ℤ) → x' ≡ x → y' ≡ y → unsigned_abs x ≤ 2 ^ 32 → unsigned_abs y ≤ 2 ^ 32 → to_z w64 (of_z w64 (x' -ℤ y')) ≡ x -ℤ y
+small_difference-value x y x' y' e f h k = to_z-of_z w64 (x' -ℤ y') (small_difference-fits x y x' y' e f h k) ∙ ap₂ (λ (u v : ℤ). u -ℤ v) e f
+
+pub doubled-fits : (x x' : ℤ) → x' ≡ x → unsigned_abs x ≤ 2 ^ 32 → FitsSigned w64 (pos 2 *ℤ x')
+doubled-fits x x' e h = rw e (small_fits (pos 2 *ℤ x) (twice x h))
+  where
+    twice : (x : ℤ) → unsigned_abs x ≤ 2 ^ 32 → unsigned_abs (pos 2 *ℤ x) ≤ 2 ^ 33
+    twice x h = omega (arith, ints)
+
+pub doubled-value : (x x' : ℤ) → x' ≡ x → unsigned_abs x ≤ 2 ^ 32 → to_z w64 (of_z w64 (pos 2 *ℤ x')) ≡ pos 2 *ℤ x
+doubled-value x x' e h = to_z-of_z w64 (pos 2 *ℤ x') (doubled-fits x x' e h) ∙ ap (λ (u : ℤ). pos 2 *ℤ u) e

@@ -7,3 +7,4 @@ mod ratio_sign;
 mod root_sign;
 pub mod roots;
 pub mod sign;
+pub mod solve;

@@ -6,7 +6,7 @@ use lib.Signed.{lt_z}
 use Rattle.kin_instant.specs.Roots.{IsFraction}
 use Rattle.kin_instant.proofs.Widths.{clean, less_out, not_less_out, nothing_out}
 use Rattle.kin_instant.proofs.RootsOf.{rising_line, falling_line, zero_everywhere, zero_nowhere, fraction_read}
-use Rattle.kin_instant.proofs.roots.line_roots.Goals as goal
+use Rattle.kin_instant.proofs.solve.line_roots.Goals as goal
 
 negative : (c : ℤ) → unsigned_abs c ≤ 2 ^ 29 → to_z w64 (of_z w64 (pos 0 -ℤ to_z w64 (of_z w64 c))) ≡ neg_ℤ c
 negative c h = omega (arith, ints)
