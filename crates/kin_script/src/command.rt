@@ -1,7 +1,6 @@
 //! The commands of a script.
 
-use kin_motion::keep::Rect;
-use kin_motion::motion::Motion;
+use kin_motion::{Motion, Rect};
 
 /// What one line behind the header asks for.
 #[derive(Clone, Copy, Debug, PartialEq, Eq)]

@@ -8,7 +8,7 @@ ghost use Rattle.kin_script.specs.Ranges.{IsCommandInRange, IsRootInRange, IsKee
 use crate::command::Command;
 use crate::number::ratio;
 use crate::words::Words;
-use kin_motion::keep::{Keep, Rect};
+use kin_motion::{Keep, Rect};
 
 /// A line of the header, behind the size line.
 pub enum Setting {

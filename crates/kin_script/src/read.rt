@@ -168,9 +168,8 @@ pub fn read(alloc: Global, bytes: &[u8]) -> Result<Script, ReadError>
 mod tests {
     use super::*;
     use crate::command::Command;
-    use kin_motion::keep::{Keep, Rect};
-    use kin_motion::motion::Motion;
-    use kin_num::memory::NoMemory;
+    use kin_motion::{Keep, Motion, Rect};
+    use kin_num::NoMemory;
     use std::test::Fail;
 
     /// The first line outside the grammar, or 0 where there is none.

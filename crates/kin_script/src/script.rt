@@ -3,7 +3,7 @@
 ghost use Rattle.std.specs.Prelude.{◌≡◌, ◌==◌, [], ◌∷◌, ◌++◌, length, OnOk, OnErr};
 
 use crate::command::Command;
-use kin_motion::keep::Keep;
+use kin_motion::Keep;
 use std::alloc::{AllocError, Global};
 use std::marker::Model;
 

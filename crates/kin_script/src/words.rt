@@ -6,7 +6,7 @@ ghost use Rattle.kin_script.specs.Lines.{is_blank, pieces_of, words_of, is_nil};
 ghost use Rattle.kin_script.specs.Commands.{natural_at, integer_at, side_at, motion_at, last};
 
 use crate::number;
-use kin_motion::motion::Motion;
+use kin_motion::Motion;
 use std::marker::Model;
 
 /// The words that are left to read.
