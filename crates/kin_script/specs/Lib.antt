@@ -7,3 +7,4 @@ pub mod Ranges
 pub mod Gives
 pub mod Reading
 pub mod Printed
+pub mod Written
