@@ -1,0 +1,4 @@
+pub record Never : Type 0 where
+  pub never : ⊥
+pub never : ⊥
+never = ?

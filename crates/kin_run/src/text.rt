@@ -1,0 +1,30 @@
+//! The lines that a run writes of its own.
+
+ghost use Rattle.std.specs.Prelude.{◌≡◌, ◌++◌, OnOk};
+ghost use Rattle.kin_script.specs.Text.{bad_line, refused_line};
+
+use kin_num::memory::NoMemory;
+use crate::stand_in::put_number;
+use kin_script::refusal::Refusal;
+
+/// Appends the line that names the first line outside the grammar.
+pub fn put_bad(out: &mut Vec<u8>, line: u32) -> Result<(), NoMemory>
+    ensures { OnOk result (out.new.items ≡ out.old.items ++ bad_line line) }
+{
+    out.extend_from_slice(b"bad ")?;
+    put_number(out, line)?;
+    out.extend_from_slice(b"\n")?;
+    Ok(())
+}
+
+/// Appends the line of a refused command.
+pub fn put_refused(out: &mut Vec<u8>, line: u32, refusal: Refusal) -> Result<(), NoMemory>
+    ensures { OnOk result (out.new.items ≡ out.old.items ++ refused_line line refusal) }
+{
+    out.extend_from_slice(b"refused ")?;
+    put_number(out, line)?;
+    out.extend_from_slice(b" ")?;
+    out.extend_from_slice(refusal.name().as_bytes())?;
+    out.extend_from_slice(b"\n")?;
+    Ok(())
+}
