@@ -3,7 +3,7 @@ use Rattle.std.proofs.Common.{◌≡◌, ℕ, List, [], ◌++◌, take, Option, 
 use Rattle.std.proofs.lemmas.List.{append-nil}
 use Rattle.std.proofs.KnownBytes.{Appends-trans, Appends-nil}
 use Rattle.std.specs.Io.KnownBytes.{Appends}
-use Rattle.kin_run.specs.Written.{IsPrefix, Wrote}
+use Rattle.kin_run.specs.Written.{IsPrefix, Wrote, Gains}
 use Rattle.kin_run.proofs.Fronts.{prefix_take, prefix_front, prefix_behind}
 
 abbrev pub Bytes : Type 0
@@ -37,3 +37,8 @@ gathers_cut a b c k pending P Q g w f =
 -- nothing of what was pending is written
 pub gathers_lost : (a b : Bytes) (pending : List ℕ) (P Q : List ℕ → Type 0) → Gathers a b pending P → ((x front : List ℕ) → P x → IsPrefix front x → Q front) → Wrote a b Q
 gathers_lost a b pending P Q g f = (g.0, g.1, f (g.0 ++ pending) g.0 g.2 (prefix_front g.0 pending))
+
+pub gathers_gained : (a b c : Bytes) (pending still text : List ℕ) (P Q : List ℕ → Type 0) → Gathers a b pending P → Gains b pending c still text → ((x : List ℕ) → P x → Q (x ++ text)) → Gathers a c still Q
+gathers_gained a b c pending still text P Q g m f =
+    let joined : (g.0 ++ m.0) ++ still ≡ (g.0 ++ pending) ++ text = append_assoc g.0 m.0 still ∙ ap (λ (w : List ℕ). g.0 ++ w) m.2 ∙ sym (append_assoc g.0 pending text) in
+    (g.0 ++ m.0, Appends-trans a b c g.0 m.0 g.1 m.1, subst Q (sym joined) (f (g.0 ++ pending) g.2))

@@ -4,3 +4,6 @@ pub mod Live
 pub mod Never
 pub mod Commands
 pub mod Lines
+pub mod Determined
+pub mod Playing
+pub mod Stepping

@@ -41,6 +41,7 @@ fn insert(state: &mut State, no: u32, m: Motion) -> Result<(), Halt>
     requires { no < 2 ^ state.old.size }
     ensures performs { Performs state.old (InsertOf no m) result [] [] state.new }
     ensures same_size { state.new.size ≡ state.old.size }
+    ensures sound { IsSound state.new }
 {
     if state.is_live(no) {
         return Err(Halt::Refused(Refusal::Taken));
@@ -54,6 +55,7 @@ fn move_to_ratio(state: &mut State, n: i64, d: i64) -> Result<(), Halt>
     requires { IsCommandInRange state.old.size (AtRatioOf n d) }
     ensures performs { Performs state.old (AtRatioOf n d) result [] [] state.new }
     ensures same_size { state.new.size ≡ state.old.size }
+    ensures sound { IsSound state.new }
 {
     let asked = ratio(n, d);
     if state.is_past(&asked) {
@@ -100,9 +102,11 @@ pub fn perform(
     command: &Command,
     out: &mut Vec<u8>,
 ) -> Result<(), Halt>
-    requires { IsCommandInRange state.old.size command.now }
+    requires sound { IsSound state.old }
+    requires range { IsCommandInRange state.old.size command.now }
     ensures performs { Performs state.old command.now result out.old.items out.new.items state.new }
     ensures same_size { state.new.size ≡ state.old.size }
+    ensures sound { IsSound state.new }
 {
     match *command {
         Command::Insert { no, m } => insert(state, no, m),

@@ -73,7 +73,8 @@ impl State {
 
     /// Whether the number is live.
     pub fn is_live(&self, no: u32) -> bool
-        ensures { IsTrue result ↔ IsTrue (is_live self.now.motions no) }
+        ensures value { IsTrue result ↔ IsTrue (is_live self.now.motions no) }
+        ensures sound { IsSound self.now }
     {
         self.motions.get(no).is_some()
     }
@@ -81,14 +82,16 @@ impl State {
     /// Gives the number this motion.
     pub fn insert(&mut self, no: u32, m: Motion)
         requires room { no < 2 ^ self.old.size }
-        ensures { self.new ≡ record self.old { motions = slice_set self.old.motions no (Some m) } }
+        ensures value { self.new ≡ record self.old { motions = slice_set self.old.motions no (Some m) } }
+        ensures sound { IsSound self.new }
     {
         self.motions.set(no, m);
     }
 
     /// Whether the instant is before now.
     pub fn is_past(&self, asked: &Instant) -> bool
-        ensures { IsTrue result ↔ IsEarlier (at asked.now) self.now.moment }
+        ensures value { IsTrue result ↔ IsEarlier (at asked.now) self.now.moment }
+        ensures sound { IsSound self.now }
     {
         is_before(asked, &self.moment)
     }
@@ -96,7 +99,8 @@ impl State {
     /// Moves to the instant.
     pub fn move_to(&mut self, asked: Instant)
         requires { IsCanonical asked }
-        ensures { self.new ≡ record self.old { moment = at asked } }
+        ensures value { self.new ≡ record self.old { moment = at asked } }
+        ensures sound { IsSound self.new }
     {
         self.moment = Moment {
             at: asked,

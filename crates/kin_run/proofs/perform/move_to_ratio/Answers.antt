@@ -16,7 +16,7 @@ returns-clause-performs c =
     let positive : pos 0 <ℤ c.args.d = omega (arith, ints, c.requires.d_low) in
     let asked : IsFraction c.args.n c.args.d c.ratio-asked.result = rw (to_z-of_z c.ranges.n, to_z-of_z c.ranges.d) at c.ratio-asked.ensures in
     ([], refl, record {
-      allowed = allowed_ratio c.args.state.now c.args.n c.args.d c.ratio-asked.result positive asked (λ h. let t = c.if-is_past.ensures.1 h in cc);
+      allowed = allowed_ratio c.args.state.now c.args.n c.args.d c.ratio-asked.result positive asked (λ h. let t = c.if-is_past.ensures.value.1 h in cc);
       prints = refl;
-      leads = (c.ratio-asked.result, asked, c.move_to.ensures);
+      leads = (c.ratio-asked.result, asked, c.move_to.ensures.value);
     })

@@ -1,0 +1,75 @@
+-- A command is refused for one cause, and one that is not refused prints one text and leads to one state.
+use Rattle.std.proofs.Common.{◌≡◌, ℕ, List, [], ◌∷◌, ◌++◌, ◌∙◌, sym, ap, subst, Some, None, refl, arith}
+use Rattle.std.specs.Prelude.{ℤ, pos, ◌<ℤ◌}
+use Rattle.std.proofs.lemmas.Int.{ints}
+use Rattle.kin_num.specs.declared.instant.Shape.{Shape}
+use Rattle.kin_num.specs.Canonical.{IsCanonical}
+use Rattle.kin_script.specs.declared.command.Command.{Command}
+use Rattle.kin_script.specs.declared.command.Command.TheVariants.{Insert, AtRatio, Order, Extreme, Hull, Closest, Inside}
+use Rattle.kin_script.specs.declared.refusal.Refusal.{Refusal}
+use Rattle.kin_script.specs.declared.refusal.Refusal.TheVariants.{Taken, NotKept, Past}
+use Rattle.kin_script.specs.Ranges.{IsCommandInRange}
+use Rattle.kin_script.specs.Replay.{State, at, Asks, IsFraction, Refuses, LeadsTo}
+use Rattle.kin_script.specs.Text.{Step, Prints}
+use Rattle.kin_run.proofs.Commands.{one_fraction}
+use Rattle.kin_run.proofs.Lines.{one_line}
+
+-- at most one cause
+pub one_refusal : (s : State) (c : Command) (r q : Refusal) → Refuses s c r → Refuses s c q → r ≡ q
+one_refusal s c Taken Taken x y = refl
+one_refusal s c NotKept NotKept x y = refl
+one_refusal s c Past Past x y = refl
+one_refusal s (Insert n m) Taken Past x y = absurd y.1
+one_refusal s (Insert n m) Past Taken x y = absurd x.1
+one_refusal s (Insert n m) Taken NotKept x y = absurd y
+one_refusal s (Insert n m) NotKept q x y = absurd x
+one_refusal s (Insert n m) Past NotKept x y = absurd y
+one_refusal s (AtRatio n d) Taken q x y = absurd x
+one_refusal s (AtRatio n d) NotKept q x y = absurd x
+one_refusal s (AtRatio n d) Past Taken x y = absurd y
+one_refusal s (AtRatio n d) Past NotKept x y = absurd y
+one_refusal s (Order k) Taken q x y = absurd x
+one_refusal s (Order k) Past q x y = absurd x.1
+one_refusal s (Order k) NotKept Taken x y = absurd y
+one_refusal s (Order k) NotKept Past x y = absurd y.1
+one_refusal s (Extreme k) Taken q x y = absurd x
+one_refusal s (Extreme k) Past q x y = absurd x.1
+one_refusal s (Extreme k) NotKept Taken x y = absurd y
+one_refusal s (Extreme k) NotKept Past x y = absurd y.1
+one_refusal s Hull Taken q x y = absurd x
+one_refusal s Hull Past q x y = absurd x.1
+one_refusal s Hull NotKept Taken x y = absurd y
+one_refusal s Hull NotKept Past x y = absurd y.1
+one_refusal s Closest Taken q x y = absurd x
+one_refusal s Closest Past q x y = absurd x.1
+one_refusal s Closest NotKept Taken x y = absurd y
+one_refusal s Closest NotKept Past x y = absurd y.1
+one_refusal s (Inside r) Taken q x y = absurd x
+one_refusal s (Inside r) Past q x y = absurd x.1
+one_refusal s (Inside r) NotKept Taken x y = absurd y
+one_refusal s (Inside r) NotKept Past x y = absurd y.1
+
+-- one text
+one_print : (s : State) (c : Command) (x y : List ℕ) → IsCanonical s.moment.at → Prints s c x → Prints s c y → x ≡ y
+one_print s (Insert n m) x y canonical p q = p ∙ sym q
+one_print s (AtRatio n d) x y canonical p q = p ∙ sym q
+one_print s (Order k) x y canonical p q = one_line s k x y canonical p q
+one_print s (Extreme k) x y canonical p q = absurd p
+one_print s Hull x y canonical p q = absurd p
+one_print s Closest x y canonical p q = absurd p
+one_print s (Inside r) x y canonical p q = absurd p
+
+-- one state
+one_state : (s : State) (c : Command) (t u : State) → IsCommandInRange s.size c → LeadsTo s c t → LeadsTo s c u → t ≡ u
+one_state s (Insert n m) t u range p q = p ∙ sym q
+one_state s (AtRatio n d) t u range p q =
+    let positive : pos 0 <ℤ d = omega (arith, ints, range.d_low) in
+    p.2 ∙ ap (λ (w : Shape). record s { moment = at w }) (one_fraction n d p.0 q.0 positive p.1 q.1) ∙ sym q.2
+one_state s (Order k) t u range p q = p ∙ sym q
+one_state s (Extreme k) t u range p q = p ∙ sym q
+one_state s Hull t u range p q = p ∙ sym q
+one_state s Closest t u range p q = p ∙ sym q
+one_state s (Inside r) t u range p q = p ∙ sym q
+
+pub one_step : (s : State) (c : Command) (x y : List ℕ) (t u : State) → IsCanonical s.moment.at → IsCommandInRange s.size c → Step s c x t → Step s c y u → (x ≡ y) × (t ≡ u)
+one_step s c x y t u canonical range p q = (one_print s c x y canonical p.prints q.prints, one_state s c t u range p.leads q.leads)
