@@ -1,6 +1,6 @@
 -- Lists that have exactly what is asked, each once: joined, mapped, and sorted into one list.
 use Rattle.std.proofs.Common.{◌≡◌, ◌⊎◌, inl, inr, refl, sym, ap, ◌∙◌, subst, arith, List, [], ◌∷◌, ◌++◌, ℕ, zero, suc, ◌+◌, ◌<◌, ◌≤◌, map}
-use Rattle.std.specs.Prelude.{Option, Some, None, slice_get, Contains, ◌↔◌, flat_map}
+use Rattle.std.specs.Prelude.{Some, slice_get, Contains, ◌↔◌, flat_map}
 use Rattle.std.proofs.lemmas.List.Elements.{Contains-append_left, Contains-append_right, Contains-append_cases}
 use Rattle.kin_motion.specs.Numbers.{numbers_from}
 use Rattle.kin_motion.specs.Sets.{AreDistinct, ListsExactly}
@@ -89,6 +89,7 @@ exactly_both {A} xs ys p q l m apart = record {
     to : (z : A) → Contains xs z ⊎ Contains ys z → p z ⊎ q z
     to z (inl h) = inl ((l.each z).0 h)
     to z (inr h) = inr ((m.each z).0 h)
+
     from : (z : A) → p z ⊎ q z → Contains (xs ++ ys) z
     from z (inl w) = Contains-append_left xs ys z ((l.each z).1 w)
     from z (inr w) = Contains-append_right xs ys z ((m.each z).1 w)
@@ -141,13 +142,16 @@ exactly_in_turn {A} f p each apart a (suc k) =
     to : (z : A) → p a z ⊎ ((n : ℕ) × (a + 1 ≤ n) × (n < a + 1 + k) × p n z) → (n : ℕ) × (a ≤ n) × (n < a + suc k) × p n z
     to z (inl w) = (a, omega arith, omega arith, w)
     to z (inr (n, h, g, w)) = (n, omega (arith, h), omega (arith, g), w)
+
     first_or_not : (n : ℕ) → a ≤ n → (a ≡ n) ⊎ (a + 1 ≤ n)
     first_or_not n h = grind (arith, h)
+
     from : (z : A) → (n : ℕ) × (a ≤ n) × (n < a + suc k) × p n z → p a z ⊎ ((n : ℕ) × (a + 1 ≤ n) × (n < a + 1 + k) × p n z)
     from z (n, h, g, w) = at (first_or_not n h)
       where
         at : (a ≡ n) ⊎ (a + 1 ≤ n) → p a z ⊎ ((n : ℕ) × (a + 1 ≤ n) × (n < a + 1 + k) × p n z)
         at (inl e) = inl (subst (λ (m : ℕ). p m z) (sym e) w)
         at (inr l) = inr (n, l, omega (arith, g), w)
+
     words : (z : A) → (p a z ⊎ ((n : ℕ) × (a + 1 ≤ n) × (n < a + 1 + k) × p n z)) ↔ ((n : ℕ) × (a ≤ n) × (n < a + suc k) × p n z)
     words z = (to z, from z)

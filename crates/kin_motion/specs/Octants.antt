@@ -63,7 +63,11 @@ pub record IsCandidate (s : Scene) (o : Octant) (p c : ℕ) : Type 0 where
   pub member : IsIn c (octant_members s o p)
   pub first : (q : ℕ) → IsIn q (octant_members s o p) → (q ≡ c) ⊎ (comes_after s o.third c q ≡ true)
 
--- the same by computation
+-- the candidate of p, or none where the octant is empty
+abbrev pub IsCandidateAnswer : Scene → Octant → ℕ → Option ℕ → Type 0
+IsCandidateAnswer s o p answer = MatchOption answer ((c : ℕ) → ¬ (IsCandidate s o p c)) (IsCandidate s o p)
+
+-- the earlier of p and another, in an order as it is read
 abbrev pub earlier_of : Scene → Reading → ℕ → Option ℕ → Option ℕ
 earlier_of s r p None = Some p
 earlier_of s r p (Some q) = Some (cond (comes_after s r p q) p q)

@@ -1,7 +1,9 @@
 -- What is proved of the definitions, as statements.
 use Rattle.std.specs.Prelude.{◌≡◌, ◌≢◌, ℕ, ℤ, List, Option, count_by, map}
 use Rattle.kin_num.specs.declared.instant.Moment.{Moment}
+use Rattle.kin_num.specs.Canonical.{IsCanonical}
 use Rattle.kin_motion.specs.declared.form.Form.{Form}
+use Rattle.kin_motion.specs.declared.fact.Fact.{Fact}
 use Rattle.kin_motion.specs.declared.fact.Placed.{Placed}
 use Rattle.kin_motion.specs.Course.{Course}
 use Rattle.kin_motion.specs.Mirrored.{mirrored}
@@ -12,7 +14,9 @@ use Rattle.kin_motion.specs.Kinetics.{AllHold, HaveSameLive}
 use Rattle.kin_motion.specs.Orders.{IsOrder, IsOrderFact}
 use Rattle.kin_motion.specs.Extremes.{IsExtremePoint}
 use Rattle.kin_motion.specs.Chains.{IsUpperChain, IsHullCycle}
-use Rattle.kin_motion.specs.Octants.{octants, is_in_octant, IsClosest}
+use Rattle.kin_motion.specs.Octants.{Octant, octants, is_in_octant, IsCandidate, IsClosest}
+use Rattle.kin_motion.specs.Moments.{FailsFirst}
+use Rattle.kin_motion.specs.Journal.{Setting, Block, IsNextBlock, IsJournal}
 
 -- signs are those of an ordered ring, as far as orders, chains and distances need
 pub record HasSignLaws (s : Scene) : Type 0 where
@@ -44,6 +48,10 @@ OneHullCycle = (s : Scene) (xs ys : List ℕ) → IsReal s → IsHullCycle s xs 
 abbrev pub OneClosest : Type 0
 OneClosest = (s : Scene) (a b : Option (ℕ × ℕ)) → IsReal s → IsClosest s a → IsClosest s b → a ≡ b
 
+-- an apex has one candidate at most in an octant
+abbrev pub OneCandidate : Type 0
+OneCandidate = (s : Scene) (o : Octant) (p c d : ℕ) → IsReal s → IsCandidate s o p c → IsCandidate s o p d → c ≡ d
+
 -- each other point is in exactly one octant of the apex p
 abbrev pub OneOctant : Type 0
 OneOctant = (s : Scene) (p q : ℕ) → IsReal s → p ≢ q → count_by (λ b. b) (map (λ o. is_in_octant s o p q) octants) ≡ 1
@@ -61,3 +69,15 @@ abbrev pub OrderIsDetermined : Type 0
 OrderIsDetermined = (v w : Scene) (dx dy : ℤ) (part : ℕ) (xs : List ℕ) (facts : List Placed) → IsReal w → HaveSameLive v w
     → IsOrder v dx dy xs → ListsExactly facts (IsOrderFact v dx dy part) → AllHold w facts
     → IsOrder w dx dy xs × ListsExactly facts (IsOrderFact w dx dy part)
+
+-- a fact has one first failure at most
+abbrev pub OneFirstFailure : Type 0
+OneFirstFailure = (scene : Moment → Scene) (now m n : Moment) (f : Fact) → IsCanonical now.at → FailsFirst scene now m f → FailsFirst scene now n f → m ≡ n
+
+-- there is one next block at most
+abbrev pub OneNextBlock : Type 0
+OneNextBlock = (t : Setting) (now : Moment) (b c : Block) → IsCanonical now.at → IsNextBlock t now b → IsNextBlock t now c → b ≡ c
+
+-- there is one journal between two moments at most
+abbrev pub OneJournal : Type 0
+OneJournal = (t : Setting) (now last : Moment) (bs cs : List Block) → IsCanonical now.at → IsCanonical last.at → IsJournal t now last bs → IsJournal t now last cs → bs ≡ cs

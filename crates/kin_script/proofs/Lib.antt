@@ -5,3 +5,4 @@ pub mod LeftLaws
 pub mod ReadingLaws
 pub mod NumberedLaws
 pub mod RangeLaws
+pub mod Rows

@@ -20,10 +20,6 @@ unfoldable pub integer_at : ℕ → List Word → Option (ℤ × List Word)
 integer_at far [] = None
 integer_at far (w ∷ ws) = integer_of far w >>= λ z. Some (z, ws)
 
-unfoldable pub ratio_at : List Word → Option ((ℕ × ℕ) × List Word)
-ratio_at [] = None
-ratio_at (w ∷ ws) = ratio_of w >>= λ r. Some (r, ws)
-
 -- no word is left
 abbrev pub last : {A : Type 0} → A → List Word → Option A
 last x ws = if is_nil ws then Some x else None
@@ -46,9 +42,10 @@ insert_of size ws = do
 
 -- at N/D, at N
 unfoldable pub at_of : List Word → Option Command
-at_of ws = do
-  r ← ratio_at ws
-  last (AtRatio (pos r.0.0) (pos r.0.1)) r.1
+at_of [] = None
+at_of (w ∷ ws) = do
+  r ← ratio_of w
+  last (AtRatio (pos r.0) (pos r.1)) ws
 
 -- order S
 unfoldable pub order_of : List Word → Option Command

@@ -1,7 +1,7 @@
 -- The pieces of the printed text.
-use Rattle.std.specs.Prelude.{◌≡◌, ℕ, ℤ, Bool, true, false, ◌==◌, List, [], ◌∷◌, ◌++◌, map, Result, Ok, Err, codes, unsigned_abs, if◌then◌else◌}
+use Rattle.std.specs.Prelude.{◌≡◌, ℕ, ℤ, Bool, true, false, ◌==◌, List, [], ◌∷◌, ◌++◌, codes, unsigned_abs, if◌then◌else◌}
 use Rattle.std.specs.Fmt.{decimal, signed_decimal}
-use Rattle.std.specs.List.{join_with_byte}
+use Rattle.std.specs.List.{join_by}
 use Rattle.kin_num.specs.declared.instant.Shape.{Shape}
 use Rattle.kin_num.specs.declared.instant.Shape.TheVariants.{Ratio, Root}
 use Rattle.kin_num.specs.declared.instant.Phase.{Phase}
@@ -44,7 +44,7 @@ moment_text m = instant_text m.at ++ phase_text m.phase
 -- numbers separated by one space, or the word none, as a line
 abbrev pub list_line : List ℕ → List ℕ
 list_line [] = codes "none\n"
-list_line (x ∷ xs) = join_with_byte 32 (map decimal (x ∷ xs)) ++ codes "\n"
+list_line (x ∷ xs) = join_by decimal (codes " ") (x ∷ xs) ++ codes "\n"
 
 -- a front of the text was put behind what was there
 pub record PutsFront (before now text : List ℕ) : Type 0 where
@@ -52,8 +52,3 @@ pub record PutsFront (before now text : List ℕ) : Type 0 where
   pub rest : List ℕ
   pub cut : text ≡ front ++ rest
   pub put : now ≡ before ++ front
-
--- the text was put behind what was there, or where memory ran out a front of it
-abbrev pub Puts : {E : Type 0} → Result (Unit {0}) E → List ℕ → List ℕ → List ℕ → Type 0
-Puts (Ok x) before now text = now ≡ before ++ text
-Puts (Err e) before now text = PutsFront before now text

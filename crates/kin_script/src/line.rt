@@ -5,6 +5,7 @@ ghost use Rattle.kin_script.specs.Commands.{insert_of, at_of, order_of, extreme_
 ghost use Rattle.kin_script.specs.Ranges.{IsCommandInRange, IsKeepInRange, IsDirection, IsSettingInRange};
 
 use crate::command::Command;
+use crate::number::ratio;
 use crate::words::Words;
 use kin_motion::keep::{Keep, Rect};
 
@@ -31,7 +32,7 @@ fn at(words: &mut Words<'_>) -> Option<Command>
     ensures value { result ≡ at_of words.old }
     ensures range { (size : ℕ) → IfSome result (IsCommandInRange size) }
 {
-    let (n, d) = words.ratio()?;
+    let (n, d) = ratio(words.next()?)?;
     words.last(Command::AtRatio {
         n: i64::from(n),
         d: i64::from(d),

@@ -3,8 +3,7 @@
 ghost use Rattle.std.specs.Prelude.{◌≡◌, ◌<◌, ◌≤◌, ◌^◌, ◌∷◌, [], length, position, slice_index, false, ◌==◌, MatchOption, IfSome, option_map, unsigned_abs};
 ghost use Rattle.kin_motion.specs.Course.{IsSlow};
 ghost use Rattle.kin_script.specs.Lines.{is_blank, pieces_of, words_of, is_nil};
-ghost use Rattle.kin_script.specs.Numbers.{ratio_limit};
-ghost use Rattle.kin_script.specs.Commands.{natural_at, integer_at, ratio_at, motion_at, last};
+ghost use Rattle.kin_script.specs.Commands.{natural_at, integer_at, motion_at, last};
 
 use crate::number;
 use kin_motion::motion::Motion;
@@ -84,15 +83,6 @@ impl<'a> Words<'a> {
         ensures range { IfSome result (λ z. unsigned_abs z ≤ far) }
     {
         number::integer(self.next()?, far)
-    }
-
-    /// The next word as a fraction.
-    #[tactic(auto, unfolding(crate::specs::Commands::ratio_at))]
-    pub fn ratio(&mut self) -> Option<(u32, u32)>
-        ensures value { option_map (λ r. (r, self.new)) result ≡ ratio_at self.old }
-        ensures range { IfSome result (λ r. (r.0 ≤ ratio_limit) × (1 ≤ r.1) × (r.1 ≤ ratio_limit)) }
-    {
-        number::ratio(self.next()?)
     }
 
     /// The next four words as a motion.

@@ -1,5 +1,6 @@
 use Rattle.kin_motion.proofs.Proved.{order_proved, extreme_proved, chain_proved, cycle_proved}
 use Rattle.kin_motion.proofs.ClosestLaws.{closest_proved}
+use Rattle.kin_motion.proofs.CandidateLaws.{candidate_agrees}
 use Rattle.kin_motion.proofs.laws.computed_answers_agree.Goals as goal
 
 pub returns-clause-order : goal.returns-clause-order
@@ -16,3 +17,6 @@ returns-clause-cycle c = cycle_proved
 
 pub returns-clause-closest : goal.returns-clause-closest
 returns-clause-closest c = closest_proved
+
+pub returns-clause-candidate : goal.returns-clause-candidate
+returns-clause-candidate c = candidate_agrees
