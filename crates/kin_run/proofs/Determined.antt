@@ -1,14 +1,11 @@
 -- A command is refused for one cause, and one that is not refused prints one text and leads to one state.
-use Rattle.std.proofs.Common.{◌≡◌, ℕ, List, [], ◌∷◌, ◌++◌, ◌∙◌, sym, ap, subst, Some, None, refl, arith}
-use Rattle.std.specs.Prelude.{ℤ, pos, ◌<ℤ◌}
-use Rattle.std.proofs.lemmas.Int.{ints}
+use Rattle.std.proofs.Common.{◌≡◌, ℕ, List, [], ◌∷◌, ◌++◌, ◌∙◌, sym, ap, subst, Some, None, refl}
 use Rattle.kin_num.specs.declared.instant.Shape.{Shape}
 use Rattle.kin_num.specs.Canonical.{IsCanonical}
 use Rattle.kin_script.specs.declared.command.Command.{Command}
 use Rattle.kin_script.specs.declared.command.Command.TheVariants.{Insert, AtRatio, Order, Extreme, Hull, Closest, Inside}
 use Rattle.kin_script.specs.declared.refusal.Refusal.{Refusal}
 use Rattle.kin_script.specs.declared.refusal.Refusal.TheVariants.{Taken, NotKept, Past}
-use Rattle.kin_script.specs.Ranges.{IsCommandInRange}
 use Rattle.kin_script.specs.Replay.{State, at, Asks, IsFraction, Refuses, LeadsTo}
 use Rattle.kin_script.specs.Text.{Step, Prints}
 use Rattle.kin_run.proofs.Commands.{one_fraction}
@@ -60,16 +57,14 @@ one_print s Closest x y canonical p q = absurd p
 one_print s (Inside r) x y canonical p q = absurd p
 
 -- one state
-one_state : (s : State) (c : Command) (t u : State) → IsCommandInRange s.size c → LeadsTo s c t → LeadsTo s c u → t ≡ u
-one_state s (Insert n m) t u range p q = p ∙ sym q
-one_state s (AtRatio n d) t u range p q =
-    let positive : pos 0 <ℤ d = omega (arith, ints, range.d_low) in
-    p.2 ∙ ap (λ (w : Shape). record s { moment = at w }) (one_fraction n d p.0 q.0 positive p.1 q.1) ∙ sym q.2
-one_state s (Order k) t u range p q = p ∙ sym q
-one_state s (Extreme k) t u range p q = p ∙ sym q
-one_state s Hull t u range p q = p ∙ sym q
-one_state s Closest t u range p q = p ∙ sym q
-one_state s (Inside r) t u range p q = p ∙ sym q
+one_state : (s : State) (c : Command) (t u : State) → LeadsTo s c t → LeadsTo s c u → t ≡ u
+one_state s (Insert n m) t u p q = p ∙ sym q
+one_state s (AtRatio n d) t u p q = p.2 ∙ ap (λ (w : Shape). record s { moment = at w }) (one_fraction n d p.0 q.0 p.1 q.1) ∙ sym q.2
+one_state s (Order k) t u p q = p ∙ sym q
+one_state s (Extreme k) t u p q = p ∙ sym q
+one_state s Hull t u p q = p ∙ sym q
+one_state s Closest t u p q = p ∙ sym q
+one_state s (Inside r) t u p q = p ∙ sym q
 
-pub one_step : (s : State) (c : Command) (x y : List ℕ) (t u : State) → IsCanonical s.moment.at → IsCommandInRange s.size c → Step s c x t → Step s c y u → (x ≡ y) × (t ≡ u)
-one_step s c x y t u canonical range p q = (one_print s c x y canonical p.prints q.prints, one_state s c t u range p.leads q.leads)
+pub one_step : (s : State) (c : Command) (x y : List ℕ) (t u : State) → IsCanonical s.moment.at → Step s c x t → Step s c y u → (x ≡ y) × (t ≡ u)
+one_step s c x y t u canonical p q = (one_print s c x y canonical p.prints q.prints, one_state s c t u p.leads q.leads)

@@ -7,3 +7,4 @@ pub mod Lines
 pub mod Determined
 pub mod Playing
 pub mod Stepping
+pub mod OneText

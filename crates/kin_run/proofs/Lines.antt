@@ -1,6 +1,6 @@
 -- The line of an order is one.
 use Rattle.std.proofs.Common.{◌≡◌, ℕ, List, [], ◌++◌, sym, ap, ◌∙◌, subst, refl, Some, Option}
-use Rattle.std.specs.Prelude.{ℤ, slice_get, Ok, Err, Result}
+use Rattle.std.specs.Prelude.{ℤ, slice_get, Ok, Err, OnOk, OnErr, Result}
 use Rattle.std.proofs.lemmas.Option.{same_Some}
 use Rattle.std.proofs.lemmas.List.{append-nil}
 use Rattle.kin_motion.specs.declared.keep.Keep.{Keep}
@@ -8,7 +8,7 @@ use Rattle.kin_motion.specs.declared.keep.Keep.TheVariants as keep
 use Rattle.kin_motion.specs.Orders.{IsOrder}
 use Rattle.kin_motion.specs.Scene.{IsReal, scene_at}
 use Rattle.kin_motion.proofs.Proved.{order_is_one}
-use Rattle.kin_script.specs.Printed.{list_line, Puts}
+use Rattle.kin_script.specs.Printed.{list_line, PutsFront}
 use Rattle.kin_script.specs.Replay.{State, scene_of}
 use Rattle.kin_script.specs.Text.{IsOrderLine}
 use Rattle.kin_run.specs.Sound.{IsSound}
@@ -34,6 +34,6 @@ one_line s k x y canonical a b = line_is s k b.dx b.dy b.order x canonical b.kep
 
 -- what a written list is
 pub puts_line : {E : Type 0} (s : State) (k : ℕ) (dx dy : ℤ) (xs : List ℕ) (result : Result (Unit {0}) E) (before now : List ℕ) → IsCanonical s.moment.at → slice_get s.keeps k ≡ Some (keep.Order dx dy) → IsOrder (scene_of s) dx dy xs
-    → Puts result before now (list_line xs) → PutsLine (IsOrderLine s k) result before now
-puts_line s k dx dy xs (Ok x) before now canonical kept ordered p = (list_line xs, p, record { dx = dx; dy = dy; kept = kept; order = xs; ordered = ordered; line = refl })
-puts_line s k dx dy xs (Err e) before now canonical kept ordered p = (p.front, p.put, λ text l. record { more = p.rest; joined = line_is s k dx dy xs text canonical kept ordered l ∙ p.cut })
+    → OnOk result (now ≡ before ++ list_line xs) → OnErr result (PutsFront before now (list_line xs)) → PutsLine (IsOrderLine s k) result before now
+puts_line s k dx dy xs (Ok x) before now canonical kept ordered ok err = (list_line xs, ok, record { dx = dx; dy = dy; kept = kept; order = xs; ordered = ordered; line = refl })
+puts_line s k dx dy xs (Err e) before now canonical kept ordered ok err = (err.front, err.put, λ text l. record { more = err.rest; joined = line_is s k dx dy xs text canonical kept ordered l ∙ err.cut })

@@ -4,7 +4,6 @@ use Rattle.std.proofs.lemmas.List.{append-nil}
 use Rattle.kin_num.specs.Canonical.{IsCanonical}
 use Rattle.kin_script.specs.declared.command.Command.{Command}
 use Rattle.kin_script.specs.declared.refusal.Refusal.{Refusal}
-use Rattle.kin_script.specs.Ranges.{IsCommandInRange}
 use Rattle.kin_script.specs.Replay.{State, Refuses, IsAllowed}
 use Rattle.kin_script.specs.Text.{Step, Text, Ending, refused_line}
 use Rattle.kin_run.specs.Performed.{IsCutOfStep, IsCutOfText}
@@ -38,16 +37,16 @@ pub begins : (s : State) (cs : List Line) → IsSoFar s cs s cs []
 begins s cs = record { forth = λ rest ending p. p; back = λ text ending p. (text, p, refl) }
 
 module _ (s : State) (all : List Line) (t : State) where
-  pub goes_on : (c : Line) (left : List Line) (so_far text : List ℕ) (u : State) → IsCanonical t.moment.at → IsCommandInRange t.size c.1
+  pub goes_on : (c : Line) (left : List Line) (so_far text : List ℕ) (u : State) → IsCanonical t.moment.at
       → IsSoFar s all t (c ∷ left) so_far → Step t c.1 text u → IsSoFar s all u left (so_far ++ text)
-  goes_on c left so_far text u canonical range p step = record {
+  goes_on c left so_far text u canonical p step = record {
     forth = λ rest ending q.
         subst (λ (w : List ℕ). Text s all w ending) (sym (append_assoc so_far text rest))
         (p.forth (text ++ rest) ending (inr (text, rest, u, step, q, refl)));
     back = λ whole ending q.
         let b = p.back whole ending q in
         let a = allowed_goes_on t c left b.0 ending step.allowed b.1 in
-        let same = one_step t c.1 a.0 text a.2 u canonical range a.3 step in (
+        let same = one_step t c.1 a.0 text a.2 u canonical a.3 step in (
           a.1,
           subst (λ (v : State). Text v left a.1 ending) same.1 a.4,
           b.2 ∙ ap (λ (w : List ℕ). so_far ++ w) (a.5 ∙ ap (λ (w : List ℕ). w ++ a.1) same.0) ∙ sym (append_assoc so_far text a.1),

@@ -1,12 +1,11 @@
 -- One turn of a run: what is gathered behind a command.
 use Rattle.std.proofs.Common.{◌≡◌, ℕ, List, [], ◌∷◌, ◌++◌, ◌+◌, ◌<◌, drop, length, get_or, take, Some, None, refl, sym, ap, ◌∙◌, subst}
-use Rattle.std.specs.Prelude.{All, Result, Ok, Err, IfOk, OnErr}
+use Rattle.std.specs.Prelude.{Result, Ok, Err, IfOk, OnErr}
 use Rattle.std.proofs.lemmas.List.{append-nil}
 use Rattle.std.specs.Io.KnownBytes.{Appends}
 use Rattle.kin_io.specs.Ends.{AppendsPrefix}
 use Rattle.kin_num.specs.Canonical.{IsCanonical}
 use Rattle.kin_script.specs.declared.refusal.Refusal.{Refusal}
-use Rattle.kin_script.specs.Ranges.{IsCommandInRange}
 use Rattle.kin_script.specs.Replay.{State, Refuses, IsAllowed}
 use Rattle.kin_script.specs.Text.{Step, Text, Ending, refused_line}
 use Rattle.kin_run.specs.Performed.{IsCutOfStep, IsCutOfText, Performs, StopsAt}
@@ -16,22 +15,17 @@ use Rattle.kin_run.specs.Written.{IsPrefix, Wrote, Gains}
 use Rattle.kin_run.proofs.Gathering.{Bytes, Gathers, gathers_more, gathers_cut, gathers_written, gathers_gained}
 use Rattle.kin_run.proofs.Playing.{Line, IsSoFar, goes_on, ends, cut_here, cut_in_step, cut_in_refusal}
 
--- the command of a line is in its range
-pub range_at : (size now : ℕ) (all : List Line) (i : ℕ) (item : Line) → All (λ l. IsCommandInRange size l.1) all → i < length all → item ≡ get_or all i item → now ≡ size → IsCommandInRange now item.1
-range_at size now all i item ranges lt is same =
-    subst (λ (n : ℕ). IsCommandInRange n item.1) (sym same) (subst (λ (l : Line). IsCommandInRange size l.1) (sym is) (ranges i item lt))
-
 module _ (a b : Bytes) (s : State) (all : List Line) (t : State) (i : ℕ) (item : Line) (here : drop i all ≡ item ∷ drop (i + 1) all) where
   abbrev So : List Line → List ℕ → Type 0
   So left x = IsSoFar s all t left x
 
   -- behind a command that was carried out
-  pub gathers_step : (before now text : List ℕ) (u : State) → IsCanonical t.moment.at → IsCommandInRange t.size item.1 → now ≡ before ++ text → Step t item.1 text u
+  pub gathers_step : (before now text : List ℕ) (u : State) → IsCanonical t.moment.at → now ≡ before ++ text → Step t item.1 text u
       → Gathers a b before (So (drop i all)) → Gathers a b now (IsSoFar s all u (drop (i + 1) all))
-  gathers_step before now text u canonical range joined step g =
+  gathers_step before now text u canonical joined step g =
       subst (λ (out : List ℕ). Gathers a b out (IsSoFar s all u (drop (i + 1) all))) (sym joined)
       (gathers_more a b before text (So (drop i all)) (IsSoFar s all u (drop (i + 1) all)) g
-      (λ x p. goes_on s all t item (drop (i + 1) all) x text u canonical range (subst (λ (left : List Line). So left x) here p) step))
+      (λ x p. goes_on s all t item (drop (i + 1) all) x text u canonical (subst (λ (left : List Line). So left x) here p) step))
 
   -- with the line of a refused command
   pub refused_written : (before now : List ℕ) (r : Refusal) (c : Bytes) → now ≡ before → Refuses t item.1 r → Appends b c (now ++ refused_line item.0 r)

@@ -8,6 +8,8 @@ use Rattle.kin_script.specs.Replay.{start}
 use Rattle.kin_run.specs.declared.status.Status.{Status}
 use Rattle.kin_run.specs.declared.status.Status.TheVariants as status
 use Rattle.kin_run.specs.declared.status.Side.TheVariants.{Read, Write}
+use Rattle.kin_run.specs.declared.play.Stop.{Stop}
+use Rattle.kin_run.specs.declared.play.Stop.TheVariants as stop
 use Rattle.kin_run.specs.Written.{IsPrefix}
 
 -- the input is a script, and this is its text, with its ending
@@ -68,3 +70,12 @@ IsBrokenOff (status.Fault side) = Unit {0}
 IsBrokenOff status.TooLong = ⊥
 IsBrokenOff status.Words = ⊥
 IsBrokenOff status.NoMemory = Unit {0}
+
+-- the status of a run that was broken off
+abbrev pub status_of_stop : Stop → Status
+status_of_stop stop.Fault = status.Fault Write
+status_of_stop stop.NoMemory = status.NoMemory
+
+-- an input has one text, and one status with it
+abbrev pub OneAnswer : Type 0
+OneAnswer = (input x y : List ℕ) (a b : Status) → IsAnswer input a x → IsAnswer input b y → (a ≡ b) × (x ≡ y)

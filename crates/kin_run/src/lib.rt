@@ -3,10 +3,13 @@
 
 pub use kin_script::refusal::Refusal;
 
+pub mod laws;
+pub mod run;
 pub mod stand_in;
-pub mod state;
 pub mod status;
+
 mod order;
 mod perform;
 mod play;
+mod state;
 mod text;

@@ -11,12 +11,13 @@ ghost use Rattle.kin_run.specs.Sound.{IsSound};
 ghost use Rattle.kin_motion.specs.declared.keep.Keep.TheVariants as keep;
 ghost use Rattle.kin_script.specs.Text.{IsOrderLine};
 
-use crate::stand_in::{put_list, ratio};
 use crate::state::State;
+use kin_instant::ratio::ratio;
 use kin_motion::keep::Keep;
 use kin_motion::motion::Motion;
 use kin_num::instant::Instant;
 use kin_num::memory::NoMemory;
+use kin_print::list::put_list;
 use kin_script::command::Command;
 use kin_script::refusal::Refusal;
 use std::alloc::Global;

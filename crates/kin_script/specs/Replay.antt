@@ -1,5 +1,5 @@
 -- The replay of a script: the motions and the moment after each command, and why a command is refused.
-use Rattle.std.specs.Prelude.{◌≡◌, ◌≢◌, ℕ, ◌^◌, ℤ, pos, ◌*ℤ◌, List, Option, Some, None, IsTrue, slice_get, slice_set, replicate}
+use Rattle.std.specs.Prelude.{◌≡◌, ◌≢◌, ℕ, ◌^◌, ℤ, pos, ◌*ℤ◌, ◌<ℤ◌, List, Option, Some, None, IsTrue, slice_get, slice_set, replicate}
 use Rattle.kin_num.specs.declared.instant.Shape.{Shape}
 use Rattle.kin_num.specs.declared.instant.Shape.TheVariants.{Ratio, Root}
 use Rattle.kin_num.specs.declared.instant.Phase.TheVariants.{At}
@@ -41,7 +41,7 @@ scene_of s = scene_at s.motions s.moment
 
 -- the instant is the fraction n/d, in lowest terms
 abbrev pub IsFraction : ℤ → ℤ → Shape → Type 0
-IsFraction n d (Ratio p q) = IsCanonical (Ratio p q) × (p *ℤ d ≡ n *ℤ q)
+IsFraction n d (Ratio p q) = (pos 0 <ℤ d) × IsCanonical (Ratio p q) × (p *ℤ d ≡ n *ℤ q)
 IsFraction n d (Root a b c upper) = ⊥
 
 -- the instant that a command asks for

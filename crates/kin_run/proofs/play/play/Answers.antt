@@ -4,7 +4,7 @@ use Rattle.std.proofs.lemmas.List.{drop_all}
 use Rattle.kin_script.specs.Text.{Text}
 use Rattle.kin_run.proofs.Gathering.{gathers_written, gathers_as}
 use Rattle.kin_run.proofs.Playing.{Line, IsSoFar, completes, at_item}
-use Rattle.kin_run.proofs.Stepping.{range_at, gathers_step, stopped, flush_cut, flush_kept}
+use Rattle.kin_run.proofs.Stepping.{gathers_step, stopped, flush_cut, flush_kept}
 use Rattle.kin_run.proofs.play.play.Goals as goal
 
 pub returns-in_err-flush_if_much-in-Ok-clause-cut : goal.returns-in_err-flush_if_much-in-Ok-clause-cut
@@ -16,9 +16,8 @@ returns-in_err-flush_if_much-in-Ok-clause-cut g c =
     let i = c.loop-line.line-index in
     let item = c.loop-line-item.result in
     let here = at_item all i item c.loop-line-test.true c.loop-line-item.is in
-    let range = range_at s.size t.size all i item c.requires.ranges c.loop-line-test.true c.loop-line-item.is c.loop-line.invariant.size in
     let done = c.in-Ok.ensures.performs in
-    let gathered = gathers_step _ _ s all t i item here c.loop-line.out.items c.perform.new.out.items done.0 c.perform.new.state c.loop-line.invariant.sound.canonical range done.1 done.2 c.loop-line.invariant.gathered in
+    let gathered = gathers_step _ _ s all t i item here c.loop-line.out.items c.perform.new.out.items done.0 c.perform.new.state c.loop-line.invariant.sound.canonical done.1 done.2 c.loop-line.invariant.gathered in
     rw e.1 (flush_cut _ _ _ s all c.perform.new.state _ c.perform.new.out.items c.in_err-flush_if_much-in-Ok.ensures.front gathered)
 
 pub returns-in-Err-clause-ok : goal.returns-in-Err-clause-ok
@@ -45,9 +44,8 @@ loop-line-preserved g c =
     let i = c.loop-line.line-index in
     let item = c.loop-line-item.result in
     let here = at_item all i item c.loop-line-test.true c.loop-line-item.is in
-    let range = range_at s.size t.size all i item c.requires.ranges c.loop-line-test.true c.loop-line-item.is c.loop-line.invariant.size in
     let done = c.in-Ok.ensures.performs in
-    let gathered = gathers_step _ _ s all t i item here c.loop-line.out.items c.perform.new.out.items done.0 c.perform.new.state c.loop-line.invariant.sound.canonical range done.1 done.2 c.loop-line.invariant.gathered in
+    let gathered = gathers_step _ _ s all t i item here c.loop-line.out.items c.perform.new.out.items done.0 c.perform.new.state c.loop-line.invariant.sound.canonical done.1 done.2 c.loop-line.invariant.gathered in
     record {
       gathered = flush_kept _ _ _ s all c.perform.new.state _ c.perform.new.out.items c.flush_if_much.new.out.items c.in_ok-flush_if_much-in-Ok.ensures.gained gathered;
       sound = c.perform.ensures.sound;

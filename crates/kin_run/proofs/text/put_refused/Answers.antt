@@ -1,5 +1,0 @@
-use Rattle.kin_run.proofs.Never.{never}
-use Rattle.kin_run.proofs.text.put_refused.Goals as goal
-
-pub put_number-requires : goal.put_number-requires
-put_number-requires c = record { never = never }
