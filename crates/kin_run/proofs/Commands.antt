@@ -1,5 +1,5 @@
 -- Which commands are allowed, and which are refused.
-use Rattle.std.proofs.Common.{rules, ◌≡◌, ℕ, ◌∙◌, sym, ap, ap₂, subst, Option, Some, None, true, false, IsTrue, [], ◌∷◌, refl}
+use Rattle.std.proofs.Common.{rules, ◌≡◌, ℕ, ◌∙◌, sym, ap, ap₂, subst, Option, Some, None, true, false, IsTrue, [], ◌∷◌, refl, arith}
 use Rattle.std.specs.Prelude.{ℤ, pos, ◌<ℤ◌, ◌*ℤ◌, slice_get}
 use Rattle.kin_num.specs.declared.instant.Shape.{Shape}
 use Rattle.kin_num.specs.declared.instant.Shape.TheVariants.{Ratio, Root}
@@ -8,6 +8,7 @@ use Rattle.kin_num.specs.Order.{IsEarlier}
 use Rattle.kin_instant.specs.Roots.{IsFraction as Equals}
 use Rattle.kin_motion.specs.declared.keep.Keep.TheVariants as keep
 use Rattle.kin_motion.specs.Course.{Course, is_live}
+use Rattle.std.proofs.lemmas.Nat.Gcd.{IsGcd-swap, IsGcd-from_zero}
 use Rattle.kin_algebra.proofs.Ring.{by_ring, quotes}
 use Rattle.kin_num.proofs.Divisors.{same_lowest, cancel_factor}
 use Rattle.kin_script.specs.declared.command.Command.{Command}
@@ -57,4 +58,7 @@ fraction_canonical n d (Root a b c upper) h = absurd h
 
 -- the instant 0
 pub start_canonical : IsCanonical (Ratio (pos 0) (pos 1))
-start_canonical = search rules
+start_canonical = record {
+  form = record { positive = search rules; lowest = IsGcd-swap 1 0 1 (IsGcd-from_zero 1 0 refl) };
+  small = record { n_small = omega arith; d_small = omega arith };
+}

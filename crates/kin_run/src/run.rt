@@ -14,7 +14,7 @@ ghost use Rattle.kin_run.specs.Written.{Wrote};
 use crate::play::{Stop, flush, play};
 use crate::state::State;
 use crate::status::{Side, Status};
-use crate::text::put_bad;
+use crate::text::bad_text;
 use kin_io::sink::Sink;
 use kin_io::source::{Source, Taken, read_all};
 use kin_script::read::{ReadError, read};
@@ -72,10 +72,9 @@ fn refuse_script<K: Sink>(alloc: Global, input: &[u8], line: u32, sink: &mut K) 
     ensures later { K.faults sink.old ≤ K.faults sink.new }
     ensures cause { result ≡ Status.Fault Side.Write → Rose (K.faults sink.old) (K.faults sink.new) }
 {
-    let mut out = Vec::new(alloc);
-    if put_bad(&mut out, line).is_err() {
+    let Ok(mut out) = bad_text(alloc, line) else {
         return Status::NoMemory;
-    }
+    };
     match flush(&mut out, sink) {
         Ok(()) => Status::Script(line),
         Err(stop) => status_of(stop),
