@@ -314,6 +314,30 @@ irreducible_after a b c a' b' c' g some h real irrational e f l i = record {
     g_positive : pos 0 <ℤ pos g
     g_positive = omega (arith, ints)
 
+-- ---- the number of roots of the negated polynomial
+count_turned : (s t u v : Sign) → count_by (opposite_of s) (opposite_of t) (opposite_of u) v ≡ count_by s t u v
+count_turned Zero Zero Zero v = refl
+count_turned Zero Zero Minus v = refl
+count_turned Zero Zero Plus v = refl
+count_turned Zero Minus u v = refl
+count_turned Zero Plus u v = refl
+count_turned Minus t u Minus = refl
+count_turned Minus t u Zero = refl
+count_turned Minus t u Plus = refl
+count_turned Plus t u Minus = refl
+count_turned Plus t u Zero = refl
+count_turned Plus t u Plus = refl
+
+same_discriminant : (a b c : ℤ) → discriminant (neg_ℤ a) (neg_ℤ b) (neg_ℤ c) ≡ discriminant a b c
+same_discriminant a b c = by_ring (a ∷ b ∷ c ∷ []) _ _ (search quotes depth 20) (search quotes depth 20) refl
+
+pub count_negated : (p : Quadratic) → root_count (negated p) ≡ root_count p
+count_negated p =
+    ap (λ (z : ℤ). count_by (sign_of (neg_ℤ p.a)) (sign_of (neg_ℤ p.b)) (sign_of (neg_ℤ p.c)) (sign_of z)) (same_discriminant p.a p.b p.c)
+    ∙ ap (λ (s : Sign). count_by s (sign_of (neg_ℤ p.b)) (sign_of (neg_ℤ p.c)) (sign_of (discriminant p.a p.b p.c))) (sign_of-negative p.a)
+    ∙ ap₂ (λ (s t : Sign). count_by (opposite_of (sign_of p.a)) s t (sign_of (discriminant p.a p.b p.c))) (sign_of-negative p.b) (sign_of-negative p.c)
+    ∙ count_turned (sign_of p.a) (sign_of p.b) (sign_of p.c) (sign_of (discriminant p.a p.b p.c))
+
 -- ---- what the code has, read as what it means
 pub fraction_read : (n d n' d' : ℤ) (r : Shape) → n' ≡ n → d' ≡ d → IsFraction n' d' r → IsFraction n d r
 fraction_read n d n' d' r e f h = subst (λ (x : ℤ). IsFraction x d r) e (subst (λ (y : ℤ). IsFraction n' y r) f h)
