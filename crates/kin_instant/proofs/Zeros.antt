@@ -149,7 +149,7 @@ zero_product a b e h = cancel_factor a b (pos 0) h (e ∙ nothing a)
 
 -- ---- lines
 -- a line through n/d is zero at the form of n/d in lowest terms
-ratio_on_line : (n d m e : ℤ) → pos 0 *ℤ (m *ℤ m +ℤ pos 0 *ℤ pos 0 *ℤ pos 0) +ℤ d *ℤ m *ℤ e +ℤ neg_ℤ n *ℤ e *ℤ e ≡ e *ℤ (m *ℤ d -ℤ n *ℤ e)
+pub ratio_on_line : (n d m e : ℤ) → pos 0 *ℤ (m *ℤ m +ℤ pos 0 *ℤ pos 0 *ℤ pos 0) +ℤ d *ℤ m *ℤ e +ℤ neg_ℤ n *ℤ e *ℤ e ≡ e *ℤ (m *ℤ d -ℤ n *ℤ e)
 ratio_on_line n d m e = by_ring (n ∷ d ∷ m ∷ e ∷ []) _ _ (search quotes depth 20) (search quotes depth 20) refl
 
 same_difference : (x y : ℤ) → x ≡ y → x -ℤ y ≡ pos 0

@@ -1,6 +1,8 @@
 //! Instants as real algebraic numbers of degree at most two: roots, signs, order.
 #![tactic(auto)]
 
+pub mod next;
+pub mod order;
 mod product;
 pub mod ratio;
 mod ratio_sign;

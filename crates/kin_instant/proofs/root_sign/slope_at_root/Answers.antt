@@ -1,8 +1,7 @@
-use Rattle.std.proofs.Common.{◌≡◌, ◌≢◌, ◌≤◌, ◌<◌, ◌^◌, ◌+◌, ◌*◌, ℕ, Bool, true, false, ℤ, pos, negsuc, ◌+ℤ◌, ◌-ℤ◌, ◌*ℤ◌, unsigned_abs, FitsSigned, to_z, of_z, w64, arith, refl, ap, ap₂, sym, ◌∙◌, subst, mul-le-mul}
+use Rattle.std.proofs.Common.{◌≡◌, ◌≤◌, ◌^◌, Bool, true, false, ℤ, pos, negsuc, ◌-ℤ◌, ◌*ℤ◌, unsigned_abs, to_z, of_z, w64, arith, ap, ap₂, sym, ◌∙◌}
 use Rattle.std.specs.Prelude.{◌<ℤ◌}
-use Rattle.std.proofs.lemmas.Int.{ints, to_z-of_z, fits_signed_from_abs}
-use mir.Syntax.{w128}
-use Rattle.kin_instant.proofs.Widths.{clean, same_differences}
+use Rattle.std.proofs.lemmas.Int.{ints}
+use Rattle.kin_instant.proofs.Widths.{clean}
 use Rattle.kin_algebra.specs.Signs.{pair_sign_of}
 use Rattle.kin_num.specs.declared.instant.Shape.TheVariants.{Root}
 use Rattle.kin_num.specs.Quadratic.{Quadratic}

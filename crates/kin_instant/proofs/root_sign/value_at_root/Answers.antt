@@ -1,11 +1,8 @@
-use Rattle.std.proofs.Common.{◌≡◌, ◌≢◌, ◌≤◌, ◌<◌, ◌^◌, ◌+◌, ◌*◌, ℕ, Bool, true, false, ℤ, pos, negsuc, ◌+ℤ◌, ◌-ℤ◌, ◌*ℤ◌, unsigned_abs, FitsSigned, to_z, of_z, w64, arith, refl, ap, ap₂, sym, ◌∙◌, subst, mul-le-mul}
-use Rattle.std.specs.Prelude.{◌<ℤ◌}
-use Rattle.std.proofs.lemmas.Int.{ints, to_z-of_z, fits_signed_from_abs}
+use Rattle.std.proofs.Common.{◌≡◌, ◌≤◌, ◌^◌, ℤ, pos, ◌-ℤ◌, ◌*ℤ◌, unsigned_abs, to_z, of_z, w64, arith, ap, sym, ◌∙◌}
+use Rattle.std.proofs.lemmas.Int.{ints}
 use mir.Syntax.{w128}
 use Rattle.kin_instant.proofs.Widths.{clean, same_differences}
-use Rattle.kin_algebra.specs.declared.sign.Sign.{Sign}
-use Rattle.kin_algebra.specs.declared.sign.Sign.TheVariants.{Minus}
-use Rattle.kin_algebra.specs.Signs.{sign_of, product_of, first_of}
+use Rattle.kin_algebra.specs.Signs.{sign_of, product_of}
 use Rattle.kin_num.specs.Quadratic.{Quadratic}
 use Rattle.kin_instant.specs.Remainders.{remainder_slope_of, remainder_start_of, side}
 use Rattle.kin_instant.proofs.Values.{whole_of, resultant_of, sign_at_root-value, opposed-is, agreeing-is}
