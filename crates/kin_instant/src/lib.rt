@@ -3,6 +3,8 @@
 
 pub mod next;
 pub mod order;
+#[cfg(test)]
+mod pairs;
 mod product;
 pub mod ratio;
 mod ratio_sign;
@@ -10,3 +12,5 @@ mod root_sign;
 pub mod roots;
 pub mod sign;
 pub mod solve;
+#[cfg(test)]
+mod tests;
