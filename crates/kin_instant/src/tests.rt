@@ -72,6 +72,7 @@ fn order_of(x: [i64; 4], y: [i64; 4]) -> Option<Ordering> {
 fn close_pairs_are_ordered(rt: HostRuntime) {
     for (x, y, order) in PAIRS {
         assert_eq!(rt; order_of(x, y), Some(order));
+        assert_eq!(rt; order_of(y, x), Some(order.reverse()));
     }
 }
 
