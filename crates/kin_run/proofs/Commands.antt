@@ -1,9 +1,9 @@
 -- Which commands are allowed, and which are refused.
-use Rattle.std.proofs.Common.{rules, ◌≡◌, ℕ, ◌∙◌, sym, ap, ap₂, subst, Option, Some, None, true, false, IsTrue, [], ◌∷◌, refl, arith}
+use Rattle.std.proofs.Common.{rules, ◌≡◌, ℕ, Bool, ◌∙◌, sym, ap, ap₂, subst, Some, IsTrue, [], ◌∷◌, refl, arith}
 use Rattle.std.specs.Prelude.{ℤ, pos, ◌<ℤ◌, ◌*ℤ◌, slice_get}
 use Rattle.kin_num.specs.declared.instant.Shape.{Shape}
 use Rattle.kin_num.specs.declared.instant.Shape.TheVariants.{Ratio, Root}
-use Rattle.kin_num.specs.Canonical.{IsCanonical, IsLowest}
+use Rattle.kin_num.specs.Canonical.{IsCanonical}
 use Rattle.kin_num.specs.Order.{IsEarlier}
 use Rattle.kin_instant.specs.Roots.{IsFraction as Equals}
 use Rattle.kin_motion.specs.declared.keep.Keep.TheVariants as keep
@@ -11,11 +11,10 @@ use Rattle.kin_motion.specs.Course.{Course, is_live}
 use Rattle.std.proofs.lemmas.Nat.Gcd.{IsGcd-swap, IsGcd-from_zero}
 use Rattle.kin_algebra.proofs.Ring.{by_ring, quotes}
 use Rattle.kin_num.proofs.Divisors.{same_lowest, cancel_factor}
-use Rattle.kin_script.specs.declared.command.Command.{Command}
-use Rattle.kin_script.specs.declared.command.Command.TheVariants.{Insert, AtRatio, Order, Extreme, Hull, Closest, Inside}
-use Rattle.kin_script.specs.declared.refusal.Refusal.{Refusal}
-use Rattle.kin_script.specs.declared.refusal.Refusal.TheVariants.{Taken, NotKept, Past}
-use Rattle.kin_script.specs.Replay.{State, at, IsFraction, Asks, Refuses, IsAllowed}
+use Rattle.kin_run.proofs.NamedRoots.{one_named_root, named_root_of, has_root}
+use Rattle.kin_script.specs.declared.command.Command.TheVariants.{Insert, AtRatio, AtRoot, Order}
+use Rattle.kin_script.specs.declared.refusal.Refusal.TheVariants.{Taken, NotKept, NoRoot, Past}
+use Rattle.kin_script.specs.Replay.{State, at, IsFraction, IsNamedRoot, IsAllowed}
 
 -- the fraction in its canonical form
 pub fraction_is : (n d : ℤ) (w : Shape) → pos 0 <ℤ d → IsCanonical w → Equals n d w → IsFraction n d w
@@ -40,16 +39,25 @@ one_fraction n d (Root p q r t) w a b = absurd a
 pub allowed_insert : (s : State) (number : ℕ) (m : Course) → (IsTrue (is_live s.motions number) → ⊥) → IsAllowed s (Insert number m)
 allowed_insert s number m dead Taken h = dead h
 allowed_insert s number m dead NotKept h = h
+allowed_insert s number m dead NoRoot h = h
 allowed_insert s number m dead Past h = h.1
 
 pub allowed_ratio : (s : State) (n d : ℤ) (w : Shape) → IsFraction n d w → (IsEarlier (at w) s.moment → ⊥) → IsAllowed s (AtRatio n d)
 allowed_ratio s n d w asked later Taken h = h
 allowed_ratio s n d w asked later NotKept h = h
+allowed_ratio s n d w asked later NoRoot h = h
 allowed_ratio s n d w asked later Past h = later (subst (λ (v : Shape). IsEarlier (at v) s.moment) (one_fraction n d h.0 w h.1 asked) h.2)
+
+pub allowed_root : (s : State) (a b c : ℤ) (upper : Bool) (w : Shape) → IsNamedRoot upper (record { a = a; b = b; c = c }) w → (IsEarlier (at w) s.moment → ⊥) → IsAllowed s (AtRoot a b c upper)
+allowed_root s a b c upper w asked later Taken h = h
+allowed_root s a b c upper w asked later NotKept h = h
+allowed_root s a b c upper w asked later NoRoot h = has_root a b c w (named_root_of upper _ w asked) h
+allowed_root s a b c upper w asked later Past h = later (subst (λ (v : Shape). IsEarlier (at v) s.moment) (one_named_root upper _ h.0 w h.1 asked) h.2)
 
 pub allowed_order : (s : State) (k : ℕ) (dx dy : ℤ) → slice_get s.keeps k ≡ Some (keep.Order dx dy) → IsAllowed s (Order k)
 allowed_order s k dx dy kept Taken h = h
 allowed_order s k dx dy kept NotKept h = h dx dy kept
+allowed_order s k dx dy kept NoRoot h = h
 allowed_order s k dx dy kept Past h = h.1
 
 pub fraction_canonical : (n d : ℤ) (w : Shape) → IsFraction n d w → IsCanonical w

@@ -1,5 +1,5 @@
 -- Fronts of a text.
-use Rattle.std.proofs.Common.{◌≡◌, ℕ, List, [], ◌++◌, take, drop, refl, sym, ap, ◌∙◌, append_assoc, take-append-drop}
+use Rattle.std.proofs.Common.{ℕ, List, [], ◌++◌, take, drop, refl, sym, ap, ◌∙◌, append_assoc, take-append-drop}
 use Rattle.kin_run.specs.Written.{IsPrefix}
 
 pub prefix_nil : (text : List ℕ) → IsPrefix [] text

@@ -1,7 +1,7 @@
 pub mod Fronts
 pub mod Gathering
 pub mod Live
-pub mod Never
+pub mod NamedRoots
 pub mod Commands
 pub mod Lines
 pub mod Determined

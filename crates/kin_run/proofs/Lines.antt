@@ -1,18 +1,14 @@
 -- The line of an order is one.
-use Rattle.std.proofs.Common.{◌≡◌, ℕ, List, [], ◌++◌, sym, ap, ◌∙◌, subst, refl, Some, Option}
+use Rattle.std.proofs.Common.{◌≡◌, ℕ, List, ◌++◌, sym, ap, ◌∙◌, subst, refl, Some}
 use Rattle.std.specs.Prelude.{ℤ, slice_get, Ok, Err, OnOk, OnErr, Result}
 use Rattle.std.proofs.lemmas.Option.{same_Some}
-use Rattle.std.proofs.lemmas.List.{append-nil}
-use Rattle.kin_motion.specs.declared.keep.Keep.{Keep}
 use Rattle.kin_motion.specs.declared.keep.Keep.TheVariants as keep
 use Rattle.kin_motion.specs.Orders.{IsOrder}
-use Rattle.kin_motion.specs.Scene.{IsReal, scene_at}
+use Rattle.kin_motion.specs.Scene.{IsReal}
 use Rattle.kin_motion.proofs.Proved.{order_is_one}
 use Rattle.kin_script.specs.Printed.{list_line, PutsFront}
 use Rattle.kin_script.specs.Replay.{State, scene_of}
 use Rattle.kin_script.specs.Text.{IsOrderLine}
-use Rattle.kin_run.specs.Sound.{IsSound}
-use Rattle.kin_run.specs.Written.{IsPrefix}
 use Rattle.kin_run.specs.Performed.{PutsLine}
 use Rattle.kin_num.specs.Canonical.{IsCanonical}
 

@@ -6,7 +6,7 @@ use Rattle.std.specs.Io.KnownBytes.{Consumes, IsAtEnd}
 use Rattle.kin_num.specs.Canonical.{IsCanonical}
 use Rattle.kin_script.specs.declared.script.Script.{Script}
 use Rattle.kin_script.specs.declared.command.Command.{Command}
-use Rattle.kin_script.specs.declared.command.Command.TheVariants.{Insert, AtRatio, Order, Extreme, Hull, Closest, Inside}
+use Rattle.kin_script.specs.declared.command.Command.TheVariants.{Insert, AtRatio, AtRoot, Order, Extreme, Hull, Closest, Inside}
 use Rattle.kin_script.specs.declared.refusal.Refusal.{Refusal}
 use Rattle.kin_script.specs.Grammar.{script_of}
 use Rattle.kin_script.specs.Replay.{State, start, LeadsTo}
@@ -18,6 +18,7 @@ use Rattle.kin_run.specs.declared.status.Status.{Status}
 use Rattle.kin_run.specs.declared.status.Status.TheVariants as status
 use Rattle.kin_run.specs.Headline.{IsAnswer, IsCut, IsTextOf, Writes, Answers, status_of_stop, IsBrokenOff, TakesWhole, OneAnswer}
 use Rattle.kin_run.proofs.Commands.{fraction_canonical, start_canonical}
+use Rattle.kin_run.proofs.NamedRoots.{named_canonical}
 use Rattle.kin_run.proofs.Determined.{one_step}
 use Rattle.kin_run.proofs.Playing.{Line, allowed_goes_on, text_refused}
 
@@ -25,6 +26,7 @@ use Rattle.kin_run.proofs.Playing.{Line, allowed_goes_on, text_refused}
 stays_canonical : (s : State) (c : Command) (t : State) → IsCanonical s.moment.at → LeadsTo s c t → IsCanonical t.moment.at
 stays_canonical s (Insert n m) t canonical e = subst (λ (u : State). IsCanonical u.moment.at) (sym e) canonical
 stays_canonical s (AtRatio n d) t canonical e = subst (λ (u : State). IsCanonical u.moment.at) (sym e.2) (fraction_canonical n d e.0 e.1)
+stays_canonical s (AtRoot a b c upper) t canonical e = subst (λ (u : State). IsCanonical u.moment.at) (sym e.2) (named_canonical upper _ e.0 e.1)
 stays_canonical s (Order k) t canonical e = subst (λ (u : State). IsCanonical u.moment.at) (sym e) canonical
 stays_canonical s (Extreme k) t canonical e = subst (λ (u : State). IsCanonical u.moment.at) (sym e) canonical
 stays_canonical s Hull t canonical e = subst (λ (u : State). IsCanonical u.moment.at) (sym e) canonical

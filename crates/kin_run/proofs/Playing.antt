@@ -9,7 +9,7 @@ use Rattle.kin_script.specs.Text.{Step, Text, Ending, refused_line}
 use Rattle.kin_run.specs.Performed.{IsCutOfStep, IsCutOfText}
 use Rattle.kin_run.specs.Written.{IsPrefix}
 use Rattle.kin_run.proofs.Determined.{one_refusal, one_step}
-use Rattle.kin_run.proofs.Fronts.{prefix_through, prefix_behind, prefix_front}
+use Rattle.kin_run.proofs.Fronts.{prefix_through, prefix_behind}
 
 abbrev pub Line : Type 0
 Line = ℕ × Command

@@ -5,9 +5,9 @@ pub use kin_script::refusal::Refusal;
 
 pub mod laws;
 pub mod run;
-pub mod stand_in;
 pub mod status;
 
+mod asked;
 mod order;
 mod perform;
 mod play;

@@ -1,7 +1,7 @@
 //! One command: its refusals first, then what it does.
 
 ghost use Rattle.std.specs.Prelude.{◌≡◌, ◌<◌, ◌^◌, [], Some, slice_get};
-ghost use Rattle.kin_script.specs.declared.command.Command.TheVariants.{Insert as InsertOf, AtRatio as AtRatioOf, Order as OrderOf};
+ghost use Rattle.kin_script.specs.declared.command.Command.TheVariants.{Insert as InsertOf, AtRatio as AtRatioOf, AtRoot as AtRootOf, Order as OrderOf};
 ghost use Rattle.kin_script.specs.Ranges.{IsCommandInRange};
 ghost use Rattle.kin_script.specs.Replay.{Asks};
 ghost use Rattle.kin_num.specs.Canonical.{IsCanonical};
@@ -11,6 +11,7 @@ ghost use Rattle.kin_run.specs.Sound.{IsSound};
 ghost use Rattle.kin_motion.specs.declared.keep.Keep.TheVariants as keep;
 ghost use Rattle.kin_script.specs.Text.{IsOrderLine};
 
+use crate::asked::named_root;
 use crate::state::State;
 use kin_instant::ratio::ratio;
 use kin_motion::keep::Keep;
@@ -66,6 +67,29 @@ fn move_to_ratio(state: &mut State, n: i64, d: i64) -> Result<(), Halt>
     Ok(())
 }
 
+/// Moves to the named root, which is not before now.
+fn move_to_root(
+    state: &mut State,
+    a: i64,
+    b: i64,
+    c: i64,
+    upper: bool,
+) -> Result<(), Halt>
+    requires { IsCommandInRange state.old.size (AtRootOf a b c upper) }
+    ensures performs { Performs state.old (AtRootOf a b c upper) result [] [] state.new }
+    ensures same_size { state.new.size ≡ state.old.size }
+    ensures sound { IsSound state.old → IsSound state.new }
+{
+    let Some(asked) = named_root(a, b, c, upper) else {
+        return Err(Halt::Refused(Refusal::NoRoot));
+    };
+    if state.is_past(&asked) {
+        return Err(Halt::Refused(Refusal::Past));
+    }
+    state.move_to(asked);
+    Ok(())
+}
+
 /// Appends the line of the kept order `s`, whose direction this is.
 fn put_order(
     alloc: Global,
@@ -112,6 +136,7 @@ pub fn perform(
     match *command {
         Command::Insert { no, m } => insert(state, no, m),
         Command::AtRatio { n, d } => move_to_ratio(state, n, d),
+        Command::AtRoot { a, b, c, upper } => move_to_root(state, a, b, c, upper),
         Command::Order { s } => answer_order(alloc, state, s, out),
         Command::Extreme { .. } | Command::Hull | Command::Closest | Command::Inside { .. } => {
             Err(Halt::Refused(Refusal::NotKept))

@@ -9,7 +9,7 @@ ghost use Rattle.kin_script.specs.Replay.{at, scene_of, start};
 ghost use Rattle.kin_run.specs.Sound.{AreSmall, IsSound};
 
 use crate::order::{View, order};
-use crate::stand_in::compare;
+use kin_instant::order::compare;
 use kin_motion::keep::Keep;
 use kin_motion::motion::{Motion, Motions};
 use kin_num::instant::{Instant, Moment, Phase, Shape};

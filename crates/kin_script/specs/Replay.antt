@@ -1,19 +1,22 @@
 -- The replay of a script: the motions and the moment after each command, and why a command is refused.
-use Rattle.std.specs.Prelude.{◌≡◌, ◌≢◌, ℕ, ◌^◌, ℤ, pos, ◌*ℤ◌, ◌<ℤ◌, List, Option, Some, None, IsTrue, slice_get, slice_set, replicate}
+use Rattle.std.specs.Prelude.{◌≡◌, ◌≢◌, ℕ, ◌^◌, ℤ, pos, ◌*ℤ◌, ◌<ℤ◌, Bool, true, false, List, Option, Some, None, IsTrue, slice_get, slice_set, replicate}
+use Rattle.kin_algebra.specs.declared.sign.Sign.TheVariants.{Zero}
 use Rattle.kin_num.specs.declared.instant.Shape.{Shape}
 use Rattle.kin_num.specs.declared.instant.Shape.TheVariants.{Ratio, Root}
 use Rattle.kin_num.specs.declared.instant.Phase.TheVariants.{At}
 use Rattle.kin_num.specs.declared.instant.Moment.{Moment}
-use Rattle.kin_num.specs.Canonical.{IsCanonical}
+use Rattle.kin_num.specs.Quadratic.{Quadratic}
+use Rattle.kin_num.specs.Canonical.{IsCanonical, discriminant}
+use Rattle.kin_num.specs.Instants.{sign_at_instant}
+use Rattle.kin_num.specs.Order.{IsLess, IsEarlier}
 use Rattle.kin_motion.specs.declared.keep.Keep.{Keep}
 use Rattle.kin_motion.specs.declared.keep.Keep.TheVariants as keep
 use Rattle.kin_motion.specs.Course.{Course, is_live}
 use Rattle.kin_motion.specs.Scene.{Scene, scene_at}
-use Rattle.kin_num.specs.Order.{IsEarlier}
 use Rattle.kin_script.specs.declared.command.Command.{Command}
-use Rattle.kin_script.specs.declared.command.Command.TheVariants.{Insert, AtRatio, Order, Extreme, Hull, Closest, Inside}
+use Rattle.kin_script.specs.declared.command.Command.TheVariants.{Insert, AtRatio, AtRoot, Order, Extreme, Hull, Closest, Inside}
 use Rattle.kin_script.specs.declared.refusal.Refusal.{Refusal}
-use Rattle.kin_script.specs.declared.refusal.Refusal.TheVariants.{Taken, NotKept, Past}
+use Rattle.kin_script.specs.declared.refusal.Refusal.TheVariants.{Taken, NotKept, NoRoot, Past}
 
 -- what stands between two commands
 pub record State : Type 0 where
@@ -44,9 +47,20 @@ abbrev pub IsFraction : ℤ → ℤ → Shape → Type 0
 IsFraction n d (Ratio p q) = (pos 0 <ℤ d) × IsCanonical (Ratio p q) × (p *ℤ d ≡ n *ℤ q)
 IsFraction n d (Root a b c upper) = ⊥
 
+-- the polynomial is 0 at the instant
+pub record IsRootOf (p : Quadratic) (w : Shape) : Type 0 where
+  pub canonical : IsCanonical w
+  pub zero : sign_at_instant p w ≡ Zero
+
+-- the root that `hi` names, or `lo`: no root is greater, or none is less
+abbrev pub IsNamedRoot : Bool → Quadratic → Shape → Type 0
+IsNamedRoot true p w = IsRootOf p w × ((v : Shape) → IsRootOf p v → ¬ (IsLess w v))
+IsNamedRoot false p w = IsRootOf p w × ((v : Shape) → IsRootOf p v → ¬ (IsLess v w))
+
 -- the instant that a command asks for
 abbrev pub Asks : Command → Shape → Type 0
 Asks (AtRatio n d) w = IsFraction n d w
+Asks (AtRoot a b c upper) w = IsNamedRoot upper (record { a = a; b = b; c = c }) w
 Asks (Insert number m) w = ⊥
 Asks (Order k) w = ⊥
 Asks (Extreme k) w = ⊥
@@ -68,6 +82,11 @@ IsNotKept s Closest = Unit {0}
 IsNotKept s (Inside rect) = Unit {0}
 IsNotKept s _ = ⊥
 
+-- a root is asked for, and the discriminant is negative
+abbrev pub HasNoRoot : Command → Type 0
+HasNoRoot (AtRoot a b c upper) = discriminant a b c <ℤ pos 0
+HasNoRoot _ = ⊥
+
 -- the asked moment is before now
 abbrev pub IsPast : State → Command → Type 0
 IsPast s c = (w : Shape) × Asks c w × IsEarlier (at w) s.moment
@@ -76,6 +95,7 @@ IsPast s c = (w : Shape) × Asks c w × IsEarlier (at w) s.moment
 abbrev pub Refuses : State → Command → Refusal → Type 0
 Refuses s c NotKept = IsNotKept s c
 Refuses s c Taken = IsTaken s c
+Refuses s c NoRoot = HasNoRoot c
 Refuses s c Past = IsPast s c
 
 abbrev pub IsAllowed : State → Command → Type 0
@@ -85,4 +105,5 @@ IsAllowed s c = (r : Refusal) → ¬ (Refuses s c r)
 abbrev pub LeadsTo : State → Command → State → Type 0
 LeadsTo s (Insert number m) t = t ≡ record s { motions = slice_set s.motions number (Some m) }
 LeadsTo s (AtRatio n d) t = (w : Shape) × Asks (AtRatio n d) w × (t ≡ record s { moment = at w })
+LeadsTo s (AtRoot a b c upper) t = (w : Shape) × Asks (AtRoot a b c upper) w × (t ≡ record s { moment = at w })
 LeadsTo s _ t = t ≡ s

@@ -3,7 +3,7 @@ use Rattle.std.specs.Prelude.{◌≡◌, ℕ, ℤ, List, [], ◌∷◌, ◌++◌
 use Rattle.kin_motion.specs.declared.keep.Keep.TheVariants as keep
 use Rattle.kin_motion.specs.Orders.{IsOrder}
 use Rattle.kin_script.specs.declared.command.Command.{Command}
-use Rattle.kin_script.specs.declared.command.Command.TheVariants.{Insert, AtRatio, Order, Extreme, Hull, Closest, Inside}
+use Rattle.kin_script.specs.declared.command.Command.TheVariants.{Insert, AtRatio, AtRoot, Order, Extreme, Hull, Closest, Inside}
 use Rattle.kin_script.specs.declared.refusal.Refusal.{Refusal}
 use Rattle.std.specs.Fmt.{decimal}
 use Rattle.kin_script.specs.Printed.{list_line, name_of}
@@ -30,6 +30,7 @@ pub record IsOrderLine (s : State) (k : ℕ) (text : List ℕ) : Type 0 where
 abbrev pub Prints : State → Command → List ℕ → Type 0
 Prints s (Insert number m) text = text ≡ []
 Prints s (AtRatio n d) text = text ≡ []
+Prints s (AtRoot a b c upper) text = text ≡ []
 Prints s (Order k) text = IsOrderLine s k text
 Prints s (Extreme k) text = ⊥
 Prints s Hull text = ⊥

@@ -1,4 +1,4 @@
-use Rattle.std.proofs.Common.{sym, ◌∙◌, arith}
+use Rattle.std.proofs.Common.{sym, ◌∙◌}
 use Rattle.kin_run.proofs.Live.{slot_count}
 use Rattle.kin_run.proofs.state.State.order.Goals as goal
 

@@ -1,4 +1,0 @@
-pub record Never : Type 0 where
-  pub never : ⊥
-pub never : ⊥
-never = ?
