@@ -3,3 +3,5 @@ pub mod Values
 pub mod Lowest
 pub mod Zeros
 pub mod RootsOf
+pub mod Places
+pub mod Nexts

@@ -113,7 +113,7 @@ module _ {A : Type 0} (lt : A → A → Bool) where
       back r (inr h) = contains_tail x z (sorted_by lt xs) (r.1 h)
 
 module _ {A : Type 0} (test : A → Bool) where
-  filter-sound : (xs : List A) (z : A) → Contains (filter test xs) z → Contains xs z × (test z ≡ true)
+  pub filter-sound : (xs : List A) (z : A) → Contains (filter test xs) z → Contains xs z × (test z ≡ true)
   filter-sound [] z h = absurd (contains_none z h)
   filter-sound (x ∷ xs) z h = at (test x) refl h (filter-sound xs z)
     where
@@ -125,7 +125,7 @@ module _ {A : Type 0} (test : A → Bool) where
           first (inl f) = (subst (λ (v : A). Contains (x ∷ xs) v) f (contains_head x xs), sym (ap test f) ∙ e)
           first (inr k) = let w = r k in (contains_tail x z xs w.0, w.1)
 
-  filter-complete : (xs : List A) (z : A) → Contains xs z → test z ≡ true → Contains (filter test xs) z
+  pub filter-complete : (xs : List A) (z : A) → Contains xs z → test z ≡ true → Contains (filter test xs) z
   filter-complete [] z h e = absurd (contains_none z h)
   filter-complete (x ∷ xs) z h e = at (test x) refl (contains_cases x z xs h) (λ k. filter-complete xs z k e)
     where

@@ -3,8 +3,8 @@
 ghost use Rattle.kin_motion.specs.Agreements.{CandidateAgrees, ChainAgrees, ClosestAgrees, ClosestFactsAgree, CycleAgrees, ExtremeAgrees, ExtremeFactsAgree, FailuresAgree, LiveFactsAgree, OrderAgrees, OrderFactsAgree};
 ghost use Rattle.kin_motion.specs.Theorems.{OneCandidate, OneClosest, OneExtreme, OneFirstFailure, OneHullCycle, OneJournal, OneNextBlock, OneOctant, OneOrder, OneUpperChain, OrderIsDetermined, RealScenesHaveLaws, TurnedIsMirrored, TurnedIsReal};
 
-/// In the scene of any motions at any canonical moment, signs of lines, turns and squared
-/// distances add up and change sides as those of numbers do.
+/// In the scene of any motions at any canonical moment, signs of lines, turns, squared distances and
+/// slopes add up and change sides as those of numbers do.
 pub fn real_scenes_have_laws()
     ensures { RealScenesHaveLaws }
 {}
