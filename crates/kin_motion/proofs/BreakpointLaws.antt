@@ -10,9 +10,8 @@ use Rattle.kin_motion.specs.Scene.{Scene, x_sign}
 use Rattle.kin_motion.specs.Chains.{is_plus, is_left, IsUpperChain}
 use Rattle.kin_motion.specs.Merges.{Half.{A, B}, Half, Breakpoint, is_of, breakpoints_of, slope_form, goes_first, is_placed_before, IsBreakpointList, put_before, merged, breakpoint_list}
 use Rattle.kin_motion.specs.Laws.{HasSlopeLaws, HasTurnLaws}
-use Rattle.kin_motion.proofs.SetLaws.{contains_none, contains_head, contains_tail, contains_cases, distinct_cons, distinct_none}
+use Rattle.kin_motion.proofs.SetLaws.{contains_none, contains_head, contains_tail, contains_cases, distinct_cons, distinct_none, filter-sound, filter-complete}
 use Rattle.kin_motion.proofs.AgreementLaws.{halves}
-use Rattle.kin_motion.proofs.LiveFactLaws.{filter-sound, filter-complete}
 use Rattle.kin_motion.proofs.JournalLaws.{first_of_chain, same_list}
 use Rattle.kin_motion.proofs.MergeLaws.{Falls, upper_falls}
 
@@ -221,7 +220,7 @@ module _ (s : Scene) (slopes : HasSlopeLaws s) where
       record { of_a = m.1; of_b = m.2; falling = m.0 }
 
   -- ---- uniqueness
-  members_of : (a b : List ℕ) (es : List Breakpoint) → IsBreakpointList s a b es → (e : Breakpoint) → Contains es e → Contains (breakpoints_of A a) e ⊎ Contains (breakpoints_of B b) e
+  pub members_of : (a b : List ℕ) (es : List Breakpoint) → IsBreakpointList s a b es → (e : Breakpoint) → Contains es e → Contains (breakpoints_of A a) e ⊎ Contains (breakpoints_of B b) e
   unfolding own
   members_of a b es l e c = at e.half refl
     where
