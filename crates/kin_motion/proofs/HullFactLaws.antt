@@ -1,8 +1,7 @@
 -- The computed facts of the hull are its facts.
-use Rattle.std.proofs.Common.{◌≡◌, ◌⊎◌, inl, inr, refl, sym, ap, ◌∙◌, subst, arith, List, [], ◌∷◌, ◌++◌, ℕ, zero, suc, ◌+◌, ◌*◌, ◌-◌, ◌/◌, ◌^◌, ◌<◌, ◌≤◌, Bool, true, false, ◌||◌, ◌&&◌, nat_eq, map}
+use Rattle.std.proofs.Common.{◌≡◌, ◌⊎◌, inl, inr, refl, sym, ap, ◌∙◌, subst, arith, List, [], ◌∷◌, ◌++◌, ℕ, zero, suc, ◌+◌, ◌*◌, ◌-◌, ◌/◌, ◌^◌, ◌<◌, ◌≤◌, Bool, true, false, ◌||◌, nat_eq, map}
 use Rattle.std.specs.Prelude.{Contains, filter}
 use Rattle.std.proofs.lemmas.List.Elements.{Contains-append_cases}
-use Rattle.std.proofs.lemmas.Nat.{pow-add}
 use Rattle.std.proofs.lemmas.Bool.Decides.{nat_tests}
 use Rattle.kin_motion.specs.declared.form.Form.{Form}
 use Rattle.kin_motion.specs.declared.fact.Placed.{Placed}
@@ -11,7 +10,7 @@ use Rattle.kin_motion.specs.Sets.{AreDistinct, ListsExactly}
 use Rattle.kin_motion.specs.Scene.{Scene, IsReal, placed_at, turned}
 use Rattle.kin_motion.specs.Tournaments.{comes_to, is_under}
 use Rattle.kin_motion.specs.Chains.{is_left, is_bare, IsUpperChain, upper_chain_of}
-use Rattle.kin_motion.specs.Merges.{Half.{A, B}, Half, Breakpoint, breakpoints_of, IsBreakpointList, breakpoint_list, turns_from, slopes_from, forms_of_ends, forms_of_merge, IsMergeForm, merge_forms, points_under, IsNodeForm, node_forms, IsUpperFact, IsLowerFact, IsHullFact, hull_facts_of_node, hull_facts}
+use Rattle.kin_motion.specs.Merges.{Half.{A, B}, Half, Breakpoint, breakpoints_of, IsBreakpointList, breakpoint_list, turns_from, slopes_from, forms_of_ends, forms_of_merge, IsMergeForm, merge_forms, points_under, IsNodeForm, node_forms, IsHullFact, hull_facts_of_node, hull_facts}
 use Rattle.kin_motion.specs.Agreements.{FitsSize, HullFactsAgree}
 use Rattle.kin_motion.proofs.SetLaws.{contains_none, contains_cases, distinct_none, distinct_append, distinct_mapped_on, exactly_both, exactly_in_words, exactly_mapped, exactly_in_turn}
 use Rattle.kin_motion.proofs.RealLaws.{real_line_laws, real_turn_laws}
@@ -86,7 +85,7 @@ module _ (s : Scene) (real : IsReal s) where
   forms_distinct (a ∷ as') (b ∷ bs) es oa ob d =
       distinct_append (turns_from a b es ++ slopes_from es) (forms_of_ends s a as' b bs)
       (distinct_append (turns_from a b es) (slopes_from es) (turns_distinct a b es d) (slopes_distinct es d)
-       (λ f c k. let p = (turn_first a b es f c).1 in let q = (slope_first es f k).1 in let g : 1 ≡ 2 = sym p ∙ q in omega (arith, g)))
+      (λ f c k. let p = (turn_first a b es f c).1 in let q = (slope_first es f k).1 in let g : 1 ≡ 2 = sym p ∙ q in omega (arith, g)))
       (ends_distinct s a as' b bs oa ob)
       (λ f c k. not_a_line f (ends_kind s a as' b bs f k) (Contains-append_cases (turns_from a b es) (slopes_from es) f c))
     where
@@ -117,8 +116,8 @@ module _ (s : Scene) (real : IsReal s) where
       once =
           forms_distinct (upper_chain_of s left) (upper_chain_of s right) (breakpoint_list s (upper_chain_of s left) (upper_chain_of s right)) (chain_once left ol) (chain_once right or)
           (lefts_distinct (upper_chain_of s left) (upper_chain_of s right) (breakpoint_list s (upper_chain_of s left) (upper_chain_of s right)) (chain_once left ol) (chain_once right or)
-           (λ i h k. apart i (chain_part left (upper_chain_of s left) left_chain i h) (chain_part right (upper_chain_of s right) right_chain i k))
-           left_chain.rising right_chain.rising list)
+          (λ i h k. apart i (chain_part left (upper_chain_of s left) left_chain i h) (chain_part right (upper_chain_of s right) right_chain i k))
+          left_chain.rising right_chain.rising list)
 
       to : (f : Form) → Contains (merge_forms s left right) f → IsMergeForm s left right f
       to f c = record {
@@ -137,7 +136,7 @@ module _ (s : Scene) (real : IsReal s) where
           let eb : m.b ≡ upper_chain_of s right = one_upper_chain s (real_line_laws s real) right m.b (upper_chain_of s right) m.b_chain right_chain in
           let sorted = subst (λ (xs : List ℕ). IsBreakpointList s xs (upper_chain_of s right) m.breakpoints) ea (subst (λ (ys : List ℕ). IsBreakpointList s m.a ys m.breakpoints) eb m.sorted) in
           let ee : m.breakpoints ≡ breakpoint_list s (upper_chain_of s left) (upper_chain_of s right) =
-              one_breakpoint_list s (real_slope_laws s real) (upper_chain_of s left) (upper_chain_of s right) m.breakpoints (breakpoint_list s (upper_chain_of s left) (upper_chain_of s right)) left_chain.rising right_chain.rising sorted list in
+          one_breakpoint_list s (real_slope_laws s real) (upper_chain_of s left) (upper_chain_of s right) m.breakpoints (breakpoint_list s (upper_chain_of s left) (upper_chain_of s right)) left_chain.rising right_chain.rising sorted list in
           subst (λ (es : List Breakpoint). Contains (forms_of_merge s (upper_chain_of s left) (upper_chain_of s right) es) f) ee
           (subst (λ (xs : List ℕ). Contains (forms_of_merge s xs (upper_chain_of s right) m.breakpoints) f) ea (subst (λ (ys : List ℕ). Contains (forms_of_merge s m.a ys m.breakpoints) f) eb m.listed))
 
@@ -218,7 +217,7 @@ pub hull_facts_agree : HullFactsAgree
 hull_facts_agree size s real fits =
     exactly_in_words (hull_facts size s) _ _ (λ p. (to p, from p))
     (exactly_in_turn (hull_facts_of_node size s) (λ v p. IsUpperOf size s v p ⊎ IsLowerOf size s v p) (both_exact size s real fits)
-     (λ m n p w x. sym (node_of size s m p w) ∙ node_of size s n p x) 1 (2 ^ size - 1))
+    (λ m n p w x. sym (node_of size s m p w) ∙ node_of size s n p x) 1 (2 ^ size - 1))
   where
     to : (p : Placed) → (n : ℕ) × (1 ≤ n) × (n < 1 + (2 ^ size - 1)) × (IsUpperOf size s n p ⊎ IsLowerOf size s n p) → IsHullFact size s p
     to p (v, h, g, inl w) = inl (record { node = v; form = w.0; merge = w.1; fact = w.2 })

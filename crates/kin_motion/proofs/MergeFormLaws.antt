@@ -1,22 +1,16 @@
 -- No form of a merge stands twice, and the computed forms are those of the merge.
-use Rattle.std.proofs.Common.{◌≡◌, ◌≢◌, ◌⊎◌, inl, inr, refl, sym, ap, ap₂, ◌∙◌, subst, arith, List, [], ◌∷◌, ◌++◌, ℕ, zero, suc, Bool, true, false, cond, ◌||◌, ◌&&◌, nat_eq, map, ℤ, pos}
-use Rattle.std.specs.Prelude.{filter, Contains}
+use Rattle.std.proofs.Common.{◌≡◌, ◌⊎◌, inl, inr, refl, sym, ap, ◌∙◌, subst, arith, List, [], ◌∷◌, ◌++◌, ℕ, Bool, true, false, cond, ◌||◌, nat_eq, map, ℤ, pos}
+use Rattle.std.specs.Prelude.{Contains}
 use Rattle.std.proofs.lemmas.Bool.Decides.{nat_tests}
-use Rattle.std.proofs.lemmas.List.Elements.{Contains-append_left, Contains-append_right, Contains-append_cases}
+use Rattle.std.proofs.lemmas.List.Elements.{Contains-append_cases}
 use Rattle.kin_motion.specs.declared.form.Form.{Form}
 use Rattle.kin_motion.specs.declared.form.Form.TheVariants.{Line, Turn, Slope, Dist}
-use Rattle.kin_motion.specs.Numbers.{is_in, IsOnce, IsChain}
-use Rattle.kin_motion.specs.Sets.{AreDistinct, ListsExactly}
-use Rattle.kin_motion.specs.Scene.{Scene, IsReal, x_sign}
-use Rattle.kin_motion.specs.Chains.{is_zero, is_left, IsUpperChain, upper_chain_of}
-use Rattle.kin_motion.specs.Merges.{Half.{A, B}, Half, Breakpoint, is_of, breakpoints_of, slope_form, IsBreakpointList, breakpoint_list, current_after, other_current, turns_from, slope_between, slopes_from, end_forms, last_of, forms_of_ends, forms_of_merge, IsMergeForm, merge_forms}
-use Rattle.kin_motion.proofs.SetLaws.{contains_none, contains_head, contains_tail, contains_cases, contains_mapped, contains_map, distinct_none, distinct_cons, distinct_head, distinct_tail, distinct_append}
-use Rattle.kin_motion.proofs.RealLaws.{real_line_laws, real_turn_laws}
-use Rattle.kin_motion.proofs.SlopeLaws.{real_slope_laws}
-use Rattle.kin_motion.proofs.ChainLaws.{one_upper_chain}
-use Rattle.kin_motion.proofs.Sorting.{sorted-once}
-use Rattle.kin_motion.proofs.AgreementLaws.{chain_agrees, kept-members, kept-once, halves}
-use Rattle.kin_motion.proofs.BreakpointLaws.{breakpoints_agree, one_breakpoint_list, chain_of_list, list_distinct}
+use Rattle.kin_motion.specs.Numbers.{is_in, IsOnce}
+use Rattle.kin_motion.specs.Sets.{AreDistinct}
+use Rattle.kin_motion.specs.Scene.{Scene, x_sign}
+use Rattle.kin_motion.specs.Chains.{is_zero}
+use Rattle.kin_motion.specs.Merges.{Half.{A, B}, Breakpoint, is_of, slope_form, current_after, other_current, turns_from, slope_between, slopes_from, end_forms, last_of, forms_of_ends}
+use Rattle.kin_motion.proofs.SetLaws.{contains_none, contains_head, contains_tail, contains_cases, distinct_none, distinct_cons, distinct_head, distinct_tail, distinct_append}
 
 -- ---- the left points of a list of breakpoints
 unfoldable pub lefts : List Breakpoint → List ℕ
