@@ -22,7 +22,7 @@ use Rattle.kin_instant.specs.Roots.{quadratic}
 use Rattle.kin_num.proofs.Divisors.{cancel_factor, same_lowest}
 use Rattle.kin_num.proofs.RootZeros.{root_itself}
 
-positive_product : (a b : ℤ) → pos 0 <ℤ a → pos 0 <ℤ b → pos 0 <ℤ (a *ℤ b)
+pub positive_product : (a b : ℤ) → pos 0 <ℤ a → pos 0 <ℤ b → pos 0 <ℤ (a *ℤ b)
 positive_product a b h k = sign_out Plus (a *ℤ b) (sign_of-times a b ∙ ap₂ product_of (sign_in Plus a h) (sign_in Plus b k))
 
 -- ---- at any number whose radicand is sound and whose divisor is positive
