@@ -141,6 +141,7 @@ module _ (p : Quadratic) (a b c : ℤ) (i : IsIrreducible a b c) (upper : Bool) 
     where
       nothing : (x y : ℤ) → x *ℤ pos 0 ≡ y *ℤ pos 0
       nothing x y = by_ring (x ∷ y ∷ []) _ _ (search quotes depth 16) (search quotes depth 16) refl
+
       turned : (x y : ℤ) → x *ℤ (pos 2 *ℤ y) ≡ y *ℤ (pos 2 *ℤ x)
       turned x y = by_ring (x ∷ y ∷ []) _ _ (search quotes depth 16) (search quotes depth 16) refl
 

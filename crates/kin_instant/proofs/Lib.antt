@@ -6,3 +6,4 @@ pub mod RootsOf
 pub mod Places
 pub mod Nexts
 pub mod Factors
+pub mod SignTable
