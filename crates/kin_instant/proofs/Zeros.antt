@@ -147,6 +147,15 @@ zero_product a b e h = cancel_factor a b (pos 0) h (e ∙ nothing a)
     nothing : (a : ℤ) → pos 0 ≡ a *ℤ pos 0
     nothing a = omega (arith, ints)
 
+-- a square that is 0
+pub square_zero : (z : ℤ) → z *ℤ z ≡ pos 0 → z ≡ pos 0
+square_zero z e = zero_of z (root_sign (sign_of z) (sym (sign_of-times z z) ∙ ap sign_of e))
+  where
+    root_sign : (s : Sign) → product_of s s ≡ Zero → s ≡ Zero
+    root_sign Minus e = absurd (code e)
+    root_sign Zero e = refl
+    root_sign Plus e = absurd (code e)
+
 -- ---- lines
 -- a line through n/d is zero at the form of n/d in lowest terms
 pub ratio_on_line : (n d m e : ℤ) → pos 0 *ℤ (m *ℤ m +ℤ pos 0 *ℤ pos 0 *ℤ pos 0) +ℤ d *ℤ m *ℤ e +ℤ neg_ℤ n *ℤ e *ℤ e ≡ e *ℤ (m *ℤ d -ℤ n *ℤ e)
