@@ -33,7 +33,7 @@ module _ (a b : Bytes) (s : State) (all : List Line) (t : State) (i : ℕ) (item
   refused_written before now r c same h w g =
       let line = refused_line item.0 r in
       let all_of_it = gathers_more a b before line (So (drop i all)) (λ text. Text s all text (Some (item.0, r))) g
-          (λ x p. ends s all t item (drop (i + 1) all) x r (subst (λ (left : List Line). So left x) here p) h) in
+      (λ x p. ends s all t item (drop (i + 1) all) x r (subst (λ (left : List Line). So left x) here p) h) in
       gathers_written a b c (before ++ line) (λ text. Text s all text (Some (item.0, r))) all_of_it (subst (λ (out : List ℕ). Appends b c (out ++ line)) same w)
 
   pub refused_cut : (before now : List ℕ) (r : Refusal) (c : Bytes) → now ≡ before → Refuses t item.1 r → AppendsPrefix b c (now ++ refused_line item.0 r)

@@ -68,13 +68,7 @@ fn move_to_ratio(state: &mut State, n: i64, d: i64) -> Result<(), Halt>
 }
 
 /// Moves to the named root, which is not before now.
-fn move_to_root(
-    state: &mut State,
-    a: i64,
-    b: i64,
-    c: i64,
-    upper: bool,
-) -> Result<(), Halt>
+fn move_to_root(state: &mut State, a: i64, b: i64, c: i64, upper: bool) -> Result<(), Halt>
     requires { IsCommandInRange state.old.size (AtRootOf a b c upper) }
     ensures performs { Performs state.old (AtRootOf a b c upper) result [] [] state.new }
     ensures same_size { state.new.size ≡ state.old.size }

@@ -74,12 +74,7 @@ fn flush_if_much<K: Sink>(out: &mut Vec<u8>, sink: &mut K) -> Result<(), Stop>
 }
 
 /// Writes what was gathered, and the line of a refused command behind it.
-fn refuse<K: Sink>(
-    out: &mut Vec<u8>,
-    line: u32,
-    refusal: Refusal,
-    sink: &mut K,
-) -> Result<(), Stop>
+fn refuse<K: Sink>(out: &mut Vec<u8>, line: u32, refusal: Refusal, sink: &mut K) -> Result<(), Stop>
     ensures all { OnOk result (Appends (K.held sink.old) (K.held sink.new) (out.old.items ++ refused_line line refusal)) }
     ensures front { OnErr result (AppendsPrefix (K.held sink.old) (K.held sink.new) (out.old.items ++ refused_line line refusal)) }
     ensures later { K.faults sink.old ≤ K.faults sink.new }

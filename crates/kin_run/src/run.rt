@@ -53,7 +53,10 @@ fn run_script<K: Sink>(alloc: Global, input: &[u8], script: Script, sink: &mut K
     ensures cause { result ≡ Status.Fault Side.Write → Rose (K.faults sink.old) (K.faults sink.new) }
 {
     let Script {
-        size, keeps, lines, ..
+        size,
+        keeps,
+        lines,
+        ..
     } = script;
     let Ok(mut state) = State::start(alloc, size, keeps) else {
         return Status::NoMemory;

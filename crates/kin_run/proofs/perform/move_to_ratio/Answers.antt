@@ -10,9 +10,12 @@ use Rattle.kin_run.proofs.perform.move_to_ratio.Goals as goal
 pub returns-clause-performs : goal.returns-clause-performs
 returns-clause-performs c =
     let positive : pos 0 <ℤ c.args.d = omega (arith, ints, c.requires.d_low) in
-    let asked : IsFraction c.args.n c.args.d c.ratio-asked.result = fraction_is c.args.n c.args.d c.ratio-asked.result positive c.ratio-asked.ensures.canonical (rw (to_z-of_z c.ranges.n, to_z-of_z c.ranges.d) at c.ratio-asked.ensures.value) in
-    ([], refl, record {
-      allowed = allowed_ratio c.args.state.now c.args.n c.args.d c.ratio-asked.result asked (λ h. let t = c.if-is_past.ensures.value.1 h in cc);
-      prints = refl;
-      leads = (c.ratio-asked.result, asked, c.move_to.ensures.value);
-    })
+    let asked : IsFraction c.args.n c.args.d c.ratio-asked.result = fraction_is c.args.n c.args.d c.ratio-asked.result positive c.ratio-asked.ensures.canonical (rw (to_z-of_z c.ranges.n, to_z-of_z c.ranges.d) at c.ratio-asked.ensures.value) in (
+      [],
+      refl,
+      record {
+        allowed = allowed_ratio c.args.state.now c.args.n c.args.d c.ratio-asked.result asked (λ h. let t = c.if-is_past.ensures.value.1 h in cc);
+        prints = refl;
+        leads = (c.ratio-asked.result, asked, c.move_to.ensures.value);
+      },
+    )

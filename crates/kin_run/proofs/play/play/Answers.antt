@@ -65,5 +65,5 @@ returns-clause-ok g c =
     let t = c.loop-line.state in
     let none = drop_all c.loop-line.line-index all c.loop-line-test.false in
     let done = gathers_as _ _ c.loop-line.out.items (IsSoFar s all t (drop c.loop-line.line-index all)) (λ (text : List ℕ). Text s all text None) c.loop-line.invariant.gathered
-        (λ x p. completes s all t x (subst (λ (left : List Line). IsSoFar s all t left x) none p)) in
+    (λ x p. completes s all t x (subst (λ (left : List Line). IsSoFar s all t left x) none p)) in
     gathers_written _ _ _ c.loop-line.out.items (λ (text : List ℕ). Text s all text None) done c.in_ok-flush.ensures.all
