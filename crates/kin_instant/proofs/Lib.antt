@@ -3,3 +3,7 @@ pub mod Values
 pub mod Lowest
 pub mod Zeros
 pub mod RootsOf
+pub mod Places
+pub mod Nexts
+pub mod Factors
+pub mod SignTable

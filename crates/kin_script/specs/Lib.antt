@@ -8,3 +8,5 @@ pub mod Gives
 pub mod Reading
 pub mod Printed
 pub mod Written
+pub mod Replay
+pub mod Text
