@@ -1,11 +1,10 @@
 -- The order of canonical moments.
-use Rattle.std.proofs.Common.{◌≡◌, ◌⊎◌, inl, inr, sym, refl, ap, ap₂, ◌∙◌, subst}
-use Rattle.kin_num.specs.declared.instant.Shape.{Shape}
+use Rattle.std.proofs.Common.{◌≡◌, ◌⊎◌, inl, inr, sym, refl, ap₂, ◌∙◌, subst}
 use Rattle.kin_num.specs.declared.instant.Phase.{Phase}
 use Rattle.kin_num.specs.declared.instant.Phase.TheVariants.{At, After}
 use Rattle.kin_num.specs.declared.instant.Moment.{Moment}
 use Rattle.kin_num.specs.Canonical.{IsCanonicalForm}
-use Rattle.kin_num.specs.Order.{IsLess, AreLevel, IsEarlier}
+use Rattle.kin_num.specs.Order.{IsLess, IsEarlier}
 use Rattle.kin_num.proofs.LowerFractions.{not_less_itself, less_trans}
 use Rattle.kin_num.proofs.InstantOrder.{total, level_same, same_level}
 
@@ -49,3 +48,12 @@ earlier_total m n fm fn = at (total m.at n.at fm fn)
     at (inl l) = inl (inl l)
     at (inr (inl l)) = inr (inl (inl l))
     at (inr (inr e)) = phases e m.phase n.phase refl refl
+
+-- "not earlier" goes through
+pub not_earlier_trans : (l m n : Moment) → IsCanonicalForm l.at → IsCanonicalForm m.at → IsCanonicalForm n.at → ¬ (IsEarlier m l) → ¬ (IsEarlier n m) → ¬ (IsEarlier n l)
+not_earlier_trans l m n fl fm fn h k p = at (earlier_total m n fm fn)
+  where
+    at : IsEarlier m n ⊎ (IsEarlier n m ⊎ (m ≡ n)) → ⊥
+    at (inl q) = h (earlier_trans m n l fm fn fl q p)
+    at (inr (inl q)) = k q
+    at (inr (inr e)) = h (subst (λ x. IsEarlier x l) (sym e) p)
