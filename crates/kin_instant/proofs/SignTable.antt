@@ -37,17 +37,17 @@ IsPlace m r Minus = IsLess m.at r
 IsPlace m r Zero = (m.at ≡ r) × (m.phase ≡ At)
 IsPlace m r Plus = IsLess r m.at ⊎ ((m.at ≡ r) × (m.phase ≡ After))
 
-abbrev IsAt : Shape → Shape → Sign → Type 0
+abbrev pub IsAt : Shape → Shape → Sign → Type 0
 IsAt w r Minus = IsLess w r
 IsAt w r Zero = w ≡ r
 IsAt w r Plus = IsLess r w
 
 -- just after an instant, the instant lies behind
-abbrev lift : Phase → Sign → Sign
+abbrev pub lift : Phase → Sign → Sign
 lift At s = s
 lift After s = first_of s Plus
 
-lifted : (w r : Shape) (f : Phase) (s : Sign) → IsAt w r s → IsPlace (record { at = w; phase = f }) r (lift f s)
+pub lifted : (w r : Shape) (f : Phase) (s : Sign) → IsAt w r s → IsPlace (record { at = w; phase = f }) r (lift f s)
 lifted w r At Minus h = h
 lifted w r At Zero h = (h, refl)
 lifted w r At Plus h = inl h
@@ -98,16 +98,16 @@ is_zero Zero = inl refl
 is_zero Plus = inr (λ e. code e)
 
 -- just after an instant: the value, or the slope and the curvature
-at_after : (p : Quadratic) (w : Shape) → IsCanonicalForm w → sign_at p (record { at = w; phase = After }) ≡ first_of (sign_at_instant p w) (first_of (sign_at_instant (derivative p) w) (sign_of p.a))
+pub at_after : (p : Quadratic) (w : Shape) → IsCanonicalForm w → sign_at p (record { at = w; phase = After }) ≡ first_of (sign_at_instant p w) (first_of (sign_at_instant (derivative p) w) (sign_of p.a))
 unfolding sign_at
 at_after p w i = ap (λ (s : Sign). first_of (sign_at_instant p w) (first_of (sign_at_instant (derivative p) w) s)) (sign_at-curvature p w i)
 
-at_at : (p : Quadratic) (w : Shape) → sign_at p (record { at = w; phase = At }) ≡ sign_at_instant p w
+pub at_at : (p : Quadratic) (w : Shape) → sign_at p (record { at = w; phase = At }) ≡ sign_at_instant p w
 unfolding sign_at
 at_at p w = refl
 
 -- a line
-line_sign : (b c : ℤ) → pos 0 <ℤ b → (w : Shape) → IsCanonicalForm w → (f : Phase) → sign_at (quadratic (pos 0) b c) (record { at = w; phase = f }) ≡ lift f (sign_at_instant (quadratic (pos 0) b c) w)
+pub line_sign : (b c : ℤ) → pos 0 <ℤ b → (w : Shape) → IsCanonicalForm w → (f : Phase) → sign_at (quadratic (pos 0) b c) (record { at = w; phase = f }) ≡ lift f (sign_at_instant (quadratic (pos 0) b c) w)
 line_sign b c h w i At = at_at (quadratic (pos 0) b c) w
 line_sign b c h w i After = at_after (quadratic (pos 0) b c) w i ∙ ap (λ (s : Sign). first_of (sign_at_instant (quadratic (pos 0) b c) w) (first_of s Zero)) (constant_sign b w i ∙ sign_in Plus b h)
 
@@ -186,7 +186,7 @@ IsSigned p All m = sign_at p m ≡ Zero
 lead-plus : (p : Quadratic) → pos 0 <ℤ p.a → lead_of p ≡ Plus
 lead-plus p h = ap (λ (s : Sign). first_of s (first_of (sign_of p.b) (sign_of p.c))) (sign_in Plus p.a h)
 
-by_lead : (l s t : Sign) → l ≡ Plus → s ≡ t → s ≡ product_of l t
+pub by_lead : (l s t : Sign) → l ≡ Plus → s ≡ t → s ≡ product_of l t
 by_lead l s t e f = f ∙ ap (λ (x : Sign). product_of x t) (sym e)
 
 by_square : (d l s t : Sign) → d ≡ Plus → l ≡ Plus → s ≡ product_of t t → s ≡ product_of l (by_degree d t)
@@ -327,7 +327,7 @@ module _ (a b c : ℤ) (h : pos 0 <ℤ a) (w : Shape) (i : IsCanonicalForm w) (f
       by_sides false (true, e) k = (lift f here.lower, lift f here.upper, (low, subst (λ (x : Shape). IsPlace m x (lift f here.upper)) (sym e) high, by_lead (lead_of q) _ _ (lead-plus q h) (signed f)))
       by_sides true (false, e) k = (lift f here.upper, lift f here.lower, (high, subst (λ (x : Shape). IsPlace m x (lift f here.lower)) (sym e) low, by_lead (lead_of q) _ _ (lead-plus q h) (signed f ∙ commuted (lift f here.lower) (lift f here.upper))))
 
-  positive_signed : (answer : Roots) → AreRootsOf q answer → IsSigned q answer m
+  pub positive_signed : (answer : Roots) → AreRootsOf q answer → IsSigned q answer m
   positive_signed Nowhere k = none_signed k
   positive_signed (One r) k = one_signed r k
   positive_signed (Two (Ratio n d) s) k = rational_signed n d s k.canonical.0.form k
