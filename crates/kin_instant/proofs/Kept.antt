@@ -1,5 +1,5 @@
 -- The sign table for every polynomial, and where signs stay.
-use Rattle.std.proofs.Common.{◌≡◌, ◌≢◌, ◌⊎◌, inl, inr, Option, Some, None, MatchOption, IfSome, IsNone, refl, ap, ap₂, sym, ◌∙◌, subst, Bool, true, false, ℤ, pos, negsuc, ◌*ℤ◌}
+use Rattle.std.proofs.Common.{◌≡◌, ◌≢◌, ◌⊎◌, inl, inr, Option, Some, None, MatchOption, IfSome, IsNone, refl, ap, ap₂, sym, ◌∙◌, subst, ℤ, pos, ◌*ℤ◌}
 use Rattle.std.specs.Prelude.{◌<ℤ◌}
 use lib.IntN.{neg_ℤ}
 use Rattle.kin_algebra.specs.declared.sign.Sign.{Sign}
@@ -13,7 +13,7 @@ use Rattle.kin_num.specs.declared.instant.Phase.TheVariants.{At, After}
 use Rattle.kin_num.specs.declared.instant.Moment.{Moment}
 use Rattle.kin_num.specs.Quadratic.{Quadratic}
 use Rattle.kin_num.specs.Canonical.{IsCanonicalForm, discriminant}
-use Rattle.kin_num.specs.Instants.{sign_at_instant, sign_at, derivative, line}
+use Rattle.kin_num.specs.Instants.{sign_at_instant, sign_at, derivative}
 use Rattle.kin_num.specs.Order.{IsLess, IsEarlier}
 use Rattle.kin_num.proofs.Values.{negated}
 use Rattle.kin_num.proofs.SignLaws.{sign_at-neg}
@@ -24,7 +24,7 @@ use Rattle.kin_instant.specs.declared.roots.Roots.TheVariants.{Nowhere, One, Two
 use Rattle.kin_instant.specs.Roots.{quadratic, AreRootsOf, count_by, root_count}
 use Rattle.kin_instant.specs.Places.{IsZeroPolynomial, IsNextRoot, HasNoRootAfter, KeepsSign}
 use Rattle.kin_instant.proofs.RootsOf.{constant_sign, negated_zeros, count_negated, line_as}
-use Rattle.kin_instant.proofs.Nexts.{zero_of_count, count_of_zero}
+use Rattle.kin_instant.proofs.Nexts.{count_of_zero}
 use Rattle.kin_instant.proofs.SignTable.{IsPlace, IsSigned, lead_of, by_degree, lift, lifted, line_place, line_sign, by_lead, at_at, at_after, positive_signed}
 
 -- ---- lines and constants
@@ -40,9 +40,13 @@ module _ (w : Shape) (i : IsCanonicalForm w) (f : Phase) where
   line_signed b c h (One r) k =
       let p = quadratic (pos 0) b c in
       let j = k.canonical.form in
-      let z = ap (λ (q : Quadratic). sign_at_instant q r) (line_as b c) ∙ (k.exact r j).1 refl in
-      (lift f (sign_at_instant p w), (lifted w r f _ (line_place r j (neg_ℤ c) b h z w i (sign_at_instant p w) (ap (λ (q : Quadratic). sign_at_instant q w) (line_as b c))),
-      by_lead (lead_of p) (sign_at p m) (lift f (sign_at_instant p w)) (ap (λ (s : Sign). first_of s (sign_of c)) (sign_in Plus b h)) (line_sign b c h w i f)))
+      let z = ap (λ (q : Quadratic). sign_at_instant q r) (line_as b c) ∙ (k.exact r j).1 refl in (
+        lift f (sign_at_instant p w),
+        (
+          lifted w r f _ (line_place r j (neg_ℤ c) b h z w i (sign_at_instant p w) (ap (λ (q : Quadratic). sign_at_instant q w) (line_as b c))),
+          by_lead (lead_of p) (sign_at p m) (lift f (sign_at_instant p w)) (ap (λ (s : Sign). first_of s (sign_of c)) (sign_in Plus b h)) (line_sign b c h w i f),
+        ),
+      )
   line_signed b c h (Two r s) k = absurd (let e : Some 2 ≡ Some 1 = k.number ∙ line_counted b c h in cc)
   line_signed b c h All k = absurd (let e : None ≡ Some 1 = k.number ∙ line_counted b c h in cc)
 

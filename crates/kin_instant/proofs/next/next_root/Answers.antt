@@ -1,10 +1,10 @@
-use Rattle.std.proofs.Common.{◌≡◌, ◌≢◌, ◌⊎◌, inl, inr, Option, Some, None, true, false, refl, sym, ◌∙◌, subst, MatchOption, IfSome, IsNone}
+use Rattle.std.proofs.Common.{◌≡◌, Option, Some, None, refl, sym, subst, MatchOption, IfSome, IsNone}
 use Rattle.kin_num.specs.declared.instant.Shape.{Shape}
 use Rattle.kin_num.specs.Quadratic.{Quadratic}
 use Rattle.kin_num.specs.Order.{IsLess}
 use Rattle.kin_instant.specs.declared.roots.Roots.TheVariants.{Nowhere, One, Two, All}
 use Rattle.kin_instant.specs.Roots.{AreRootsOf}
-use Rattle.kin_instant.specs.Places.{IsZeroPolynomial, IsNextRoot, HasNoRootAfter}
+use Rattle.kin_instant.specs.Places.{IsNextRoot}
 use Rattle.kin_instant.proofs.Kept.{keeps}
 use Rattle.kin_instant.proofs.Nexts.{IsEmpty, nowhere, everywhere, some_next, two_counted, one_next, one_none, first_next, second_next, two_none}
 use Rattle.kin_instant.proofs.next.next_root.Goals as goal
