@@ -1,15 +1,15 @@
 -- A quadratic with a rational root is a product of two lines; one with an irrational root is a multiple of its quadratic.
-use Rattle.std.proofs.Common.{◌≡◌, ◌≢◌, ◌⊎◌, inl, inr, refl, ap, ap₂, sym, ◌∙◌, subst, Bool, true, false, [], ◌∷◌, arith, ℤ, pos, negsuc, ◌+ℤ◌, ◌-ℤ◌, ◌*ℤ◌}
+use Rattle.std.proofs.Common.{◌≡◌, refl, ap, ap₂, sym, ◌∙◌, subst, Bool, [], ◌∷◌, arith, ℤ, pos, ◌+ℤ◌, ◌*ℤ◌}
 use Rattle.std.specs.Prelude.{◌<ℤ◌}
 use Rattle.std.proofs.lemmas.Int.{ints}
 use lib.IntN.{neg_ℤ}
 use Rattle.kin_algebra.specs.declared.sign.Sign.{Sign}
 use Rattle.kin_algebra.specs.declared.sign.Sign.TheVariants.{Minus, Zero, Plus}
-use Rattle.kin_algebra.specs.Signs.{sign_of, product_of, SumMayBe}
+use Rattle.kin_algebra.specs.Signs.{product_of, SumMayBe}
 use Rattle.kin_algebra.proofs.Ring.{by_ring, quotes}
 use Rattle.kin_algebra.proofs.IntegerSigns.{sign_in, zero_of}
 use Rattle.kin_algebra.proofs.OrderedRings.{scale, sum_may_be}
-use Rattle.kin_algebra.proofs.Pairs.{Pair, pair, pair_plus, pair_times, Sound, sign_over, sign_over-whole, sign_over-times, ordered}
+use Rattle.kin_algebra.proofs.Pairs.{pair, pair_plus, pair_times, Sound, sign_over, sign_over-whole, sign_over-times, ordered}
 use Rattle.kin_num.specs.declared.instant.Shape.{Shape}
 use Rattle.kin_num.specs.declared.instant.Shape.TheVariants.{Ratio, Root}
 use Rattle.kin_num.specs.Quadratic.{Quadratic}

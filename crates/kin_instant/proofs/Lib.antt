@@ -7,3 +7,4 @@ pub mod Places
 pub mod Nexts
 pub mod Factors
 pub mod SignTable
+pub mod Kept

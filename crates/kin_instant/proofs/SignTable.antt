@@ -1,13 +1,13 @@
 -- The sign table: the sign of a polynomial at every moment, from its leading sign and from where its roots lie.
-use Rattle.std.proofs.Common.{◌≡◌, ◌≢◌, ◌⊎◌, inl, inr, Option, Some, None, refl, ap, ap₂, sym, ◌∙◌, subst, Bool, true, false, ℕ, zero, suc, [], ◌∷◌, arith, ℤ, pos, negsuc, ◌+ℤ◌, ◌-ℤ◌, ◌*ℤ◌}
+use Rattle.std.proofs.Common.{◌≡◌, ◌≢◌, ◌⊎◌, inl, inr, Some, None, refl, ap, ap₂, sym, ◌∙◌, subst, Bool, true, false, [], ◌∷◌, arith, ℤ, pos, ◌+ℤ◌, ◌*ℤ◌}
 use Rattle.std.specs.Prelude.{◌<ℤ◌}
 use Rattle.std.proofs.lemmas.Int.{ints}
 use lib.IntN.{neg_ℤ}
 use Rattle.kin_algebra.specs.declared.sign.Sign.{Sign}
 use Rattle.kin_algebra.specs.declared.sign.Sign.TheVariants.{Minus, Zero, Plus}
-use Rattle.kin_algebra.specs.Signs.{sign_of, opposite_of, product_of, first_of}
+use Rattle.kin_algebra.specs.Signs.{sign_of, product_of, first_of}
 use Rattle.kin_algebra.proofs.Ring.{by_ring, quotes}
-use Rattle.kin_algebra.proofs.Signs.{code, product-Plus, opposite-opposite}
+use Rattle.kin_algebra.proofs.Signs.{code}
 use Rattle.kin_algebra.proofs.IntegerSigns.{sign_in, sign_out, zero_of}
 use Rattle.kin_num.specs.declared.instant.Shape.{Shape}
 use Rattle.kin_num.specs.declared.instant.Shape.TheVariants.{Ratio, Root}
@@ -16,19 +16,17 @@ use Rattle.kin_num.specs.declared.instant.Phase.TheVariants.{At, After}
 use Rattle.kin_num.specs.declared.instant.Moment.{Moment}
 use Rattle.kin_num.specs.Quadratic.{Quadratic}
 use Rattle.kin_num.specs.Canonical.{IsCanonicalForm, IsLowest, IsIrreducible, discriminant}
-use Rattle.kin_num.specs.Instants.{sign_at_instant, sign_at_phase, sign_at, derivative, line}
-use Rattle.kin_num.specs.Order.{IsLess, IsEarlier}
-use Rattle.kin_num.proofs.Values.{negated}
-use Rattle.kin_num.proofs.SignLaws.{sign_at-neg}
+use Rattle.kin_num.specs.Instants.{sign_at_instant, sign_at, derivative, line}
+use Rattle.kin_num.specs.Order.{IsLess}
 use Rattle.kin_num.proofs.RootZeros.{root_itself}
-use Rattle.kin_num.proofs.LowerFractions.{not_less_itself, less_trans}
+use Rattle.kin_num.proofs.LowerFractions.{not_less_itself}
 use Rattle.kin_num.proofs.InstantOrder.{below_upper, above_upper, at_upper, below_lower, above_lower, at_lower, level_value, above_fraction, below_fraction}
 use Rattle.kin_instant.specs.declared.roots.Roots.{Roots}
 use Rattle.kin_instant.specs.declared.roots.Roots.TheVariants.{Nowhere, One, Two, All}
 use Rattle.kin_instant.specs.Roots.{quadratic, AreRootsOf, count_by, root_count}
-use Rattle.kin_instant.proofs.Values.{sign-scaled, sign_at-At, sign_at-some, sign_at-After, sign_at-curvature}
+use Rattle.kin_instant.proofs.Values.{sign_at-curvature}
 use Rattle.kin_instant.proofs.Zeros.{line-zero, line-zero_at, line-never, on_line, root-zero_at, instant-scaled, instant-negative, positive_product, square_zero}
-use Rattle.kin_instant.proofs.RootsOf.{constant_sign, negated_zeros, count_negated, rising_surds, line_as}
+use Rattle.kin_instant.proofs.RootsOf.{constant_sign, rising_surds}
 use Rattle.kin_instant.proofs.Factors.{SumOf, cofactor, on_root, instant-factors, instant-slope, same_value, same_slope}
 
 -- ---- where a moment lies to an instant that is taken at phase `At`
@@ -37,17 +35,17 @@ IsPlace m r Minus = IsLess m.at r
 IsPlace m r Zero = (m.at ≡ r) × (m.phase ≡ At)
 IsPlace m r Plus = IsLess r m.at ⊎ ((m.at ≡ r) × (m.phase ≡ After))
 
-abbrev IsAt : Shape → Shape → Sign → Type 0
+abbrev pub IsAt : Shape → Shape → Sign → Type 0
 IsAt w r Minus = IsLess w r
 IsAt w r Zero = w ≡ r
 IsAt w r Plus = IsLess r w
 
 -- just after an instant, the instant lies behind
-abbrev lift : Phase → Sign → Sign
+abbrev pub lift : Phase → Sign → Sign
 lift At s = s
 lift After s = first_of s Plus
 
-lifted : (w r : Shape) (f : Phase) (s : Sign) → IsAt w r s → IsPlace (record { at = w; phase = f }) r (lift f s)
+pub lifted : (w r : Shape) (f : Phase) (s : Sign) → IsAt w r s → IsPlace (record { at = w; phase = f }) r (lift f s)
 lifted w r At Minus h = h
 lifted w r At Zero h = (h, refl)
 lifted w r At Plus h = inl h
@@ -98,16 +96,16 @@ is_zero Zero = inl refl
 is_zero Plus = inr (λ e. code e)
 
 -- just after an instant: the value, or the slope and the curvature
-at_after : (p : Quadratic) (w : Shape) → IsCanonicalForm w → sign_at p (record { at = w; phase = After }) ≡ first_of (sign_at_instant p w) (first_of (sign_at_instant (derivative p) w) (sign_of p.a))
+pub at_after : (p : Quadratic) (w : Shape) → IsCanonicalForm w → sign_at p (record { at = w; phase = After }) ≡ first_of (sign_at_instant p w) (first_of (sign_at_instant (derivative p) w) (sign_of p.a))
 unfolding sign_at
 at_after p w i = ap (λ (s : Sign). first_of (sign_at_instant p w) (first_of (sign_at_instant (derivative p) w) s)) (sign_at-curvature p w i)
 
-at_at : (p : Quadratic) (w : Shape) → sign_at p (record { at = w; phase = At }) ≡ sign_at_instant p w
+pub at_at : (p : Quadratic) (w : Shape) → sign_at p (record { at = w; phase = At }) ≡ sign_at_instant p w
 unfolding sign_at
 at_at p w = refl
 
 -- a line
-line_sign : (b c : ℤ) → pos 0 <ℤ b → (w : Shape) → IsCanonicalForm w → (f : Phase) → sign_at (quadratic (pos 0) b c) (record { at = w; phase = f }) ≡ lift f (sign_at_instant (quadratic (pos 0) b c) w)
+pub line_sign : (b c : ℤ) → pos 0 <ℤ b → (w : Shape) → IsCanonicalForm w → (f : Phase) → sign_at (quadratic (pos 0) b c) (record { at = w; phase = f }) ≡ lift f (sign_at_instant (quadratic (pos 0) b c) w)
 line_sign b c h w i At = at_at (quadratic (pos 0) b c) w
 line_sign b c h w i After = at_after (quadratic (pos 0) b c) w i ∙ ap (λ (s : Sign). first_of (sign_at_instant (quadratic (pos 0) b c) w) (first_of s Zero)) (constant_sign b w i ∙ sign_in Plus b h)
 
@@ -186,7 +184,7 @@ IsSigned p All m = sign_at p m ≡ Zero
 lead-plus : (p : Quadratic) → pos 0 <ℤ p.a → lead_of p ≡ Plus
 lead-plus p h = ap (λ (s : Sign). first_of s (first_of (sign_of p.b) (sign_of p.c))) (sign_in Plus p.a h)
 
-by_lead : (l s t : Sign) → l ≡ Plus → s ≡ t → s ≡ product_of l t
+pub by_lead : (l s t : Sign) → l ≡ Plus → s ≡ t → s ≡ product_of l t
 by_lead l s t e f = f ∙ ap (λ (x : Sign). product_of x t) (sym e)
 
 by_square : (d l s t : Sign) → d ≡ Plus → l ≡ Plus → s ≡ product_of t t → s ≡ product_of l (by_degree d t)
@@ -207,10 +205,13 @@ centre a b n d h e =
   where
     split : (a b n d : ℤ) → pos 2 *ℤ a *ℤ n +ℤ b *ℤ d ≡ pos 2 *ℤ (a *ℤ n) +ℤ b *ℤ d
     split a b n d = by_ring (a ∷ b ∷ n ∷ d ∷ []) _ _ (search quotes depth 16) (search quotes depth 16) refl
+
     sum : (x y : ℤ) → pos 2 *ℤ x +ℤ y ≡ pos 0 → x +ℤ y ≡ neg_ℤ x
     sum x y e = omega (arith, ints, e)
+
     turned : (x y : ℤ) → x +ℤ y ≡ neg_ℤ x → neg_ℤ (neg_ℤ (x +ℤ y)) ≡ neg_ℤ x
     turned x y e = omega (arith, ints, e)
+
     out : (x y : ℤ) → neg_ℤ (x *ℤ y) ≡ x *ℤ neg_ℤ y
     out x y = by_ring (x ∷ y ∷ []) _ _ (search quotes depth 16) (search quotes depth 16) refl
 
@@ -228,10 +229,13 @@ module _ (a b c : ℤ) (h : pos 0 <ℤ a) (w : Shape) (i : IsCanonicalForm w) (f
       negative v s Minus e = refl
       negative v s Zero e = absurd cc
       negative v s Plus e = absurd cc
+
       below : discriminant a b c <ℤ pos 0
       below = sign_out Minus _ (negative (sign_of b) (sign_of c) _ (k.number ∙ ap (λ (s : Sign). count_by s (sign_of b) (sign_of c) (sign_of (discriminant a b c))) (sign_in Plus a h)))
+
       here : sign_at_instant q w ≡ Plus
       here = instant-negative w i a b c h below
+
       everywhere : (f : Phase) → sign_at q (record { at = w; phase = f }) ≡ Plus
       everywhere At = at_at q w ∙ here
       everywhere After = at_after q w i ∙ ap (λ (s : Sign). first_of s (first_of (sign_at_instant (derivative q) w) (sign_of a))) here
@@ -240,17 +244,24 @@ module _ (a b c : ℤ) (h : pos 0 <ℤ a) (w : Shape) (i : IsCanonicalForm w) (f
   double_signed : (n d : ℤ) → IsLowest n d → AreRootsOf q (One (Ratio n d)) → IsSigned q (One (Ratio n d)) m
   double_signed n d j k =
       let z = (k.exact (Ratio n d) j).1 refl in
-      let s = lift f (sign_at_instant (line n d) w) in
-      (s, (lifted w (Ratio n d) f _ (line_place (Ratio n d) j n d j.positive (line-zero_at n d n d refl) w i _ refl),
-      by_square (sign_of a) (lead_of q) (sign_at q m) s (sign_in Plus a h) (lead-plus q h)
-      (product_sign a b c n d h j.positive z w i f ∙ ap (λ (t : Sign). product_of s (lift f t)) (ap (λ (x : ℤ). sign_at_instant (quadratic (pos 0) (a *ℤ d) x) w) (centre a b n d j.positive (square z)) ∙ ap (λ (x : ℤ). sign_at_instant (quadratic x (a *ℤ d) (a *ℤ neg_ℤ n)) w) (nothing a) ∙ instant-scaled w i a (pos 0) d (neg_ℤ n) h))))
+      let s = lift f (sign_at_instant (line n d) w) in (
+        s,
+        (
+          lifted w (Ratio n d) f _ (line_place (Ratio n d) j n d j.positive (line-zero_at n d n d refl) w i _ refl),
+          by_square (sign_of a) (lead_of q) (sign_at q m) s (sign_in Plus a h) (lead-plus q h)
+              (product_sign a b c n d h j.positive z w i f ∙ ap (λ (t : Sign). product_of s (lift f t)) (ap (λ (x : ℤ). sign_at_instant (quadratic (pos 0) (a *ℤ d) x) w) (centre a b n d j.positive (square z)) ∙ ap (λ (x : ℤ). sign_at_instant (quadratic x (a *ℤ d) (a *ℤ neg_ℤ n)) w) (nothing a) ∙ instant-scaled w i a (pos 0) d (neg_ℤ n) h)),
+        ),
+      )
     where
       nothing : (a : ℤ) → pos 0 ≡ a *ℤ pos 0
       nothing a = by_ring (a ∷ []) _ _ (search quotes depth 16) (search quotes depth 16) refl
+
       flat : discriminant a b c ≡ pos 0
       flat = zero_of _ (own_counted (sign_of b) (sign_of c) _ (k.number ∙ ap (λ (s : Sign). count_by s (sign_of b) (sign_of c) (sign_of (discriminant a b c))) (sign_in Plus a h)))
+
       zeros : (x y : ℤ) → pos 0 *ℤ x +ℤ y *ℤ pos 0 ≡ pos 0
       zeros x y = by_ring (x ∷ y ∷ []) _ _ (search quotes depth 16) (search quotes depth 16) refl
+
       square : sign_at_instant q (Ratio n d) ≡ Zero → (pos 2 *ℤ a *ℤ n +ℤ b *ℤ d) *ℤ (pos 2 *ℤ a *ℤ n +ℤ b *ℤ d) ≡ pos 0
       square z = completed a b c n d ∙ ap₂ (λ (x y : ℤ). x *ℤ (d *ℤ d) +ℤ (pos 4 *ℤ a) *ℤ y) flat (on_root a b c n d z) ∙ zeros (d *ℤ d) (pos 4 *ℤ a)
 
@@ -274,11 +285,15 @@ module _ (a b c : ℤ) (h : pos 0 <ℤ a) (w : Shape) (i : IsCanonicalForm w) (f
   rational_signed n d s j k =
       let z = (k.exact (Ratio n d) j).1 (inl refl) in
       let sj = k.canonical.1.form in
-      let factor = other _ _ (sym ((k.exact s sj).1 (inr refl)) ∙ instant-factors s sj a b c n d j.positive z) (λ e. apart (Ratio n d) s k (line-zero s sj n d n d j.positive j refl e)) in
-      (lift f (sign_at_instant (line n d) w), lift f (sign_at_instant (cofactor a b n d) w),
-      (lifted w (Ratio n d) f _ (line_place (Ratio n d) j n d j.positive (line-zero_at n d n d refl) w i _ refl),
-      lifted w s f _ (line_place s sj (neg_ℤ (a *ℤ n +ℤ b *ℤ d)) (a *ℤ d) (positive_product a d h j.positive) factor w i _ refl),
-      by_lead (lead_of q) _ _ (lead-plus q h) (product_sign a b c n d h j.positive z w i f)))
+      let factor = other _ _ (sym ((k.exact s sj).1 (inr refl)) ∙ instant-factors s sj a b c n d j.positive z) (λ e. apart (Ratio n d) s k (line-zero s sj n d n d j.positive j refl e)) in (
+        lift f (sign_at_instant (line n d) w),
+        lift f (sign_at_instant (cofactor a b n d) w),
+        (
+          lifted w (Ratio n d) f _ (line_place (Ratio n d) j n d j.positive (line-zero_at n d n d refl) w i _ refl),
+          lifted w s f _ (line_place s sj (neg_ℤ (a *ℤ n +ℤ b *ℤ d)) (a *ℤ d) (positive_product a d h j.positive) factor w i _ refl),
+          by_lead (lead_of q) _ _ (lead-plus q h) (product_sign a b c n d h j.positive z w i f),
+        ),
+      )
     where
       other : (t u : Sign) → Zero ≡ product_of t u → t ≢ Zero → u ≡ Zero
       other Minus Minus e n = absurd (code e)
@@ -304,12 +319,16 @@ module _ (a b c : ℤ) (h : pos 0 <ℤ a) (w : Shape) (i : IsCanonicalForm w) (f
     where
       z : sign_at_instant q (Root a' b' c' u) ≡ Zero
       z = (k.exact (Root a' b' c' u) j).1 (inl refl)
+
       sj : IsCanonicalForm s
       sj = k.canonical.1.form
+
       zero_there : sign_at_instant (quadratic a' b' c') s ≡ Zero
       zero_there = sym (same_value q a' b' c' j u z h s sj) ∙ (k.exact s sj).1 (inr refl)
+
       here : Places a' b' c' j w i (sign_at_instant (quadratic a' b' c') w) (sign_at_instant (derivative (quadratic a' b' c')) w)
       here = places a' b' c' j w i _ _ refl refl
+
       signed : (f : Phase) → sign_at q (record { at = w; phase = f }) ≡ product_of (lift f here.lower) (lift f here.upper)
       signed At = at_at q w ∙ same_value q a' b' c' j u z h w i ∙ here.value
       signed After =
@@ -317,17 +336,20 @@ module _ (a b c : ℤ) (h : pos 0 <ℤ a) (w : Shape) (i : IsCanonicalForm w) (f
           ∙ ap₂ (λ (v t : Sign). first_of v (first_of t (sign_of a))) (same_value q a' b' c' j u z h w i) (same_slope q a' b' c' j u z h w i)
           ∙ ap (λ (t : Sign). first_of (sign_at_instant (quadratic a' b' c') w) (first_of (sign_at_instant (derivative (quadratic a' b' c')) w) t)) (sign_in Plus a h)
           ∙ here.after
+
       low : IsPlace m (Root a' b' c' false) (lift f here.lower)
       low = lifted w (Root a' b' c' false) f here.lower here.at_lower
+
       high : IsPlace m (Root a' b' c' true) (lift f here.upper)
       high = lifted w (Root a' b' c' true) f here.upper here.at_upper
+
       by_sides : (u : Bool) → (v : Bool) × (s ≡ Root a' b' c' v) → AreRootsOf q (Two (Root a' b' c' u) s) → IsSigned q (Two (Root a' b' c' u) s) m
       by_sides true (true, e) k = absurd (apart (Root a' b' c' true) s k e)
       by_sides false (false, e) k = absurd (apart (Root a' b' c' false) s k e)
       by_sides false (true, e) k = (lift f here.lower, lift f here.upper, (low, subst (λ (x : Shape). IsPlace m x (lift f here.upper)) (sym e) high, by_lead (lead_of q) _ _ (lead-plus q h) (signed f)))
       by_sides true (false, e) k = (lift f here.upper, lift f here.lower, (high, subst (λ (x : Shape). IsPlace m x (lift f here.lower)) (sym e) low, by_lead (lead_of q) _ _ (lead-plus q h) (signed f ∙ commuted (lift f here.lower) (lift f here.upper))))
 
-  positive_signed : (answer : Roots) → AreRootsOf q answer → IsSigned q answer m
+  pub positive_signed : (answer : Roots) → AreRootsOf q answer → IsSigned q answer m
   positive_signed Nowhere k = none_signed k
   positive_signed (One r) k = one_signed r k
   positive_signed (Two (Ratio n d) s) k = rational_signed n d s k.canonical.0.form k

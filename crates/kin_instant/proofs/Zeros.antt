@@ -1,22 +1,22 @@
 -- Where lines and quadratics are zero, and the sign of a quadratic by its discriminant.
-use Rattle.std.proofs.Common.{◌≡◌, ◌≢◌, ◌⊎◌, inl, inr, refl, ap, ap₂, sym, ◌∙◌, subst, Bool, true, false, ℕ, zero, suc, [], ◌∷◌, arith, ℤ, pos, negsuc, ◌+ℤ◌, ◌-ℤ◌, ◌*ℤ◌, unsigned_abs}
+use Rattle.std.proofs.Common.{◌≡◌, ◌≢◌, ◌⊎◌, inl, inr, refl, ap, ap₂, sym, ◌∙◌, Bool, true, false, zero, suc, [], ◌∷◌, arith, ℤ, pos, negsuc, ◌+ℤ◌, ◌-ℤ◌, ◌*ℤ◌}
 use Rattle.std.specs.Prelude.{◌<ℤ◌}
-use Rattle.std.proofs.lemmas.Int.{ints, unsigned_abs-mul}
+use Rattle.std.proofs.lemmas.Int.{ints}
 use lib.IntN.{neg_ℤ}
 use Rattle.kin_algebra.specs.declared.sign.Sign.{Sign}
 use Rattle.kin_algebra.specs.declared.sign.Sign.TheVariants.{Minus, Zero, Plus}
-use Rattle.kin_algebra.specs.Signs.{sign_of, product_of, norm_of, pair_sign_of}
+use Rattle.kin_algebra.specs.Signs.{sign_of, product_of, pair_sign_of}
 use Rattle.kin_algebra.proofs.Ring.{by_ring, quotes}
-use Rattle.kin_algebra.proofs.Signs.{code, AtLeast}
+use Rattle.kin_algebra.proofs.Signs.{code}
 use Rattle.kin_algebra.proofs.IntegerSigns.{sign_in, sign_out, zero_of, sign_of-times}
-use Rattle.kin_algebra.proofs.OrderedRings.{OrderedRing, scale, positive_sum, positive_cancel, sign_square}
+use Rattle.kin_algebra.proofs.OrderedRings.{scale, positive_sum, positive_cancel, sign_square}
 use Rattle.kin_algebra.proofs.Radicals.{Radical, pair_of_zero}
-use Rattle.kin_algebra.proofs.Pairs.{Pair, pair, pair_plus, pair_times, Sound, sign_over, sign_over-whole, sign_over-times, ordered}
+use Rattle.kin_algebra.proofs.Pairs.{pair, pair_plus, pair_times, Sound, sign_over, sign_over-whole, sign_over-times, ordered}
 use Rattle.kin_num.specs.declared.instant.Shape.{Shape}
 use Rattle.kin_num.specs.declared.instant.Shape.TheVariants.{Ratio, Root}
 use Rattle.kin_num.specs.Quadratic.{Quadratic}
 use Rattle.kin_num.specs.Canonical.{IsCanonicalForm, IsLowest, IsIrreducible, discriminant}
-use Rattle.kin_num.specs.Instants.{Number, number_of, sign_at_number, sign_at_instant, derivative, line}
+use Rattle.kin_num.specs.Instants.{Number, number_of, sign_at_number, sign_at_instant, line}
 use Rattle.kin_num.proofs.Values.{value, canonical-sound, irreducible-sound}
 use Rattle.kin_instant.specs.Roots.{quadratic}
 use Rattle.kin_num.proofs.Divisors.{cancel_factor, same_lowest}
