@@ -1,5 +1,5 @@
 -- A command is refused for one cause, and one that is not refused prints one text and leads to one state.
-use Rattle.std.proofs.Common.{◌≡◌, ℕ, List, ◌∙◌, sym, ap, refl}
+use Rattle.std.proofs.Common.{true, ◌≡◌, ℕ, List, ◌∙◌, sym, ap, refl}
 use Rattle.kin_num.specs.declared.instant.Shape.{Shape}
 use Rattle.kin_num.specs.Canonical.{IsCanonical}
 use Rattle.kin_script.specs.declared.command.Command.{Command}
@@ -8,7 +8,6 @@ use Rattle.kin_script.specs.declared.refusal.Refusal.{Refusal}
 use Rattle.kin_script.specs.declared.refusal.Refusal.TheVariants.{Taken, NotKept, NoRoot, Past}
 use Rattle.kin_script.specs.Replay.{State, at, Refuses, LeadsTo}
 use Rattle.kin_script.specs.Text.{Step, Prints}
-use Rattle.kin_run.proofs.Commands.{one_fraction}
 use Rattle.kin_run.proofs.NamedRoots.{one_named_root, named_root_of, has_root}
 use Rattle.kin_run.proofs.Lines.{one_line}
 
@@ -83,7 +82,7 @@ one_print s (Inside r) x y canonical p q = absurd p
 -- one state
 one_state : (s : State) (c : Command) (t u : State) → LeadsTo s c t → LeadsTo s c u → t ≡ u
 one_state s (Insert n m) t u p q = p ∙ sym q
-one_state s (AtRatio n d) t u p q = p.2 ∙ ap (λ (w : Shape). record s { moment = at w }) (one_fraction n d p.0 q.0 p.1 q.1) ∙ sym q.2
+one_state s (AtRatio n d) t u p q = p.2 ∙ ap (λ (w : Shape). record s { moment = at w }) (one_named_root true _ p.0 q.0 p.1 q.1) ∙ sym q.2
 one_state s (AtRoot a b c upper) t u p q = p.2 ∙ ap (λ (w : Shape). record s { moment = at w }) (one_named_root upper _ p.0 q.0 p.1 q.1) ∙ sym q.2
 one_state s (Order k) t u p q = p ∙ sym q
 one_state s (Extreme k) t u p q = p ∙ sym q

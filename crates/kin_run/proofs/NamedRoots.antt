@@ -10,15 +10,16 @@ use Rattle.kin_algebra.proofs.Ring.{by_ring, quotes}
 use Rattle.kin_num.specs.declared.instant.Shape.{Shape}
 use Rattle.kin_num.specs.Quadratic.{Quadratic, negated}
 use Rattle.kin_num.specs.Canonical.{IsCanonical, IsCanonicalForm, discriminant}
-use Rattle.kin_num.specs.Instants.{sign_at_instant, sign_at}
+use Rattle.kin_num.specs.Instants.{sign_at_instant, sign_at, line}
 use Rattle.kin_num.specs.Order.{IsLess}
 use Rattle.kin_num.proofs.InstantOrder.{level_same}
 use Rattle.kin_num.proofs.LowerFractions.{not_less_itself, less_asym}
 use Rattle.kin_num.proofs.SignLaws.{sign_at-neg}
+use Rattle.kin_instant.proofs.RootsOf.{fraction_zeros}
 use Rattle.kin_instant.proofs.Zeros.{instant-negative}
 use Rattle.kin_instant.specs.declared.roots.Roots.{Roots}
 use Rattle.kin_instant.specs.declared.roots.Roots.TheVariants.{Two}
-use Rattle.kin_instant.specs.Roots.{Lists}
+use Rattle.kin_instant.specs.Roots.{IsFraction, Lists}
 use Rattle.kin_script.specs.Replay.{IsRootOf, IsNamedRoot, at}
 
 -- two named roots are one
@@ -37,6 +38,13 @@ named_root_of false p w h = h.0
 -- what the answer of the roots says
 abbrev pub IsExact : Quadratic → Roots → Type 0
 IsExact p answer = (w : Shape) → IsCanonicalForm w → (sign_at_instant p w ≡ Zero) ↔ Lists answer w
+
+-- a fraction is the only root of its line
+pub ratio_named : (n d : ℤ) (r : Shape) → pos 0 <ℤ d → IsFraction n d r → IsCanonical r → IsNamedRoot true (line n d) r
+ratio_named n d r positive same canonical =
+    let only = fraction_zeros n d positive r same canonical in
+    let root : IsRootOf (line n d) r = record { canonical = canonical; zero = (only r canonical.form).1 refl } in
+    (root, λ v h less. not_less_itself r (subst (IsLess r) ((only v h.canonical.form).0 h.zero) less))
 
 -- of two roots the greater is named by hi, and the lesser by lo
 module _ (p : Quadratic) (r s : Shape) (canonical : IsCanonical r × IsCanonical s) (exact : IsExact p (Two r s)) (rising : IsLess r s) where

@@ -1,5 +1,5 @@
 -- An input has one text, and one status with it.
-use Rattle.std.proofs.Common.{◌≡◌, ℕ, ◌≤◌, ◌<◌, ◌^◌, Bool, List, [], ◌∷◌, ◌++◌, length, Option, Some, None, Ok, Err, refl, sym, ap, ◌∙◌, subst, arith, ◌⊎◌, inl, inr, length-append}
+use Rattle.std.proofs.Common.{true, ◌≡◌, ℕ, ◌≤◌, ◌<◌, ◌^◌, Bool, List, [], ◌∷◌, ◌++◌, length, Option, Some, None, Ok, Err, refl, sym, ap, ◌∙◌, subst, arith, ◌⊎◌, inl, inr, length-append}
 use Rattle.std.proofs.lemmas.List.{append-nil}
 use Rattle.std.proofs.lemmas.Option.{same_Some}
 use Rattle.std.specs.Io.KnownBytes.{Consumes, IsAtEnd}
@@ -17,7 +17,7 @@ use Rattle.kin_run.specs.Written.{IsPrefix}
 use Rattle.kin_run.specs.declared.status.Status.{Status}
 use Rattle.kin_run.specs.declared.status.Status.TheVariants as status
 use Rattle.kin_run.specs.Headline.{IsAnswer, IsCut, IsTextOf, Writes, Answers, status_of_stop, IsBrokenOff, TakesWhole, OneAnswer}
-use Rattle.kin_run.proofs.Commands.{fraction_canonical, start_canonical}
+use Rattle.kin_run.proofs.Commands.{start_canonical}
 use Rattle.kin_run.proofs.NamedRoots.{named_canonical}
 use Rattle.kin_run.proofs.Determined.{one_step}
 use Rattle.kin_run.proofs.Playing.{Line, allowed_goes_on, text_refused}
@@ -25,7 +25,7 @@ use Rattle.kin_run.proofs.Playing.{Line, allowed_goes_on, text_refused}
 -- every state of a run stands at a canonical instant
 stays_canonical : (s : State) (c : Command) (t : State) → IsCanonical s.moment.at → LeadsTo s c t → IsCanonical t.moment.at
 stays_canonical s (Insert n m) t canonical e = subst (λ (u : State). IsCanonical u.moment.at) (sym e) canonical
-stays_canonical s (AtRatio n d) t canonical e = subst (λ (u : State). IsCanonical u.moment.at) (sym e.2) (fraction_canonical n d e.0 e.1)
+stays_canonical s (AtRatio n d) t canonical e = subst (λ (u : State). IsCanonical u.moment.at) (sym e.2) (named_canonical true _ e.0 e.1)
 stays_canonical s (AtRoot a b c upper) t canonical e = subst (λ (u : State). IsCanonical u.moment.at) (sym e.2) (named_canonical upper _ e.0 e.1)
 stays_canonical s (Order k) t canonical e = subst (λ (u : State). IsCanonical u.moment.at) (sym e) canonical
 stays_canonical s (Extreme k) t canonical e = subst (λ (u : State). IsCanonical u.moment.at) (sym e) canonical

@@ -1,10 +1,11 @@
 -- One turn of a run: what is gathered behind a command.
-use Rattle.std.proofs.Common.{◌≡◌, ℕ, List, [], ◌∷◌, ◌++◌, ◌+◌, drop, Some, refl, sym, subst}
+use Rattle.std.proofs.Common.{◌≡◌, ℕ, List, [], ◌∷◌, ◌++◌, ◌+◌, drop, Some, refl, sym, ap, ◌∙◌, subst}
 use Rattle.std.specs.Prelude.{Result, Ok, Err, IfOk, OnErr}
 use Rattle.std.proofs.lemmas.List.{append-nil}
 use Rattle.std.specs.Io.KnownBytes.{Appends}
 use Rattle.kin_io.specs.Ends.{AppendsPrefix}
 use Rattle.kin_num.specs.Canonical.{IsCanonical}
+use Rattle.kin_script.specs.declared.command.Command.{Command}
 use Rattle.kin_script.specs.declared.refusal.Refusal.{Refusal}
 use Rattle.kin_script.specs.Replay.{State, Refuses, IsAllowed}
 use Rattle.kin_script.specs.Text.{Step, Text, Ending, refused_line}
@@ -73,3 +74,9 @@ flush_cut a b c s all t left out w g = gathers_cut a b c w.0 out (IsSoFar s all 
 -- where it does not
 pub flush_kept : (a b c : Bytes) (s : State) (all : List Line) (t : State) (left : List Line) (out still : List ℕ) → Gains b out c still [] → Gathers a b out (IsSoFar s all t left) → Gathers a c still (IsSoFar s all t left)
 flush_kept a b c s all t left out still w g = gathers_gained a b c out still [] (IsSoFar s all t left) (IsSoFar s all t left) g w (λ x p. subst (IsSoFar s all t left) (sym (append-nil x)) p)
+
+-- a command that printed nothing leaves whatever was gathered
+pub silent : {E : Type 0} (s : State) (c : Command) (result : Result E Halt) (out : List ℕ) (t : State) → Performs s c result [] [] t → Performs s c result out out t
+silent s c (Ok x) out t p = (p.0, sym (append-nil out) ∙ ap (λ (text : List ℕ). out ++ text) p.1, p.2)
+silent s c (Err (Refused r)) out t p = (p.0, refl, p.2)
+silent s c (Err NoMemory) out t p = (p.0, (p.1.0, sym (append-nil out) ∙ ap (λ (text : List ℕ). out ++ text) p.1.1, p.1.2))

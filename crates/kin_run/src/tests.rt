@@ -1,5 +1,7 @@
 //! Runs over sources and sinks in memory.
 
+ghost use Rattle.std.specs.Prelude.{◌<◌};
+
 use crate::run::run;
 use crate::status::{Side, Status};
 use kin_io::memory::{MemSink, MemSource};

@@ -1,13 +1,13 @@
 -- The replay of a script: the motions and the moment after each command, and why a command is refused.
-use Rattle.std.specs.Prelude.{◌≡◌, ◌≢◌, ℕ, ◌^◌, ℤ, pos, ◌*ℤ◌, ◌<ℤ◌, Bool, true, false, List, Option, Some, None, IsTrue, slice_get, slice_set, replicate}
+use Rattle.std.specs.Prelude.{◌≡◌, ◌≢◌, ℕ, ◌^◌, ℤ, pos, ◌<ℤ◌, Bool, true, false, List, Option, Some, None, IsTrue, slice_get, slice_set, replicate}
 use Rattle.kin_algebra.specs.declared.sign.Sign.TheVariants.{Zero}
 use Rattle.kin_num.specs.declared.instant.Shape.{Shape}
-use Rattle.kin_num.specs.declared.instant.Shape.TheVariants.{Ratio, Root}
+use Rattle.kin_num.specs.declared.instant.Shape.TheVariants.{Ratio}
 use Rattle.kin_num.specs.declared.instant.Phase.TheVariants.{At}
 use Rattle.kin_num.specs.declared.instant.Moment.{Moment}
 use Rattle.kin_num.specs.Quadratic.{Quadratic}
 use Rattle.kin_num.specs.Canonical.{IsCanonical, discriminant}
-use Rattle.kin_num.specs.Instants.{sign_at_instant}
+use Rattle.kin_num.specs.Instants.{sign_at_instant, line}
 use Rattle.kin_num.specs.Order.{IsLess, IsEarlier}
 use Rattle.kin_motion.specs.declared.keep.Keep.{Keep}
 use Rattle.kin_motion.specs.declared.keep.Keep.TheVariants as keep
@@ -42,11 +42,6 @@ start size keeps = record {
 abbrev pub scene_of : State → Scene
 scene_of s = scene_at s.motions s.moment
 
--- the instant is the fraction n/d, in lowest terms
-abbrev pub IsFraction : ℤ → ℤ → Shape → Type 0
-IsFraction n d (Ratio p q) = (pos 0 <ℤ d) × IsCanonical (Ratio p q) × (p *ℤ d ≡ n *ℤ q)
-IsFraction n d (Root a b c upper) = ⊥
-
 -- the polynomial is 0 at the instant
 pub record IsRootOf (p : Quadratic) (w : Shape) : Type 0 where
   pub canonical : IsCanonical w
@@ -57,9 +52,9 @@ abbrev pub IsNamedRoot : Bool → Quadratic → Shape → Type 0
 IsNamedRoot true p w = IsRootOf p w × ((v : Shape) → IsRootOf p v → ¬ (IsLess w v))
 IsNamedRoot false p w = IsRootOf p w × ((v : Shape) → IsRootOf p v → ¬ (IsLess v w))
 
--- the instant that a command asks for
+-- the instant that a command asks for; n/d is the only root of d*t - n
 abbrev pub Asks : Command → Shape → Type 0
-Asks (AtRatio n d) w = IsFraction n d w
+Asks (AtRatio n d) w = IsNamedRoot true (line n d) w
 Asks (AtRoot a b c upper) w = IsNamedRoot upper (record { a = a; b = b; c = c }) w
 Asks (Insert number m) w = ⊥
 Asks (Order k) w = ⊥
