@@ -69,7 +69,8 @@ fn main(rt: HostRuntime) -> ExitCode {
 #[cfg(test)]
 mod tests {
     use super::*;
-    use kin_run::status::{Refusal, Side};
+    use kin_run::Refusal;
+    use kin_run::status::Side;
 
     #[test]
     fn each_status_has_its_exit(rt: HostRuntime) {
