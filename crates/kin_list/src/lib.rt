@@ -1,0 +1,4 @@
+//! The kinetic sorted list.
+#![tactic(auto)]
+
+mod row;
