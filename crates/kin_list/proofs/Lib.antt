@@ -1,3 +1,6 @@
 pub mod RowLaws
 pub mod PigeonLaws
 pub mod PlaceLaws
+pub mod TestLaws
+pub mod InversionLaws
+pub mod RepairLaws

@@ -1,4 +1,9 @@
 //! The kinetic sorted list.
 #![tactic(auto)]
 
+mod direction;
+mod doubts;
+mod lineup;
+mod link;
+mod repair;
 mod row;

@@ -1,0 +1,43 @@
+//! The direction of an order.
+
+ghost use Rattle.std.specs.Prelude.{◌≡◌, ◌≤◌, pos, unsigned_abs};
+ghost use Rattle.kin_motion.specs.declared.form.Form.TheVariants.{Line};
+ghost use Rattle.kin_motion.specs.Orders.{leads};
+
+use kin_motion::form::Form;
+use kin_num::Sign;
+
+/// A direction whose parts are in -16..16.
+#[derive(Clone, Copy, Debug, PartialEq, Eq)]
+pub struct Direction {
+    pub dx: i32,
+    pub dy: i32,
+    ghost dx_small: { unsigned_abs dx ≤ 16 },
+    ghost dy_small: { unsigned_abs dy ≤ 16 },
+}
+
+impl Direction {
+    /// The form that is positive where `j` is farther along than `i`.
+    pub fn line(self, i: u32, j: u32) -> Form
+        ensures { result ≡ Line self.dx self.dy (pos 0) i j }
+    {
+        Form::Line {
+            dx: self.dx,
+            dy: self.dy,
+            off: 0,
+            i,
+            j,
+        }
+    }
+}
+
+/// Whether `i` stands before `j` by the sign of their line.
+pub fn stands_first(sign: Sign, i: u32, j: u32) -> bool
+    ensures { result ≡ leads sign i j }
+{
+    match sign {
+        Sign::Minus => false,
+        Sign::Zero => i < j,
+        Sign::Plus => true,
+    }
+}

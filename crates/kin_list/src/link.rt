@@ -1,0 +1,13 @@
+//! The link of a number to its right neighbour.
+
+ghost use Rattle.std.specs.Prelude.{◌≡◌, ◌↔◌, IsTrue};
+
+use kin_num::Sign;
+
+/// The right neighbour of a number, and the sign of their line. It stands for the live fact whose
+/// left number it belongs to.
+#[derive(Clone, Copy, Debug, PartialEq, Eq)]
+pub struct Link {
+    pub right: u32,
+    pub sign: Sign,
+}
