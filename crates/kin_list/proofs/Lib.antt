@@ -4,3 +4,4 @@ pub mod PlaceLaws
 pub mod TestLaws
 pub mod InversionLaws
 pub mod RepairLaws
+pub mod OkLaws

@@ -3,6 +3,8 @@
 
 mod direction;
 mod doubts;
+mod enter;
+mod leave;
 mod lineup;
 mod link;
 mod repair;
