@@ -5,3 +5,5 @@ pub mod TestLaws
 pub mod InversionLaws
 pub mod RepairLaws
 pub mod OkLaws
+pub mod LeaveLaws
+pub mod EnterLaws

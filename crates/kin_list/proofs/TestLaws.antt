@@ -78,3 +78,6 @@ not_in_from i xs ys f h = elim (true_or_false (is_in i xs)) [
     inl t ↦ absurd (not_both (f t) h)
   | inr e ↦ e
 ]
+
+pub is_in_head : (i : ℕ) (xs : List ℕ) → is_in i (i ∷ xs) ≡ true
+is_in_head i xs = or_left (nat_eq i i) (is_in i xs) (eq_true i i refl)

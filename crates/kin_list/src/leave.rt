@@ -1,6 +1,7 @@
 //! What comes in doubt before a repair: the gap of a number that leaves, and the failed facts.
 
-ghost use Rattle.std.specs.Prelude.{◌≡◌, ℕ, ◌+◌, ◌<◌, ◌≤◌, ◌⊎◌, true, [], Some, length, slice_get, OnOk};
+ghost use Rattle.std.specs.Prelude.{◌≡◌, ℕ, ℤ, ◌+◌, ◌<◌, ◌≤◌, ◌⊎◌, true, [], Some, length, slice_get, OnOk};
+ghost use Rattle.kin_motion.specs.declared.form.Form.TheVariants.{Line};
 ghost use Rattle.kin_motion.specs.Numbers.{is_in};
 ghost use Rattle.kin_list.specs.Repairs.{IsTakenOut, AreCovered};
 
@@ -20,21 +21,22 @@ pub fn doubt_failed(
     ensures { OnOk result (AreCovered row.now.items failed.now doubts.old doubts.new) }
 {
     for placed in failed {
-        if let Form::Line { i, .. } = placed.fact.form {
-            doubt_number(row, doubts, i)?;
-        }
+        doubt_line(row, doubts, placed.fact.form)?;
     }
     Ok(())
 }
 
-/// Puts the place of a number in doubt.
-fn doubt_number(row: &Row, doubts: &mut Doubts, no: u32) -> Result<(), AllocError>
-    ensures covered { OnOk result ((p : ℕ) → slice_get row.now.items p ≡ Some no → p + 1 < length row.now.items → is_in p doubts.new ≡ true) }
+/// Puts the place of the left number of a line in doubt.
+fn doubt_line(row: &Row, doubts: &mut Doubts, form: Form) -> Result<(), AllocError>
+    ensures covered { OnOk result ((dx dy off : ℤ) (i j p : ℕ) → form ≡ Line dx dy off i j → slice_get row.now.items p ≡ Some i → p + 1 < length row.now.items → is_in p doubts.new ≡ true) }
     ensures keeps { OnOk result ((q : ℕ) → is_in q doubts.old ≡ true → is_in q doubts.new ≡ true) }
     ensures inside { OnOk result ((q : ℕ) → is_in q doubts.new ≡ true → (is_in q doubts.old ≡ true) ⊎ (q + 1 < length row.now.items)) }
     ensures few { length doubts.new ≤ length doubts.old + 1 }
 {
-    match row.place_of(no) {
+    let Form::Line { i, .. } = form else {
+        return Ok(());
+    };
+    match row.place_of(i) {
         Some(place) => doubts.add(place as usize, row.len()),
         None => Ok(()),
     }
