@@ -7,3 +7,4 @@ pub mod RepairLaws
 pub mod OkLaws
 pub mod LeaveLaws
 pub mod EnterLaws
+pub mod HalvingLaws

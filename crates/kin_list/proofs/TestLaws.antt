@@ -81,3 +81,6 @@ not_in_from i xs ys f h = elim (true_or_false (is_in i xs)) [
 
 pub is_in_head : (i : ℕ) (xs : List ℕ) → is_in i (i ∷ xs) ≡ true
 is_in_head i xs = or_left (nat_eq i i) (is_in i xs) (eq_true i i refl)
+
+pub is_in_tail : (i x : ℕ) (xs : List ℕ) → is_in i xs ≡ true → is_in i (x ∷ xs) ≡ true
+is_in_tail i x xs h = or_right (nat_eq i x) (is_in i xs) h

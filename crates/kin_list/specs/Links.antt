@@ -1,5 +1,5 @@
 -- The live facts of a list, each found by the number on its left.
-use Rattle.std.specs.Prelude.{ℕ, ◌+◌, ℤ, pos, List, [], ◌∷◌, Option, Some, None}
+use Rattle.std.specs.Prelude.{ℕ, ◌+◌, ℤ, pos, cond, nat_eq, slice_get, List, [], ◌∷◌, Option, Some, None}
 use Rattle.kin_algebra.specs.declared.sign.Sign.{Sign}
 use Rattle.kin_motion.specs.declared.form.Form.TheVariants.{Line}
 use Rattle.kin_motion.specs.declared.fact.Placed.{Placed}
@@ -20,3 +20,13 @@ abbrev pub facts_from : ℤ → ℤ → ℕ → List (Option Link) → List Plac
 facts_from dx dy n [] = []
 facts_from dx dy n (None ∷ ls) = facts_from dx dy (n + 1) ls
 facts_from dx dy n (Some l ∷ ls) = fact_of dx dy n l ∷ facts_from dx dy (n + 1) ls
+
+-- the link of a number in a list with these signs
+abbrev pub link_for : List ℕ → List Sign → ℕ → Option Link
+link_for [] signs i = None
+link_for (x ∷ xs) signs i = cond (nat_eq i x) (linked (slice_get xs 0) (slice_get signs i)) (link_for xs signs i)
+
+-- the fact of a link, if there is one
+abbrev pub facts_of : ℤ → ℤ → ℕ → Option Link → List Placed
+facts_of dx dy i None = []
+facts_of dx dy i (Some l) = fact_of dx dy i l ∷ []

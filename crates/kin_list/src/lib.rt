@@ -7,5 +7,7 @@ mod enter;
 mod leave;
 mod lineup;
 mod link;
+mod mark;
+mod mend;
 mod repair;
 mod row;
