@@ -8,3 +8,6 @@ pub mod OkLaws
 pub mod LeaveLaws
 pub mod EnterLaws
 pub mod HalvingLaws
+pub mod ListLaws
+pub mod OrderingLaws
+pub mod LinkLaws
