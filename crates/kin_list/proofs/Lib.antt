@@ -11,3 +11,6 @@ pub mod HalvingLaws
 pub mod ListLaws
 pub mod OrderingLaws
 pub mod LinkLaws
+pub mod HeldLaws
+pub mod ArrangeLaws
+pub mod ChangeLaws

@@ -3,7 +3,10 @@
 ghost use Rattle.std.specs.Prelude.{◌≡◌, ◌≤◌, pos, unsigned_abs};
 ghost use Rattle.kin_motion.specs.declared.form.Form.TheVariants.{Line};
 ghost use Rattle.kin_motion.specs.Orders.{leads};
+ghost use Rattle.kin_list.specs.Links.{fact_of};
 
+use crate::link::Link;
+use kin_motion::fact::{Fact, Placed};
 use kin_motion::form::Form;
 use kin_num::Sign;
 
@@ -27,6 +30,21 @@ impl Direction {
             off: 0,
             i,
             j,
+        }
+    }
+}
+
+impl Direction {
+    /// The fact of a link of `i`.
+    pub fn fact(self, i: u32, link: Link) -> Placed
+        ensures { result ≡ fact_of self.dx self.dy i link }
+    {
+        Placed {
+            part: 0,
+            fact: Fact {
+                form: self.line(i, link.right),
+                sign: link.sign,
+            },
         }
     }
 }

@@ -50,6 +50,7 @@ impl Lineup {
         ensures taken { OnOk result (IsTakenOut no self.old.row.items self.new.row.items self.new.doubts self.new.touched.items) }
         ensures signs { OnOk result (self.new.signs.items ≡ self.old.signs.items) }
         ensures swaps { OnOk result (self.new.swaps.items ≡ self.old.swaps.items) }
+        ensures room { self.new.row.room ≡ self.old.row.room }
     {
         self.touched.push(no)?;
         let Some(place) = self.row.place_of(no) else {

@@ -10,4 +10,5 @@ mod link;
 mod mark;
 mod mend;
 mod repair;
+mod report;
 mod row;

@@ -11,3 +11,14 @@ pub struct Link {
     pub right: u32,
     pub sign: Sign,
 }
+
+/// Whether they are the same.
+pub fn is_same_link(old: Option<Link>, new: Option<Link>) -> bool
+    ensures { IsTrue result ↔ (old ≡ new) }
+{
+    match (old, new) {
+        (None, None) => true,
+        (Some(old), Some(new)) => old.right == new.right && old.sign == new.sign,
+        _ => false,
+    }
+}
