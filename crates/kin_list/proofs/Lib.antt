@@ -14,3 +14,6 @@ pub mod LinkLaws
 pub mod HeldLaws
 pub mod ArrangeLaws
 pub mod ChangeLaws
+pub mod ReportLaws
+pub mod SettleLaws
+pub mod BoundLaws

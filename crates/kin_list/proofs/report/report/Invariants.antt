@@ -7,7 +7,7 @@ use Rattle.kin_list.proofs.report.report.Given as goal
 
 abbrev pub invariant-loop-no : goal.invariant-loop-no
 invariant-loop-no l = record {
-  length : length l.links.items ≡ length l.initial.links.items;
+  same_length : length l.links.items ≡ length l.initial.links.items;
   each : (i : ℕ) → (slice_get l.links.items i ≡ slice_get l.initial.links.items i) ⊎ (slice_get l.links.items i ≡ Some (link_for l.lineup.row.items l.lineup.signs.items i));
   done : (k i : ℕ) → k < l.no-index → slice_get l.lineup.touched.items k ≡ Some i → i < length l.initial.links.items → slice_get l.links.items i ≡ Some (link_for l.lineup.row.items l.lineup.signs.items i);
   others : (i : ℕ) → is_in i l.lineup.touched.items ≡ false → slice_get l.links.items i ≡ slice_get l.initial.links.items i;
