@@ -1,0 +1,5 @@
+pub mod Widths
+pub mod Values
+pub mod Lowest
+pub mod Zeros
+pub mod RootsOf
