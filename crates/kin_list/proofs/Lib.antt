@@ -17,3 +17,4 @@ pub mod ChangeLaws
 pub mod ReportLaws
 pub mod SettleLaws
 pub mod BoundLaws
+pub mod WholeLaws

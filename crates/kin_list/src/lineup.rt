@@ -1,10 +1,11 @@
 //! The members in a row, with the signs between neighbours.
 
-ghost use Rattle.std.specs.Prelude.{◌≡◌, length};
+ghost use Rattle.std.specs.Prelude.{◌≡◌, ◌≤◌, ◌^◌, [], length, IfOk};
 
 use crate::doubts::Doubts;
 use crate::row::Row;
 use kin_num::Sign;
+use std::alloc::{AllocError, Global};
 
 /// The members in a row, and what a repair of their order needs.
 #[derive(Drop)]
@@ -19,4 +20,21 @@ pub struct Lineup {
     /// The places of the exchanges of this repair.
     pub swaps: Vec<u32>,
     ghost fits: { length signs.items ≡ row.room },
+}
+
+impl Lineup {
+    /// No members, with room for the numbers below `room`.
+    pub fn new(alloc: Global, room: usize) -> Result<Lineup, AllocError>
+        requires { room ≤ 2 ^ 15 }
+        ensures row { IfOk result (λ l. l.row ≡ record { items = []; room = room }) }
+        ensures swaps { IfOk result (λ l. l.swaps.items ≡ []) }
+    {
+        Ok(Lineup {
+            row: Row::new(alloc, room)?,
+            signs: Vec::from_elem(alloc, Sign::Zero, room)?,
+            doubts: Doubts::new(alloc),
+            touched: Vec::new(alloc),
+            swaps: Vec::new(alloc),
+        })
+    }
 }

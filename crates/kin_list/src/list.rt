@@ -10,16 +10,13 @@ ghost use Rattle.kin_list.specs.Listing.{IsAtRest, IsReadyListing, IsSettledList
 ghost use Rattle.kin_list.specs.Rows.{exchanged};
 
 use crate::direction::Direction;
-use crate::doubts::Doubts;
 use crate::lineup::Lineup;
-use crate::link::Link;
+use crate::link::{Link, no_links};
 use crate::mark::Mark;
 use crate::report::report;
-use crate::row::Row;
 use kin_motion::fact::{Delta, Placed};
 use kin_motion::kinetic::Kinetic;
 use kin_motion::signs::Signs;
-use kin_num::Sign;
 use kin_num::memory::NoMemory;
 use kin_num::steps::Steps;
 use std::alloc::Global;
@@ -58,16 +55,11 @@ impl KinList {
         ensures { IfOk result (λ k. k ≡ record { dx = dx; dy = dy; room = 2 ^ size; items = []; facts = []; swaps = []; mark = Rest }) }
     {
         let room = 1usize << size;
-        let lineup = Lineup {
-            row: Row::new(alloc, room)?,
-            signs: Vec::from_elem(alloc, Sign::Zero, room)?,
-            doubts: Doubts::new(alloc),
-            touched: Vec::new(alloc),
-            swaps: Vec::new(alloc),
-        };
-        let links = Vec::from_elem(alloc, None, room)?;
+        let lineup = Lineup::new(alloc, room)?;
+        let links = no_links(alloc, room)?;
+        let along = Direction { dx, dy };
         Ok(KinList {
-            along: Direction { dx, dy },
+            along,
             lineup,
             links,
             mark: Mark::Rest,
