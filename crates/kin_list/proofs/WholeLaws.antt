@@ -64,7 +64,7 @@ module _ (s : Scene) (laws : HasLineLaws s) (dx dy : ℤ) (mark : Mark) (row : R
       arranged.cost
 
 -- an empty list
-no_links : (n i : ℕ) → i < length (replicate n None) → slice_get (replicate n None) i ≡ Some (None {T = Link})
+no_links : (n i : ℕ) → i < length {A = Option Link} (replicate n None) → slice_get {X = Option Link} (replicate n None) i ≡ Some None
 no_links zero i l = absurd (omega arith)
 no_links (suc n) zero l = refl
 no_links (suc n) (suc i) l = no_links n i (omega arith)

@@ -20,6 +20,15 @@ pub struct Direction {
 }
 
 impl Direction {
+    pub fn new(dx: i32, dy: i32) -> Direction
+        requires dx { unsigned_abs dx ≤ 16 }
+        requires dy { unsigned_abs dy ≤ 16 }
+        ensures dx { result.dx ≡ dx }
+        ensures dy { result.dy ≡ dy }
+    {
+        Direction { dx, dy }
+    }
+
     /// The form that is positive where `j` is farther along than `i`.
     pub fn line(self, i: u32, j: u32) -> Form
         ensures { result ≡ Line self.dx self.dy (pos 0) i j }

@@ -45,6 +45,15 @@ impl Model for KinList {
     ghost invariant = { λ k. IsSound k.mark k.lineup.row k.lineup.signs.items k.links.items };
 }
 
+/// How many numbers have this size.
+fn room_for(size: u32) -> usize
+    requires { size ≤ 12 }
+    ensures value { result ≡ 2 ^ size }
+    ensures small { result ≤ 2 ^ 15 }
+{
+    1 << size
+}
+
 impl KinList {
     /// An empty list along a direction, for the numbers below `2^size`.
     pub fn new(alloc: Global, dx: i32, dy: i32, size: u32) -> Result<KinList, NoMemory>
@@ -54,10 +63,10 @@ impl KinList {
         requires high { size ≤ 12 }
         ensures { IfOk result (λ k. k ≡ record { dx = dx; dy = dy; room = 2 ^ size; items = []; facts = []; swaps = []; mark = Rest }) }
     {
-        let room = 1usize << size;
+        let along = Direction::new(dx, dy);
+        let room = room_for(size);
         let lineup = Lineup::new(alloc, room)?;
         let links = no_links(alloc, room)?;
-        let along = Direction { dx, dy };
         Ok(KinList {
             along,
             lineup,
