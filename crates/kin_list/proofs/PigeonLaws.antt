@@ -11,11 +11,11 @@ use Rattle.kin_list.proofs.RowLaws.{get-remove_below, get-remove_above, length-r
 left_over : {A : Type 0} (ys : List A) (k q : ℕ) (y : A) → (q ≡ k → ⊥) → slice_get ys q ≡ Some y → (r : ℕ) × (slice_get (remove ys k) r ≡ Some y)
 left_over ys k zero y n f = (zero, get-remove_below k zero ys (omega arith) ∙ f)
 left_over ys k (suc q) y n f = elim (cases_order (suc q) k) [
-    inl e ↦ absurd (n e)
+  | inl e ↦ absurd (n e)
   | inr c ↦ elim c [
-        inl l ↦ (suc q, get-remove_below k (suc q) ys l ∙ f)
-      | inr g ↦ (q, get-remove_above k q ys (omega arith) ∙ f)
-    ]
+    | inl l ↦ (suc q, get-remove_below k (suc q) ys l ∙ f)
+    | inr g ↦ (q, get-remove_above k q ys (omega arith) ∙ f)
+  ]
 ]
 
 pub no_longer : {A : Type 0} (xs ys : List A) → ((p q : ℕ) (x : A) → slice_get xs p ≡ Some x → slice_get xs q ≡ Some x → p ≡ q) → ((p : ℕ) (x : A) → slice_get xs p ≡ Some x → (q : ℕ) × (slice_get ys q ≡ Some x)) → length xs ≤ length ys
@@ -23,8 +23,8 @@ no_longer [] ys apart inside = omega arith
 no_longer (x ∷ xs) ys apart inside =
     let k = inside zero x refl in
     let rest = no_longer xs (remove ys k.0)
-      (λ p q y a b. let e = apart (suc p) (suc q) y a b in omega arith)
-      (λ p y a. let q = inside (suc p) y a in left_over ys k.0 q.0 y (λ e. absurd (let s : Some y ≡ Some x = sym q.1 ∙ ap (slice_get ys) e ∙ k.1 in let t : y ≡ x = same_Some y x s in let o = apart zero (suc p) x refl (a ∙ ap (λ z. Some z) t) in omega arith)) q.1) in
+    (λ p q y a b. let e = apart (suc p) (suc q) y a b in omega arith)
+    (λ p y a. let q = inside (suc p) y a in left_over ys k.0 q.0 y (λ e. absurd (let s : Some y ≡ Some x = sym q.1 ∙ ap (slice_get ys) e ∙ k.1 in let t : y ≡ x = same_Some y x s in let o = apart zero (suc p) x refl (a ∙ ap (λ z. Some z) t) in omega arith)) q.1) in
     let l = length-remove k.0 ys (slice_get_within ys k.0 x k.1) in
     omega arith
 

@@ -20,10 +20,10 @@ same_link_or_not None None = inl refl
 same_link_or_not None (Some n) = inr (λ e. absurd cc)
 same_link_or_not (Some o) None = inr (λ e. absurd cc)
 same_link_or_not (Some o) (Some n) = elim (cases_eq o.right n.right) [
-    inl e ↦ elim (same_sign_or_not o.sign n.sign) [
-        inl f ↦ inl (ap (λ (l : Link). Some l) (λ t. record { right = e t; sign = f t }))
-      | inr d ↦ inr (λ g. d (ap (λ (l : Link). l.sign) (same_Some o n g)))
-    ]
+  | inl e ↦ elim (same_sign_or_not o.sign n.sign) [
+    | inl f ↦ inl (ap (λ (l : Link). Some l) (λ t. record { right = e t; sign = f t }))
+    | inr d ↦ inr (λ g. d (ap (λ (l : Link). l.sign) (same_Some o n g)))
+  ]
   | inr d ↦ inr (λ g. d (ap (λ (l : Link). l.right) (same_Some o n g)))
 ]
 
@@ -38,12 +38,12 @@ module _ (dx dy : ℤ) (first ls ls' : List (Option Link)) (i : ℕ) (new : Opti
       → ((old : Option Link) → slice_get ls i ≡ Some old → old ≢ new → now' ≡ record { dropped = now.dropped ++ facts_of dx dy i old; born = now.born ++ facts_of dx dy i new })
       → HasChanged (facts_from dx dy 0 first) (facts_from dx dy 0 ls) start now → HasChanged (facts_from dx dy 0 first) (facts_from dx dy 0 ls') start now'
   renewed start now now' each past kept changed before = elim (cases_lt i (length ls)) [
-      inl l ↦ (let g = get_within ls i l in elim (same_link_or_not g.0 new) [
-          inl e ↦ (let here : slice_get ls i ≡ Some new = g.1 ∙ ap (λ (o : Option Link). Some o) e in still (written ∙ set_same ls i new here) (kept here))
-        | inr n ↦ subst (λ c. HasChanged (facts_from dx dy 0 first) (facts_from dx dy 0 ls') start c) (sym (changed g.0 g.1 n))
-            (subst (λ xs. HasChanged (facts_from dx dy 0 first) (facts_from dx dy 0 xs) start (record { dropped = now.dropped ++ facts_of dx dy i g.0; born = now.born ++ facts_of dx dy i new })) (sym written)
-              (changed_at dx dy first ls i g.0 new (at_first g.0 g.1 n each) g.1 n start now before))
-      ])
+    | inl l ↦ (let g = get_within ls i l in elim (same_link_or_not g.0 new) [
+      | inl e ↦ (let here : slice_get ls i ≡ Some new = g.1 ∙ ap (λ (o : Option Link). Some o) e in still (written ∙ set_same ls i new here) (kept here))
+      | inr n ↦ subst (λ c. HasChanged (facts_from dx dy 0 first) (facts_from dx dy 0 ls') start c) (sym (changed g.0 g.1 n))
+          (subst (λ xs. HasChanged (facts_from dx dy 0 first) (facts_from dx dy 0 xs) start (record { dropped = now.dropped ++ facts_of dx dy i g.0; born = now.born ++ facts_of dx dy i new })) (sym written)
+          (changed_at dx dy first ls i g.0 new (at_first g.0 g.1 n each) g.1 n start now before))
+    ])
     | inr l ↦ still (written ∙ set_past ls i new l) (past l)
   ]
     where
@@ -57,31 +57,31 @@ module _ (dx dy : ℤ) (first ls ls' : List (Option Link)) (i : ℕ) (new : Opti
   -- every link is as it was or as it has to be
   pub renewed_each : (target : ℕ → Option Link) → new ≡ target i → ((j : ℕ) → (slice_get ls j ≡ slice_get first j) ⊎ (slice_get ls j ≡ Some (target j))) → (j : ℕ) → (slice_get ls' j ≡ slice_get first j) ⊎ (slice_get ls' j ≡ Some (target j))
   renewed_each target e each j = elim (cases_eq j i) [
-      inl f ↦ elim (cases_lt i (length ls)) [
-          inl l ↦ inr (ap (slice_get ls') f ∙ ap (λ (xs : List (Option Link)). slice_get xs i) written ∙ get-set_same ls i new l ∙ ap (λ (o : Option Link). Some o) (e ∙ ap target (sym f)))
-        | inr l ↦ (let same : slice_get ls' j ≡ slice_get ls j = ap (λ (xs : List (Option Link)). slice_get xs j) (written ∙ set_past ls i new l) in elim (each j) [
-              inl a ↦ inl (same ∙ a)
-            | inr b ↦ inr (same ∙ b)
-          ])
-      ]
-    | inr n ↦ (let same : slice_get ls' j ≡ slice_get ls j = ap (λ (xs : List (Option Link)). slice_get xs j) written ∙ get-set_other ls i j new n in elim (each j) [
-          inl a ↦ inl (same ∙ a)
+    | inl f ↦ elim (cases_lt i (length ls)) [
+      | inl l ↦ inr (ap (slice_get ls') f ∙ ap (λ (xs : List (Option Link)). slice_get xs i) written ∙ get-set_same ls i new l ∙ ap (λ (o : Option Link). Some o) (e ∙ ap target (sym f)))
+      | inr l ↦ (let same : slice_get ls' j ≡ slice_get ls j = ap (λ (xs : List (Option Link)). slice_get xs j) (written ∙ set_past ls i new l) in elim (each j) [
+        | inl a ↦ inl (same ∙ a)
         | inr b ↦ inr (same ∙ b)
       ])
+    ]
+    | inr n ↦ (let same : slice_get ls' j ≡ slice_get ls j = ap (λ (xs : List (Option Link)). slice_get xs j) written ∙ get-set_other ls i j new n in elim (each j) [
+      | inl a ↦ inl (same ∙ a)
+      | inr b ↦ inr (same ∙ b)
+    ])
   ]
 
   pub renewed_done : (target : ℕ → Option Link) (touched : List ℕ) (index : ℕ) → new ≡ target i → slice_get touched index ≡ Some i → length ls ≡ length first
       → ((k j : ℕ) → k < index → slice_get touched k ≡ Some j → j < length first → slice_get ls j ≡ Some (target j))
       → (k j : ℕ) → k < index + 1 → slice_get touched k ≡ Some j → j < length first → slice_get ls' j ≡ Some (target j)
   renewed_done target touched index e at same done k j l h m = elim (cases_eq j i) [
-      inl f ↦ ap (slice_get ls') f ∙ ap (λ (xs : List (Option Link)). slice_get xs i) written ∙ get-set_same ls i new (omega arith) ∙ ap (λ (o : Option Link). Some o) (e ∙ ap target (sym f))
+    | inl f ↦ ap (slice_get ls') f ∙ ap (λ (xs : List (Option Link)). slice_get xs i) written ∙ get-set_same ls i new (omega arith) ∙ ap (λ (o : Option Link). Some o) (e ∙ ap target (sym f))
     | inr n ↦ ap (λ (xs : List (Option Link)). slice_get xs j) written ∙ get-set_other ls i j new n ∙ done k j (elim (cases_order k index) [
-          inl a ↦ absurd (n (same_Some j i (sym h ∙ ap (slice_get touched) a ∙ at)))
-        | inr c ↦ elim c [
-            inl b ↦ b
-          | inr b ↦ absurd (omega arith)
-        ]
-      ]) h m
+      | inl a ↦ absurd (n (same_Some j i (sym h ∙ ap (slice_get touched) a ∙ at)))
+      | inr c ↦ elim c [
+        | inl b ↦ b
+        | inr b ↦ absurd (omega arith)
+      ]
+    ]) h m
   ]
 
   pub renewed_others : (touched : List ℕ) (index : ℕ) → slice_get touched index ≡ Some i → ((j : ℕ) → is_in j touched ≡ false → slice_get ls j ≡ slice_get first j) → (j : ℕ) → is_in j touched ≡ false → slice_get ls' j ≡ slice_get first j

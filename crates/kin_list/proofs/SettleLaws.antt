@@ -55,12 +55,12 @@ module _ (s : Scene) (dx dy : ℤ) (items : List ℕ) (signs : List Sign) (touch
   -- every link is that of the list
   pub every_link : (i : ℕ) → i < length before → slice_get after i ≡ Some (link_for items signs i)
   every_link i bound = elim (true_or_false (is_in i touched)) [
-      inl t ↦ renewed i bound t
+    | inl t ↦ renewed i bound t
     | inr f ↦ elim (true_or_false (is_in i items)) [
-          inl t ↦ (let g = get_from_is_in items i t in
-              others i f ∙ known.kept g.0 i bound g.1 refl f ∙ ap (λ (o : Option Link). Some o) (ap (λ (o : Option ℕ). linked o (slice_get signs i)) (ap (slice_get items) (add-one g.0)) ∙ sym (link_for-at items signs g.0 i apart g.1)))
-        | inr o ↦ others i f ∙ known.gone i bound o f ∙ ap (λ (o : Option Link). Some o) (sym (link_for-absent items signs i o))
-      ]
+      | inl t ↦ (let g = get_from_is_in items i t in
+          others i f ∙ known.kept g.0 i bound g.1 refl f ∙ ap (λ (o : Option Link). Some o) (ap (λ (o : Option ℕ). linked o (slice_get signs i)) (ap (slice_get items) (add-one g.0)) ∙ sym (link_for-at items signs g.0 i apart g.1)))
+      | inr o ↦ others i f ∙ known.gone i bound o f ∙ ap (λ (o : Option Link). Some o) (sym (link_for-absent items signs i o))
+    ]
   ]
 
   right_bound : (i : ℕ) (t : Sign) → slice_get signs i ≡ Some t → i < length before
@@ -88,10 +88,10 @@ module _ (s : Scene) (dx dy : ℤ) (items : List ℕ) (signs : List Sign) (touch
       let bound : i < length before = let w = slice_get_within after i (Some l) h in omega arith in
       let e : link_for items signs i ≡ Some l = same_Some (link_for items signs i) (Some l) (sym (every_link i bound) ∙ h) in
       elim (true_or_false (is_in i items)) [
-          inl t ↦ (let g = get_from_is_in items i t in
-              let parts = linked_some (slice_get items (suc g.0)) (slice_get signs i) l (sym (link_for-at items signs g.0 i apart g.1) ∙ e) in
-              let r = known.right g.0 i l.right g.1 (ap (slice_get items) (add-one g.0) ∙ parts.0) refl in
-              (g.0, g.1, parts.0, same_Some l.sign (s.sign (Line dx dy (pos 0) i l.right)) (sym parts.1 ∙ r.sign)))
+        | inl t ↦ (let g = get_from_is_in items i t in
+            let parts = linked_some (slice_get items (suc g.0)) (slice_get signs i) l (sym (link_for-at items signs g.0 i apart g.1) ∙ e) in
+            let r = known.right g.0 i l.right g.1 (ap (slice_get items) (add-one g.0) ∙ parts.0) refl in
+            (g.0, g.1, parts.0, same_Some l.sign (s.sign (Line dx dy (pos 0) i l.right)) (sym parts.1 ∙ r.sign)))
         | inr o ↦ absurd (none-some l (sym (link_for-absent items signs i o) ∙ e))
       ]
 

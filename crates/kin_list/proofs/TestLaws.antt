@@ -75,7 +75,7 @@ not_in_cons i x xs n h = both_false (nat_eq i x) (is_in i xs) (eq_false i x n) h
 
 pub not_in_from : (i : ℕ) (xs ys : List ℕ) → (is_in i xs ≡ true → is_in i ys ≡ true) → is_in i ys ≡ false → is_in i xs ≡ false
 not_in_from i xs ys f h = elim (true_or_false (is_in i xs)) [
-    inl t ↦ absurd (not_both (f t) h)
+  | inl t ↦ absurd (not_both (f t) h)
   | inr e ↦ e
 ]
 

@@ -58,7 +58,7 @@ module _ (s : Scene) (laws : HasLineLaws s) (dx dy : ℤ) (mark : Mark) (row : R
   pub whole_tests : HasChanged (facts_from dx dy 0 links) (facts_from dx dy 0 after) out out' → AreFewTests mark row.items new out out' steps steps'
   whole_tests changed = few_tests dx dy links after row.items new signs signs' held whole_held out out' changed mark (length failed) (length swaps) steps steps' arranged.moved
       (failed_dropped dx dy links after row.items new signs signs' held whole_held out out' changed s (names_leaving mark) failed failing
-        (all_hold s dx dy new signs' touched (apart_from_once new arranged.order.all.once) links after same fits arranged.known renewed others))
+      (all_hold s dx dy new signs' touched (apart_from_once new arranged.order.all.once) links after same fits arranged.known renewed others))
       (leaving mark row s new arranged.order.all.same ready markable)
       (entering mark row s new arranged.order.all.same ready)
       arranged.cost

@@ -13,11 +13,7 @@ use kin_motion::form::Form;
 use std::alloc::AllocError;
 
 /// Puts the places of the failed facts in doubt.
-pub fn doubt_failed(
-    row: &Row,
-    doubts: &mut Doubts,
-    failed: &[Placed],
-) -> Result<(), AllocError>
+pub fn doubt_failed(row: &Row, doubts: &mut Doubts, failed: &[Placed]) -> Result<(), AllocError>
     ensures { OnOk result (AreCovered row.now.items failed.now doubts.old doubts.new) }
 {
     for placed in failed {

@@ -15,18 +15,18 @@ covered_more : (items : List ℕ) (failed : List Placed) (before after : List �
     → ((dx dy off : ℤ) (i j p : ℕ) → f'.fact.form ≡ Line dx dy off i j → slice_get items p ≡ Some i → p + 1 < length items → is_in p after ≡ true)
     → (k : ℕ) (f : Placed) (dx dy off : ℤ) (i j p : ℕ) → k < index + 1 → slice_get failed k ≡ Some f → f.fact.form ≡ Line dx dy off i j → slice_get items p ≡ Some i → p + 1 < length items → is_in p after ≡ true
 covered_more items failed before after index f' at covered keeps here k f dx dy off i j p l h form a b = elim (cases_order k index) [
-    inl e ↦ (let o : Some f' ≡ Some f = sym at ∙ sym (ap (slice_get failed) e) ∙ h in
-        let same : f' ≡ f = cc in
-        here dx dy off i j p (ap (λ (x : Placed). x.fact.form) same ∙ form) a b)
+  | inl e ↦ (let o : Some f' ≡ Some f = sym at ∙ sym (ap (slice_get failed) e) ∙ h in
+      let same : f' ≡ f = cc in
+      here dx dy off i j p (ap (λ (x : Placed). x.fact.form) same ∙ form) a b)
   | inr c ↦ elim c [
-        inl m ↦ keeps p (covered k f dx dy off i j p m h form a b)
-      | inr g ↦ absurd (omega arith)
-    ]
+    | inl m ↦ keeps p (covered k f dx dy off i j p m h form a b)
+    | inr g ↦ absurd (omega arith)
+  ]
 ]
 
 inside_more : (q len : ℕ) (before start after : List ℕ) → ((is_in q after ≡ true) → (is_in q before ≡ true) ⊎ (q + 1 < len)) → ((is_in q before ≡ true) → (is_in q start ≡ true) ⊎ (q + 1 < len)) → is_in q after ≡ true → (is_in q start ≡ true) ⊎ (q + 1 < len)
 inside_more q len before start after one two h = elim (one h) [
-    inl o ↦ two o
+  | inl o ↦ two o
   | inr l ↦ inr l
 ]
 

@@ -32,8 +32,8 @@ loop-no-preserved c =
       done = renewed_done c.args.along.dx c.args.along.dy first now c.renew.new.links.items no c.link_of.result c.in_ok-renew.ensures.links (link_for c.args.lineup.now.row.items c.args.lineup.now.signs.items) c.args.lineup.now.touched.items c.loop-no.no-index c.link_of.ensures at c.loop-no.invariant.same_length c.loop-no.invariant.done;
       others = renewed_others c.args.along.dx c.args.along.dy first now c.renew.new.links.items no c.link_of.result c.in_ok-renew.ensures.links c.args.lineup.now.touched.items c.loop-no.no-index at c.loop-no.invariant.others;
       changed = renewed c.args.along.dx c.args.along.dy first now c.renew.new.links.items no c.link_of.result c.in_ok-renew.ensures.links c.args.out.now c.loop-no.out c.renew.new.out
-        (subst (λ o. (slice_get now no ≡ slice_get first no) ⊎ (slice_get now no ≡ Some o)) (sym c.link_of.ensures) (c.loop-no.invariant.each no))
-        c.in_ok-renew.ensures.past c.in_ok-renew.ensures.kept c.in_ok-renew.ensures.changed c.loop-no.invariant.changed;
+          (subst (λ o. (slice_get now no ≡ slice_get first no) ⊎ (slice_get now no ≡ Some o)) (sym c.link_of.ensures) (c.loop-no.invariant.each no))
+          c.in_ok-renew.ensures.past c.in_ok-renew.ensures.kept c.in_ok-renew.ensures.changed c.loop-no.invariant.changed;
     }
 
 pub returns-clause-touched : goal.returns-clause-touched

@@ -27,5 +27,5 @@ add-requires-clause-place c =
 pub returns-clause-taken : goal.returns-clause-taken
 returns-clause-taken c = for_ok c.add.result _ (λ v e.
     taken_later c.args.no c.in-Some.place c.at-left.result c.args.self.now.row.items c.take_out.new.self.items c.args.self.now.doubts c.add.new.self c.args.self.now.touched.items c.push.new.self.items c.push-2.new.self.items
-      c.in-Some.ensures.apart c.in-Some.ensures.some c.take_out.ensures.items c.if-place-eq0.false c.at-left.ensures.item c.requires.none c.in_ok-push.ensures.items c.in_ok-push-2.ensures.items
-      (λ q. at_ok c.add.result _ v e c.add.ensures.has q ∙ ap (λ n. (nat_eq q (c.in-Some.place - 1) && nat_lt (c.in-Some.place - 1 + 1) n) || is_in q c.args.self.now.doubts) c.len.ensures.len) c.add.ensures.few)
+    c.in-Some.ensures.apart c.in-Some.ensures.some c.take_out.ensures.items c.if-place-eq0.false c.at-left.ensures.item c.requires.none c.in_ok-push.ensures.items c.in_ok-push-2.ensures.items
+    (λ q. at_ok c.add.result _ v e c.add.ensures.has q ∙ ap (λ n. (nat_eq q (c.in-Some.place - 1) && nat_lt (c.in-Some.place - 1 + 1) n) || is_in q c.args.self.now.doubts) c.len.ensures.len) c.add.ensures.few)

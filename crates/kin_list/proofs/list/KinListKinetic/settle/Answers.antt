@@ -21,7 +21,7 @@ invariant_of-self-2 g c =
       fits = c.in_ok-report.ensures.length ∙ fits;
       markable = tt;
       held = whole_held s (real_line_laws s c.requires.real) k.along.dx k.along.dy k.mark k.lineup.row k.links.items c.report.new.links.items c.arrange.new.self.row.items k.lineup.signs.items c.arrange.new.self.signs.items c.arrange.new.self.touched.items c.arrange.new.self.swaps.items c.args.failed.now c.args.steps.now c.arrange.new.steps c.args.out.now c.report.new.out
-        ready c.self.invariant.markable held failing arranged c.in_ok-report.ensures.length (fits ∙ sym c.arrange.new.self.fits) c.in_ok-report.ensures.touched c.in_ok-report.ensures.others;
+          ready c.self.invariant.markable held failing arranged c.in_ok-report.ensures.length (fits ∙ sym c.arrange.new.self.fits) c.in_ok-report.ensures.touched c.in_ok-report.ensures.others;
     }
 
 pub returns-clause-settled : goal.returns-clause-settled
@@ -34,7 +34,7 @@ returns-clause-settled g c =
     let arranged = c.in_ok-arrange.ensures.arranged k.links.items held failing in
     let fits = c.self.invariant.fits ∙ sym c.in_ok-arrange.ensures.room in
     whole_settled s (real_line_laws s c.requires.real) k.along.dx k.along.dy k.mark k.lineup.row k.links.items c.report.new.links.items c.arrange.new.self.row.items k.lineup.signs.items c.arrange.new.self.signs.items c.arrange.new.self.touched.items c.arrange.new.self.swaps.items c.args.failed.now c.args.steps.now c.arrange.new.steps c.args.out.now c.report.new.out
-      ready c.self.invariant.markable held failing arranged c.in_ok-report.ensures.length (fits ∙ sym c.arrange.new.self.fits) c.in_ok-report.ensures.touched c.in_ok-report.ensures.others
+    ready c.self.invariant.markable held failing arranged c.in_ok-report.ensures.length (fits ∙ sym c.arrange.new.self.fits) c.in_ok-report.ensures.touched c.in_ok-report.ensures.others
 
 pub returns-clause-exchanges : goal.returns-clause-exchanges
 returns-clause-exchanges g c =
@@ -66,5 +66,5 @@ returns-clause-tests g c =
     let arranged = c.in_ok-arrange.ensures.arranged k.links.items held failing in
     let fits = c.self.invariant.fits ∙ sym c.in_ok-arrange.ensures.room in
     subst (λ (l : Listing). AreFewTests l.mark l.items c.arrange.new.self.row.items c.args.out.now c.report.new.out c.args.steps.now c.arrange.new.steps) c.self.view_is
-      (whole_tests s (real_line_laws s c.requires.real) k.along.dx k.along.dy k.mark k.lineup.row k.links.items c.report.new.links.items c.arrange.new.self.row.items k.lineup.signs.items c.arrange.new.self.signs.items c.arrange.new.self.touched.items c.arrange.new.self.swaps.items c.args.failed.now c.args.steps.now c.arrange.new.steps c.args.out.now c.report.new.out
-        ready c.self.invariant.markable held failing arranged c.in_ok-report.ensures.length (fits ∙ sym c.arrange.new.self.fits) c.in_ok-report.ensures.touched c.in_ok-report.ensures.others c.in_ok-report.ensures.changed)
+    (whole_tests s (real_line_laws s c.requires.real) k.along.dx k.along.dy k.mark k.lineup.row k.links.items c.report.new.links.items c.arrange.new.self.row.items k.lineup.signs.items c.arrange.new.self.signs.items c.arrange.new.self.touched.items c.arrange.new.self.swaps.items c.args.failed.now c.args.steps.now c.arrange.new.steps c.args.out.now c.report.new.out
+    ready c.self.invariant.markable held failing arranged c.in_ok-report.ensures.length (fits ∙ sym c.arrange.new.self.fits) c.in_ok-report.ensures.touched c.in_ok-report.ensures.others c.in_ok-report.ensures.changed)
