@@ -1,12 +1,12 @@
 -- The change of the facts, link by link.
-use Rattle.std.proofs.Common.{◌≡◌, ◌≢◌, refl, sym, ap, ◌∙◌, subst, arith, List, [], ◌∷◌, ◌++◌, ℕ, zero, suc, ◌+◌, ◌<◌, ◌≤◌, length, set, Some, None, Option, ℤ, inl, inr, append-nil}
+use Rattle.std.proofs.Common.{◌≡◌, ◌≢◌, refl, sym, ap, ◌∙◌, subst, arith, List, [], ◌∷◌, ◌++◌, ℕ, zero, suc, ◌<◌, length, set, Some, None, Option, ℤ, inl, inr, append-nil}
 use Rattle.std.specs.Prelude.{slice_get, Contains, ◌⊎◌, ◌↔◌}
 use Rattle.std.proofs.lemmas.Bool.{cases_eq}
 use Rattle.std.proofs.lemmas.List.{append_assoc}
 use Rattle.std.proofs.lemmas.Option.{slice_get_within, same_Some, none-some}
 use Rattle.kin_motion.specs.declared.fact.Placed.{Placed}
 use Rattle.kin_motion.specs.Deltas.{Change}
-use Rattle.kin_motion.specs.Kinetics.{AreDistinct, ListsExactly, HasGained, HasChanged}
+use Rattle.kin_motion.specs.Kinetics.{AreDistinct, HasGained, HasChanged}
 use Rattle.kin_list.specs.declared.link.Link.{Link}
 use Rattle.kin_list.specs.Links.{fact_of, facts_of, facts_from}
 use Rattle.kin_list.proofs.RowLaws.{get-set_same, get-set_other}

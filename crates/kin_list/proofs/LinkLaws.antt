@@ -1,9 +1,8 @@
 -- The facts of links by number.
-use Rattle.std.proofs.Common.{◌≡◌, refl, sym, ap, ◌∙◌, subst, arith, List, [], ◌∷◌, ℕ, zero, suc, ◌+◌, ◌<◌, length, Some, None, Option, ℤ, pos, Bool, true, false, cond, nat_eq}
+use Rattle.std.proofs.Common.{◌≡◌, refl, sym, ap, ◌∙◌, arith, List, [], ◌∷◌, ℕ, zero, suc, ◌+◌, ◌<◌, length, Some, None, Option, ℤ, pos, false, cond, nat_eq}
 use Rattle.std.specs.Prelude.{slice_get, slice_index_or, Contains}
 use Rattle.std.proofs.lemmas.Option.{same_Some, none-some}
 use Rattle.kin_algebra.specs.declared.sign.Sign.{Sign}
-use Rattle.kin_motion.specs.declared.form.Form.{Form}
 use Rattle.kin_motion.specs.declared.form.Form.TheVariants.{Line}
 use Rattle.kin_motion.specs.declared.fact.Placed.{Placed}
 use Rattle.kin_motion.specs.Kinetics.{AreDistinct}
@@ -11,8 +10,7 @@ use Rattle.kin_motion.specs.Numbers.{is_in}
 use Rattle.kin_list.specs.declared.link.Link.{Link}
 use Rattle.kin_list.specs.Links.{linked, link_for, fact_of, facts_from}
 use Rattle.kin_list.specs.Rows.{AreApart}
-use Rattle.kin_list.proofs.TestLaws.{eq_true, eq_false, neither, not_both}
-use Rattle.kin_list.proofs.RowLaws.{is_in_from_get}
+use Rattle.kin_list.proofs.TestLaws.{eq_true, eq_false, neither}
 
 -- what stands in a list, by the place where it is found
 pub contains_from_get : {A : Type 0} (xs : List A) (k : ℕ) (x : A) → slice_get xs k ≡ Some x → Contains xs x

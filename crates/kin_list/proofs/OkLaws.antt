@@ -1,5 +1,5 @@
 -- Clauses that speak of an `Ok` alone.
-use Rattle.std.proofs.Common.{◌≡◌, refl, sym, subst, Result, Ok, Err}
+use Rattle.std.proofs.Common.{◌≡◌, refl, subst, Result, Ok, Err}
 use Rattle.std.specs.Prelude.{OnOk}
 
 pub for_ok : {T E : Type 0} (r : Result T E) (P : Type 0) → ((v : T) → r ≡ Ok v → P) → OnOk r P

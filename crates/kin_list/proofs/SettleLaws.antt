@@ -1,23 +1,22 @@
 -- After the links are brought up to date the list is sound, and its facts are those of the order.
-use Rattle.std.proofs.Common.{◌≡◌, refl, sym, ap, ap₂, ◌∙◌, subst, arith, List, [], ◌∷◌, ℕ, zero, suc, ◌+◌, ◌*◌, ◌<◌, ◌≤◌, Bool, true, false, length, Some, None, Option, ℤ, pos, add-one, inl, inr}
-use Rattle.std.specs.Prelude.{slice_get, Contains, ◌⊎◌, ◌↔◌}
+use Rattle.std.proofs.Common.{◌≡◌, refl, sym, ap, ap₂, ◌∙◌, subst, arith, List, [], ◌∷◌, ℕ, zero, suc, ◌+◌, ◌<◌, true, false, length, Some, None, Option, ℤ, pos, add-one, inl, inr}
+use Rattle.std.specs.Prelude.{slice_get, Contains, ◌↔◌}
 use Rattle.std.proofs.lemmas.Option.{slice_get_within, same_Some, none-some}
 use Rattle.kin_algebra.specs.declared.sign.Sign.{Sign}
 use Rattle.kin_motion.specs.declared.form.Form.TheVariants.{Line}
 use Rattle.kin_motion.specs.declared.fact.Placed.{Placed}
 use Rattle.kin_motion.specs.Contents.{IsSettledList}
-use Rattle.kin_motion.specs.Kinetics.{ListsExactly}
 use Rattle.kin_motion.specs.Numbers.{is_in, IsOnce}
-use Rattle.kin_motion.specs.Orders.{leads, is_before, IsOrder, IsOrderFact, neighbour_facts}
+use Rattle.kin_motion.specs.Orders.{IsOrder, neighbour_facts}
 use Rattle.kin_motion.specs.Scene.{Scene, Holds, placed_at}
 use Rattle.kin_motion.specs.Laws.{HasLineLaws}
 use Rattle.kin_motion.proofs.FactLaws.{neighbour_facts-exact}
 use Rattle.kin_list.specs.declared.link.Link.{Link}
-use Rattle.kin_list.specs.Links.{linked, link_for, fact_of, facts_from}
-use Rattle.kin_list.specs.Repairs.{IsAhead, IsHeld, IsKnown}
+use Rattle.kin_list.specs.Links.{linked, link_for, facts_from}
+use Rattle.kin_list.specs.Repairs.{IsHeld, IsKnown}
 use Rattle.kin_list.specs.Rows.{AreApart}
 use Rattle.kin_list.proofs.TestLaws.{true_or_false, not_both}
-use Rattle.kin_list.proofs.RowLaws.{is_in_from_get, get_from_is_in, get_within}
+use Rattle.kin_list.proofs.RowLaws.{is_in_from_get, get_from_is_in}
 use Rattle.kin_list.proofs.LinkLaws.{contains_from_get, get_from_contains, has_fact, has_link, facts-distinct, link_for-at, link_for-absent}
 
 -- an order has no number twice

@@ -1,7 +1,6 @@
 -- What a whole settle gives.
-use Rattle.std.proofs.Common.{◌≡◌, refl, sym, ap, ◌∙◌, subst, arith, List, [], ◌∷◌, ℕ, zero, suc, ◌+◌, ◌<◌, Bool, true, false, length, Some, None, Option, ℤ}
-use Rattle.std.specs.Prelude.{slice_get, replicate, Contains}
-use Rattle.std.proofs.lemmas.Option.{same_Some}
+use Rattle.std.proofs.Common.{◌≡◌, refl, sym, ap, ◌∙◌, subst, arith, List, [], ℕ, zero, suc, ◌+◌, ◌<◌, true, false, length, Some, None, Option, ℤ}
+use Rattle.std.specs.Prelude.{slice_get, replicate}
 use Rattle.kin_algebra.specs.declared.sign.Sign.{Sign}
 use Rattle.kin_motion.specs.declared.fact.Placed.{Placed}
 use Rattle.kin_motion.specs.Contents.{IsSettledList}
@@ -15,7 +14,7 @@ use Rattle.kin_list.specs.declared.mark.Mark.{Mark}
 use Rattle.kin_list.specs.declared.mark.Mark.TheVariants.{Rest, Enters, Leaves, Broken}
 use Rattle.kin_list.specs.Costs.{IsArranged}
 use Rattle.kin_list.specs.Links.{link_for, facts_from}
-use Rattle.kin_list.specs.Listing.{IsReadyMark, names_leaving, without, AreFewTests}
+use Rattle.kin_list.specs.Listing.{IsReadyMark, names_leaving, AreFewTests}
 use Rattle.kin_list.specs.Repairs.{IsHeld}
 use Rattle.kin_list.specs.Rows.{Row}
 use Rattle.kin_list.specs.Sound.{IsMarkable, IsHeldIf}

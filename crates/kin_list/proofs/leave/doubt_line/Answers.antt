@@ -1,9 +1,7 @@
-use Rattle.std.proofs.Common.{◌≡◌, refl, sym, ap, ◌∙◌, subst, arith, List, ℕ, ℤ, ◌+◌, ◌<◌, ◌≤◌, Some, Bool, true, false, ◌||◌, ◌&&◌, nat_eq, nat_lt, length}
-use Rattle.std.specs.Prelude.{slice_get}
+use Rattle.std.proofs.Common.{◌≡◌, refl, sym, ap, ◌∙◌, subst, arith, ℕ, ℤ, ◌+◌, ◌<◌, Some, Bool, true, ◌||◌, ◌&&◌, nat_eq, nat_lt}
 use Rattle.std.proofs.lemmas.Bool.Decides.{nat_tests}
 use Rattle.kin_motion.specs.declared.form.Form.{Form}
 use Rattle.kin_motion.specs.declared.form.Form.TheVariants.{Line}
-use Rattle.kin_motion.specs.Numbers.{is_in}
 use Rattle.kin_list.proofs.OkLaws.{for_ok, at_ok}
 use Rattle.kin_list.proofs.PlaceLaws.{not_at}
 use Rattle.kin_list.proofs.leave.doubt_line.Goals as goal

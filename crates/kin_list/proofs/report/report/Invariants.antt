@@ -1,4 +1,4 @@
-use Rattle.std.proofs.Common.{◌≡◌, ℕ, ◌<◌, Some, true, false, length}
+use Rattle.std.proofs.Common.{◌≡◌, ℕ, ◌<◌, Some, false, length}
 use Rattle.std.specs.Prelude.{slice_get, ◌⊎◌}
 use Rattle.kin_motion.specs.Kinetics.{HasChanged}
 use Rattle.kin_motion.specs.Numbers.{is_in}

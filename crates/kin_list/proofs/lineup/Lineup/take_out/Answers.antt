@@ -1,5 +1,4 @@
-use Rattle.std.proofs.Common.{◌≡◌, refl, sym, ap, ◌∙◌, subst, arith, List, ℕ, ◌+◌, ◌-◌, ◌<◌, ◌≤◌, length, true, false, nat_eq, nat_lt, ◌&&◌, ◌||◌}
-use Rattle.std.specs.Prelude.{remove}
+use Rattle.std.proofs.Common.{ap, ◌∙◌, arith, ◌+◌, ◌-◌, length, nat_eq, nat_lt, ◌&&◌, ◌||◌}
 use Rattle.std.proofs.lemmas.Option.{slice_get_within}
 use Rattle.kin_motion.specs.Numbers.{is_in}
 use Rattle.kin_list.proofs.OkLaws.{for_ok, at_ok}

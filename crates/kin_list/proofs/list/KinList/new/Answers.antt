@@ -1,8 +1,7 @@
-use Rattle.std.proofs.Common.{◌≡◌, refl, sym, ap, ◌∙◌, subst, arith, length, [], List, Option, None, ℕ}
+use Rattle.std.proofs.Common.{◌≡◌, sym, ap, ◌∙◌, subst, arith, length, [], List, None, ℕ}
 use Rattle.std.proofs.lemmas.Int.{to_z-of_z}
 use Rattle.std.proofs.lemmas.List.{length-replicate}
 use Rattle.kin_list.specs.declared.mark.Mark.TheVariants.{Rest}
-use Rattle.kin_list.specs.Listing.{Listing}
 use Rattle.kin_list.specs.Repairs.{IsHeld}
 use Rattle.kin_list.specs.Rows.{Row}
 use Rattle.kin_list.proofs.WholeLaws.{empty_held, empty_facts}

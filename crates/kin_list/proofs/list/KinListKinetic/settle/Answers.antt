@@ -1,4 +1,4 @@
-use Rattle.std.proofs.Common.{◌≡◌, refl, sym, ap, ◌∙◌, subst, length}
+use Rattle.std.proofs.Common.{◌≡◌, sym, ◌∙◌, subst, length}
 use Rattle.kin_motion.specs.Changes.{moved_pairs}
 use Rattle.kin_motion.specs.Kinetics.{ListsFailing}
 use Rattle.kin_motion.proofs.RealLaws.{real_line_laws}
