@@ -3,3 +3,8 @@ pub mod Values
 pub mod Lowest
 pub mod Zeros
 pub mod RootsOf
+pub mod Places
+pub mod Nexts
+pub mod Factors
+pub mod SignTable
+pub mod Kept

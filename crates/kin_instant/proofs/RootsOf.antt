@@ -1,5 +1,5 @@
 -- What `roots` answers, case by case.
-use Rattle.std.proofs.Common.{◌≡◌, ◌≢◌, ◌⊎◌, ◌↔◌, inl, inr, Some, refl, ap, ap₂, sym, ◌∙◌, subst, Bool, true, false, ℕ, zero, suc, [], ◌∷◌, arith, ℤ, pos, negsuc, ◌+ℤ◌, ◌-ℤ◌, ◌*ℤ◌, unsigned_abs, ◌^◌, ◌*◌, ◌<◌, ◌≤◌}
+use Rattle.std.proofs.Common.{◌≡◌, ◌≢◌, ◌⊎◌, ◌↔◌, inl, inr, Some, refl, ap, ap₂, sym, ◌∙◌, subst, true, false, ℕ, [], ◌∷◌, arith, ℤ, pos, negsuc, ◌+ℤ◌, ◌-ℤ◌, ◌*ℤ◌, ◌*◌, ◌<◌}
 use Rattle.std.specs.Prelude.{◌<ℤ◌}
 use Rattle.std.proofs.lemmas.Int.{ints}
 use lib.IntN.{neg_ℤ}
@@ -12,14 +12,13 @@ use Rattle.kin_algebra.proofs.IntegerSigns.{sign_in, sign_out, sign_of-times, si
 use Rattle.kin_num.specs.declared.instant.Shape.{Shape}
 use Rattle.kin_num.specs.declared.instant.Shape.TheVariants.{Ratio, Root}
 use Rattle.kin_num.specs.Quadratic.{Quadratic}
-use Rattle.kin_num.specs.Canonical.{IsCanonical, IsCanonicalForm, IsLowest, IsIrreducible, HaveNoCommonDivisor, discriminant}
-use Rattle.kin_num.specs.Instants.{number_of, sign_at_instant, line}
+use Rattle.kin_num.specs.Canonical.{IsCanonical, IsCanonicalForm, IsIrreducible, HaveNoCommonDivisor, discriminant}
+use Rattle.kin_num.specs.Instants.{sign_at_instant, line}
 use Rattle.kin_num.specs.Order.{IsLess}
 use Rattle.kin_num.proofs.Values.{negated}
 use Rattle.kin_num.proofs.SignLaws.{sign_at_instant-neg}
-use Rattle.kin_instant.specs.declared.roots.Roots.{Roots}
 use Rattle.kin_instant.specs.declared.roots.Roots.TheVariants.{Nowhere, One, Two, All}
-use Rattle.kin_instant.specs.Roots.{IsFraction, Lists, AreCanonical, IsRising, count_of, count_by, root_count, quadratic, AreRootsOf}
+use Rattle.kin_instant.specs.Roots.{IsFraction, count_by, root_count, quadratic, AreRootsOf}
 use Rattle.kin_instant.proofs.Values.{sign-scaled, pair_sign-positive, pair_sign-scaled}
 use Rattle.kin_instant.proofs.Zeros.{line-zero, line-zero_at, quadratic-zero, root-zero_at, instant-negative, instant-split, instant-scaled}
 
@@ -42,7 +41,7 @@ one_root p n d h r f k same count = record {
 }
 
 -- ---- lines
-line_as : (b c : ℤ) → line (neg_ℤ c) b ≡ quadratic (pos 0) b c
+pub line_as : (b c : ℤ) → line (neg_ℤ c) b ≡ quadratic (pos 0) b c
 line_as b c = ap (quadratic (pos 0) b) (twice c)
   where
     twice : (c : ℤ) → neg_ℤ (neg_ℤ c) ≡ c
@@ -178,6 +177,7 @@ double_root a b c root h e z r f k =
       where
         equal : (root b : ℤ) → root ≡ pos 0 → neg_ℤ root -ℤ b ≡ root -ℤ b
         equal root b z = omega (arith, ints, z)
+
     same : SameZeros (quadratic a b c) (line (root -ℤ b) (pos 2 *ℤ a))
     same w i =
         let both = zero_factor _ _ _ (instant-split w i a b c root h e ∙ ap (λ (p : Quadratic). product_of (sign_at_instant p w) (sign_at_instant (line (root -ℤ b) (pos 2 *ℤ a)) w)) lines) in
@@ -206,12 +206,15 @@ pub rising_fractions : (a b root : ℤ) → pos 0 <ℤ a → pos 0 <ℤ root →
 unfolding sign_at_instant
 rising_fractions a b root h k (Root _ _ _ _) s f g i j = absurd f
 rising_fractions a b root h k (Ratio m e) (Root _ _ _ _) f g i j = absurd g
-rising_fractions a b root h k (Ratio m e) (Ratio m' e') f g i j =
-    (neg_ℤ root -ℤ b, pos 2 *ℤ a, record {
-      proper = doubled_positive a h;
-      first = not_plus _ (line-zero_at (neg_ℤ root -ℤ b) (pos 2 *ℤ a) m e f);
-      second = ap sign_of (upper_on_lower a b root m' e' g) ∙ sign_in Plus _ (two_apart b root e' k j.form.positive);
-    })
+rising_fractions a b root h k (Ratio m e) (Ratio m' e') f g i j = (
+  neg_ℤ root -ℤ b,
+  pos 2 *ℤ a,
+  record {
+    proper = doubled_positive a h;
+    first = not_plus _ (line-zero_at (neg_ℤ root -ℤ b) (pos 2 *ℤ a) m e f);
+    second = ap sign_of (upper_on_lower a b root m' e' g) ∙ sign_in Plus _ (two_apart b root e' k j.form.positive);
+  },
+)
 
 pub two_fractions : (a b c root : ℤ) → pos 0 <ℤ a → root *ℤ root ≡ discriminant a b c → pos 0 <ℤ root → (r s : Shape) → IsFraction (neg_ℤ root -ℤ b) (pos 2 *ℤ a) r → IsFraction (root -ℤ b) (pos 2 *ℤ a) s → IsCanonical r → IsCanonical s → AreRootsOf (quadratic a b c) (Two r s)
 two_fractions a b c root h e k r s f g i j = record {
@@ -231,6 +234,7 @@ two_fractions a b c root h e k r s f g i j = record {
         there : {P P' Q Q' : Type 0} → P ⊎ Q → (P → P') → (Q → Q') → P' ⊎ Q'
         there (inl p) u v = inl (u p)
         there (inr q) u v = inr (v q)
+
         back : {P P' Q Q' : Type 0} → P ⊎ Q → (P → P') → (Q → Q') → P' ⊎ Q'
         back (inl p) u v = inl (u p)
         back (inr q) u v = inr (v q)
@@ -255,12 +259,15 @@ middle_sign a b m e h real =
 -- the middle -b / 2a lies between the two roots
 pub rising_surds : (a b c : ℤ) → IsIrreducible a b c → IsLess (Root a b c false) (Root a b c true)
 unfolding sign_at_instant
-rising_surds a b c i =
-    (neg_ℤ b, pos 2 *ℤ a, record {
-      proper = doubled_positive a i.positive;
-      first = λ e. code (sym (middle_sign a b (negsuc 0) (discriminant a b c) i.positive i.real) ∙ e);
-      second = middle_sign a b (pos 1) (discriminant a b c) i.positive i.real;
-    })
+rising_surds a b c i = (
+  neg_ℤ b,
+  pos 2 *ℤ a,
+  record {
+    proper = doubled_positive a i.positive;
+    first = λ e. code (sym (middle_sign a b (negsuc 0) (discriminant a b c) i.positive i.real) ∙ e);
+    second = middle_sign a b (pos 1) (discriminant a b c) i.positive i.real;
+  },
+)
 
 three_scaled : (g a b c a' b' c' : ℤ) → a ≡ a' *ℤ g → b ≡ b' *ℤ g → c ≡ c' *ℤ g → quadratic a b c ≡ quadratic (g *ℤ a') (g *ℤ b') (g *ℤ c')
 three_scaled g a b c a' b' c' e f h =
@@ -306,13 +313,40 @@ irreducible_after a b c a' b' c' g some h real irrational e f l i = record {
   where
     same : discriminant a b c ≡ (pos g *ℤ pos g) *ℤ discriminant a' b' c'
     same = discriminant_of (pos g) a b c a' b' c' e f l
+
     turned : (x y : ℤ) → x *ℤ y ≡ y *ℤ x
     turned x y = by_ring (x ∷ y ∷ []) _ _ (search quotes depth 16) (search quotes depth 16) refl
+
     -- a positive product with a positive factor
     positive_factor : (x y z : ℤ) → pos 0 <ℤ x → x ≡ y *ℤ z → pos 0 <ℤ z → pos 0 <ℤ y
     positive_factor x y z h e k = sign_out Plus y ((same_from_product _ _ (sym (sign_of-times y z) ∙ ap sign_of (sym e) ∙ sign_in Plus x h)).0 ∙ sign_in Plus z k)
+
     g_positive : pos 0 <ℤ pos g
     g_positive = omega (arith, ints)
+
+-- ---- the number of roots of the negated polynomial
+count_turned : (s t u v : Sign) → count_by (opposite_of s) (opposite_of t) (opposite_of u) v ≡ count_by s t u v
+count_turned Zero Zero Zero v = refl
+count_turned Zero Zero Minus v = refl
+count_turned Zero Zero Plus v = refl
+count_turned Zero Minus u v = refl
+count_turned Zero Plus u v = refl
+count_turned Minus t u Minus = refl
+count_turned Minus t u Zero = refl
+count_turned Minus t u Plus = refl
+count_turned Plus t u Minus = refl
+count_turned Plus t u Zero = refl
+count_turned Plus t u Plus = refl
+
+same_discriminant : (a b c : ℤ) → discriminant (neg_ℤ a) (neg_ℤ b) (neg_ℤ c) ≡ discriminant a b c
+same_discriminant a b c = by_ring (a ∷ b ∷ c ∷ []) _ _ (search quotes depth 20) (search quotes depth 20) refl
+
+pub count_negated : (p : Quadratic) → root_count (negated p) ≡ root_count p
+count_negated p =
+    ap (λ (z : ℤ). count_by (sign_of (neg_ℤ p.a)) (sign_of (neg_ℤ p.b)) (sign_of (neg_ℤ p.c)) (sign_of z)) (same_discriminant p.a p.b p.c)
+    ∙ ap (λ (s : Sign). count_by s (sign_of (neg_ℤ p.b)) (sign_of (neg_ℤ p.c)) (sign_of (discriminant p.a p.b p.c))) (sign_of-negative p.a)
+    ∙ ap₂ (λ (s t : Sign). count_by (opposite_of (sign_of p.a)) s t (sign_of (discriminant p.a p.b p.c))) (sign_of-negative p.b) (sign_of-negative p.c)
+    ∙ count_turned (sign_of p.a) (sign_of p.b) (sign_of p.c) (sign_of (discriminant p.a p.b p.c))
 
 -- ---- what the code has, read as what it means
 pub fraction_read : (n d n' d' : ℤ) (r : Shape) → n' ≡ n → d' ≡ d → IsFraction n' d' r → IsFraction n d r

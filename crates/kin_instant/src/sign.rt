@@ -14,7 +14,8 @@ use std::sync::ledger::Ledger;
 
 /// The sign of `p` at `w`.
 pub(crate) fn value_sign(p: &Poly, w: &Instant) -> Sign
-    ensures { result ≡ sign_at_instant p.now w.now }
+    ensures value { result ≡ sign_at_instant p.now w.now }
+    ensures canonical { IsCanonical w.now }
 {
     match w.shape() {
         Shape::Ratio { n, d } => value_at_ratio(p, n, d),

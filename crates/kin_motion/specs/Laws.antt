@@ -1,8 +1,9 @@
 -- The laws of signs that orders and chains rest on. They hold in every real scene.
 use Rattle.std.specs.Prelude.{◌≡◌, ℕ, ℤ, pos, ◌+ℤ◌}
+use Rattle.kin_algebra.specs.declared.sign.Sign.TheVariants.{Plus}
 use Rattle.kin_algebra.specs.Signs.{opposite_of, SumMayBe}
 use Rattle.kin_motion.specs.declared.form.Form.TheVariants.{Line, Turn, Slope, Dist}
-use Rattle.kin_motion.specs.Scene.{Scene}
+use Rattle.kin_motion.specs.Scene.{Scene, x_sign}
 
 -- the laws of the lines along a direction, which orders rest on
 pub record HasLineLaws (s : Scene) : Type 0 where
@@ -26,3 +27,10 @@ pub record HasDistanceLaws (s : Scene) : Type 0 where
   pub opposite : (i j k l : ℕ) → s.sign (Dist k l i j) ≡ opposite_of (s.sign (Dist i j k l))
   -- from the first pair to the third it is the sum
   pub chain : (i j k l m n : ℕ) → SumMayBe (s.sign (Dist i j k l)) (s.sign (Dist k l m n)) (s.sign (Dist i j m n))
+
+-- the laws of slopes, which the list of breakpoints rests on
+pub record HasSlopeLaws (s : Scene) : Type 0 where
+  -- the steps the other way round
+  pub opposite : (i j k l : ℕ) → s.sign (Slope k l i j) ≡ opposite_of (s.sign (Slope i j k l))
+  -- of three steps to the right, the first against the third is the sum
+  pub through : (i j k l m n : ℕ) → x_sign s i j ≡ Plus → x_sign s k l ≡ Plus → x_sign s m n ≡ Plus → SumMayBe (s.sign (Slope i j k l)) (s.sign (Slope k l m n)) (s.sign (Slope i j m n))

@@ -9,7 +9,7 @@ use Rattle.kin_motion.specs.Course.{Course}
 use Rattle.kin_motion.specs.Mirrored.{mirrored}
 use Rattle.kin_motion.specs.Sets.{ListsExactly}
 use Rattle.kin_motion.specs.Scene.{Scene, IsReal, scene_at, turned}
-use Rattle.kin_motion.specs.Laws.{HasLineLaws, HasTurnLaws, HasDistanceLaws}
+use Rattle.kin_motion.specs.Laws.{HasLineLaws, HasTurnLaws, HasDistanceLaws, HasSlopeLaws}
 use Rattle.kin_motion.specs.Kinetics.{AllHold, HaveSameLive}
 use Rattle.kin_motion.specs.Orders.{IsOrder, IsOrderFact}
 use Rattle.kin_motion.specs.Extremes.{IsExtremePoint}
@@ -23,6 +23,7 @@ pub record HasSignLaws (s : Scene) : Type 0 where
   pub lines : HasLineLaws s
   pub turns : HasTurnLaws s
   pub distances : HasDistanceLaws s
+  pub slopes : HasSlopeLaws s
 
 -- in real scenes the laws of signs hold
 abbrev pub RealScenesHaveLaws : Type 0

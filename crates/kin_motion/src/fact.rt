@@ -66,6 +66,14 @@ impl Delta {
         }
     }
 
+    /// Takes all reports out. The memory stays.
+    pub fn clear(&mut self)
+        ensures { self.new ≡ record { dropped = []; born = [] } }
+    {
+        self.dropped.clear();
+        self.born.clear();
+    }
+
     /// Reports a fact as dropped.
     pub fn report_dropped(&mut self, fact: Placed) -> Result<(), NoMemory>
         ensures { OnOk result (self.new ≡ record { dropped = self.old.dropped ++ fact ∷ []; born = self.old.born }) }
@@ -79,6 +87,27 @@ impl Delta {
         ensures { OnOk result (self.new ≡ record { dropped = self.old.dropped; born = self.old.born ++ fact ∷ [] }) }
     {
         self.born.push(fact).map_err(|_| NoMemory)?;
+        Ok(())
+    }
+}
+
+#[cfg(test)]
+mod tests {
+    use super::*;
+    use std::test::Fail;
+
+    #[test]
+    fn a_fact_is_reported_on_its_side(rt: HostRuntime) -> Result<(), Fail> {
+        let form = Form::Turn { i: 0, j: 1, k: 2 };
+        let fact = Fact {
+            form,
+            sign: Sign::Minus,
+        };
+        let mut delta = Delta::new(rt.alloc());
+        delta.report_dropped(Placed { part: 2, fact })?;
+        delta.report_born(Placed { part: 3, fact })?;
+        assert!(rt; delta.dropped.len() == 1 && delta.dropped[0].part == 2);
+        assert!(rt; delta.born.len() == 1 && delta.born[0].part == 3);
         Ok(())
     }
 }

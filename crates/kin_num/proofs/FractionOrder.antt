@@ -1,6 +1,6 @@
 -- A canonical instant against a fraction: the sign there of the fraction's line decides.
-use Rattle.std.proofs.Common.{◌≡◌, ◌≢◌, inl, inr, ℕ, zero, suc, Bool, true, false, [], ◌∷◌, refl, sym, ap, ap₂, ◌∙◌, ◌<◌, arith}
-use Rattle.std.specs.Prelude.{ℤ, pos, negsuc, ◌-ℤ◌, ◌*ℤ◌, ◌<ℤ◌}
+use Rattle.std.proofs.Common.{◌≡◌, ◌≢◌, inl, inr, ℕ, Bool, true, false, [], ◌∷◌, refl, sym, ap, ap₂, ◌∙◌, ◌<◌, arith}
+use Rattle.std.specs.Prelude.{ℤ, pos, negsuc, ◌-ℤ◌, ◌*ℤ◌}
 use Rattle.std.proofs.lemmas.Int.{ints}
 use lib.IntN.{neg_ℤ}
 use Rattle.kin_algebra.specs.declared.sign.Sign.{Sign}
@@ -8,7 +8,7 @@ use Rattle.kin_algebra.specs.declared.sign.Sign.TheVariants.{Minus, Zero, Plus}
 use Rattle.kin_algebra.specs.Signs.{sign_of, opposite_of, pair_sign_of}
 use Rattle.kin_algebra.proofs.Ring.{by_ring, quotes}
 use Rattle.kin_algebra.proofs.Signs.{code, opposite-opposite}
-use Rattle.kin_algebra.proofs.IntegerSigns.{sign_of-negative, sign_in, zero_of}
+use Rattle.kin_algebra.proofs.IntegerSigns.{sign_of-pos, sign_of-negative, sign_in, zero_of}
 use Rattle.kin_algebra.proofs.Radicals.{pair_of_zero}
 use Rattle.kin_num.specs.declared.instant.Shape.{Shape}
 use Rattle.kin_num.specs.declared.instant.Shape.TheVariants.{Ratio, Root}
@@ -20,7 +20,7 @@ use Rattle.kin_num.proofs.Kept.{kept_left, kept_right, t_some}
 use Rattle.kin_num.proofs.Divisors.{same_lowest}
 use Rattle.kin_num.proofs.RootSigns.{pair_sign-positive, times_positive}
 use Rattle.kin_num.proofs.RootZeros.{divisor-positive}
-use Rattle.kin_num.proofs.RootOrder.{SeparatedAt, Compared}
+use Rattle.kin_num.proofs.RootOrder.{SeparatedAt, Compared, positive_of}
 
 without_root : (k d n t : ℤ) → pair_sign_of (t *ℤ n -ℤ k *ℤ d) (t *ℤ pos 0) (pos 0) ≡ sign_of (t *ℤ n -ℤ k *ℤ d)
 without_root k d n t = refl
@@ -75,13 +75,6 @@ pub fraction_itself : (n d : ℤ) → IsLowest n d → (w : Shape) → IsCanonic
 fraction_itself n d i (Ratio n' d') k e = level_fractions n d n' d' i k e
 fraction_itself n d i (Root a b c upper) k e = absurd (line_at_root a b c k upper n d (sign_in Plus d i.positive) e)
 
-positive_of : (t : ℕ) → 0 < t → pos 0 <ℤ pos t
-positive_of t h = omega (arith, ints)
-
-plus_of : (t : ℕ) → 0 < t → sign_of (pos t) ≡ Plus
-plus_of zero h = absurd (omega arith)
-plus_of (suc t) h = refl
-
 module _ (n d : ℤ) (i : IsLowest n d) (w : Shape) (form : IsCanonicalForm w) (m t h : ℕ) (size : HasSize (number_of w) m) (some : 0 < h) (fine : IsFine h m t)
     (height : HasHeight (line n d) h) where
   room : 0 < t
@@ -91,7 +84,7 @@ module _ (n d : ℤ) (i : IsLowest n d) (w : Shape) (form : IsCanonicalForm w) (
   near = bracket (number_of w) m t size room
 
   across : (k : ℤ) → sign_at_instant (line k (pos t)) (Ratio n d) ≡ opposite_of (sign_of (at_fraction (line n d) (pos t) k))
-  across k = line_across n d k (pos t) (sign_in Plus d i.positive) (plus_of t room)
+  across k = line_across n d k (pos t) (sign_in Plus d i.positive) (sign_of-pos t room)
 
   pub above_fraction : sign_at_instant (line n d) w ≡ Plus → SeparatedAt t (Ratio n d) w
   unfolding sign_at_instant

@@ -10,26 +10,17 @@ use Rattle.kin_algebra.proofs.Ring.{by_ring, quotes}
 use Rattle.kin_algebra.proofs.Signs.{code, opposite-opposite}
 use Rattle.kin_algebra.proofs.OrderedRings.{OrderedRing}
 use Rattle.kin_algebra.proofs.Bounds.{Between, IsApart}
-use Rattle.kin_algebra.proofs.IntegerSigns.{sign_of-negative, sign_in}
+use Rattle.kin_algebra.proofs.IntegerSigns.{sign_of-pos, sign_of-negative, sign_in}
 use Rattle.kin_algebra.proofs.Pairs.{Pair, pair, pair_plus, pair_negative, Sound, sign_over, sign_over-whole, sign_over-negative}
 use Rattle.kin_num.specs.Quadratic.{Quadratic}
 use Rattle.kin_num.specs.Instants.{Number, sign_at_number}
 use Rattle.kin_num.proofs.Values.{value, negated, value-negated}
 use Rattle.kin_num.proofs.Nearness.{value_in, fine, AreBounded, near}
 use Rattle.kin_num.proofs.NumberRing.{flat, conjugate, ring_over, flat_some, flat_between, pair_between, positive_apart}
-use Rattle.kin_num.proofs.Near.{HasHeight, HasSize, IsFine, at_fraction, value-in, conjugate-in, fraction-in, fine-in, E, point_size, Q_positive, Bracket, right_between, left_between}
+use Rattle.kin_num.proofs.Near.{size_negative, HasHeight, HasSize, IsFine, at_fraction, value-in, conjugate-in, fraction-in, fine-in, E, point_size, Q_positive, Bracket, right_between, left_between}
 
 fine_left : (m t : ℕ) → m < t → sign_of (pos t -ℤ pos m) ≡ Plus
 fine_left m t h = sign_in Plus (pos t -ℤ pos m) (omega (arith, ints))
-
-some_sign : (n : ℕ) → 0 < n → sign_of (pos n) ≡ Plus
-some_sign zero h = absurd (omega arith)
-some_sign (suc n) h = refl
-
-size_negative : (z : ℤ) → unsigned_abs (neg_ℤ z) ≡ unsigned_abs z
-size_negative (pos zero) = refl
-size_negative (pos (suc n)) = refl
-size_negative (negsuc n) = refl
 
 pub height-negated : (p : Quadratic) (h : ℕ) → HasHeight p h → HasHeight (negated p) h
 height-negated p h k = record {
@@ -69,7 +60,7 @@ module _ (x : Number) (w t h : ℕ) (size : HasSize x w) (h_some : 0 < h) (enoug
       at (negsuc n) e k = absurd (code e)
 
   pub flat_positive : (n : ℕ) → 0 < n → sign_over d (flat (pos n)) ≡ Plus
-  flat_positive n h = sign_over-whole d s (pos n) ∙ some_sign n h
+  flat_positive n h = sign_over-whole d s (pos n) ∙ sign_of-pos n h
 
   pub bounds : (p : Quadratic) → HasHeight p h → AreBounded o (flat p.a) (flat p.b) (flat p.c) (flat x.divisor) H (flat (pos w))
   bounds p k = record {

@@ -1,7 +1,7 @@
 -- A fraction k/t close to a number, and polynomials there: what has a sign at the number has it at the fraction.
 use Rattle.std.proofs.Common.{◌≡◌, ◌≢◌, inl, inr, ℕ, zero, suc, Bool, true, false, [], ◌∷◌, refl, sym, ap, ap₂, ◌∙◌, subst, ◌+◌, ◌*◌, ◌≤◌, ◌<◌, arith, unsigned_abs}
 use Rattle.std.specs.Prelude.{ℤ, pos, negsuc, ◌+ℤ◌, ◌-ℤ◌, ◌*ℤ◌, ◌≤ℤ◌}
-use Rattle.std.proofs.lemmas.Int.{ints}
+use Rattle.std.proofs.lemmas.Int.{ints, unsigned_abs-mul}
 use lib.IntN.{neg_ℤ}
 use Rattle.kin_algebra.specs.declared.sign.Sign.{Sign}
 use Rattle.kin_algebra.specs.declared.sign.Sign.TheVariants.{Minus, Zero, Plus}
@@ -21,6 +21,14 @@ use Rattle.kin_num.proofs.NumberRing.{flat, conjugate, ring_over, flat_some, fla
 -- t*t times the value at k/t
 abbrev pub at_fraction : Quadratic → ℤ → ℤ → ℤ
 at_fraction p t k = p.a *ℤ (k *ℤ k) +ℤ p.b *ℤ (t *ℤ k) +ℤ p.c *ℤ (t *ℤ t)
+
+pub size_negative : (z : ℤ) → unsigned_abs (neg_ℤ z) ≡ unsigned_abs z
+size_negative (pos zero) = refl
+size_negative (pos (suc n)) = refl
+size_negative (negsuc n) = refl
+
+pub size_double : (z : ℤ) → unsigned_abs (pos 2 *ℤ z) ≡ 2 * unsigned_abs z
+size_double z = unsigned_abs-mul (pos 2) z
 
 -- the coefficients are at most h in size
 pub record HasHeight (p : Quadratic) (h : ℕ) : Type 0 where

@@ -1,10 +1,11 @@
 -- A canonical instant against a root: the signs there of the root's quadratic and of its slope decide.
-use Rattle.std.proofs.Common.{◌≡◌, ◌≢◌, ◌⊎◌, inl, inr, ℕ, zero, suc, Bool, true, false, refl, sym, ap, ap₂, ◌∙◌, ◌<◌, arith}
+use Rattle.std.proofs.Common.{◌≡◌, ◌≢◌, ◌⊎◌, inl, inr, ℕ, Bool, true, false, refl, sym, ap, ap₂, ◌∙◌, ◌<◌, arith}
 use Rattle.std.specs.Prelude.{ℤ, pos, ◌-ℤ◌, ◌<ℤ◌}
 use Rattle.std.proofs.lemmas.Int.{ints}
 use Rattle.kin_algebra.specs.declared.sign.Sign.{Sign}
 use Rattle.kin_algebra.specs.declared.sign.Sign.TheVariants.{Minus, Zero, Plus}
 use Rattle.kin_algebra.specs.Signs.{sign_of, opposite_of, sum_sign_of}
+use Rattle.kin_algebra.proofs.IntegerSigns.{sign_of-pos}
 use Rattle.kin_algebra.proofs.Signs.{code}
 use Rattle.kin_num.specs.declared.instant.Shape.{Shape}
 use Rattle.kin_num.specs.declared.instant.Shape.TheVariants.{Root}
@@ -44,12 +45,8 @@ lower_after Minus f (inr e) p = code (sym e ∙ p)
 lower_after Zero f h p = code p
 lower_after Plus f h p = code p
 
-positive_of : (t : ℕ) → 0 < t → pos 0 <ℤ pos t
+pub positive_of : (t : ℕ) → 0 < t → pos 0 <ℤ pos t
 positive_of t h = omega (arith, ints)
-
-plus_of : (t : ℕ) → 0 < t → sign_of (pos t) ≡ Plus
-plus_of zero h = absurd (omega arith)
-plus_of (suc t) h = refl
 
 module _ (a b c : ℤ) (i : IsIrreducible a b c) (w : Shape) (form : IsCanonicalForm w) (m t h : ℕ) (size : HasSize (number_of w) m) (some : 0 < h) (fine : IsFine h m t)
     (height : HasHeight (quadratic a b c) h) (slope_height : HasHeight (derivative (quadratic a b c)) h) where
@@ -63,7 +60,7 @@ module _ (a b c : ℤ) (i : IsIrreducible a b c) (w : Shape) (form : IsCanonical
   near = bracket (number_of w) m t size room
 
   t_plus : sign_of (pos t) ≡ Plus
-  t_plus = plus_of t room
+  t_plus = sign_of-pos t room
 
   slope_at : ℤ → Sign
   slope_at k = sign_of (at_fraction (derivative q) (pos t) k)

@@ -4,9 +4,10 @@ use Rattle.std.specs.Prelude.{ℤ, pos, negsuc, ◌-ℤ◌, ◌*ℤ◌, ◌<ℤ�
 use Rattle.std.proofs.lemmas.Int.{ints}
 use lib.IntN.{neg_ℤ}
 use Rattle.kin_algebra.specs.declared.sign.Sign.{Sign}
-use Rattle.kin_algebra.specs.declared.sign.Sign.TheVariants.{Minus, Zero, Plus}
+use Rattle.kin_algebra.specs.declared.sign.Sign.TheVariants.{Minus, Plus}
 use Rattle.kin_algebra.specs.Signs.{sign_of, opposite_of, sum_sign_of, norm_of, pair_sign_of}
 use Rattle.kin_algebra.proofs.Ring.{by_ring, quotes}
+use Rattle.kin_algebra.proofs.Signs.{opposite-opposite}
 use Rattle.kin_algebra.proofs.OrderedRings.{scale}
 use Rattle.kin_algebra.proofs.IntegerSigns.{ordered_integers, sign_of-negative, sign_in}
 use Rattle.kin_num.specs.declared.instant.Shape.TheVariants.{Root}
@@ -64,14 +65,9 @@ module _ (a b c : ℤ) (i : IsIrreducible a b c) where
     abbrev value_there : Sign
     value_there = sign_of (at_fraction q t k)
 
-    turned_twice : (s : Sign) → opposite_of (opposite_of s) ≡ s
-    turned_twice Minus = refl
-    turned_twice Zero = refl
-    turned_twice Plus = refl
-
     whole_sign : sign_of U ≡ opposite_of slope_there
     whole_sign =
-        sym (turned_twice (sign_of U))
+        sym (opposite-opposite (sign_of U))
         ∙ ap opposite_of (sym (sign_of-negative U) ∙ sym (times_positive t (neg_ℤ U) t_plus) ∙ ap sign_of (slope-as a b k t))
 
     four_a : sign_of (pos 4 *ℤ a) ≡ Plus

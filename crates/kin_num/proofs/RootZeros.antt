@@ -28,6 +28,9 @@ divisor-positive (Ratio n d) i = sign_in Plus d i.positive
 divisor-positive (Root a b c true) i = double_plus a b c i
 divisor-positive (Root a b c false) i = double_plus a b c i
 
+nothing_right : (k : ℤ) → k *ℤ pos 0 ≡ pos 0
+nothing_right k = by_ring (k ∷ []) _ _ (search quotes depth 20) (search quotes depth 20) refl
+
 no_difference : (x y : ℤ) → x -ℤ y ≡ pos 0 → x ≡ y
 no_difference x y e = omega (arith, ints)
 
@@ -60,9 +63,6 @@ module _ (p : Quadratic) (a b c : ℤ) (i : IsIrreducible a b c) where
   without_slope : (x y : ℤ) → x -ℤ b *ℤ y ≡ pos 0 → y ≡ pos 0 → x ≡ pos 0
   without_slope x y e f = sym (nothing_less x (b *ℤ y) (ap (λ z. b *ℤ z) f ∙ nothing_right b)) ∙ e
     where
-      nothing_right : (k : ℤ) → k *ℤ pos 0 ≡ pos 0
-      nothing_right k = by_ring (k ∷ []) _ _ (search quotes depth 20) (search quotes depth 20) refl
-
       nothing_less : (x z : ℤ) → z ≡ pos 0 → x -ℤ z ≡ x
       nothing_less x z e = omega (arith, ints)
 
@@ -103,9 +103,6 @@ module _ (a b c : ℤ) (i : IsIrreducible a b c) where
       let none : whole_part (quadratic a b c) (number_of (Ratio n d)) ≡ pos 0 = zero_of _ e in
       let norm : norm_of (pos 2 *ℤ a *ℤ n +ℤ b *ℤ d) d D ≡ pos 0 = sym (square_completed a b c n d) ∙ ap (λ z. (pos 4 *ℤ a) *ℤ z) none ∙ nothing_right (pos 4 *ℤ a) in
       code (sym d_plus ∙ ap sign_of ((irreducible-radical a b c i).alone (pos 2 *ℤ a *ℤ n +ℤ b *ℤ d) d norm).1)
-    where
-      nothing_right : (k : ℤ) → k *ℤ pos 0 ≡ pos 0
-      nothing_right k = by_ring (k ∷ []) _ _ (search quotes depth 20) (search quotes depth 20) refl
 
   -- ---- at its own roots
   own_whole : (a b c : ℤ) → whole_part (derivative (quadratic a b c)) (number_of (Root a b c true)) ≡ pos 0

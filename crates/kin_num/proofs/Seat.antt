@@ -1,7 +1,7 @@
 -- The sign of a polynomial at a moment of either phase is its sign at one number, the moment's seat.
-use Rattle.std.proofs.Common.{◌≡◌, ◌≢◌, ℕ, [], ◌∷◌, refl, sym, ap, ap₂, ◌∙◌, subst, ◌*◌, ◌≤◌, ◌<◌, ◌^◌, arith, unsigned_abs}
+use Rattle.std.proofs.Common.{◌≡◌, ◌≢◌, ℕ, [], ◌∷◌, refl, sym, ap, ap₂, ◌∙◌, subst, ◌≤◌, ◌<◌, ◌^◌, arith, unsigned_abs}
 use Rattle.std.specs.Prelude.{ℤ, pos, ◌-ℤ◌, ◌*ℤ◌}
-use Rattle.std.proofs.lemmas.Int.{ints, unsigned_abs-mul}
+use Rattle.std.proofs.lemmas.Int.{ints}
 use Rattle.kin_algebra.specs.declared.sign.Sign.{Sign}
 use Rattle.kin_algebra.specs.declared.sign.Sign.TheVariants.{Minus, Zero, Plus}
 use Rattle.kin_algebra.specs.Signs.{sign_of, opposite_of, first_of}
@@ -21,9 +21,9 @@ use Rattle.kin_num.proofs.Values.{value, negated, value-negated}
 use Rattle.kin_num.proofs.SignLaws.{derivative-negated}
 use Rattle.kin_num.proofs.Nearness.{value_in, slope_in, value_after, after, after_slope, after_second}
 use Rattle.kin_num.proofs.NumberRing.{flat, conjugate, ring_over, flat_some, positive_apart}
-use Rattle.kin_num.proofs.Near.{HasHeight, HasSize, IsFine, value-in, conjugate-in, point_size, Q_positive}
+use Rattle.kin_num.proofs.Near.{size_double, HasHeight, HasSize, IsFine, value-in, conjugate-in, point_size, Q_positive}
 use Rattle.kin_num.proofs.Kept.{t_some, bounds, conjugate_size, fine_here, flat_positive, height-negated}
-use Rattle.kin_num.proofs.Sizes.{wide_size}
+use Rattle.kin_num.proofs.Sizes.{wide_size, wide_some, wide_fine}
 
 module _ (x : Number) (m t h : ℕ) (size : HasSize x m) (some : 0 < h) (fine : IsFine h m t) where
   abbrev d : ℤ
@@ -46,9 +46,6 @@ module _ (x : Number) (m t h : ℕ) (size : HasSize x m) (some : 0 < h) (fine : 
 
   abbrev value_here : Quadratic → Pair
   value_here p = value_in o (flat p.a) (flat p.b) (flat p.c) (flat x.divisor) Z
-
-  abbrev value_later : Quadratic → Pair
-  value_later p = value_after o (flat p.a) (flat p.b) (flat p.c) (flat x.divisor) (flat (pos m)) (flat (pos m)) (flat (pos t)) Z
 
   later-in : (p : Quadratic) (t : ℤ) → value p (later_by t x) ≡ value_after o (flat p.a) (flat p.b) (flat p.c) (flat x.divisor) (flat (pos m)) (flat (pos m)) (flat t) Z
   later-in p t =
@@ -142,15 +139,6 @@ module _ (x : Number) (m t h : ℕ) (size : HasSize x m) (some : 0 < h) (fine : 
       at Zero Plus e f = sym (seat_slope p slope_height e Plus (λ z. code z) f)
       at Zero Zero e f = sym (seat_second p e f)
 
-some_height : 0 < 2 ^ 31
-some_height = omega arith
-
-wide_fine : IsFine (2 ^ 31) (2 ^ 33) (2 ^ 200)
-wide_fine = omega arith
-
-size_double : (z : ℤ) → unsigned_abs (pos 2 *ℤ z) ≡ 2 * unsigned_abs z
-size_double z = unsigned_abs-mul (pos 2) z
-
 own_height : (p : Quadratic) → unsigned_abs p.a ≤ 2 ^ 30 → unsigned_abs p.b ≤ 2 ^ 31 → unsigned_abs p.c ≤ 2 ^ 31 → HasHeight p (2 ^ 31)
 own_height p a b c = record { a_most = omega (arith, a); b_most = b; c_most = c }
 
@@ -166,4 +154,4 @@ seat p a b c m form wide = at m.phase refl
     at At e = subst (λ f. sign_at_phase p m.at f ≡ sign_at_number p (seat_of m.at f)) (sym e) refl
     at After e =
         subst (λ f. sign_at_phase p m.at f ≡ sign_at_number p (seat_of m.at f)) (sym e)
-        (seat_later (number_of m.at) (2 ^ 33) (2 ^ 200) (2 ^ 31) (wide_size m.at form wide) some_height wide_fine p (own_height p a b c) (slope_height p a b))
+        (seat_later (number_of m.at) (2 ^ 33) (2 ^ 200) (2 ^ 31) (wide_size m.at form wide) wide_some wide_fine p (own_height p a b c) (slope_height p a b))

@@ -1,4 +1,4 @@
-use Rattle.std.proofs.Common.{◌≡◌, ℕ, ◌*◌, ◌<◌, ◌≤◌, ◌^◌, ℤ, pos, negsuc, ◌*ℤ◌, unsigned_abs, w64, FitsSigned, to_z, of_z, arith, refl, ap, ap₂, sym, ◌∙◌, subst, mul-le-mul, [], ◌∷◌}
+use Rattle.std.proofs.Common.{◌≡◌, ℕ, ◌*◌, ◌<◌, ◌≤◌, ◌^◌, ℤ, pos, ◌*ℤ◌, unsigned_abs, w64, to_z, of_z, arith, refl, ap, sym, ◌∙◌, subst, [], ◌∷◌}
 use Rattle.std.specs.Prelude.{◌<ℤ◌}
 use Rattle.std.specs.Int.{IsGcd, ◌∣◌}
 use Rattle.std.proofs.lemmas.Int.{ints, to_z_pos, fits_signed_from_abs, unsigned_abs-mul}
@@ -28,6 +28,7 @@ common_of n d n' d' u v g h k e f p q i =
   where
     above : (d : ℤ) → pos 0 <ℤ d → 0 < unsigned_abs d
     above d h = omega (arith, ints)
+
     below : (g m : ℕ) → g ≤ m → m < 2 ^ 63 → g < 2 ^ 63
     below g m h k = omega arith
 

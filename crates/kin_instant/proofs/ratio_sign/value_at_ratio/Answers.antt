@@ -1,5 +1,5 @@
-use Rattle.std.proofs.Common.{◌≡◌, ◌≢◌, ◌≤◌, ◌<◌, ◌^◌, ◌+◌, ◌*◌, ℤ, pos, ◌+ℤ◌, ◌-ℤ◌, ◌*ℤ◌, unsigned_abs, FitsSigned, to_z, of_z, w64, arith, refl, ap, ap₂, sym, ◌∙◌, subst, mul-le-mul}
-use Rattle.std.proofs.lemmas.Int.{ints, to_z-of_z, fits_signed_from_abs}
+use Rattle.std.proofs.Common.{◌≡◌, ◌≤◌, ◌<◌, ◌^◌, ℤ, ◌+ℤ◌, ◌*ℤ◌, unsigned_abs, to_z, of_z, w64, arith, ap, sym, ◌∙◌, subst}
+use Rattle.std.proofs.lemmas.Int.{to_z-of_z}
 use Rattle.kin_algebra.specs.Signs.{sign_of}
 use mir.Syntax.{w128}
 use Rattle.kin_instant.proofs.Widths.{abs-product, clean, same_sums, product-raw, product-value}

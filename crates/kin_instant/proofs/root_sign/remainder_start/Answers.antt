@@ -1,6 +1,4 @@
-use Rattle.std.proofs.Common.{◌≡◌, ◌≢◌, ◌≤◌, ◌<◌, ◌^◌, ◌+◌, ◌*◌, ℤ, pos, ◌+ℤ◌, ◌-ℤ◌, ◌*ℤ◌, unsigned_abs, FitsSigned, to_z, of_z, w64, arith, refl, ap, ap₂, sym, ◌∙◌, subst, mul-le-mul}
-use Rattle.std.proofs.lemmas.Int.{ints, to_z-of_z, fits_signed_from_abs}
-use mir.Syntax.{w128}
+use Rattle.std.proofs.Common.{◌≡◌, ◌≤◌, ◌^◌, ◌+◌, ◌*◌, ℤ, unsigned_abs, w64, arith, sym, ◌∙◌, subst, mul-le-mul}
 use Rattle.kin_instant.proofs.Widths.{clean, same_differences}
 use Rattle.kin_instant.proofs.root_sign.remainder_start.Goals as goal
 

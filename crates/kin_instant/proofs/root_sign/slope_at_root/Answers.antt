@@ -1,8 +1,7 @@
-use Rattle.std.proofs.Common.{◌≡◌, ◌≢◌, ◌≤◌, ◌<◌, ◌^◌, ◌+◌, ◌*◌, ℕ, Bool, true, false, ℤ, pos, negsuc, ◌+ℤ◌, ◌-ℤ◌, ◌*ℤ◌, unsigned_abs, FitsSigned, to_z, of_z, w64, arith, refl, ap, ap₂, sym, ◌∙◌, subst, mul-le-mul}
+use Rattle.std.proofs.Common.{◌≡◌, ◌≤◌, ◌^◌, Bool, true, false, ℤ, pos, negsuc, ◌-ℤ◌, ◌*ℤ◌, unsigned_abs, to_z, of_z, w64, arith, ap, ap₂, sym, ◌∙◌}
 use Rattle.std.specs.Prelude.{◌<ℤ◌}
-use Rattle.std.proofs.lemmas.Int.{ints, to_z-of_z, fits_signed_from_abs}
-use mir.Syntax.{w128}
-use Rattle.kin_instant.proofs.Widths.{clean, same_differences}
+use Rattle.std.proofs.lemmas.Int.{ints}
+use Rattle.kin_instant.proofs.Widths.{clean}
 use Rattle.kin_algebra.specs.Signs.{pair_sign_of}
 use Rattle.kin_num.specs.declared.instant.Shape.TheVariants.{Root}
 use Rattle.kin_num.specs.Quadratic.{Quadratic}
@@ -39,9 +38,9 @@ returns-then-upper c =
     let b = clean w64 c.args.b c.ranges.b.sfits in
     c.pair_sign.ensures
     ∙ whole c.args.p.now c.args.a c.args.b c.args.c _ _ _ c.args.upper true c.if-upper.true c.requires.a_positive c.requires.real
-      (clean w64 c.remainder_slope-slope.result c.remainder_slope-slope.type_inv ∙ c.remainder_slope-slope.ensures.value ∙ same_slope c.args.p.now c.args.a c.args.b _ _ a b)
-      (clean w64 c.a.result c.a.type_inv ∙ c.a.ensures.value ∙ one_times c.args.p.now.a)
-      (c.radicand.ensures.value ∙ same_discriminant c.args.a c.args.b c.args.c _ _ _ a b (clean w64 c.args.c c.ranges.c.sfits))
+    (clean w64 c.remainder_slope-slope.result c.remainder_slope-slope.type_inv ∙ c.remainder_slope-slope.ensures.value ∙ same_slope c.args.p.now c.args.a c.args.b _ _ a b)
+    (clean w64 c.a.result c.a.type_inv ∙ c.a.ensures.value ∙ one_times c.args.p.now.a)
+    (c.radicand.ensures.value ∙ same_discriminant c.args.a c.args.b c.args.c _ _ _ a b (clean w64 c.args.c c.ranges.c.sfits))
 
 pub returns-else-upper : goal.returns-else-upper
 returns-else-upper c =
@@ -49,6 +48,6 @@ returns-else-upper c =
     let b = clean w64 c.args.b c.ranges.b.sfits in
     c.pair_sign-else-upper.ensures
     ∙ whole c.args.p.now c.args.a c.args.b c.args.c _ _ _ c.args.upper false c.if-upper.false c.requires.a_positive c.requires.real
-      (clean w64 c.remainder_slope-slope.result c.remainder_slope-slope.type_inv ∙ c.remainder_slope-slope.ensures.value ∙ same_slope c.args.p.now c.args.a c.args.b _ _ a b)
-      (turned c.a-else-upper.result c.args.p.now.a c.a-else-upper.ensures.value c.a-else-upper.ensures.small)
-      (c.radicand-else-upper.ensures.value ∙ same_discriminant c.args.a c.args.b c.args.c _ _ _ a b (clean w64 c.args.c c.ranges.c.sfits))
+    (clean w64 c.remainder_slope-slope.result c.remainder_slope-slope.type_inv ∙ c.remainder_slope-slope.ensures.value ∙ same_slope c.args.p.now c.args.a c.args.b _ _ a b)
+    (turned c.a-else-upper.result c.args.p.now.a c.a-else-upper.ensures.value c.a-else-upper.ensures.small)
+    (c.radicand-else-upper.ensures.value ∙ same_discriminant c.args.a c.args.b c.args.c _ _ _ a b (clean w64 c.args.c c.ranges.c.sfits))

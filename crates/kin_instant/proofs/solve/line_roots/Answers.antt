@@ -1,9 +1,7 @@
-use Rattle.std.proofs.Common.{◌≡◌, ◌≢◌, ℕ, ◌*◌, ◌<◌, ◌≤◌, ◌^◌, Bool, true, false, ℤ, pos, negsuc, ◌+ℤ◌, ◌-ℤ◌, ◌*ℤ◌, unsigned_abs, w64, FitsSigned, to_z, of_z, arith, refl, ap, ap₂, sym, ◌∙◌, subst}
+use Rattle.std.proofs.Common.{◌≡◌, ◌≤◌, ◌^◌, ℤ, pos, ◌-ℤ◌, unsigned_abs, w64, to_z, of_z, arith, ap, subst}
 use Rattle.std.specs.Prelude.{◌<ℤ◌, ◌≤ℤ◌}
-use Rattle.std.proofs.lemmas.Int.{ints, to_z-of_z, fits_signed_from_abs}
+use Rattle.std.proofs.lemmas.Int.{ints}
 use lib.IntN.{neg_ℤ}
-use lib.Signed.{lt_z}
-use Rattle.kin_instant.specs.Roots.{IsFraction}
 use Rattle.kin_instant.proofs.Widths.{clean, less_out, not_less_out, nothing_out}
 use Rattle.kin_instant.proofs.RootsOf.{rising_line, falling_line, zero_everywhere, zero_nowhere, fraction_read}
 use Rattle.kin_instant.proofs.solve.line_roots.Goals as goal
