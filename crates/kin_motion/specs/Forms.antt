@@ -1,5 +1,5 @@
--- The polynomials of forms.
-use Rattle.std.specs.Prelude.{ℤ, pos, ◌+ℤ◌, ◌-ℤ◌, ◌*ℤ◌, ℕ, List, Option, Some, None}
+-- Forms: the numbers that they name, their polynomials and their signs.
+use Rattle.std.specs.Prelude.{ℤ, pos, ◌+ℤ◌, ◌-ℤ◌, ◌*ℤ◌, ℕ, ◌≤◌, ◌^◌, unsigned_abs, Bool, List, [], ◌∷◌, Option, Some, None}
 use Rattle.kin_algebra.specs.declared.sign.Sign.{Sign}
 use Rattle.kin_num.specs.declared.instant.Moment.{Moment}
 use Rattle.kin_num.specs.Quadratic.{Quadratic}
@@ -7,6 +7,33 @@ use Rattle.kin_num.specs.Instants.{sign_at}
 use Rattle.kin_motion.specs.declared.form.Form.{Form}
 use Rattle.kin_motion.specs.declared.form.Form.TheVariants.{Line, Turn, Slope, Dist}
 use Rattle.kin_motion.specs.Course.{Course, motion_of}
+use Rattle.kin_motion.specs.Numbers.{is_in, IsIn}
+
+-- the numbers that a form names
+abbrev pub numbers_of : Form → List ℕ
+numbers_of (Line dx dy off i j) = i ∷ j ∷ []
+numbers_of (Turn i j k) = i ∷ j ∷ k ∷ []
+numbers_of (Slope i j k l) = i ∷ j ∷ k ∷ l ∷ []
+numbers_of (Dist i j k l) = i ∷ j ∷ k ∷ l ∷ []
+
+-- whether the form names the number
+abbrev pub names : Form → ℕ → Bool
+names f i = is_in i (numbers_of f)
+
+-- both numbers are live, the parts of the direction are in -16..16, and the offset is in -2^16..2^16
+pub record IsAskableLine (live : List ℕ) (dx dy off : ℤ) (i j : ℕ) : Type 0 where
+  pub i_live : IsIn i live
+  pub j_live : IsIn j live
+  pub dx_small : unsigned_abs dx ≤ 16
+  pub dy_small : unsigned_abs dy ≤ 16
+  pub off_small : unsigned_abs off ≤ 2 ^ 16
+
+-- where these numbers are live the form may be asked for: it names live numbers alone, and a line is as above
+abbrev pub IsAskable : List ℕ → Form → Type 0
+IsAskable live (Line dx dy off i j) = IsAskableLine live dx dy off i j
+IsAskable live (Turn i j k) = IsIn i live × IsIn j live × IsIn k live
+IsAskable live (Slope i j k l) = IsIn i live × IsIn j live × IsIn k live × IsIn l live
+IsAskable live (Dist i j k l) = IsIn i live × IsIn j live × IsIn k live × IsIn l live
 
 -- slope*t + start
 pub record Linear : Type 0 where

@@ -1,4 +1,4 @@
-//! Kinetic structures.
+//! Kinetic structures and their two laws.
 
 ghost use Rattle.std.specs.Prelude.{◌≡◌, Bool, List, OnOk};
 ghost use Rattle.kin_motion.specs.declared.fact.Placed.{Placed};
@@ -11,17 +11,18 @@ use kin_num::memory::NoMemory;
 use kin_num::steps::Steps;
 use std::sync::ledger::Ledger;
 
-/// A structure that keeps an answer and the facts that prove it.
+/// A structure that keeps an attribute of moving points, and the facts that prove it. While all
+/// its facts hold, the attribute doesn't change.
 pub trait Kinetic {
-    /// Its live facts.
+    /// Its live facts, each in its part.
     ghost facts: { Self → List Placed };
 
-    /// The facts that the caller leaves out of `failed`, such as those that name a number marked
+    /// The facts that the caller leaves out of `failed`: those that name a number that is marked
     /// as leaving.
     ghost is_spared: { Self → Placed → Bool };
 
-    /// What `settle` asks of the scene, such as that the members, with the entering numbers and
-    /// without the leaving ones, are exactly the live numbers.
+    /// What `settle` asks of the scene: the members, with the entering numbers and without the
+    /// leaving ones, are exactly the live numbers, and no call has answered want of memory.
     ghost ready: { Self → Scene → Type 0 };
 
     /// No mark and no told edit stands.
@@ -30,9 +31,13 @@ pub trait Kinetic {
     /// The content and the facts are those of the definition in this scene.
     ghost settled: { Self → Scene → Type 0 };
 
-    /// What the determination law asks of the scene besides the facts.
+    /// What the determination law asks of a scene besides the facts: nothing, but for a merge that
+    /// both told chains are upper chains there.
     ghost grounded: { Self → Scene → Type 0 };
 
+    /// The settling law: repairs everything that has failed at one moment together. Of the facts
+    /// that aren't spared, `failed` lists exactly those that don't hold now. The content and the
+    /// moment before may be any. After want of memory the structure may not be used again.
     fn settle<O: Signs, L: Ledger>(
         &mut self,
         now: &O,
@@ -47,6 +52,7 @@ pub trait Kinetic {
         ensures settled { OnOk result (settled self.new (O.scene now.now)) }
         ensures delta { OnOk result (HasChanged (facts self.old) (facts self.new) out.old out.new) };
 
-    /// The facts alone determine the content and the facts.
-    ghost determined: { (k : Self) (v w : Scene) → at_rest k → settled k v → HaveSameLive v w → IsReal w → grounded k w → AllHold w (facts k) → settled k w };
+    /// The determination law: the facts alone determine the content and the facts. So a structure
+    /// at rest of which no fact fails needs no `settle`.
+    ghost determined: { (k : Self) (v w : Scene) → at_rest k → IsReal v → settled k v → HaveSameLive v w → IsReal w → grounded k w → AllHold w (facts k) → settled k w };
 }

@@ -1,13 +1,15 @@
-//! The same moment with every y negated.
+//! The signs after y is turned round.
 
 ghost use Rattle.kin_motion.specs.Scene.{Scene, turned};
 
 use crate::form::Form;
 use crate::signs::Signs;
-use kin_algebra::sign::Sign;
+use kin_num::Sign;
 use kin_num::steps::Steps;
 use std::sync::ledger::Ledger;
 
+/// The same moment with every y and v negated. A lower chain is the upper chain of the mirrored
+/// motions.
 #[derive(Drop)]
 pub struct Mirror<'a, O: Signs> {
     pub inner: &'a O,
@@ -28,9 +30,8 @@ impl<O: Signs> Signs for Mirror<'_, O> {
                 },
                 steps,
             ),
-            Form::Turn { i, j, k } => self.inner.sign(form, steps).opposite(),
-            Form::Slope { i, j, k, l } => self.inner.sign(form, steps).opposite(),
-            Form::Dist { i, j, k, l } => self.inner.sign(form, steps),
+            Form::Turn { .. } | Form::Slope { .. } => self.inner.sign(form, steps).opposite(),
+            Form::Dist { .. } => self.inner.sign(form, steps),
         }
     }
 }

@@ -1,20 +1,23 @@
 //! The signs of forms at one moment.
 
 ghost use Rattle.std.specs.Prelude.{◌≡◌, ◌+◌};
-ghost use Rattle.kin_motion.specs.Scene.{Scene, IsAskable};
+ghost use Rattle.kin_motion.specs.Forms.{IsAskable};
+ghost use Rattle.kin_motion.specs.Scene.{Scene};
 
 use crate::form::Form;
-use kin_algebra::sign::Sign;
+use kin_num::Sign;
 use kin_num::steps::Steps;
 use std::sync::ledger::Ledger;
 
-/// Motions and one moment, which tell the signs of forms.
+/// Motions and one moment, which tell the signs of forms. A structure that asks only these never
+/// sees an instant.
 pub trait Signs {
-    /// What is seen at that moment.
+    /// The live numbers and the sign of each form at that moment.
     ghost scene: { Self → Scene };
 
+    /// The sign of the form's polynomial at the moment, for one step. Each named number is live.
     fn sign<L: Ledger>(&self, form: &Form, steps: &mut Steps<L>) -> Sign
-        requires { IsAskable (scene self.now) form.now }
+        requires askable { IsAskable (scene self.now).live form.now }
         ensures value { result ≡ (scene self.now).sign form.now }
         ensures count { steps.new ≡ steps.old + 1 };
 }

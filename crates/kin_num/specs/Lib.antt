@@ -1,3 +1,5 @@
+pub mod Roots
 pub mod Quadratic
 pub mod Canonical
 pub mod Instants
+pub mod Order
