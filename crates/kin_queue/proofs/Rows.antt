@@ -11,7 +11,7 @@ use Rattle.std.proofs.lemmas.List.Elements.{All-get_or, All-take, All-drop, All-
 use Rattle.std.proofs.lemmas.Bool.{cases_lt}
 use Rattle.kin_num.specs.declared.instant.Moment.{Moment}
 use Rattle.kin_num.specs.Canonical.{IsCanonical}
-use Rattle.kin_num.specs.Moments.{IsBefore}
+use Rattle.kin_num.specs.Order.{IsEarlier}
 use Rattle.kin_num.proofs.MomentLaws.{never, through}
 use Rattle.kin_queue.specs.Agenda.{Agenda, IsNext, IsLeast}
 use Rattle.kin_queue.specs.Row.{MayFollow, IsRow, IsPlaceFor, agenda_of}
@@ -47,8 +47,8 @@ module _ {X : Type 0} (R : X → X → Type 0) (xs : List X) (p : ℕ) (x : X) (
       ]
 
 pub row-insert : (es : List (ℕ × Moment)) (p k : ℕ) (at : Moment) → IsRow es → p ≤ length es → IsCanonical at.at → look_up k es ≡ None
-    → ((i : ℕ) (d : ℕ × Moment) → i < p → ¬ (IsBefore at (get_or es i d).1))
-    → ((d : ℕ × Moment) → p < length es → IsBefore at (get_or es p d).1)
+    → ((i : ℕ) (d : ℕ × Moment) → i < p → ¬ (IsEarlier at (get_or es i d).1))
+    → ((d : ℕ × Moment) → p < length es → IsEarlier at (get_or es p d).1)
     → IsRow (insert es p (k, at))
 row-insert es p k at row within canonical none before after =
     let AtInstant : ℕ × Moment → Type 0 = λ e. IsCanonical e.1.at in
@@ -56,13 +56,13 @@ row-insert es p k at row within canonical none before after =
     record {
       apart = λ e. look_up-missed es k none i d lt (sym e);
       later = λ h.
-          let first : IsBefore at (get_or es p d).1 = after d (omega arith) in
+          let first : IsEarlier at (get_or es p d).1 = after d (omega arith) in
           let ci : IsCanonical (get_or es i d).1.at = All-get_or AtInstant es i d lt row.canonical in
           let cp : IsCanonical (get_or es p d).1.at = All-get_or AtInstant es p d (omega arith) row.canonical in
-          let earlier : IsBefore (get_or es i d).1 (get_or es p d).1 = through _ _ _ ci canonical cp h first in
+          let earlier : IsEarlier (get_or es i d).1 (get_or es p d).1 = through _ _ _ ci canonical cp h first in
           elim (cases_lt p i) [
             | inl pi ↦ (row.rising p i d pi lt).later earlier
-            | inr ip ↦ let e : i ≡ p = omega arith in never _ cp (subst (λ (n : ℕ). IsBefore (get_or es n d).1 (get_or es p d).1) e earlier)
+            | inr ip ↦ let e : i ≡ p = omega arith in never _ cp (subst (λ (n : ℕ). IsEarlier (get_or es n d).1 (get_or es p d).1) e earlier)
           ];
     } in
     record {
@@ -100,13 +100,13 @@ row-next (e ∷ es) row =
           at_place id at r.0 r.1 r.2 b;
     }
   where
-    at_place : (id : ℕ) (at : Moment) (i : ℕ) → i < length (e ∷ es) → ((d : ℕ × Moment) → get_or (e ∷ es) i d ≡ (id, at)) → IsBefore at e.1 → ⊥
+    at_place : (id : ℕ) (at : Moment) (i : ℕ) → i < length (e ∷ es) → ((d : ℕ × Moment) → get_or (e ∷ es) i d ≡ (id, at)) → IsEarlier at e.1 → ⊥
     at_place id at zero lt is b =
         let s : e.1 ≡ at = ap (λ (x : ℕ × Moment). x.1) (is e) in
-        never e.1 (All-get_or (λ (x : ℕ × Moment). IsCanonical x.1.at) (e ∷ es) 0 e lt row.canonical) (subst (λ (x : Moment). IsBefore x e.1) (sym s) b)
+        never e.1 (All-get_or (λ (x : ℕ × Moment). IsCanonical x.1.at) (e ∷ es) 0 e lt row.canonical) (subst (λ (x : Moment). IsEarlier x e.1) (sym s) b)
     at_place id at (suc i) lt is b =
         let s : (get_or es i e).1 ≡ at = ap (λ (x : ℕ × Moment). x.1) (is e) in
-        (row.rising 0 (suc i) e (omega arith) lt).later (subst (λ (x : Moment). IsBefore x e.1) (sym s) b)
+        (row.rising 0 (suc i) e (omega arith) lt).later (subst (λ (x : Moment). IsEarlier x e.1) (sym s) b)
 
 -- what the view of a row says of an id
 pub seen : (es : List (ℕ × Moment)) (a : Agenda) → agenda_of es ≡ a → (k : ℕ) → look_up k es ≡ map.get a.moments k

@@ -6,7 +6,7 @@ use Rattle.std.specs.FinMap.{FinMap, get, empty, remove}
 use Rattle.std.specs.Coded.{Coded, code_by, coded×, coded_ℕ, coded_option}
 use Rattle.kin_num.specs.declared.instant.Moment.{Moment}
 use Rattle.kin_num.specs.contracts.instant.Moment as moment
-use Rattle.kin_num.specs.Moments.{IsBefore}
+use Rattle.kin_num.specs.Order.{IsEarlier}
 
 -- the moment of each id, and the entry that comes next
 pub record Agenda : Type 0 where
@@ -25,7 +25,7 @@ agenda_code =
 -- an entry, and no other is at an earlier moment
 pub record IsLeast (moments : FinMap nat_cmp Moment) (entry : ℕ × Moment) : Type 0 where
   pub there : get moments entry.0 ≡ Some entry.1
-  pub least : (id : ℕ) (at : Moment) → get moments id ≡ Some at → ¬ (IsBefore at entry.1)
+  pub least : (id : ℕ) (at : Moment) → get moments id ≡ Some at → ¬ (IsEarlier at entry.1)
 
 -- an entry of least moment, or nothing exactly where there is none
 abbrev pub IsNext : FinMap nat_cmp Moment → Option (ℕ × Moment) → Type 0

@@ -2,16 +2,14 @@
 
 ghost use Rattle.std.specs.Prelude.{◌≡◌, ◌≢◌, ℕ, ◌<◌, ◌≤◌, length, slice_get, slice_index_or, None, Some, OnOk, OnErr, OnSome, IsSome};
 ghost use Rattle.std.specs.FinMap.{get, insert, remove, empty};
-ghost use Rattle.kin_num.specs.Moments.{IsBefore};
+ghost use Rattle.kin_num.specs.Order.{IsEarlier};
 ghost use Rattle.std.specs.FinMap.{find};
 ghost use Rattle.std.specs.Ordering.{nat_cmp};
 ghost use Rattle.kin_queue.specs.Agenda.{IsNext, without};
 ghost use Rattle.kin_queue.specs.Row.{IsPlaceFor};
 
 use kin_instant::compare::compare_moments;
-use kin_num::instant::Moment;
-use kin_num::memory::NoMemory;
-use kin_num::steps::Steps;
+use kin_num::{Moment, NoMemory, Steps};
 use std::alloc::Global;
 use std::cmp::Ordering;
 use std::marker::Model;
