@@ -75,3 +75,31 @@ live-once (Some e ∷ slots) h =
     get_or-same [] i d lt = absurd (omega (arith, lt))
     get_or-same (x ∷ xs) zero d lt = refl
     get_or-same (x ∷ xs) (suc i) d lt = get_or-same xs i d (omega (arith, lt))
+
+-- the entry after it is given out
+abbrev pub waiting : Entry → Entry
+waiting e = record { owned = e.owned; fails = e.fails; is_waiting = true }
+
+abbrev due : LiveFact → ℕ
+due l = cond (not l.waits) 1 0
+
+due_count-cons : (l : LiveFact) (ls : List LiveFact) → due_count (l ∷ ls) ≡ due l + due_count ls
+due_count-cons l ls = sum_by-cons due l ls
+
+pub live-set-count : (slots : List (Option Entry)) (id : ℕ) (e f : Entry) → get_or slots id None ≡ Some e → length (live_in (set slots id (Some f))) ≡ length (live_in slots)
+live-set-count [] id e f h = absurd (none_some e h)
+live-set-count (None ∷ slots) zero e f h = absurd (none_some e h)
+live-set-count (None ∷ slots) (suc id) e f h = live-set-count slots id e f h
+live-set-count (Some g ∷ slots) zero e f h = refl
+live-set-count (Some g ∷ slots) (suc id) e f h = ap suc (live-set-count slots id e f h)
+
+pub live-set-due : (slots : List (Option Entry)) (id : ℕ) (e : Entry) → get_or slots id None ≡ Some e → e.is_waiting ≡ false → due_count (live_in (set slots id (Some (waiting e)))) + 1 ≡ due_count (live_in slots)
+live-set-due [] id e h w = absurd (none_some e h)
+live-set-due (None ∷ slots) zero e h w = absurd (none_some e h)
+live-set-due (None ∷ slots) (suc id) e h w = live-set-due slots id e h w
+live-set-due (Some g ∷ slots) zero e h w =
+    let same : g ≡ e = cc in
+    let one : due (live_fact g) ≡ 1 = ap (λ (x : Entry). cond (not x.is_waiting) 1 0) same ∙ ap (λ (b : Bool). cond (not b) 1 0) w in
+    omega (arith, one, due_count-cons (live_fact (waiting e)) (live_in slots), due_count-cons (live_fact g) (live_in slots))
+live-set-due (Some g ∷ slots) (suc id) e h w =
+    omega (arith, live-set-due slots id e h w, due_count-cons (live_fact g) (live_in (set slots id (Some (waiting e)))), due_count-cons (live_fact g) (live_in slots))

@@ -89,10 +89,10 @@ remove-absent moments id none =
       | false ↦ λ e. refl
     ] refl)
 
-elsewhere : {A : Type 0} (j id : ℕ) (x y : A) → j ≢ id → cond (same j id) x y ≡ y
+pub elsewhere : {A : Type 0} (j id : ℕ) (x y : A) → j ≢ id → cond (same j id) x y ≡ y
 elsewhere j id x y n = ap (λ (b : Bool). cond b x y) (differ j id n)
 
-here : {A : Type 0} (id : ℕ) (x y : A) → cond (same id id) x y ≡ x
+pub here : {A : Type 0} (id : ℕ) (x y : A) → cond (same id id) x y ≡ x
 here id x y = ap (λ (b : Bool). cond b x y) (same_itself id)
 
 -- an entry is taken out, with its rank and its id
@@ -228,4 +228,15 @@ empty-table entries ids moments no_slots no_ids no_moments =
       found = λ id e h. absurd (some_none e (sym h ∙ nothing id));
       known = λ r id h. absurd (some_none id (sym h ∙ ap (λ (es : List (List ℤ × ℕ)). lookup (is_rank r) es) no_ids));
       queued = λ id. ap (λ (m : FinMap nat_cmp Moment). map.get m id) no_moments ∙ get-empty nat_cmp id ∙ sym (ap queued_at (nothing id));
+    }
+
+-- only the slots, the ids' entries and the moments matter
+pub same-table : {S : Type 0} (entries entries' : Slab Entry) (ids ids' : IndexMap (List ℤ) ℕ S) (moments : FinMap nat_cmp Moment) → entries'.slots ≡ entries.slots → ids'.entries ≡ ids.entries → IsTable entries ids moments → IsTable entries' ids' moments
+same-table entries entries' ids ids' moments slots_are ids_are table =
+    let got : (id : ℕ) → get entries' id ≡ get entries id = λ id. ap (λ (xs : List (Option Entry)). get_or xs id None) slots_are in
+    let looked : (r : List ℤ) → look_up is_rank ids' r ≡ look_up is_rank ids r = λ r. ap (λ (es : List (List ℤ × ℕ)). lookup (is_rank r) es) ids_are in
+    record {
+      found = λ id e h. looked (entry_rank e) ∙ table.found id e (sym (got id) ∙ h);
+      known = λ r id h. let k = table.known r id (sym (looked r) ∙ h) in (k.0, got id ∙ k.1, k.2);
+      queued = λ id. table.queued id ∙ ap queued_at (sym (got id));
     }

@@ -1,5 +1,6 @@
 -- How a table lies in memory: a slab of entries, their ids by owner and form, and a queue of ids. No public clause cites this module.
-use Rattle.std.specs.Prelude.{◌≡◌, ℕ, ◌+◌, Bool, true, false, cond, not, ℤ, List, [], ◌∷◌, Option, Some, None, Contains, ◌↔◌, ◌⊎◌, count_by}
+use Rattle.std.specs.Prelude.{◌≡◌, ℕ, ◌+◌, Bool, true, false, cond, not, ℤ, List, [], ◌∷◌, Option, Some, None, Contains, ◌↔◌, ◌⊎◌, count_by, IsTrue, ◌≢◌, ◌<◌, length, slice_index_or}
+use Rattle.std.specs.List.{AllPairs}
 use Rattle.std.specs.Ordering.{nat_cmp, int_eq}
 use Rattle.std.specs.FinMap as map
 use Rattle.std.specs.FinMap.{FinMap}
@@ -11,8 +12,9 @@ use Rattle.kin_num.specs.Order.{IsEarlier}
 use Rattle.kin_motion.specs.declared.fact.Placed.{Placed}
 use Rattle.kin_motion.specs.Scene.{Scene}
 use Rattle.kin_cert.specs.declared.entry.Entry.{Entry}
+use Rattle.kin_cert.specs.declared.owned.Owned.{Owned}
 use Rattle.kin_cert.specs.Facts.{LiveFact, certificate_of}
-use Rattle.kin_cert.specs.Applied.{IsBorn}
+use Rattle.kin_cert.specs.Applied.{IsBorn, IsOf}
 use Rattle.kin_cert.specs.Rank.{rank_of}
 
 abbrev pub live_fact : Entry → LiveFact
@@ -25,6 +27,9 @@ live_in (Some e ∷ slots) = live_fact e ∷ live_in slots
 
 abbrev pub entry_rank : Entry → List ℤ
 entry_rank e = rank_of e.owned.structure e.owned.part e.owned.fact.form
+
+abbrev pub owned_rank : Owned → List ℤ
+owned_rank o = rank_of o.structure o.part o.fact.form
 
 -- when the queue has the entry
 abbrev pub queued_at : Option Entry → Option Moment
@@ -72,3 +77,25 @@ pub record HasGained (structure : ℕ) (scene : Moment → Scene) (now : Moment)
   pub fact : LiveFact
   pub is_born : IsBorn structure scene now p fact
   pub exactly : (l : LiveFact) → Contains new l ↔ (Contains old l ⊎ (l ≡ fact))
+
+-- some facts that fail at the moment were given out, and the others are as they were
+pub record IsGivenUpTo (m : Moment) (old new : List LiveFact) (taken : List Owned) : Type 0 where
+  pub given : (o : Owned) → Contains taken o → (l : LiveFact) × Contains new l × IsTrue l.waits × (l.certificate ≡ certificate_of o)
+  pub each : (l : LiveFact) → Contains new l → IsTrue l.waits → (o : Owned) × Contains taken o × (l.certificate ≡ certificate_of o)
+  pub once : AllPairs (λ o p. owned_rank o ≢ owned_rank p) taken
+  pub at_moment : (l : LiveFact) → Contains new l → IsTrue l.waits → l.fails ≡ Some m
+  pub stays : (l : LiveFact) → Contains old l → (k : LiveFact) × Contains new k × (k.certificate ≡ l.certificate) × (k.fails ≡ l.fails)
+  pub only : (k : LiveFact) → Contains new k → (l : LiveFact) × Contains old l × (k.certificate ≡ l.certificate) × (k.fails ≡ l.fails)
+  pub least : (l : LiveFact) (n : Moment) → Contains new l → IsDueAt l n → ¬ (IsEarlier n m)
+
+-- the first n of these are dropped
+pub record AreDropped (structure : ℕ) (dropped : List Placed) (n : ℕ) (old new : List LiveFact) : Type 0 where
+  pub rest : (l : LiveFact) → Contains new l ↔ (Contains old l × ((j : ℕ) (p : Placed) → j < n → ¬ (IsOf structure (slice_index_or dropped j p) l)))
+  pub count : length new + n ≡ length old
+
+-- the first n of these are born
+pub record AreBorn (structure : ℕ) (scene : Moment → Scene) (now : Moment) (born : List Placed) (n : ℕ) (old new : List LiveFact) : Type 0 where
+  pub kept : (l : LiveFact) → Contains old l → Contains new l
+  pub born_one : (j : ℕ) (p : Placed) → j < n → (l : LiveFact) × Contains new l × IsBorn structure scene now (slice_index_or born j p) l
+  pub only : (l : LiveFact) → Contains new l → Contains old l ⊎ ((j : ℕ) × (j < n) × ((p : Placed) → IsBorn structure scene now (slice_index_or born j p) l))
+  pub count : length new ≡ length old + n
