@@ -72,9 +72,6 @@ module _ {R : Type 0} (o : OrderedRing R) where
       at Minus e Zero f = o.sign_plus Minus a b e (inr f)
       at Minus e Minus f = o.sign_plus Minus a b e (inl f)
 
-  half : (a : R) → NonNegative (a ⊕ a) → NonNegative a
-  half a h = subst AtLeast (sign_twice a) h
-
   -- ---- products
   pub positive_product : {a b : R} → Positive a → Positive b → Positive (a · b)
   positive_product {a} {b} e f = o.sign_times a b ∙ ap₂ product_of e f
@@ -110,21 +107,3 @@ module _ {R : Type 0} (o : OrderedRing R) where
       let k = same_from_product _ _ e in
       let f : o.sign p ≡ o.sign (p ⊕ q) = sym (sign_twice p) ∙ ap o.sign (sym (sum_and_difference p q)) ∙ o.sign_plus (o.sign (p ⊕ q)) (p ⊕ q) (p ⊖ q) refl (inl (sym k.0)) in
       (sym f, λ z. k.1 (sym f ∙ z))
-
-  -- ---- bounds
-  -- -X ≤ x ≤ X
-  pub record Between (X x : R) : Type 0 where
-    pub above : NonNegative (X ⊖ x)
-    pub below : NonNegative (X ⊕ x)
-
-  pub product_between : {X x Y y : R} → Between X x → Between Y y → Between (X · Y) (x · y)
-  product_between {X} {x} {Y} {y} h k = record {
-    above = half _ (subst NonNegative upper (nonnegative_sum (nonnegative_product h.above k.below) (nonnegative_product h.below k.above)));
-    below = half _ (subst NonNegative lower (nonnegative_sum (nonnegative_product h.above k.above) (nonnegative_product h.below k.below)));
-  }
-    where
-      upper : ((X ⊖ x) · (Y ⊕ y)) ⊕ ((X ⊕ x) · (Y ⊖ y)) ≡ ((X · Y) ⊖ (x · y)) ⊕ ((X · Y) ⊖ (x · y))
-      upper = by_identity o.ring (X ∷ x ∷ Y ∷ y ∷ []) _ _ (search quotes_in depth 20) (search quotes_in depth 20) refl
-
-      lower : ((X ⊖ x) · (Y ⊖ y)) ⊕ ((X ⊕ x) · (Y ⊕ y)) ≡ ((X · Y) ⊕ (x · y)) ⊕ ((X · Y) ⊕ (x · y))
-      lower = by_identity o.ring (X ∷ x ∷ Y ∷ y ∷ []) _ _ (search quotes_in depth 20) (search quotes_in depth 20) refl

@@ -48,6 +48,9 @@ pub ruleset quotes_in = (at_here, at_there, q_variable, q_whole, q_plus, q_times
 abbrev pub q_pos : (xs : List ℤ) (n : ℕ) → Quote integers xs (pos n)
 q_pos xs n = record { expr = num (pos n); is = refl }
 
+abbrev pub q_negsuc : (xs : List ℤ) (n : ℕ) → Quote integers xs (negsuc n)
+q_negsuc xs n = record { expr = num (negsuc n); is = refl }
+
 abbrev pub q_plus_ℤ : (xs : List ℤ) (x y : ℤ) → Quote integers xs x → Quote integers xs y → Quote integers xs (x +ℤ y)
 q_plus_ℤ = q_plus
 
@@ -57,7 +60,7 @@ q_times_ℤ = q_times
 abbrev pub q_negative_ℤ : (xs : List ℤ) (x : ℤ) → Quote integers xs x → Quote integers xs (neg_ℤ x)
 q_negative_ℤ = q_negative
 
-pub ruleset quotes = (at_here, at_there, q_variable, q_pos, q_plus_ℤ, q_times_ℤ, q_negative_ℤ)
+pub ruleset quotes = (at_here, at_there, q_variable, q_pos, q_negsuc, q_plus_ℤ, q_times_ℤ, q_negative_ℤ)
 
 pub by_ring : (xs : List ℤ) (x y : ℤ) (p : Quote integers xs x) (q : Quote integers xs y) → agree p.expr q.expr ≡ true → x ≡ y
 by_ring = by_identity integers

@@ -18,16 +18,19 @@ abbrev pub value : Quadratic → Number → Pair
 value p x = pair (whole_part p x) (root_part p x)
 
 -- ---- radicands
-sound_of : (d : ℤ) → pos 0 <ℤ d → ((k : ℕ) → pos (k * k) ≢ d) → Sound d
-sound_of (negsuc n) h no_square = absurd (omega (arith, ints))
-sound_of (pos n) h no_square =
+radical_of : (d : ℤ) → pos 0 <ℤ d → ((k : ℕ) → pos (k * k) ≢ d) → Radical d
+radical_of (negsuc n) h no_square = absurd (omega (arith, ints))
+radical_of (pos n) h no_square =
     let b = square_below n (omega (arith, ints)) in
     let other : n ≢ (b.0 + 1) * (b.0 + 1) = λ e. no_square (b.0 + 1) (ap pos (sym e)) in
     let whole : b.0 * b.0 + (n - b.0 * b.0) ≡ n = omega (arith, b.1) in
-    inr (subst Radical (ap pos whole) (radical_between b.0 (n - b.0 * b.0) (omega (arith, b.1)) (omega (arith, b.1, b.2, other))))
+    subst Radical (ap pos whole) (radical_between b.0 (n - b.0 * b.0) (omega (arith, b.1)) (omega (arith, b.1, b.2, other)))
+
+pub irreducible-radical : (a b c : ℤ) → IsIrreducible a b c → Radical (discriminant a b c)
+irreducible-radical a b c i = radical_of (discriminant a b c) i.real i.irrational
 
 pub irreducible-sound : (a b c : ℤ) → IsIrreducible a b c → Sound (discriminant a b c)
-irreducible-sound a b c i = sound_of (discriminant a b c) i.real i.irrational
+irreducible-sound a b c i = inr (irreducible-radical a b c i)
 
 pub canonical-sound : (w : Shape) → IsCanonicalForm w → Sound (number_of w).radicand
 canonical-sound (Ratio n d) i = inl refl
