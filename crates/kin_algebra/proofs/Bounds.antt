@@ -96,8 +96,8 @@ module _ {R : Type 0} (o : OrderedRing R) where
     largest = C · ((K · E) ⊕ (P · (E · E)))
 
     by_parts :
-      (T · (T ⊖ largest)) ⊕ (((T · T) · ((C · A) ⊖ one)) ⊕ ((C · (T · ((K · E) ⊕ (B · e)))) ⊕ ((C · ((P · (E · E)) ⊕ (p · (e · e)))) ⊕ (C · ((T ⊖ one) · (P · (E · E)))))))
-      ≡ C · nearby
+        (T · (T ⊖ largest)) ⊕ (((T · T) · ((C · A) ⊖ one)) ⊕ ((C · (T · ((K · E) ⊕ (B · e)))) ⊕ ((C · ((P · (E · E)) ⊕ (p · (e · e)))) ⊕ (C · ((T ⊖ one) · (P · (E · E)))))))
+        ≡ C · nearby
     by_parts = by_identity o.ring (A ∷ B ∷ e ∷ p ∷ T ∷ C ∷ K ∷ E ∷ P ∷ []) _ _ (search quotes_in depth 40 fits 40000) (search quotes_in depth 40 fits 40000) refl
 
     pub value_decides : NonNegative ((C · A) ⊖ one) → Between K B → Between E e → Between P p → NonNegative P → NonNegative E

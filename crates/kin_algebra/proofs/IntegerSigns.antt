@@ -8,9 +8,9 @@ use Rattle.kin_algebra.specs.Signs.{sign_of, opposite_of, product_of}
 use Rattle.kin_algebra.proofs.Integers.{integers}
 use Rattle.kin_algebra.proofs.OrderedRings.{OrderedRing}
 
-above : (n : ℕ) → 0 < n → sign_of (pos n) ≡ Plus
-above zero h = absurd (omega arith)
-above (suc n) h = refl
+pub sign_of-pos : (n : ℕ) → 0 < n → sign_of (pos n) ≡ Plus
+sign_of-pos zero h = absurd (omega arith)
+sign_of-pos (suc n) h = refl
 
 below : (n : ℕ) → 0 < n → sign_of (neg_ℤ (pos n)) ≡ Minus
 below zero h = absurd (omega arith)
@@ -34,11 +34,11 @@ pub sign_of-times : (a b : ℤ) → sign_of (a *ℤ b) ≡ product_of (sign_of a
 sign_of-times (pos zero) (pos n) = ap (λ k. sign_of (pos k)) (none_left n)
 sign_of-times (pos zero) (negsuc n) = ap (λ k. sign_of (neg_ℤ (pos k))) (none_left (suc n))
 sign_of-times (pos (suc m)) (pos zero) = ap (λ k. sign_of (pos k)) (none_right (suc m))
-sign_of-times (pos (suc m)) (pos (suc n)) = above (suc m * suc n) (both m n)
+sign_of-times (pos (suc m)) (pos (suc n)) = sign_of-pos (suc m * suc n) (both m n)
 sign_of-times (pos (suc m)) (negsuc n) = below (suc m * suc n) (both m n)
 sign_of-times (negsuc m) (pos zero) = ap (λ k. sign_of (neg_ℤ (pos k))) (none_right (suc m))
 sign_of-times (negsuc m) (pos (suc n)) = below (suc m * suc n) (both m n)
-sign_of-times (negsuc m) (negsuc n) = above (suc m * suc n) (both m n)
+sign_of-times (negsuc m) (negsuc n) = sign_of-pos (suc m * suc n) (both m n)
 
 -- what a sign says of a number, for `omega (arith, ints, ..)`
 abbrev pub Says : Sign → ℤ → Type 0

@@ -1,5 +1,5 @@
 -- Numbers d that are positive and no square, and the sign of u + v * sqrt(d) by its norm.
-use Rattle.std.proofs.Common.{◌≡◌, ◌≢◌, ◌⊎◌, inl, inr, ℤ, pos, ◌+ℤ◌, ◌*ℤ◌, neg_ℤ, sym, refl, ap, ap₂, ◌∙◌, subst}
+use Rattle.std.proofs.Common.{◌≡◌, ◌≢◌, inr, ℤ, pos, ◌*ℤ◌, neg_ℤ, sym, refl, ap, ap₂, ◌∙◌}
 use lib.IntN.{+ℤ_comm}
 use Rattle.kin_algebra.specs.declared.sign.Sign.{Sign}
 use Rattle.kin_algebra.specs.declared.sign.Sign.TheVariants.{Minus, Zero, Plus}

@@ -1,5 +1,5 @@
 -- Identities of whole numbers and of any commutative ring, quoted from the goal by `search`.
-use Rattle.std.proofs.Common.{◌≡◌, ℕ, zero, suc, true, List, [], ◌∷◌, refl, sym, ◌∙◌, ap, ap₂}
+use Rattle.std.proofs.Common.{◌≡◌, ℕ, zero, suc, true, List, ◌∷◌, refl, sym, ◌∙◌, ap, ap₂}
 use Rattle.std.specs.Prelude.{ℤ, pos, negsuc, ◌+ℤ◌, ◌*ℤ◌}
 use lib.IntN.{neg_ℤ}
 use Rattle.kin_algebra.proofs.Rings.{CommutativeRing}

@@ -3,8 +3,8 @@ use Rattle.std.proofs.Common.{◌≡◌, ℕ, zero, suc, Bool, true, false, ◌+
 use Rattle.std.specs.Prelude.{nat_le}
 use Rattle.std.proofs.lemmas.Int.{ints, unsigned_abs-mul}
 use Rattle.std.proofs.lemmas.Bool.Decides.{nat_tests}
-use Rattle.kin_algebra.specs.declared.sign.Sign.TheVariants.{Plus}
-use Rattle.kin_algebra.specs.Signs.{sign_of, norm_of}
+use Rattle.kin_algebra.specs.Signs.{norm_of}
+use Rattle.kin_algebra.proofs.IntegerSigns.{sign_of-pos}
 use Rattle.kin_algebra.proofs.Radicals.{Radical}
 use Rattle.kin_algebra.proofs.Descent.{none}
 
@@ -25,12 +25,8 @@ radical_from_root r E p q u v e =
     let zu : unsigned_abs u * unsigned_abs u ≡ 0 = t ∙ ap (λ k. (k * k) * (r * r + E)) zv ∙ omega arith in
     (zero_abs u (zero_square (unsigned_abs u) zu), zero_abs v zv)
 
-some_sign : (n : ℕ) → 0 < n → sign_of (pos n) ≡ Plus
-some_sign zero h = absurd (omega arith)
-some_sign (suc n) h = refl
-
 pub radical_between : (r E : ℕ) → 0 < E → E ≤ 2 * r → Radical (pos (r * r + E))
-radical_between r E p q = record { positive = some_sign (r * r + E) (omega arith); alone = radical_from_root r E p q }
+radical_between r E p q = record { positive = sign_of-pos (r * r + E) (omega arith); alone = radical_from_root r E p q }
 
 -- ---- the greatest square below a number
 -- a test that turns from false to true turns at some place

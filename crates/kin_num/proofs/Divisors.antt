@@ -1,5 +1,5 @@
 -- Common divisors, and what they say of fractions in lowest terms and of primitive quadratics.
-use Rattle.std.proofs.Common.{◌≡◌, ℕ, zero, suc, ◌+◌, ◌-◌, ◌*◌, ◌<◌, ◌≤◌, ◌%◌, ◌/◌, [], ◌∷◌, ℤ, pos, negsuc, ◌*ℤ◌, unsigned_abs, sym, refl, ap, ◌∙◌, subst, arith, mod-lt}
+use Rattle.std.proofs.Common.{◌≡◌, ℕ, zero, suc, ◌+◌, ◌-◌, ◌*◌, ◌<◌, ◌%◌, ◌/◌, [], ◌∷◌, ℤ, pos, negsuc, ◌*ℤ◌, unsigned_abs, sym, refl, ap, ◌∙◌, subst, arith, mod-lt}
 use Rattle.std.specs.Prelude.{◌<ℤ◌, ◌-ℤ◌}
 use Rattle.std.specs.Int.{IsGcd, ◌∣◌}
 use Rattle.std.proofs.lemmas.Int.{ints, unsigned_abs-mul}

@@ -1,6 +1,6 @@
 -- A canonical instant against a fraction: the sign there of the fraction's line decides.
-use Rattle.std.proofs.Common.{◌≡◌, ◌≢◌, ◌⊎◌, inl, inr, ℕ, zero, suc, Bool, true, false, [], ◌∷◌, refl, sym, ap, ap₂, ◌∙◌, subst, ◌<◌, arith}
-use Rattle.std.specs.Prelude.{ℤ, pos, negsuc, ◌+ℤ◌, ◌-ℤ◌, ◌*ℤ◌, ◌<ℤ◌}
+use Rattle.std.proofs.Common.{◌≡◌, ◌≢◌, inl, inr, ℕ, Bool, true, false, [], ◌∷◌, refl, sym, ap, ap₂, ◌∙◌, ◌<◌, arith}
+use Rattle.std.specs.Prelude.{ℤ, pos, negsuc, ◌-ℤ◌, ◌*ℤ◌}
 use Rattle.std.proofs.lemmas.Int.{ints}
 use lib.IntN.{neg_ℤ}
 use Rattle.kin_algebra.specs.declared.sign.Sign.{Sign}
@@ -8,21 +8,19 @@ use Rattle.kin_algebra.specs.declared.sign.Sign.TheVariants.{Minus, Zero, Plus}
 use Rattle.kin_algebra.specs.Signs.{sign_of, opposite_of, pair_sign_of}
 use Rattle.kin_algebra.proofs.Ring.{by_ring, quotes}
 use Rattle.kin_algebra.proofs.Signs.{code, opposite-opposite}
-use Rattle.kin_algebra.proofs.OrderedRings.{scale}
-use Rattle.kin_algebra.proofs.IntegerSigns.{ordered_integers, sign_of-negative, sign_in, zero_of}
+use Rattle.kin_algebra.proofs.IntegerSigns.{sign_of-pos, sign_of-negative, sign_in, zero_of}
 use Rattle.kin_algebra.proofs.Radicals.{pair_of_zero}
 use Rattle.kin_num.specs.declared.instant.Shape.{Shape}
 use Rattle.kin_num.specs.declared.instant.Shape.TheVariants.{Ratio, Root}
 use Rattle.kin_num.specs.Canonical.{IsCanonicalForm, IsLowest, IsIrreducible, discriminant}
 use Rattle.kin_num.specs.Instants.{number_of, sign_at_instant, line}
-use Rattle.kin_num.specs.Order.{Separates}
 use Rattle.kin_num.proofs.Values.{canonical-sound, irreducible-radical}
-use Rattle.kin_num.proofs.Near.{HasHeight, HasSize, IsFine, Bracket, bracket, at_fraction, past, line_sign}
+use Rattle.kin_num.proofs.Near.{HasHeight, HasSize, IsFine, Bracket, bracket, at_fraction, line_sign}
 use Rattle.kin_num.proofs.Kept.{kept_left, kept_right, t_some}
 use Rattle.kin_num.proofs.Divisors.{same_lowest}
 use Rattle.kin_num.proofs.RootSigns.{pair_sign-positive, times_positive}
 use Rattle.kin_num.proofs.RootZeros.{divisor-positive}
-use Rattle.kin_num.proofs.RootOrder.{SeparatedAt, Compared}
+use Rattle.kin_num.proofs.RootOrder.{SeparatedAt, Compared, positive_of}
 
 without_root : (k d n t : ℤ) → pair_sign_of (t *ℤ n -ℤ k *ℤ d) (t *ℤ pos 0) (pos 0) ≡ sign_of (t *ℤ n -ℤ k *ℤ d)
 without_root k d n t = refl
@@ -77,13 +75,6 @@ pub fraction_itself : (n d : ℤ) → IsLowest n d → (w : Shape) → IsCanonic
 fraction_itself n d i (Ratio n' d') k e = level_fractions n d n' d' i k e
 fraction_itself n d i (Root a b c upper) k e = absurd (line_at_root a b c k upper n d (sign_in Plus d i.positive) e)
 
-positive_of : (t : ℕ) → 0 < t → pos 0 <ℤ pos t
-positive_of t h = omega (arith, ints)
-
-plus_of : (t : ℕ) → 0 < t → sign_of (pos t) ≡ Plus
-plus_of zero h = absurd (omega arith)
-plus_of (suc t) h = refl
-
 module _ (n d : ℤ) (i : IsLowest n d) (w : Shape) (form : IsCanonicalForm w) (m t h : ℕ) (size : HasSize (number_of w) m) (some : 0 < h) (fine : IsFine h m t)
     (height : HasHeight (line n d) h) where
   room : 0 < t
@@ -93,23 +84,29 @@ module _ (n d : ℤ) (i : IsLowest n d) (w : Shape) (form : IsCanonicalForm w) (
   near = bracket (number_of w) m t size room
 
   across : (k : ℤ) → sign_at_instant (line k (pos t)) (Ratio n d) ≡ opposite_of (sign_of (at_fraction (line n d) (pos t) k))
-  across k = line_across n d k (pos t) (sign_in Plus d i.positive) (plus_of t room)
+  across k = line_across n d k (pos t) (sign_in Plus d i.positive) (sign_of-pos t room)
 
   pub above_fraction : sign_at_instant (line n d) w ≡ Plus → SeparatedAt t (Ratio n d) w
   unfolding sign_at_instant
-  above_fraction e = (near.k -ℤ pos 1, record {
-    proper = positive_of t room;
-    first = λ p. code (sym (across (near.k -ℤ pos 1) ∙ ap opposite_of (kept_left (number_of w) m t h size some fine near (line n d) height Plus (λ z. code z) e)) ∙ p);
-    second = line_sign (number_of w) size.sound (divisor-positive w form) (near.k -ℤ pos 1) (pos t) ∙ near.after;
-  })
+  above_fraction e = (
+    near.k -ℤ pos 1,
+    record {
+      proper = positive_of t room;
+      first = λ p. code (sym (across (near.k -ℤ pos 1) ∙ ap opposite_of (kept_left (number_of w) m t h size some fine near (line n d) height Plus (λ z. code z) e)) ∙ p);
+      second = line_sign (number_of w) size.sound (divisor-positive w form) (near.k -ℤ pos 1) (pos t) ∙ near.after;
+    },
+  )
 
   pub below_fraction : sign_at_instant (line n d) w ≡ Minus → SeparatedAt t w (Ratio n d)
   unfolding sign_at_instant
-  below_fraction e = (near.k, record {
-    proper = positive_of t room;
-    first = λ p. near.not_after (sym (line_sign (number_of w) size.sound (divisor-positive w form) near.k (pos t)) ∙ p);
-    second = across near.k ∙ ap opposite_of (kept_right (number_of w) m t h size some fine near (line n d) height Minus (λ z. code z) e);
-  })
+  below_fraction e = (
+    near.k,
+    record {
+      proper = positive_of t room;
+      first = λ p. near.not_after (sym (line_sign (number_of w) size.sound (divisor-positive w form) near.k (pos t)) ∙ p);
+      second = across near.k ∙ ap opposite_of (kept_right (number_of w) m t h size some fine near (line n d) height Minus (λ z. code z) e);
+    },
+  )
 
   -- in all cases one is less, or they are one
   pub fraction_order : Compared t w (Ratio n d)

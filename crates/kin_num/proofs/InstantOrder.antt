@@ -1,5 +1,5 @@
 -- The order of canonical instants is total: of two different ones one is less.
-use Rattle.std.proofs.Common.{◌≡◌, ◌⊎◌, inl, inr, ℕ, true, false, sym, subst, ◌+◌, ◌*◌, ◌<◌, ◌^◌, pos, arith}
+use Rattle.std.proofs.Common.{◌≡◌, ◌⊎◌, inl, inr, ℕ, true, false, subst, ◌+◌, ◌*◌, ◌<◌, ◌^◌, pos, arith}
 use Rattle.std.specs.Prelude.{ℤ}
 use Rattle.kin_algebra.specs.declared.sign.Sign.{Sign}
 use Rattle.kin_algebra.specs.declared.sign.Sign.TheVariants.{Minus, Zero, Plus}
@@ -9,7 +9,7 @@ use Rattle.kin_num.specs.Canonical.{IsCanonicalForm, IsIrreducible, IsLowest, Is
 use Rattle.kin_num.specs.Instants.{number_of, sign_at_instant, derivative, line}
 use Rattle.kin_num.specs.Order.{IsLess, AreLevel}
 use Rattle.kin_num.proofs.Near.{HasSize, IsFine}
-use Rattle.kin_num.proofs.Sizes.{HasShapeHeight, size_of, height_of, own_size, own_height, height_some, wide_size, wide_height}
+use Rattle.kin_num.proofs.Sizes.{HasShapeHeight, size_of, height_of, own_size, own_height, height_some, wide_size, wide_height, wide_some, wide_fine}
 use Rattle.kin_num.proofs.RootSigns.{quadratic}
 use Rattle.kin_num.proofs.RootOrder as Roots
 use Rattle.kin_num.proofs.RootOrder.{SeparatedAt, Compared, root_order}
@@ -22,15 +22,9 @@ pub compared : (v w : Shape) → IsCanonicalForm v → IsCanonicalForm w → (m 
 compared v (Ratio n d) fv fw m t h size some fine height = fraction_order n d fw v fv m t h size some fine height
 compared v (Root a b c upper) fv fw m t h size some fine height = root_order a b c fw v fv m t h size some fine height.own height.slope upper
 
-some_height : 0 < 2 ^ 31
-some_height = omega arith
-
-wide_fine : IsFine (2 ^ 31) (2 ^ 33) (2 ^ 200)
-wide_fine = omega arith
-
 -- under the wide bounds 2^200 is a denominator that serves
 pub wide_compared : (v w : Shape) → IsCanonicalForm v → IsCanonicalForm w → IsWideShape v → IsWideShape w → Compared (2 ^ 200) v w
-wide_compared v w fv fw bv bw = compared v w fv fw (2 ^ 33) (2 ^ 200) (2 ^ 31) (wide_size v fv bv) some_height wide_fine (wide_height w bw)
+wide_compared v w fv fw bv bw = compared v w fv fw (2 ^ 33) (2 ^ 200) (2 ^ 31) (wide_size v fv bv) wide_some wide_fine (wide_height w bw)
 
 -- ---- at any denominator
 pub less_at : {t : ℕ} {v w : Shape} → SeparatedAt t v w → IsLess v w

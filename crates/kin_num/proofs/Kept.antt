@@ -1,35 +1,26 @@
 -- What a polynomial's sign at a number says of its signs at the fractions around it.
-use Rattle.std.proofs.Common.{◌≡◌, ◌≢◌, inl, inr, ℕ, zero, suc, [], ◌∷◌, refl, sym, ap, ◌∙◌, subst, ◌+◌, ◌*◌, ◌≤◌, ◌<◌, arith, unsigned_abs}
-use Rattle.std.specs.Prelude.{ℤ, pos, negsuc, ◌+ℤ◌, ◌-ℤ◌, ◌*ℤ◌, ◌≤ℤ◌}
+use Rattle.std.proofs.Common.{◌≡◌, ◌≢◌, ℕ, zero, suc, [], ◌∷◌, refl, sym, ap, ◌∙◌, subst, ◌+◌, ◌*◌, ◌≤◌, ◌<◌, arith, unsigned_abs}
+use Rattle.std.specs.Prelude.{ℤ, pos, negsuc, ◌-ℤ◌}
 use Rattle.std.proofs.lemmas.Int.{ints}
 use lib.IntN.{neg_ℤ}
 use Rattle.kin_algebra.specs.declared.sign.Sign.{Sign}
 use Rattle.kin_algebra.specs.declared.sign.Sign.TheVariants.{Minus, Zero, Plus}
 use Rattle.kin_algebra.specs.Signs.{sign_of, opposite_of}
 use Rattle.kin_algebra.proofs.Ring.{by_ring, quotes}
-use Rattle.kin_algebra.proofs.Signs.{code, AtLeast, opposite-opposite}
+use Rattle.kin_algebra.proofs.Signs.{code, opposite-opposite}
 use Rattle.kin_algebra.proofs.OrderedRings.{OrderedRing}
 use Rattle.kin_algebra.proofs.Bounds.{Between, IsApart}
-use Rattle.kin_algebra.proofs.IntegerSigns.{sign_of-negative, sign_in}
+use Rattle.kin_algebra.proofs.IntegerSigns.{sign_of-pos, sign_of-negative, sign_in}
 use Rattle.kin_algebra.proofs.Pairs.{Pair, pair, pair_plus, pair_negative, Sound, sign_over, sign_over-whole, sign_over-negative}
 use Rattle.kin_num.specs.Quadratic.{Quadratic}
 use Rattle.kin_num.specs.Instants.{Number, sign_at_number}
 use Rattle.kin_num.proofs.Values.{value, negated, value-negated}
 use Rattle.kin_num.proofs.Nearness.{value_in, fine, AreBounded, near}
 use Rattle.kin_num.proofs.NumberRing.{flat, conjugate, ring_over, flat_some, flat_between, pair_between, positive_apart}
-use Rattle.kin_num.proofs.Near.{HasHeight, HasSize, IsFine, at_fraction, value-in, conjugate-in, fraction-in, fine-in, W, T, Q, E, point_size, divisor_size, Q_positive, Bracket, right_between, left_between}
+use Rattle.kin_num.proofs.Near.{size_negative, HasHeight, HasSize, IsFine, at_fraction, value-in, conjugate-in, fraction-in, fine-in, E, point_size, Q_positive, Bracket, right_between, left_between}
 
 fine_left : (m t : ℕ) → m < t → sign_of (pos t -ℤ pos m) ≡ Plus
 fine_left m t h = sign_in Plus (pos t -ℤ pos m) (omega (arith, ints))
-
-some_sign : (n : ℕ) → 0 < n → sign_of (pos n) ≡ Plus
-some_sign zero h = absurd (omega arith)
-some_sign (suc n) h = refl
-
-size_negative : (z : ℤ) → unsigned_abs (neg_ℤ z) ≡ unsigned_abs z
-size_negative (pos zero) = refl
-size_negative (pos (suc n)) = refl
-size_negative (negsuc n) = refl
 
 pub height-negated : (p : Quadratic) (h : ℕ) → HasHeight p h → HasHeight (negated p) h
 height-negated p h k = record {
@@ -45,22 +36,22 @@ module _ (x : Number) (w t h : ℕ) (size : HasSize x w) (h_some : 0 < h) (enoug
   pub t_some : 0 < t
   t_some = omega arith
 
-  abbrev s : Sound x.radicand
+  abbrev pub s : Sound x.radicand
   s = size.sound
 
-  abbrev d : ℤ
+  abbrev pub d : ℤ
   d = x.radicand
 
-  abbrev o : OrderedRing Pair
+  abbrev pub o : OrderedRing Pair
   o = ring_over d s
 
-  abbrev H : Pair
+  abbrev pub H : Pair
   H = flat (pos h)
 
-  abbrev X : Pair
+  abbrev pub X : Pair
   X = pair x.whole x.root
 
-  w_some : 0 < w
+  pub w_some : 0 < w
   w_some = at x.divisor size.positive size.divisor_most
     where
       at : (q : ℤ) → sign_of q ≡ Plus → unsigned_abs q ≤ w → 0 < w
@@ -68,10 +59,10 @@ module _ (x : Number) (w t h : ℕ) (size : HasSize x w) (h_some : 0 < h) (enoug
       at (pos (suc n)) e k = omega (arith, k)
       at (negsuc n) e k = absurd (code e)
 
-  flat_positive : (n : ℕ) → 0 < n → sign_over d (flat (pos n)) ≡ Plus
-  flat_positive n h = sign_over-whole d s (pos n) ∙ some_sign n h
+  pub flat_positive : (n : ℕ) → 0 < n → sign_over d (flat (pos n)) ≡ Plus
+  flat_positive n h = sign_over-whole d s (pos n) ∙ sign_of-pos n h
 
-  bounds : (p : Quadratic) → HasHeight p h → AreBounded o (flat p.a) (flat p.b) (flat p.c) (flat x.divisor) H (flat (pos w))
+  pub bounds : (p : Quadratic) → HasHeight p h → AreBounded o (flat p.a) (flat p.b) (flat p.c) (flat x.divisor) H (flat (pos w))
   bounds p k = record {
     a_most = flat_between d s h p.a k.a_most;
     b_most = flat_between d s h p.b k.b_most;
@@ -81,10 +72,10 @@ module _ (x : Number) (w t h : ℕ) (size : HasSize x w) (h_some : 0 < h) (enoug
     W_positive = flat_positive w w_some;
   }
 
-  conjugate_size : Between o (flat (pos w)) (conjugate X)
+  pub conjugate_size : Between o (flat (pos w)) (conjugate X)
   conjugate_size = pair_between d s size.root_bound size.radicand_most w x.whole (neg_ℤ x.root) (subst (λ n. unsigned_abs x.whole + n * size.root_bound ≤ w) (sym (size_negative x.root)) size.point_most)
 
-  fine_here : sign_over d (pair_plus (flat (pos t)) (pair_negative (fine o H (flat (pos w))))) ≡ Plus
+  pub fine_here : sign_over d (pair_plus (flat (pos t)) (pair_negative (fine o H (flat (pos w))))) ≡ Plus
   fine_here =
       ap (λ a. sign_over d (pair_plus (flat (pos t)) (pair_negative a))) (fine-in x s (pos h) (pos w))
       ∙ sign_over-whole d s (pos t -ℤ pos (12 * (h * h) * ((w * w) * (w * w))))

@@ -1,6 +1,6 @@
 -- The order laws that hold for all instants with a sound radicand and a positive divisor.
 use Rattle.std.proofs.Common.{◌≡◌, ◌≢◌, ◌⊎◌, inl, inr, [], ◌∷◌, refl, sym, ap, ap₂, ◌∙◌, subst, arith}
-use Rattle.std.specs.Prelude.{ℤ, pos, ◌+ℤ◌, ◌-ℤ◌, ◌*ℤ◌, ◌<ℤ◌}
+use Rattle.std.specs.Prelude.{zero, suc, ℤ, pos, negsuc, ◌-ℤ◌, ◌*ℤ◌, ◌<ℤ◌, ◌≤ℤ◌}
 use Rattle.std.proofs.lemmas.Int.{ints}
 use lib.IntN.{neg_ℤ}
 use Rattle.kin_algebra.specs.declared.sign.Sign.{Sign}
@@ -9,8 +9,8 @@ use Rattle.kin_algebra.specs.Signs.{sign_of, opposite_of, product_of}
 use Rattle.kin_algebra.proofs.Ring.{by_ring, quotes}
 use Rattle.kin_algebra.proofs.Signs.{AtLeast, is_plus, product-Plus}
 use Rattle.kin_algebra.proofs.OrderedRings.{positive_cancel, positive_product}
-use Rattle.kin_algebra.proofs.IntegerSigns.{ordered_integers, sign_of-negative, sign_of-times, sign_in}
-use Rattle.kin_algebra.proofs.Pairs.{Pair, pair, pair_plus, pair_times, ordered, sign_over, sign_over-whole}
+use Rattle.kin_algebra.proofs.IntegerSigns.{sign_of-negative, sign_of-times, sign_in}
+use Rattle.kin_algebra.proofs.Pairs.{pair, pair_plus, pair_times, ordered, sign_over, sign_over-whole}
 use Rattle.kin_num.specs.declared.instant.Shape.{Shape}
 use Rattle.kin_num.specs.Canonical.{IsCanonicalForm}
 use Rattle.kin_num.specs.Instants.{Number, number_of, sign_at_instant, line}
@@ -64,11 +64,15 @@ pub not_less_itself : (w : Shape) → ¬ (IsLess w w)
 not_less_itself w l = l.2.first l.2.second
 
 pub less_trans : (u v w : Shape) → IsCanonicalForm v → IsCanonicalForm w → IsLess u v → IsLess v w → IsLess u w
-less_trans u v w fv fw p q = (p.0, p.1, record {
-  proper = p.2.proper;
-  first = p.2.first;
-  second = lower_of_two v w fv fw p.0 p.1 q.0 q.1 p.2.proper q.2.proper p.2.second q.2.first q.2.second _ refl;
-})
+less_trans u v w fv fw p q = (
+  p.0,
+  p.1,
+  record {
+    proper = p.2.proper;
+    first = p.2.first;
+    second = lower_of_two v w fv fw p.0 p.1 q.0 q.1 p.2.proper q.2.proper p.2.second q.2.first q.2.second _ refl;
+  },
+)
 
 pub less_asym : (v w : Shape) → IsCanonicalForm v → IsCanonicalForm w → IsLess v w → ¬ (IsLess w v)
 less_asym v w fv fw p q = not_less_itself v (less_trans v w v fw fv p q)
@@ -80,3 +84,31 @@ less_either u v w p = at (is_plus (sign_at_instant (line p.0 p.1) v))
     at : (sign_at_instant (line p.0 p.1) v ≡ Plus) ⊎ (sign_at_instant (line p.0 p.1) v ≢ Plus) → IsLess u v ⊎ IsLess v w
     at (inl e) = inl (p.0, p.1, record { proper = p.2.proper; first = p.2.first; second = e })
     at (inr n) = inr (p.0, p.1, record { proper = p.2.proper; first = n; second = p.2.second })
+
+-- ---- the least fraction of one denominator that isn't before v
+at_least_of : (k : ℤ) → pos 0 ≤ℤ k → AtLeast (sign_of k)
+at_least_of (pos zero) h = inr refl
+at_least_of (pos (suc n)) h = inl refl
+at_least_of (negsuc n) h = absurd (omega (arith, ints))
+
+same_denominator : (m n t : ℤ) → m *ℤ t -ℤ n *ℤ t ≡ (m -ℤ n) *ℤ t
+same_denominator m n t = by_ring (m ∷ n ∷ t ∷ []) _ _ (search quotes depth 20) (search quotes depth 20) refl
+
+lower_numerator : (w : Shape) → IsCanonicalForm w → (n m t : ℤ) → pos 0 <ℤ t → n ≤ℤ m → sign_at_instant (line m t) w ≡ Plus → sign_at_instant (line n t) w ≡ Plus
+lower_numerator w form n m t p h =
+    lower_fraction w form n t m t p p
+    (subst AtLeast (sym (ap sign_of (same_denominator m n t) ∙ sign_of-times (m -ℤ n) t ∙ ap (product_of (sign_of (m -ℤ n))) (sign_in Plus t p) ∙ product-Plus (sign_of (m -ℤ n)))) (at_least_of (m -ℤ n) (omega (arith, ints))))
+
+pub least_separates : (v w : Shape) → IsCanonicalForm v → IsCanonicalForm w → (n k t : ℤ) → sign_at_instant (line (k -ℤ pos 1) t) v ≡ Plus → sign_at_instant (line k t) v ≢ Plus → Separates v w n t → Separates v w k t
+least_separates v w fv fw n k t after not_after s = record {
+  proper = s.proper;
+  first = not_after;
+  second = at (either n k);
+}
+  where
+    either : (n k : ℤ) → (n ≤ℤ (k -ℤ pos 1)) ⊎ (k ≤ℤ n)
+    either n k = grind (arith, ints)
+
+    at : (n ≤ℤ (k -ℤ pos 1)) ⊎ (k ≤ℤ n) → sign_at_instant (line k t) w ≡ Plus
+    at (inl h) = absurd (s.first (lower_numerator v fv n (k -ℤ pos 1) t s.proper h after))
+    at (inr h) = lower_numerator w fw k n t s.proper h s.second

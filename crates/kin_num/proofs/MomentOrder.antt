@@ -1,11 +1,10 @@
 -- The order of canonical moments.
-use Rattle.std.proofs.Common.{◌≡◌, ◌⊎◌, inl, inr, sym, refl, ap, ap₂, ◌∙◌, subst}
-use Rattle.kin_num.specs.declared.instant.Shape.{Shape}
+use Rattle.std.proofs.Common.{◌≡◌, ◌⊎◌, inl, inr, sym, refl, ap₂, ◌∙◌, subst}
 use Rattle.kin_num.specs.declared.instant.Phase.{Phase}
 use Rattle.kin_num.specs.declared.instant.Phase.TheVariants.{At, After}
 use Rattle.kin_num.specs.declared.instant.Moment.{Moment}
 use Rattle.kin_num.specs.Canonical.{IsCanonicalForm}
-use Rattle.kin_num.specs.Order.{IsLess, AreLevel, IsEarlier}
+use Rattle.kin_num.specs.Order.{IsLess, IsEarlier}
 use Rattle.kin_num.proofs.LowerFractions.{not_less_itself, less_trans}
 use Rattle.kin_num.proofs.InstantOrder.{total, level_same, same_level}
 

@@ -1,27 +1,34 @@
 -- A fraction k/t close to a number, and polynomials there: what has a sign at the number has it at the fraction.
-use Rattle.std.proofs.Common.{◌≡◌, ◌≢◌, ◌⊎◌, inl, inr, ℕ, zero, suc, Bool, true, false, [], ◌∷◌, refl, sym, ap, ap₂, ◌∙◌, subst, ◌+◌, ◌*◌, ◌≤◌, ◌<◌, arith, unsigned_abs}
+use Rattle.std.proofs.Common.{◌≡◌, ◌≢◌, inl, inr, ℕ, zero, suc, Bool, true, false, [], ◌∷◌, refl, sym, ap, ap₂, ◌∙◌, subst, ◌+◌, ◌*◌, ◌≤◌, ◌<◌, arith, unsigned_abs}
 use Rattle.std.specs.Prelude.{ℤ, pos, negsuc, ◌+ℤ◌, ◌-ℤ◌, ◌*ℤ◌, ◌≤ℤ◌}
-use Rattle.std.proofs.lemmas.Int.{ints}
+use Rattle.std.proofs.lemmas.Int.{ints, unsigned_abs-mul}
 use lib.IntN.{neg_ℤ}
 use Rattle.kin_algebra.specs.declared.sign.Sign.{Sign}
 use Rattle.kin_algebra.specs.declared.sign.Sign.TheVariants.{Minus, Zero, Plus}
-use Rattle.kin_algebra.specs.Signs.{sign_of, opposite_of, product_of}
+use Rattle.kin_algebra.specs.Signs.{sign_of, opposite_of}
 use Rattle.kin_algebra.proofs.Ring.{by_ring, quotes}
-use Rattle.kin_algebra.proofs.Signs.{code, AtLeast, opposite-opposite}
-use Rattle.kin_algebra.proofs.OrderedRings.{OrderedRing, positive_sum, nonnegative_sum, nonnegative_product, scale}
-use Rattle.kin_algebra.proofs.Bounds.{Between, IsApart}
-use Rattle.kin_algebra.proofs.IntegerSigns.{sign_of-negative, sign_in}
+use Rattle.kin_algebra.proofs.Signs.{code, AtLeast}
+use Rattle.kin_algebra.proofs.OrderedRings.{OrderedRing, scale}
+use Rattle.kin_algebra.proofs.Bounds.{Between}
 use Rattle.kin_algebra.proofs.Squares.{turning}
 use Rattle.kin_algebra.proofs.Pairs.{Pair, pair, pair_plus, pair_times, pair_negative, Sound, sign_over, sign_over-whole, sign_over-negative}
 use Rattle.kin_num.specs.Quadratic.{Quadratic}
 use Rattle.kin_num.specs.Instants.{Number, sign_at_number, line}
-use Rattle.kin_num.proofs.Values.{value, negated, value-negated}
-use Rattle.kin_num.proofs.Nearness.{value_in, apart_in, fine, AreBounded, near, far_left, far_right, right_close, left_close}
-use Rattle.kin_num.proofs.NumberRing.{flat, conjugate, ring_over, flat_some, flat_between, flat_wider, pair_between, positive_apart}
+use Rattle.kin_num.proofs.Values.{value}
+use Rattle.kin_num.proofs.Nearness.{value_in, apart_in, fine, far_left, far_right, right_close, left_close}
+use Rattle.kin_num.proofs.NumberRing.{flat, conjugate, ring_over, flat_some, flat_between, pair_between}
 
 -- t*t times the value at k/t
 abbrev pub at_fraction : Quadratic → ℤ → ℤ → ℤ
 at_fraction p t k = p.a *ℤ (k *ℤ k) +ℤ p.b *ℤ (t *ℤ k) +ℤ p.c *ℤ (t *ℤ t)
+
+pub size_negative : (z : ℤ) → unsigned_abs (neg_ℤ z) ≡ unsigned_abs z
+size_negative (pos zero) = refl
+size_negative (pos (suc n)) = refl
+size_negative (negsuc n) = refl
+
+pub size_double : (z : ℤ) → unsigned_abs (pos 2 *ℤ z) ≡ 2 * unsigned_abs z
+size_double z = unsigned_abs-mul (pos 2) z
 
 -- the coefficients are at most h in size
 pub record HasHeight (p : Quadratic) (h : ℕ) : Type 0 where

@@ -1,5 +1,5 @@
 -- Numbers in the ordered ring of pairs over their radicand.
-use Rattle.std.proofs.Common.{◌≡◌, ◌≢◌, ◌⊎◌, inl, inr, ℕ, zero, suc, [], ◌∷◌, refl, sym, ap, ap₂, ◌∙◌, subst, ◌+◌, ◌*◌, ◌≤◌, ◌<◌, arith, unsigned_abs}
+use Rattle.std.proofs.Common.{◌≡◌, ◌≢◌, ◌⊎◌, inl, inr, ℕ, zero, suc, [], ◌∷◌, refl, sym, ap, ap₂, ◌∙◌, subst, ◌+◌, ◌*◌, ◌≤◌, arith, unsigned_abs}
 use Rattle.std.specs.Prelude.{ℤ, pos, negsuc, ◌+ℤ◌, ◌-ℤ◌, ◌*ℤ◌, ◌≤ℤ◌}
 use Rattle.std.proofs.lemmas.Int.{ints}
 use lib.IntN.{neg_ℤ}
@@ -10,13 +10,9 @@ use Rattle.kin_algebra.proofs.Ring.{by_ring, quotes}
 use Rattle.kin_algebra.proofs.Signs.{code, AtLeast}
 use Rattle.kin_algebra.proofs.OrderedRings.{OrderedRing}
 use Rattle.kin_algebra.proofs.Bounds.{Between, product_between, sum_between, wider_between, IsApart}
-use Rattle.kin_algebra.proofs.IntegerSigns.{sign_of-times, sign_in}
+use Rattle.kin_algebra.proofs.IntegerSigns.{sign_of-times}
 use Rattle.kin_algebra.proofs.Radicals.{Radical, by_norm, norm_form}
 use Rattle.kin_algebra.proofs.Pairs.{Pair, pair, pair_plus, pair_times, Sound, by_cases, sign_over, sign_over-whole, ordered}
-use Rattle.kin_num.specs.Quadratic.{Quadratic}
-use Rattle.kin_num.specs.Instants.{Number, sign_at_number}
-use Rattle.kin_num.proofs.Values.{value}
-use Rattle.kin_num.proofs.Nearness.{value_in, value_most, slope_most, fine, AreBounded, near}
 
 -- a whole number as a pair
 abbrev pub flat : ℤ → Pair

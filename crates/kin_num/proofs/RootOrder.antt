@@ -1,16 +1,17 @@
 -- A canonical instant against a root: the signs there of the root's quadratic and of its slope decide.
-use Rattle.std.proofs.Common.{◌≡◌, ◌≢◌, ◌⊎◌, inl, inr, ℕ, zero, suc, Bool, true, false, refl, sym, ap, ap₂, ◌∙◌, subst, ◌<◌, arith}
-use Rattle.std.specs.Prelude.{ℤ, pos, negsuc, ◌-ℤ◌, ◌<ℤ◌}
+use Rattle.std.proofs.Common.{◌≡◌, ◌≢◌, ◌⊎◌, inl, inr, ℕ, Bool, true, false, refl, sym, ap, ap₂, ◌∙◌, ◌<◌, arith}
+use Rattle.std.specs.Prelude.{ℤ, pos, ◌-ℤ◌, ◌<ℤ◌}
 use Rattle.std.proofs.lemmas.Int.{ints}
 use Rattle.kin_algebra.specs.declared.sign.Sign.{Sign}
 use Rattle.kin_algebra.specs.declared.sign.Sign.TheVariants.{Minus, Zero, Plus}
 use Rattle.kin_algebra.specs.Signs.{sign_of, opposite_of, sum_sign_of}
+use Rattle.kin_algebra.proofs.IntegerSigns.{sign_of-pos}
 use Rattle.kin_algebra.proofs.Signs.{code}
 use Rattle.kin_num.specs.declared.instant.Shape.{Shape}
 use Rattle.kin_num.specs.declared.instant.Shape.TheVariants.{Root}
 use Rattle.kin_num.specs.Quadratic.{Quadratic}
 use Rattle.kin_num.specs.Canonical.{IsCanonicalForm, IsIrreducible}
-use Rattle.kin_num.specs.Instants.{number_of, sign_at_instant, line, derivative}
+use Rattle.kin_num.specs.Instants.{number_of, sign_at_instant, derivative}
 use Rattle.kin_num.specs.Order.{Separates}
 use Rattle.kin_num.proofs.Near.{HasHeight, HasSize, IsFine, Bracket, bracket, at_fraction, line_sign}
 use Rattle.kin_num.proofs.Kept.{kept_left, kept_right, t_some}
@@ -44,12 +45,8 @@ lower_after Minus f (inr e) p = code (sym e ∙ p)
 lower_after Zero f h p = code p
 lower_after Plus f h p = code p
 
-positive_of : (t : ℕ) → 0 < t → pos 0 <ℤ pos t
+pub positive_of : (t : ℕ) → 0 < t → pos 0 <ℤ pos t
 positive_of t h = omega (arith, ints)
-
-plus_of : (t : ℕ) → 0 < t → sign_of (pos t) ≡ Plus
-plus_of zero h = absurd (omega arith)
-plus_of (suc t) h = refl
 
 module _ (a b c : ℤ) (i : IsIrreducible a b c) (w : Shape) (form : IsCanonicalForm w) (m t h : ℕ) (size : HasSize (number_of w) m) (some : 0 < h) (fine : IsFine h m t)
     (height : HasHeight (quadratic a b c) h) (slope_height : HasHeight (derivative (quadratic a b c)) h) where
@@ -63,7 +60,7 @@ module _ (a b c : ℤ) (i : IsIrreducible a b c) (w : Shape) (form : IsCanonical
   near = bracket (number_of w) m t size room
 
   t_plus : sign_of (pos t) ≡ Plus
-  t_plus = plus_of t room
+  t_plus = sign_of-pos t room
 
   slope_at : ℤ → Sign
   slope_at k = sign_of (at_fraction (derivative q) (pos t) k)
@@ -73,19 +70,25 @@ module _ (a b c : ℤ) (i : IsIrreducible a b c) (w : Shape) (form : IsCanonical
 
   before_root : (upper : Bool) → sum_sign_of (opposite_of (slope_at near.k)) (side upper) (value_at near.k) ≡ Plus → SeparatedAt t w (Root a b c upper)
   unfolding sign_at_instant slope_at value_at
-  before_root upper e = (near.k, record {
-    proper = positive_of t room;
-    first = λ p. near.not_after (sym (line_sign (number_of w) size.sound (divisor-positive w form) near.k (pos t)) ∙ p);
-    second = root_against_fraction a b c i near.k (pos t) t_plus upper ∙ e;
-  })
+  before_root upper e = (
+    near.k,
+    record {
+      proper = positive_of t room;
+      first = λ p. near.not_after (sym (line_sign (number_of w) size.sound (divisor-positive w form) near.k (pos t)) ∙ p);
+      second = root_against_fraction a b c i near.k (pos t) t_plus upper ∙ e;
+    },
+  )
 
   after_root : (upper : Bool) → sum_sign_of (opposite_of (slope_at (near.k -ℤ pos 1))) (side upper) (value_at (near.k -ℤ pos 1)) ≢ Plus → SeparatedAt t (Root a b c upper) w
   unfolding sign_at_instant slope_at value_at
-  after_root upper n = (near.k -ℤ pos 1, record {
-    proper = positive_of t room;
-    first = λ p. n (sym (root_against_fraction a b c i (near.k -ℤ pos 1) (pos t) t_plus upper) ∙ p);
-    second = line_sign (number_of w) size.sound (divisor-positive w form) (near.k -ℤ pos 1) (pos t) ∙ near.after;
-  })
+  after_root upper n = (
+    near.k -ℤ pos 1,
+    record {
+      proper = positive_of t room;
+      first = λ p. n (sym (root_against_fraction a b c i (near.k -ℤ pos 1) (pos t) t_plus upper) ∙ p);
+      second = line_sign (number_of w) size.sound (divisor-positive w form) (near.k -ℤ pos 1) (pos t) ∙ near.after;
+    },
+  )
 
   abbrev pub value_here : Sign
   value_here = sign_at_instant q w

@@ -1,24 +1,21 @@
 -- A root of an irreducible quadratic against fractions, and where a polynomial has sign 0 at it.
-use Rattle.std.proofs.Common.{◌≡◌, ◌≢◌, inl, inr, ℕ, zero, suc, Bool, true, false, [], ◌∷◌, refl, sym, ap, ap₂, ◌∙◌, subst, arith}
-use Rattle.std.specs.Prelude.{ℤ, pos, negsuc, ◌+ℤ◌, ◌-ℤ◌, ◌*ℤ◌, ◌<ℤ◌}
+use Rattle.std.proofs.Common.{◌≡◌, zero, suc, Bool, true, false, [], ◌∷◌, refl, sym, ap, ap₂, ◌∙◌, arith}
+use Rattle.std.specs.Prelude.{ℤ, pos, negsuc, ◌-ℤ◌, ◌*ℤ◌, ◌<ℤ◌}
 use Rattle.std.proofs.lemmas.Int.{ints}
 use lib.IntN.{neg_ℤ}
 use Rattle.kin_algebra.specs.declared.sign.Sign.{Sign}
-use Rattle.kin_algebra.specs.declared.sign.Sign.TheVariants.{Minus, Zero, Plus}
-use Rattle.kin_algebra.specs.Signs.{sign_of, opposite_of, product_of, sum_sign_of, norm_of, pair_sign_of}
+use Rattle.kin_algebra.specs.declared.sign.Sign.TheVariants.{Minus, Plus}
+use Rattle.kin_algebra.specs.Signs.{sign_of, opposite_of, sum_sign_of, norm_of, pair_sign_of}
 use Rattle.kin_algebra.proofs.Ring.{by_ring, quotes}
-use Rattle.kin_algebra.proofs.Signs.{code}
-use Rattle.kin_algebra.proofs.OrderedRings.{scale, positive_product}
-use Rattle.kin_algebra.proofs.IntegerSigns.{ordered_integers, sign_of-negative, sign_of-times, sign_in, zero_of}
-use Rattle.kin_algebra.proofs.Radicals.{Radical, pair_of_zero}
-use Rattle.kin_algebra.proofs.Pairs.{Pair, pair, Sound, sign_over}
-use Rattle.kin_num.specs.declared.instant.Shape.{Shape}
-use Rattle.kin_num.specs.declared.instant.Shape.TheVariants.{Ratio, Root}
+use Rattle.kin_algebra.proofs.Signs.{opposite-opposite}
+use Rattle.kin_algebra.proofs.OrderedRings.{scale}
+use Rattle.kin_algebra.proofs.IntegerSigns.{ordered_integers, sign_of-negative, sign_in}
+use Rattle.kin_num.specs.declared.instant.Shape.TheVariants.{Root}
 use Rattle.kin_num.specs.Quadratic.{Quadratic}
 use Rattle.kin_num.specs.Canonical.{IsIrreducible, discriminant}
-use Rattle.kin_num.specs.Instants.{Number, number_of, sign_at_number, whole_part, root_part, line, derivative}
+use Rattle.kin_num.specs.Instants.{number_of, sign_at_number, line, derivative}
 use Rattle.kin_num.proofs.Values.{irreducible-sound}
-use Rattle.kin_num.proofs.Near.{at_fraction, past, line_sign}
+use Rattle.kin_num.proofs.Near.{at_fraction, line_sign}
 
 abbrev pub quadratic : ℤ → ℤ → ℤ → Quadratic
 quadratic a b c = record { a = a; b = b; c = c }
@@ -68,14 +65,9 @@ module _ (a b c : ℤ) (i : IsIrreducible a b c) where
     abbrev value_there : Sign
     value_there = sign_of (at_fraction q t k)
 
-    turned_twice : (s : Sign) → opposite_of (opposite_of s) ≡ s
-    turned_twice Minus = refl
-    turned_twice Zero = refl
-    turned_twice Plus = refl
-
     whole_sign : sign_of U ≡ opposite_of slope_there
     whole_sign =
-        sym (turned_twice (sign_of U))
+        sym (opposite-opposite (sign_of U))
         ∙ ap opposite_of (sym (sign_of-negative U) ∙ sym (times_positive t (neg_ℤ U) t_plus) ∙ ap sign_of (slope-as a b k t))
 
     four_a : sign_of (pos 4 *ℤ a) ≡ Plus

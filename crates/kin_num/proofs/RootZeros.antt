@@ -1,25 +1,25 @@
 -- Where a polynomial has sign 0 at a canonical instant.
-use Rattle.std.proofs.Common.{◌≡◌, ◌≢◌, inl, inr, ℕ, zero, suc, Bool, true, false, [], ◌∷◌, refl, sym, ap, ap₂, ◌∙◌, subst, arith}
-use Rattle.std.specs.Prelude.{ℤ, pos, negsuc, ◌+ℤ◌, ◌-ℤ◌, ◌*ℤ◌, ◌<ℤ◌}
+use Rattle.std.proofs.Common.{◌≡◌, ◌≢◌, inr, Bool, true, false, [], ◌∷◌, refl, sym, ap, ap₂, ◌∙◌, arith}
+use Rattle.std.specs.Prelude.{ℤ, pos, ◌+ℤ◌, ◌-ℤ◌, ◌*ℤ◌}
 use Rattle.std.proofs.lemmas.Int.{ints}
 use lib.IntN.{neg_ℤ}
 use Rattle.kin_algebra.specs.declared.sign.Sign.{Sign}
 use Rattle.kin_algebra.specs.declared.sign.Sign.TheVariants.{Minus, Zero, Plus}
 use Rattle.kin_algebra.specs.Signs.{sign_of, opposite_of, product_of, sum_sign_of, norm_of, pair_sign_of}
 use Rattle.kin_algebra.proofs.Ring.{by_ring, quotes}
-use Rattle.kin_algebra.proofs.Signs.{code, product-Zero}
+use Rattle.kin_algebra.proofs.Signs.{code}
 use Rattle.kin_algebra.proofs.OrderedRings.{positive_product, scale}
-use Rattle.kin_algebra.proofs.IntegerSigns.{ordered_integers, sign_of-negative, sign_of-times, sign_in, sign_out, zero_of}
-use Rattle.kin_algebra.proofs.Radicals.{Radical, pair_of_zero}
-use Rattle.kin_algebra.proofs.Pairs.{Pair, pair, pair_plus, pair_times, pair_negative, Sound, sign_over, sign_over-whole, ordered}
+use Rattle.kin_algebra.proofs.IntegerSigns.{ordered_integers, sign_of-negative, sign_in, zero_of}
+use Rattle.kin_algebra.proofs.Radicals.{pair_of_zero}
+use Rattle.kin_algebra.proofs.Pairs.{pair, pair_plus, pair_times, Sound, sign_over, sign_over-whole, ordered}
 use Rattle.kin_num.specs.declared.instant.Shape.{Shape}
 use Rattle.kin_num.specs.declared.instant.Shape.TheVariants.{Ratio, Root}
 use Rattle.kin_num.specs.Quadratic.{Quadratic}
-use Rattle.kin_num.specs.Canonical.{IsCanonicalForm, IsIrreducible, IsLowest, discriminant}
+use Rattle.kin_num.specs.Canonical.{IsCanonicalForm, IsIrreducible, discriminant}
 use Rattle.kin_num.specs.Instants.{Number, number_of, sign_at_number, sign_at_instant, whole_part, root_part, derivative}
-use Rattle.kin_num.proofs.Values.{value, irreducible-sound, irreducible-radical, canonical-sound}
+use Rattle.kin_num.proofs.Values.{value, irreducible-radical, canonical-sound}
 use Rattle.kin_num.proofs.NumberRing.{flat}
-use Rattle.kin_num.proofs.Divisors.{cancel_factor, same_primitive}
+use Rattle.kin_num.proofs.Divisors.{same_primitive}
 use Rattle.kin_num.proofs.RootSigns.{quadratic, side, pair_sign-positive, times_positive, double_plus}
 
 -- the divisor of a canonical instant is positive
@@ -27,6 +27,9 @@ pub divisor-positive : (w : Shape) → IsCanonicalForm w → sign_of (number_of 
 divisor-positive (Ratio n d) i = sign_in Plus d i.positive
 divisor-positive (Root a b c true) i = double_plus a b c i
 divisor-positive (Root a b c false) i = double_plus a b c i
+
+nothing_right : (k : ℤ) → k *ℤ pos 0 ≡ pos 0
+nothing_right k = by_ring (k ∷ []) _ _ (search quotes depth 20) (search quotes depth 20) refl
 
 no_difference : (x y : ℤ) → x -ℤ y ≡ pos 0 → x ≡ y
 no_difference x y e = omega (arith, ints)
@@ -60,9 +63,6 @@ module _ (p : Quadratic) (a b c : ℤ) (i : IsIrreducible a b c) where
   without_slope : (x y : ℤ) → x -ℤ b *ℤ y ≡ pos 0 → y ≡ pos 0 → x ≡ pos 0
   without_slope x y e f = sym (nothing_less x (b *ℤ y) (ap (λ z. b *ℤ z) f ∙ nothing_right b)) ∙ e
     where
-      nothing_right : (k : ℤ) → k *ℤ pos 0 ≡ pos 0
-      nothing_right k = by_ring (k ∷ []) _ _ (search quotes depth 20) (search quotes depth 20) refl
-
       nothing_less : (x z : ℤ) → z ≡ pos 0 → x -ℤ z ≡ x
       nothing_less x z e = omega (arith, ints)
 
@@ -103,9 +103,6 @@ module _ (a b c : ℤ) (i : IsIrreducible a b c) where
       let none : whole_part (quadratic a b c) (number_of (Ratio n d)) ≡ pos 0 = zero_of _ e in
       let norm : norm_of (pos 2 *ℤ a *ℤ n +ℤ b *ℤ d) d D ≡ pos 0 = sym (square_completed a b c n d) ∙ ap (λ z. (pos 4 *ℤ a) *ℤ z) none ∙ nothing_right (pos 4 *ℤ a) in
       code (sym d_plus ∙ ap sign_of ((irreducible-radical a b c i).alone (pos 2 *ℤ a *ℤ n +ℤ b *ℤ d) d norm).1)
-    where
-      nothing_right : (k : ℤ) → k *ℤ pos 0 ≡ pos 0
-      nothing_right k = by_ring (k ∷ []) _ _ (search quotes depth 20) (search quotes depth 20) refl
 
   -- ---- at its own roots
   own_whole : (a b c : ℤ) → whole_part (derivative (quadratic a b c)) (number_of (Root a b c true)) ≡ pos 0

@@ -1,14 +1,14 @@
 -- Sizes of instants and heights of their polynomials: of any canonical form, and under bounds.
-use Rattle.std.proofs.Common.{◌≡◌, ◌≢◌, ◌⊎◌, inl, inr, ℕ, zero, suc, true, false, [], ◌∷◌, refl, sym, ap, ◌∙◌, subst, ◌+◌, ◌*◌, ◌≤◌, ◌<◌, ◌^◌, arith, mul-le-mul, unsigned_abs}
-use Rattle.std.specs.Prelude.{ℤ, pos, negsuc, ◌+ℤ◌, ◌-ℤ◌, ◌*ℤ◌, ◌≤ℤ◌}
+use Rattle.std.proofs.Common.{ℕ, zero, suc, true, false, sym, subst, ◌+◌, ◌*◌, ◌≤◌, ◌<◌, ◌^◌, arith, mul-le-mul, unsigned_abs}
+use Rattle.std.specs.Prelude.{ℤ, pos, negsuc, ◌-ℤ◌, ◌*ℤ◌, ◌≤ℤ◌}
 use Rattle.std.proofs.lemmas.Int.{ints, unsigned_abs-mul}
 use lib.IntN.{neg_ℤ}
 use Rattle.kin_num.specs.declared.instant.Shape.{Shape}
 use Rattle.kin_num.specs.declared.instant.Shape.TheVariants.{Ratio, Root}
 use Rattle.kin_num.specs.Canonical.{IsCanonicalForm, IsWideShape, discriminant}
-use Rattle.kin_num.specs.Instants.{Number, number_of, line, derivative}
+use Rattle.kin_num.specs.Instants.{number_of, line, derivative}
 use Rattle.kin_num.proofs.Values.{canonical-sound}
-use Rattle.kin_num.proofs.Near.{HasHeight, HasSize}
+use Rattle.kin_num.proofs.Near.{size_negative, size_double, HasHeight, HasSize, IsFine}
 use Rattle.kin_num.proofs.RootSigns.{quadratic}
 use Rattle.kin_num.proofs.RootZeros.{divisor-positive}
 
@@ -21,14 +21,6 @@ pub record HaveHeight (a b c : ℤ) (h : ℕ) : Type 0 where
 abbrev pub HasShapeHeight : Shape → ℕ → Type 0
 HasShapeHeight (Ratio n d) h = HasHeight (line n d) h
 HasShapeHeight (Root a b c upper) h = HaveHeight a b c h
-
-size_negative : (z : ℤ) → unsigned_abs (neg_ℤ z) ≡ unsigned_abs z
-size_negative (pos zero) = refl
-size_negative (pos (suc n)) = refl
-size_negative (negsuc n) = refl
-
-size_double : (z : ℤ) → unsigned_abs (pos 2 *ℤ z) ≡ 2 * unsigned_abs z
-size_double z = unsigned_abs-mul (pos 2) z
 
 pub line-height : (n d : ℤ) (h : ℕ) → unsigned_abs n ≤ h → unsigned_abs d ≤ h → HasHeight (line n d) h
 line-height n d h n_most d_most = record {
@@ -120,3 +112,10 @@ pub wide_size : (w : Shape) → IsCanonicalForm w → IsWideShape w → HasSize 
 wide_size (Ratio n d) form k = size_by (Ratio n d) form 0 (2 ^ 33) (omega (arith, ints)) (omega (arith, k.n_most)) (omega (arith, k.d_most))
 wide_size (Root a b c true) form k = size_by (Root a b c true) form (2 ^ 32) (2 ^ 33) (discriminant_most a b c k.a_most k.b_most k.c_most) (root_point b k.b_most) (double_most a k.a_most)
 wide_size (Root a b c false) form k = size_by (Root a b c false) form (2 ^ 32) (2 ^ 33) (discriminant_most a b c k.a_most k.b_most k.c_most) (root_point b k.b_most) (double_most a k.a_most)
+
+-- 2^200 is fine enough for the wide bounds
+pub wide_some : 0 < 2 ^ 31
+wide_some = omega arith
+
+pub wide_fine : IsFine (2 ^ 31) (2 ^ 33) (2 ^ 200)
+wide_fine = omega arith

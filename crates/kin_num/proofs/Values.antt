@@ -1,6 +1,6 @@
 -- Values of polynomials at numbers, as pairs over the radicand.
-use Rattle.std.proofs.Common.{◌≡◌, ◌≢◌, inl, inr, refl, ap, ap₂, sym, ◌∙◌, subst, ℕ, ◌+◌, ◌*◌, ◌-◌, ◌<◌, ◌≤◌, true, false, [], ◌∷◌, arith}
-use Rattle.std.specs.Prelude.{ℤ, pos, negsuc, ◌+ℤ◌, ◌*ℤ◌, ◌-ℤ◌, ◌<ℤ◌}
+use Rattle.std.proofs.Common.{◌≡◌, ◌≢◌, inl, inr, refl, ap, ap₂, sym, subst, ℕ, ◌+◌, ◌*◌, ◌-◌, true, false, [], ◌∷◌, arith}
+use Rattle.std.specs.Prelude.{ℤ, pos, negsuc, ◌+ℤ◌, ◌*ℤ◌, ◌<ℤ◌}
 use Rattle.std.proofs.lemmas.Int.{ints}
 use lib.IntN.{neg_ℤ}
 use Rattle.kin_algebra.proofs.Ring.{by_ring, quotes}
@@ -18,7 +18,7 @@ abbrev pub value : Quadratic → Number → Pair
 value p x = pair (whole_part p x) (root_part p x)
 
 -- ---- radicands
-radical_of : (d : ℤ) → pos 0 <ℤ d → ((k : ℕ) → pos (k * k) ≢ d) → Radical d
+pub radical_of : (d : ℤ) → pos 0 <ℤ d → ((k : ℕ) → pos (k * k) ≢ d) → Radical d
 radical_of (negsuc n) h no_square = absurd (omega (arith, ints))
 radical_of (pos n) h no_square =
     let b = square_below n (omega (arith, ints)) in

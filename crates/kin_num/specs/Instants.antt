@@ -1,5 +1,5 @@
 -- The number that an instant stands for, and signs of polynomials at instants and at moments.
-use Rattle.std.specs.Prelude.{true, false, ℤ, pos, negsuc, ◌+ℤ◌, ◌*ℤ◌}
+use Rattle.std.specs.Prelude.{true, false, ◌^◌, ℤ, pos, negsuc, ◌+ℤ◌, ◌*ℤ◌}
 use lib.IntN.{neg_ℤ}
 use Rattle.kin_algebra.specs.declared.sign.Sign.{Sign}
 use Rattle.kin_algebra.specs.Signs.{pair_sign_of, first_of}
@@ -55,3 +55,11 @@ sign_at p m = sign_at_phase p m.at m.phase
 -- the line d*t - n
 abbrev pub line : ℤ → ℤ → Quadratic
 line n d = record { a = pos 0; b = d; c = neg_ℤ n }
+
+-- the number at which each polynomial has its sign at a moment: the instant's own, or a little more just after it
+abbrev pub later_by : ℤ → Number → Number
+later_by t x = record { whole = x.whole *ℤ t +ℤ x.divisor; root = x.root *ℤ t; radicand = x.radicand; divisor = x.divisor *ℤ t }
+
+abbrev pub seat_of : Shape → Phase → Number
+seat_of w At = number_of w
+seat_of w After = later_by (pos (2 ^ 200)) (number_of w)

@@ -3,3 +3,4 @@ pub mod Quadratic
 pub mod Canonical
 pub mod Instants
 pub mod Order
+pub mod Laws

@@ -17,6 +17,7 @@ pub use steps::Steps;
 
 pub mod divisor;
 pub mod instant;
+pub mod laws;
 pub mod memory;
 pub mod pair;
 pub mod poly;

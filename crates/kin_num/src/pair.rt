@@ -74,4 +74,15 @@ mod tests {
         assert_eq!(rt; pair_sign(5, -7, 0), Sign::Plus);
         Ok(())
     }
+
+    #[test]
+    fn signs_at_the_bounds(rt: HostRuntime) -> Result<(), Fail> {
+        let (u, v, d) = (1 << 62, 1 << 31, (1 << 63) - 1);
+        assert_eq!(rt; pair_sign(u, -v, d), Sign::Minus);
+        assert_eq!(rt; pair_sign(-u, v, d), Sign::Plus);
+        assert_eq!(rt; pair_sign(-u, -v, d), Sign::Minus);
+        assert_eq!(rt; pair_sign(u, -v, 1 << 62), Sign::Zero);
+        assert_eq!(rt; pair_sign(u, -v, (1 << 62) - 1), Sign::Plus);
+        Ok(())
+    }
 }

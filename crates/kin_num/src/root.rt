@@ -16,3 +16,19 @@ pub fn isqrt(x: u64) -> u64
         root
     }
 }
+
+#[cfg(test)]
+mod tests {
+    use super::*;
+    use std::test::Fail;
+
+    #[test]
+    fn roots_around_the_greatest_square(rt: HostRuntime) -> Result<(), Fail> {
+        let top: u64 = (1 << 32) - 1;
+        assert_eq!(rt; isqrt(0), 0);
+        assert_eq!(rt; isqrt(u64::MAX), top);
+        assert_eq!(rt; isqrt(top * top), top);
+        assert_eq!(rt; isqrt(top * top - 1), top - 1);
+        Ok(())
+    }
+}
