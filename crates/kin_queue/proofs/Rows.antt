@@ -12,7 +12,7 @@ use Rattle.std.proofs.lemmas.Bool.{cases_lt}
 use Rattle.kin_num.specs.declared.instant.Moment.{Moment}
 use Rattle.kin_num.specs.Canonical.{IsCanonical}
 use Rattle.kin_num.specs.Order.{IsEarlier}
-use Rattle.kin_num.proofs.MomentLaws.{never, through}
+use Rattle.kin_num.proofs.MomentOrder.{not_earlier_itself, earlier_trans}
 use Rattle.kin_queue.specs.Agenda.{Agenda, IsNext, IsLeast}
 use Rattle.kin_queue.specs.Row.{MayFollow, IsRow, IsPlaceFor, agenda_of}
 use Rattle.kin_queue.proofs.Entries.{look_up, look_up-place, look_up-absent, look_up-missed, same_itself, from_entries-insert, from_entries-remove}
@@ -59,10 +59,10 @@ row-insert es p k at row within canonical none before after =
           let first : IsEarlier at (get_or es p d).1 = after d (omega arith) in
           let ci : IsCanonical (get_or es i d).1.at = All-get_or AtInstant es i d lt row.canonical in
           let cp : IsCanonical (get_or es p d).1.at = All-get_or AtInstant es p d (omega arith) row.canonical in
-          let earlier : IsEarlier (get_or es i d).1 (get_or es p d).1 = through _ _ _ ci canonical cp h first in
+          let earlier : IsEarlier (get_or es i d).1 (get_or es p d).1 = earlier_trans _ _ _ ci.form canonical.form cp.form h first in
           elim (cases_lt p i) [
             | inl pi ↦ (row.rising p i d pi lt).later earlier
-            | inr ip ↦ let e : i ≡ p = omega arith in never _ cp (subst (λ (n : ℕ). IsEarlier (get_or es n d).1 (get_or es p d).1) e earlier)
+            | inr ip ↦ let e : i ≡ p = omega arith in not_earlier_itself _ (subst (λ (n : ℕ). IsEarlier (get_or es n d).1 (get_or es p d).1) e earlier)
           ];
     } in
     record {
@@ -103,7 +103,7 @@ row-next (e ∷ es) row =
     at_place : (id : ℕ) (at : Moment) (i : ℕ) → i < length (e ∷ es) → ((d : ℕ × Moment) → get_or (e ∷ es) i d ≡ (id, at)) → IsEarlier at e.1 → ⊥
     at_place id at zero lt is b =
         let s : e.1 ≡ at = ap (λ (x : ℕ × Moment). x.1) (is e) in
-        never e.1 (All-get_or (λ (x : ℕ × Moment). IsCanonical x.1.at) (e ∷ es) 0 e lt row.canonical) (subst (λ (x : Moment). IsEarlier x e.1) (sym s) b)
+        not_earlier_itself e.1 (subst (λ (x : Moment). IsEarlier x e.1) (sym s) b)
     at_place id at (suc i) lt is b =
         let s : (get_or es i e).1 ≡ at = ap (λ (x : ℕ × Moment). x.1) (is e) in
         (row.rising 0 (suc i) e (omega arith) lt).later (subst (λ (x : Moment). IsEarlier x e.1) (sym s) b)

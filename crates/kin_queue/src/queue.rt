@@ -8,7 +8,7 @@ ghost use Rattle.std.specs.Ordering.{nat_cmp};
 ghost use Rattle.kin_queue.specs.Agenda.{IsNext, without};
 ghost use Rattle.kin_queue.specs.Row.{IsPlaceFor};
 
-use kin_instant::compare::compare_moments;
+use kin_instant::order::compare_moments;
 use kin_num::{Moment, NoMemory, Steps};
 use std::alloc::Global;
 use std::cmp::Ordering;
