@@ -1,0 +1,9 @@
+//! The printed text, appended to a buffer of the caller's.
+//!
+//! Each call appends exactly the bytes that the definitions of the printed text say, or, where
+//! memory runs out, a front of them.
+#![tactic(auto)]
+
+pub mod list;
+pub mod moment;
+pub mod piece;
