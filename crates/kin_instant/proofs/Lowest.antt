@@ -16,8 +16,10 @@ lowest_after x y x' y' g h i p q = (one x', one y', λ k s t. dvd_of_mul-dvd-mul
       where
         times_one' : (x : ℕ) → 1 * x ≡ x
         times_one' x = omega arith
+
     times_one : (e : ℕ) → e * 1 ≡ e
     times_one e = omega arith
+
     turned : (x g : ℕ) → x * g ≡ g * x
     turned x g = omega arith
 
@@ -34,6 +36,7 @@ multiple_of (negsuc n) (pos m) d k e h = (neg_ℤ (pos k), negative m n k e)
       where
         swapped : (m k : ℕ) → m * k ≡ k * m
         swapped m k = omega arith
+
         turned : (x y : ℤ) → neg_ℤ (x *ℤ y) ≡ neg_ℤ x *ℤ y
         turned x y = by_ring (x ∷ y ∷ []) _ _ (search quotes depth 16) (search quotes depth 16) refl
 multiple_of x (negsuc m) d k e h = absurd (omega (arith, ints))
@@ -47,8 +50,10 @@ no_remainder x g q r k h e d f l =
   where
     left : (r y x : ℤ) → y +ℤ r ≡ x → r ≡ x -ℤ y
     left r y x f = omega (arith, ints, f)
+
     below : (x y z : ℕ) → z ≡ x * y → z < y → x ≡ 0
     below zero y z e l = refl
     below (suc x) y z e l = absurd (omega (arith, e))
+
     same : (n m : ℤ) → unsigned_abs (n -ℤ m) ≡ 0 → n ≡ m
     same n m z = omega (arith, ints, z)

@@ -55,12 +55,15 @@ instants_exactly v w o i j h =
 -- fractions by their cross product
 crossed : (n d m e : ℤ) → pos 0 <ℤ d → pos 0 <ℤ e → (n *ℤ e) <ℤ (m *ℤ d) → IsLess (Ratio n d) (Ratio m e)
 unfolding sign_at_instant
-crossed n d m e h k l =
-    (n, d, record {
-      proper = h;
-      first = λ p. code (sym (line-zero_at n d n d refl) ∙ p);
-      second = ap sign_of (ratio_on_line n d m e) ∙ sign-scaled e (m *ℤ d -ℤ n *ℤ e) k ∙ sign_in Plus (m *ℤ d -ℤ n *ℤ e) (more (n *ℤ e) (m *ℤ d) l);
-    })
+crossed n d m e h k l = (
+  n,
+  d,
+  record {
+    proper = h;
+    first = λ p. code (sym (line-zero_at n d n d refl) ∙ p);
+    second = ap sign_of (ratio_on_line n d m e) ∙ sign-scaled e (m *ℤ d -ℤ n *ℤ e) k ∙ sign_in Plus (m *ℤ d -ℤ n *ℤ e) (more (n *ℤ e) (m *ℤ d) l);
+  },
+)
   where
     more : (x y : ℤ) → x <ℤ y → pos 0 <ℤ (y -ℤ x)
     more x y l = omega (arith, ints)

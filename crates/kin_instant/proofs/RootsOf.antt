@@ -178,6 +178,7 @@ double_root a b c root h e z r f k =
       where
         equal : (root b : ℤ) → root ≡ pos 0 → neg_ℤ root -ℤ b ≡ root -ℤ b
         equal root b z = omega (arith, ints, z)
+
     same : SameZeros (quadratic a b c) (line (root -ℤ b) (pos 2 *ℤ a))
     same w i =
         let both = zero_factor _ _ _ (instant-split w i a b c root h e ∙ ap (λ (p : Quadratic). product_of (sign_at_instant p w) (sign_at_instant (line (root -ℤ b) (pos 2 *ℤ a)) w)) lines) in
@@ -206,12 +207,15 @@ pub rising_fractions : (a b root : ℤ) → pos 0 <ℤ a → pos 0 <ℤ root →
 unfolding sign_at_instant
 rising_fractions a b root h k (Root _ _ _ _) s f g i j = absurd f
 rising_fractions a b root h k (Ratio m e) (Root _ _ _ _) f g i j = absurd g
-rising_fractions a b root h k (Ratio m e) (Ratio m' e') f g i j =
-    (neg_ℤ root -ℤ b, pos 2 *ℤ a, record {
-      proper = doubled_positive a h;
-      first = not_plus _ (line-zero_at (neg_ℤ root -ℤ b) (pos 2 *ℤ a) m e f);
-      second = ap sign_of (upper_on_lower a b root m' e' g) ∙ sign_in Plus _ (two_apart b root e' k j.form.positive);
-    })
+rising_fractions a b root h k (Ratio m e) (Ratio m' e') f g i j = (
+  neg_ℤ root -ℤ b,
+  pos 2 *ℤ a,
+  record {
+    proper = doubled_positive a h;
+    first = not_plus _ (line-zero_at (neg_ℤ root -ℤ b) (pos 2 *ℤ a) m e f);
+    second = ap sign_of (upper_on_lower a b root m' e' g) ∙ sign_in Plus _ (two_apart b root e' k j.form.positive);
+  },
+)
 
 pub two_fractions : (a b c root : ℤ) → pos 0 <ℤ a → root *ℤ root ≡ discriminant a b c → pos 0 <ℤ root → (r s : Shape) → IsFraction (neg_ℤ root -ℤ b) (pos 2 *ℤ a) r → IsFraction (root -ℤ b) (pos 2 *ℤ a) s → IsCanonical r → IsCanonical s → AreRootsOf (quadratic a b c) (Two r s)
 two_fractions a b c root h e k r s f g i j = record {
@@ -231,6 +235,7 @@ two_fractions a b c root h e k r s f g i j = record {
         there : {P P' Q Q' : Type 0} → P ⊎ Q → (P → P') → (Q → Q') → P' ⊎ Q'
         there (inl p) u v = inl (u p)
         there (inr q) u v = inr (v q)
+
         back : {P P' Q Q' : Type 0} → P ⊎ Q → (P → P') → (Q → Q') → P' ⊎ Q'
         back (inl p) u v = inl (u p)
         back (inr q) u v = inr (v q)
@@ -255,12 +260,15 @@ middle_sign a b m e h real =
 -- the middle -b / 2a lies between the two roots
 pub rising_surds : (a b c : ℤ) → IsIrreducible a b c → IsLess (Root a b c false) (Root a b c true)
 unfolding sign_at_instant
-rising_surds a b c i =
-    (neg_ℤ b, pos 2 *ℤ a, record {
-      proper = doubled_positive a i.positive;
-      first = λ e. code (sym (middle_sign a b (negsuc 0) (discriminant a b c) i.positive i.real) ∙ e);
-      second = middle_sign a b (pos 1) (discriminant a b c) i.positive i.real;
-    })
+rising_surds a b c i = (
+  neg_ℤ b,
+  pos 2 *ℤ a,
+  record {
+    proper = doubled_positive a i.positive;
+    first = λ e. code (sym (middle_sign a b (negsuc 0) (discriminant a b c) i.positive i.real) ∙ e);
+    second = middle_sign a b (pos 1) (discriminant a b c) i.positive i.real;
+  },
+)
 
 three_scaled : (g a b c a' b' c' : ℤ) → a ≡ a' *ℤ g → b ≡ b' *ℤ g → c ≡ c' *ℤ g → quadratic a b c ≡ quadratic (g *ℤ a') (g *ℤ b') (g *ℤ c')
 three_scaled g a b c a' b' c' e f h =
@@ -306,11 +314,14 @@ irreducible_after a b c a' b' c' g some h real irrational e f l i = record {
   where
     same : discriminant a b c ≡ (pos g *ℤ pos g) *ℤ discriminant a' b' c'
     same = discriminant_of (pos g) a b c a' b' c' e f l
+
     turned : (x y : ℤ) → x *ℤ y ≡ y *ℤ x
     turned x y = by_ring (x ∷ y ∷ []) _ _ (search quotes depth 16) (search quotes depth 16) refl
+
     -- a positive product with a positive factor
     positive_factor : (x y z : ℤ) → pos 0 <ℤ x → x ≡ y *ℤ z → pos 0 <ℤ z → pos 0 <ℤ y
     positive_factor x y z h e k = sign_out Plus y ((same_from_product _ _ (sym (sign_of-times y z) ∙ ap sign_of (sym e) ∙ sign_in Plus x h)).0 ∙ sign_in Plus z k)
+
     g_positive : pos 0 <ℤ pos g
     g_positive = omega (arith, ints)
 

@@ -121,6 +121,7 @@ module _ (p q r a b c m : ℤ) (e : m *ℤ m ≡ pos 1) where
           of_plus (pos zero) e = absurd (code e)
           of_plus (pos (suc n)) e = omega (arith, ints)
           of_plus (negsuc n) e = absurd (code e)
+
       four_squares : pos 0 <ℤ (pos 4 *ℤ (a *ℤ a))
       four_squares = omega (arith, ints, square)
 

@@ -75,7 +75,7 @@ module _ (x : Number) (s : Sound x.radicand) (h : pos 0 <ℤ x.divisor) where
         let rest = pair (neg_ℤ (discriminant a b c) *ℤ fourth) (pos 0) in
         let more : sign_over R rest ≡ Plus = sign_over-whole R s _ ∙ sign_in Plus _ (positive_product (neg_ℤ (discriminant a b c)) fourth (turned (discriminant a b c) q) fourth_positive) in
         positive_cancel o {a = pair K (pos 0)} (sign_over-whole R s K ∙ sign_in Plus K (K_positive p))
-          (ap (sign_over R) completed ∙ ap (sign_over R) (o.ring.plus_comm (pair_times R v v) rest) ∙ positive_sum o {a = rest} {b = pair_times R v v} more (sign_square o v))
+        (ap (sign_over R) completed ∙ ap (sign_over R) (o.ring.plus_comm (pair_times R v v) rest) ∙ positive_sum o {a = rest} {b = pair_times R v v} more (sign_square o v))
       where
         turned : (d : ℤ) → d <ℤ pos 0 → pos 0 <ℤ neg_ℤ d
         turned d q = omega (arith, ints)

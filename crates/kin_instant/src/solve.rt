@@ -11,11 +11,11 @@ ghost use Rattle.kin_instant.specs.Roots.{Lists, AreCanonical, IsRising, count_o
 
 use crate::product::difference_of_products;
 use crate::ratio::{exact_quotient, ratio};
+use crate::roots::Roots;
 use kin_num::divisor::gcd;
 use kin_num::instant::{Instant, Shape};
 use kin_num::poly::Poly;
 use kin_num::root::isqrt;
-use crate::roots::Roots;
 
 /// The root of `b*t + c`.
 fn line_roots(b: i64, c: i64) -> Roots
@@ -73,9 +73,23 @@ fn irrational_roots(a: i64, b: i64, c: i64) -> Roots
     ensures { AreRootsOf (quadratic a b c) result }
 {
     let divisor = common_divisor(a, b, c);
-    let (a, b, c) = (exact_quotient(a, divisor), exact_quotient(b, divisor), exact_quotient(c, divisor));
-    let lower = Instant::of(Shape::Root { a, b, c, upper: false });
-    let upper = Instant::of(Shape::Root { a, b, c, upper: true });
+    let (a, b, c) = (
+        exact_quotient(a, divisor),
+        exact_quotient(b, divisor),
+        exact_quotient(c, divisor),
+    );
+    let lower = Instant::of(Shape::Root {
+        a,
+        b,
+        c,
+        upper: false,
+    });
+    let upper = Instant::of(Shape::Root {
+        a,
+        b,
+        c,
+        upper: true,
+    });
     Roots::Two(lower, upper)
 }
 

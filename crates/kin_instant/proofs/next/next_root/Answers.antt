@@ -9,17 +9,17 @@ use Rattle.kin_instant.proofs.Nexts.{IsEmpty, some_next, two_counted, first_next
 use Rattle.kin_instant.proofs.next.next_root.Goals as goal
 
 module _ (p : Quadratic) (w r s : Shape) (h : AreRootsOf p (Two r s)) where
-  first : (t : Shape) → (t ≡ r) × IsLess w t → IsNextRoot p w t
-  first t m = subst (IsNextRoot p w) (sym m.0) (first_next p w r s h (subst (IsLess w) m.0 m.1))
+  first : (t : Shape) → (t ≡ r) × IsLess w r → IsNextRoot p w t
+  first t m = subst (IsNextRoot p w) (sym m.0) (first_next p w r s h m.1)
 
-  second : ¬ (IsLess w r) → (t : Shape) → (t ≡ s) × IsLess w t → IsNextRoot p w t
-  second n t m = subst (IsNextRoot p w) (sym m.0) (second_next p w r s h n (subst (IsLess w) m.0 m.1))
+  second : ¬ (IsLess w r) → (t : Shape) → (t ≡ s) × IsLess w s → IsNextRoot p w t
+  second n t m = subst (IsNextRoot p w) (sym m.0) (second_next p w r s h n m.1)
 
-  next_of : ¬ (IsLess w r) → (o : Option Shape) → MatchOption o (¬ (IsLess w s)) (λ t. (t ≡ s) × IsLess w t) → IfSome o (IsNextRoot p w)
+  next_of : ¬ (IsLess w r) → (o : Option Shape) → MatchOption o (¬ (IsLess w s)) (λ t. (t ≡ s) × IsLess w s) → IfSome o (IsNextRoot p w)
   next_of n None m = tt
   next_of n (Some t) m = second n t m
 
-  none_of : ¬ (IsLess w r) → (o : Option Shape) → MatchOption o (¬ (IsLess w s)) (λ t. (t ≡ s) × IsLess w t) → (IsNone o → IsEmpty p w) × (IsEmpty p w → IsNone o)
+  none_of : ¬ (IsLess w r) → (o : Option Shape) → MatchOption o (¬ (IsLess w s)) (λ t. (t ≡ s) × IsLess w s) → (IsNone o → IsEmpty p w) × (IsEmpty p w → IsNone o)
   none_of n None m = (λ e. two_none p w r s h n m, λ k. refl)
   none_of n (Some t) m = (λ e. absurd cc, λ k. absurd (some_next p w t (second n t m) (two_counted p w r s h) k))
 

@@ -28,7 +28,7 @@ returns c =
     let q = c.new-quadratic.ensures ∙ same c.args.a c.args.b c.args.c _ _ _ (clean w64 c.args.a c.ranges.a.sfits) (clean w64 c.args.b c.ranges.b.sfits) (clean w64 c.args.c c.ranges.c.sfits) in
     record {
       order = subst (λ (o : Ordering). MatchOrdering o (IsLess w (Root c.args.a c.args.b c.args.c c.args.upper)) (w ≡ Root c.args.a c.args.b c.args.c c.args.upper) (IsLess (Root c.args.a c.args.b c.args.c c.args.upper) w)) (sym c.place.ensures)
-      (placed c.args.a c.args.b c.args.c c.requires.irreducible w c.value_sign-value.ensures.canonical.form c.value_sign-value.result c.match-value.slope c.args.upper
-      (value_is c.new-quadratic.result (quadratic c.args.a c.args.b c.args.c) w c.value_sign-value.result q c.value_sign-value.ensures.value)
-      (elim c.match-value.branch [ in-Minus b ↦ λ n. absurd (n b.in-Minus.is) | in_default b ↦ λ n. slope_is c.new-quadratic.result (quadratic c.args.a c.args.b c.args.c) w b.slope_sign-slope.result c.match-value.slope q b.slope_sign-slope.ensures.value b.slope-is ]));
+          (placed c.args.a c.args.b c.args.c c.requires.irreducible w c.value_sign-value.ensures.canonical.form c.value_sign-value.result c.match-value.slope c.args.upper
+          (value_is c.new-quadratic.result (quadratic c.args.a c.args.b c.args.c) w c.value_sign-value.result q c.value_sign-value.ensures.value)
+          (elim c.match-value.branch [ in-Minus b ↦ λ n. absurd (n b.in-Minus.is) | in_default b ↦ λ n. slope_is c.new-quadratic.result (quadratic c.args.a c.args.b c.args.c) w b.slope_sign-slope.result c.match-value.slope q b.slope_sign-slope.ensures.value b.slope-is ]));
     }

@@ -19,6 +19,7 @@ root_is y a b c upper e h =
   where
     near : (z : ℤ) → unsigned_abs z ≤ 2 ^ 28 → unsigned_abs z < 2 ^ 63
     near z h = omega arith
+
     far : (z : ℤ) → unsigned_abs z ≤ 2 ^ 29 → unsigned_abs z < 2 ^ 63
     far z h = omega arith
 

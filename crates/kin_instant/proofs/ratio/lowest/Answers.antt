@@ -28,6 +28,7 @@ common_of n d n' d' u v g h k e f p q i =
   where
     above : (d : ℤ) → pos 0 <ℤ d → 0 < unsigned_abs d
     above d h = omega (arith, ints)
+
     below : (g m : ℕ) → g ≤ m → m < 2 ^ 63 → g < 2 ^ 63
     below g m h k = omega arith
 

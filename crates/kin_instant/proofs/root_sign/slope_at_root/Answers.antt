@@ -38,9 +38,9 @@ returns-then-upper c =
     let b = clean w64 c.args.b c.ranges.b.sfits in
     c.pair_sign.ensures
     ∙ whole c.args.p.now c.args.a c.args.b c.args.c _ _ _ c.args.upper true c.if-upper.true c.requires.a_positive c.requires.real
-      (clean w64 c.remainder_slope-slope.result c.remainder_slope-slope.type_inv ∙ c.remainder_slope-slope.ensures.value ∙ same_slope c.args.p.now c.args.a c.args.b _ _ a b)
-      (clean w64 c.a.result c.a.type_inv ∙ c.a.ensures.value ∙ one_times c.args.p.now.a)
-      (c.radicand.ensures.value ∙ same_discriminant c.args.a c.args.b c.args.c _ _ _ a b (clean w64 c.args.c c.ranges.c.sfits))
+    (clean w64 c.remainder_slope-slope.result c.remainder_slope-slope.type_inv ∙ c.remainder_slope-slope.ensures.value ∙ same_slope c.args.p.now c.args.a c.args.b _ _ a b)
+    (clean w64 c.a.result c.a.type_inv ∙ c.a.ensures.value ∙ one_times c.args.p.now.a)
+    (c.radicand.ensures.value ∙ same_discriminant c.args.a c.args.b c.args.c _ _ _ a b (clean w64 c.args.c c.ranges.c.sfits))
 
 pub returns-else-upper : goal.returns-else-upper
 returns-else-upper c =
@@ -48,6 +48,6 @@ returns-else-upper c =
     let b = clean w64 c.args.b c.ranges.b.sfits in
     c.pair_sign-else-upper.ensures
     ∙ whole c.args.p.now c.args.a c.args.b c.args.c _ _ _ c.args.upper false c.if-upper.false c.requires.a_positive c.requires.real
-      (clean w64 c.remainder_slope-slope.result c.remainder_slope-slope.type_inv ∙ c.remainder_slope-slope.ensures.value ∙ same_slope c.args.p.now c.args.a c.args.b _ _ a b)
-      (turned c.a-else-upper.result c.args.p.now.a c.a-else-upper.ensures.value c.a-else-upper.ensures.small)
-      (c.radicand-else-upper.ensures.value ∙ same_discriminant c.args.a c.args.b c.args.c _ _ _ a b (clean w64 c.args.c c.ranges.c.sfits))
+    (clean w64 c.remainder_slope-slope.result c.remainder_slope-slope.type_inv ∙ c.remainder_slope-slope.ensures.value ∙ same_slope c.args.p.now c.args.a c.args.b _ _ a b)
+    (turned c.a-else-upper.result c.args.p.now.a c.a-else-upper.ensures.value c.a-else-upper.ensures.small)
+    (c.radicand-else-upper.ensures.value ∙ same_discriminant c.args.a c.args.b c.args.c _ _ _ a b (clean w64 c.args.c c.ranges.c.sfits))

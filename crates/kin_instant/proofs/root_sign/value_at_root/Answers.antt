@@ -29,11 +29,11 @@ returns-in-Minus c =
     let start = clean w64 c.remainder_start-start.result c.remainder_start-start.type_inv ∙ c.remainder_start-start.ensures.value ∙ same_start c.args.p.now c.args.a c.args.c _ _ a d in
     c.times-in-Minus.ensures
     ∙ opposed-is _ _ _ (sign_of (whole_of c.args.p.now c.args.a c.args.b c.args.c)) (product_of (side c.args.upper) (sign_of (remainder_slope_of c.args.p.now c.args.a c.args.b))) (sign_of (resultant_of c.args.p.now c.args.a c.args.b c.args.c)) _
-      (c.of-whole.ensures ∙ ap sign_of (clean w128 c.wide_difference_of_products.result c.wide_difference_of_products.type_inv ∙ c.wide_difference_of_products.ensures ∙ same_differences (pos 2 *ℤ c.args.a) (remainder_start_of c.args.p.now c.args.a c.args.c) c.args.b (remainder_slope_of c.args.p.now c.args.a c.args.b) _ _ _ _ (twice c.args.a c.requires.a_small) start b slope))
-      (c.on_side-surd.ensures ∙ ap (product_of (side c.args.upper)) (c.of.ensures ∙ ap sign_of (clean w128 c.from.result c.from.type_inv ∙ c.from.ensures ∙ slope)))
-      (c.resultant_sign.ensures ∙ ap sign_of (same_resultant c.args.p.now c.args.b c.args.c (remainder_slope_of c.args.p.now c.args.a c.args.b) (remainder_start_of c.args.p.now c.args.a c.args.c) _ _ _ _ b d slope start))
-      (sign_at_root-value c.args.p.now c.args.a c.args.b c.args.c c.args.upper c.requires.a_positive c.requires.real)
-      (sym c.times.ensures ∙ c.in-Minus.is)
+    (c.of-whole.ensures ∙ ap sign_of (clean w128 c.wide_difference_of_products.result c.wide_difference_of_products.type_inv ∙ c.wide_difference_of_products.ensures ∙ same_differences (pos 2 *ℤ c.args.a) (remainder_start_of c.args.p.now c.args.a c.args.c) c.args.b (remainder_slope_of c.args.p.now c.args.a c.args.b) _ _ _ _ (twice c.args.a c.requires.a_small) start b slope))
+    (c.on_side-surd.ensures ∙ ap (product_of (side c.args.upper)) (c.of.ensures ∙ ap sign_of (clean w128 c.from.result c.from.type_inv ∙ c.from.ensures ∙ slope)))
+    (c.resultant_sign.ensures ∙ ap sign_of (same_resultant c.args.p.now c.args.b c.args.c (remainder_slope_of c.args.p.now c.args.a c.args.b) (remainder_start_of c.args.p.now c.args.a c.args.c) _ _ _ _ b d slope start))
+    (sign_at_root-value c.args.p.now c.args.a c.args.b c.args.c c.args.upper c.requires.a_positive c.requires.real)
+    (sym c.times.ensures ∙ c.in-Minus.is)
 
 pub returns-in_default : goal.returns-in_default
 returns-in_default c =
@@ -44,7 +44,7 @@ returns-in_default c =
     let start = clean w64 c.remainder_start-start.result c.remainder_start-start.type_inv ∙ c.remainder_start-start.ensures.value ∙ same_start c.args.p.now c.args.a c.args.c _ _ a d in
     c.then.ensures
     ∙ agreeing-is _ _ (sign_of (whole_of c.args.p.now c.args.a c.args.b c.args.c)) (product_of (side c.args.upper) (sign_of (remainder_slope_of c.args.p.now c.args.a c.args.b))) (sign_of (resultant_of c.args.p.now c.args.a c.args.b c.args.c)) _
-      (c.of-whole.ensures ∙ ap sign_of (clean w128 c.wide_difference_of_products.result c.wide_difference_of_products.type_inv ∙ c.wide_difference_of_products.ensures ∙ same_differences (pos 2 *ℤ c.args.a) (remainder_start_of c.args.p.now c.args.a c.args.c) c.args.b (remainder_slope_of c.args.p.now c.args.a c.args.b) _ _ _ _ (twice c.args.a c.requires.a_small) start b slope))
-      (c.on_side-surd.ensures ∙ ap (product_of (side c.args.upper)) (c.of.ensures ∙ ap sign_of (clean w128 c.from.result c.from.type_inv ∙ c.from.ensures ∙ slope)))
-      (sign_at_root-value c.args.p.now c.args.a c.args.b c.args.c c.args.upper c.requires.a_positive c.requires.real)
-      (λ e. c.in_default.not-Minus (c.times.ensures ∙ e))
+    (c.of-whole.ensures ∙ ap sign_of (clean w128 c.wide_difference_of_products.result c.wide_difference_of_products.type_inv ∙ c.wide_difference_of_products.ensures ∙ same_differences (pos 2 *ℤ c.args.a) (remainder_start_of c.args.p.now c.args.a c.args.c) c.args.b (remainder_slope_of c.args.p.now c.args.a c.args.b) _ _ _ _ (twice c.args.a c.requires.a_small) start b slope))
+    (c.on_side-surd.ensures ∙ ap (product_of (side c.args.upper)) (c.of.ensures ∙ ap sign_of (clean w128 c.from.result c.from.type_inv ∙ c.from.ensures ∙ slope)))
+    (sign_at_root-value c.args.p.now c.args.a c.args.b c.args.c c.args.upper c.requires.a_positive c.requires.real)
+    (λ e. c.in_default.not-Minus (c.times.ensures ∙ e))

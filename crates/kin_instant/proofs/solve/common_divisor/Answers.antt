@@ -33,6 +33,7 @@ shared_of a b c a' b' c' u v w h g some small ea eb ec pu pv pw i j =
   where
     above : (d : ℤ) → pos 0 <ℤ d → 0 < unsigned_abs d
     above d h = omega (arith, ints)
+
     below : (g m : ℕ) → g ≤ m → m < 2 ^ 63 → g < 2 ^ 63
     below g m h k = omega arith
 

@@ -32,6 +32,7 @@ root_size r s h k = lt_of_not-le (λ l. not-le_of_lt (below s k) (over (2 ^ 30 *
   where
     below : (s : ℕ) → s ≤ 2 ^ 59 → s < 2 ^ 30 * 2 ^ 30
     below s k = omega arith
+
     over : (x y z : ℕ) → x ≤ y → y ≤ z → x ≤ z
     over x y z h k = omega arith
 
