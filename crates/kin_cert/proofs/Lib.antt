@@ -1,6 +1,7 @@
 pub mod Changes
 pub mod Dues
 pub mod Elements
+pub mod Failing
 pub mod Giving
 pub mod Ranks
 pub mod Seen

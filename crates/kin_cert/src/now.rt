@@ -3,7 +3,7 @@
 ghost use Rattle.std.specs.Prelude.{◌≡◌, ◌+◌};
 ghost use Rattle.kin_motion.specs.Scene.{scene_at};
 
-use kin_instant::compare::sign_at;
+use kin_instant::sign::sign_at;
 use kin_motion::form::Form;
 use kin_motion::motion::Motions;
 use kin_motion::poly::poly_of;

@@ -113,3 +113,9 @@ module _ {X : Type 0} where
   pub look_up-nowhere : (es : List (ℕ × X)) (q : ℕ) → ((i : ℕ) (d : ℕ × X) → i < length es → (get_or es i d).0 ≢ q) → look_up q es ≡ None
   look_up-nowhere [] q h = refl
   look_up-nowhere (e ∷ es) q h = look_up-absent (e ∷ es) q e (λ i. h i e)
+
+  -- a place within has no need of a default
+  pub defaults : (xs : List (ℕ × X)) (i : ℕ) (d e : ℕ × X) → i < length xs → get_or xs i d ≡ get_or xs i e
+  defaults [] i d e lt = absurd (omega (arith, lt))
+  defaults (x ∷ xs) zero d e lt = refl
+  defaults (x ∷ xs) (suc i) d e lt = defaults xs i d e (omega (arith, lt))

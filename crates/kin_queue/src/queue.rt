@@ -15,10 +15,12 @@ use std::cmp::Ordering;
 use std::marker::Model;
 use std::sync::ledger::Ledger;
 
-/// A finite map from ids to moments that gives an entry of least moment.
+/// A finite map from ids to moments that gives an entry of least moment. Which one of several
+/// entries of the least moment comes next is free. Entries stand by rising moment: `first` takes
+/// no time, and each other call time in proportion to the number of entries.
 #[derive(Drop)]
 pub struct Queue {
-    // By rising moment.
+    /// The entries by rising moment, each id once.
     entries: Vec<(usize, Moment)>,
 }
 
@@ -47,14 +49,14 @@ impl Queue {
         }
     }
 
-    /// Puts an id in at a moment.
+    /// Puts an id in at a moment. The id isn't there yet. Want of memory changes nothing.
     pub fn insert<L: Ledger>(
         &mut self,
         id: usize,
         at: Moment,
         steps: &mut Steps<L>,
     ) -> Result<(), NoMemory>
-        requires { get self.old.moments id ≡ None }
+        requires absent { get self.old.moments id ≡ None }
         ensures ok { OnOk result (self.new.moments ≡ insert self.old.moments id at) }
         ensures err { OnErr result (self.new ≡ self.old) }
     {
@@ -66,16 +68,16 @@ impl Queue {
         Ok(())
     }
 
-    /// Takes an id out.
+    /// Takes an id out, which is there.
     pub fn remove<L: Ledger>(&mut self, id: usize, steps: &mut Steps<L>)
-        requires { IsSome (get self.old.moments id) }
+        requires present { IsSome (get self.old.moments id) }
         ensures { self.new.moments ≡ remove self.old.moments id }
     {
         let place = place_of(&self.entries, id);
         self.entries.remove(place);
     }
 
-    /// The next entry: one of least moment.
+    /// The next entry, which is one of least moment, or `None` exactly where the queue is empty.
     pub fn first(&self) -> Option<(usize, Moment)>
         ensures value { result ≡ self.now.next }
         ensures least { IsNext self.now.moments self.now.next }
@@ -83,7 +85,7 @@ impl Queue {
         self.entries.first().copied()
     }
 
-    /// Takes the next entry out.
+    /// Takes the entry out that `first` gives, or `None` exactly where the queue is empty.
     pub fn pop<L: Ledger>(&mut self, steps: &mut Steps<L>) -> Option<(usize, Moment)>
         ensures value { result ≡ self.old.next }
         ensures least { IsNext self.old.moments self.old.next }
@@ -101,7 +103,7 @@ fn place_for<L: Ledger>(entries: &[(usize, Moment)], at: &Moment, steps: &mut St
     ensures { IsPlaceFor entries.now at.now result }
 {
     for (place, entry) in entries.iter().enumerate() {
-        if compare_moments(at, &entry.1, steps) == Ordering::Less {
+        if let Ordering::Less = compare_moments(at, &entry.1, steps) {
             return place;
         }
     }
@@ -120,4 +122,83 @@ fn place_of(entries: &[(usize, Moment)], id: usize) -> usize
         }
     }
     unreachable!()
+}
+
+#[cfg(test)]
+mod tests {
+    use super::Queue;
+    use kin_instant::ratio::ratio;
+    use kin_instant::roots::Roots;
+    use kin_instant::solve::roots;
+    use kin_num::{Instant, Moment, NoMemory, Phase, Poly, Steps};
+    use std::alloc::Global;
+    use std::marker::Brand;
+    use std::sync::ledger::{Blank, Ledger};
+    use std::test::Fail;
+
+    /// The greater root of `t^2 - 2`.
+    fn root_two() -> Option<Instant> {
+        match roots(&Poly::new(1, 0, -2)) {
+            Roots::Two(_, greater) => Some(greater),
+            _ => None,
+        }
+    }
+
+    fn three_halves(phase: Phase) -> Moment {
+        Moment {
+            at: ratio(3, 2),
+            phase,
+        }
+    }
+
+    /// Puts three entries into an empty queue.
+    #[tactic(auto, using(std::specs::FinMap::gets))]
+    fn fill<L: Ledger>(
+        queue: &mut Queue,
+        root: Instant,
+        steps: &mut Steps<L>,
+    ) -> Result<(), NoMemory>
+        requires { queue.old.moments ≡ empty }
+    {
+        queue.insert(7, three_halves(Phase::At), steps)?;
+        let at_root = Moment {
+            at: root,
+            phase: Phase::At,
+        };
+        queue.insert(4, at_root, steps)?;
+        queue.insert(9, three_halves(Phase::After), steps)
+    }
+
+    /// Whether the next entry has this id.
+    fn gives<L: Ledger>(queue: &mut Queue, id: usize, steps: &mut Steps<L>) -> bool {
+        let first = queue.first();
+        let popped = queue.pop(steps);
+        match (first, popped) {
+            (Some(first), Some(popped)) => first.0 == id && popped.0 == id,
+            _ => false,
+        }
+    }
+
+    fn in_order<L: Ledger>(alloc: Global, root: Instant, blank: Blank) -> bool
+        requires name { blank.name ≡ L.name }
+        requires parts { blank.parts ≡ L.parts }
+        requires some { 0 < L.parts }
+    {
+        let mut steps = Steps::<L>::open(blank);
+        let mut queue = Queue::new(alloc);
+        fill(&mut queue, root, &mut steps).is_ok()
+            && gives(&mut queue, 4, &mut steps)
+            && gives(&mut queue, 7, &mut steps)
+            && gives(&mut queue, 9, &mut steps)
+            && queue.first().is_none()
+            && queue.pop(&mut steps).is_none()
+    }
+
+    #[test]
+    fn entries_come_by_rising_moment(rt: HostRuntime) {
+        let Some(root) = root_two() else {
+            return;
+        };
+        assert!(rt; in_order::<Brand>(rt.alloc(), root, Blank::new(1)));
+    }
 }

@@ -6,7 +6,7 @@ use Rattle.kin_queue.proofs.queue.Queue.remove.Goals as goal
 
 pub place_of-place-requires : goal.place_of-place-requires
 place_of-place-requires g c =
-    rw c.deref.ensures.value (subst (λ (x : Option Moment). IsSome x) (sym (seen _ _ c.self.view_is c.args.id)) c.requires)
+    rw c.deref.ensures.value (subst (λ (x : Option Moment). IsSome x) (sym (seen _ _ c.self.view_is c.args.id)) c.requires.present)
 
 pub invariant_of-self : goal.invariant_of-self
 invariant_of-self g c = rw c.remove.ensures.items (row-remove _ _ c.self.invariant (omega arith))
