@@ -42,7 +42,7 @@ one_root p n d h r f k same count = record {
 }
 
 -- ---- lines
-line_as : (b c : ℤ) → line (neg_ℤ c) b ≡ quadratic (pos 0) b c
+pub line_as : (b c : ℤ) → line (neg_ℤ c) b ≡ quadratic (pos 0) b c
 line_as b c = ap (quadratic (pos 0) b) (twice c)
   where
     twice : (c : ℤ) → neg_ℤ (neg_ℤ c) ≡ c

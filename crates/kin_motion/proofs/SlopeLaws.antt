@@ -4,7 +4,7 @@ use Rattle.std.specs.Prelude.{ℤ, pos, ◌+ℤ◌, ◌-ℤ◌, ◌*ℤ◌, Opti
 use lib.IntN.{neg_ℤ}
 use Rattle.kin_algebra.specs.declared.sign.Sign.{Sign}
 use Rattle.kin_algebra.specs.declared.sign.Sign.TheVariants.{Minus, Zero, Plus}
-use Rattle.kin_algebra.specs.Signs.{sign_of, product_of, SumMayBe}
+use Rattle.kin_algebra.specs.Signs.{sign_of, product_of, opposite_of, SumMayBe}
 use Rattle.kin_algebra.proofs.Ring.{by_ring, quotes, by_identity, quotes_in}
 use Rattle.kin_algebra.proofs.OrderedRings.{OrderedRing, sum_may_be, scale}
 use Rattle.kin_algebra.proofs.Pairs.{Pair, pair, pair_plus, pair_times, pair_negative, Sound, sign_over, sign_over-whole}
@@ -20,7 +20,7 @@ use Rattle.kin_motion.specs.Scene.{Scene, IsReal, x_sign}
 use Rattle.kin_motion.specs.Laws.{HasSlopeLaws}
 use Rattle.kin_motion.proofs.SetLaws.{contains_at}
 use Rattle.kin_motion.proofs.SeenLaws.{SeenAt, seen_at}
-use Rattle.kin_motion.proofs.RealLaws.{by_signs}
+use Rattle.kin_motion.proofs.RealLaws.{by_signs, opposite_forms}
 
 -- ---- values of lines
 -- the value of slope*t + start at a number, times its divisor
@@ -82,8 +82,8 @@ module _ {R : Type 0} (o : OrderedRing R) where
   through x y u v p q e f g =
       subst (λ (t : Sign). SumMayBe t (o.sign (cross u v p q)) (o.sign (cross x y p q))) (by_plus (cross x y u v) p g)
       (subst (λ (t : Sign). SumMayBe (o.sign (o.ring.times (cross x y u v) p)) t (o.sign (cross x y p q))) (by_plus (cross u v p q) x e)
-       (subst (λ (t : Sign). SumMayBe (o.sign (o.ring.times (cross x y u v) p)) (o.sign (o.ring.times (cross u v p q) x)) t) (sym (ap o.sign (three x y u v p q)) ∙ by_plus (cross x y p q) u f)
-        (sum_may_be o (o.ring.times (cross x y u v) p) (o.ring.times (cross u v p q) x))))
+      (subst (λ (t : Sign). SumMayBe (o.sign (o.ring.times (cross x y u v) p)) (o.sign (o.ring.times (cross u v p q) x)) t) (sym (ap o.sign (three x y u v p q)) ∙ by_plus (cross x y p q) u f)
+      (sum_may_be o (o.ring.times (cross x y u v) p) (o.ring.times (cross u v p q) x))))
 
 -- ---- at a number
 module _ (x : Number) (sound : Sound x.radicand) (positive : sign_of x.divisor ≡ Plus) where
@@ -140,5 +140,21 @@ module _ (s : Scene) (r : IsReal s) (i j k l m n : ℕ) where
       by_signs (slope-here i j k l (contains_at six 3 _ refl)) (slope-here k l m n (contains_at six 4 _ refl)) (slope-here i j m n (contains_at six 5 _ refl))
       (through here (X i j) (Y i j) (X k l) (Y k l) (X m n) (Y m n) (sym (x-here i j (contains_at six 0 _ refl)) ∙ e) (sym (x-here k l (contains_at six 1 _ refl)) ∙ f) (sym (x-here m n (contains_at six 2 _ refl)) ∙ g))
 
+turned_back : (a b : ℤ) → a -ℤ b ≡ neg_ℤ (b -ℤ a)
+turned_back a b = by_ring (a ∷ b ∷ []) _ _ (search quotes depth 20) (search quotes depth 20) refl
+
+opposite_slope : (ms : List (Option Course)) (i j k l : ℕ) → polynomial_of ms (Slope k l i j) ≡ negated (polynomial_of ms (Slope i j k l))
+unfolding polynomial_of
+opposite_slope ms i j k l =
+    let p = product (y_step ms k l) (x_step ms i j) in
+    let q = product (y_step ms i j) (x_step ms k l) in
+    let f = turned_back p.a q.a in
+    let g = turned_back p.b q.b in
+    let h = turned_back p.c q.c in
+    λ t. record { a = f t; b = g t; c = h t }
+
 pub real_slope_laws : (s : Scene) → IsReal s → HasSlopeLaws s
-real_slope_laws s r = record { through = slope_through s r }
+real_slope_laws s r = record {
+  opposite = λ i j k l. r.sign (Slope k l i j) ∙ opposite_forms r.motions r.moment _ _ (opposite_slope r.motions i j k l) ∙ ap opposite_of (sym (r.sign (Slope i j k l)));
+  through = slope_through s r;
+}

@@ -28,6 +28,9 @@ pub record HasDistanceLaws (s : Scene) : Type 0 where
   -- from the first pair to the third it is the sum
   pub chain : (i j k l m n : ℕ) → SumMayBe (s.sign (Dist i j k l)) (s.sign (Dist k l m n)) (s.sign (Dist i j m n))
 
--- the law of slopes, which the list of breakpoints rests on: of three steps to the right, the first against the third is the sum
+-- the laws of slopes, which the list of breakpoints rests on
 pub record HasSlopeLaws (s : Scene) : Type 0 where
+  -- the steps the other way round
+  pub opposite : (i j k l : ℕ) → s.sign (Slope k l i j) ≡ opposite_of (s.sign (Slope i j k l))
+  -- of three steps to the right, the first against the third is the sum
   pub through : (i j k l m n : ℕ) → x_sign s i j ≡ Plus → x_sign s k l ≡ Plus → x_sign s m n ≡ Plus → SumMayBe (s.sign (Slope i j k l)) (s.sign (Slope k l m n)) (s.sign (Slope i j m n))

@@ -60,7 +60,10 @@ phase_sum p q w After c =
     subst (λ x. SumMayBe (sign_at_instant (derivative (derivative p)) w) (sign_at_instant (derivative (derivative q)) w) (sign_at_instant x w)) (sym again) (instant_sum (derivative (derivative p)) (derivative (derivative q)) w c) in
     first_sum _ _ _ _ _ _ (instant_sum p q w c) (first_sum _ _ _ _ _ _ one two)
 
--- the sign of a sum at a canonical moment
-pub sign_at-sum : (p q : Quadratic) (m : Moment) → IsCanonical m.at → SumMayBe (sign_at p m) (sign_at q m) (sign_at (quadratic_sum p q) m)
+-- the sign of a sum at a moment of a canonical instant
+pub sign_at-sum-form : (p q : Quadratic) (m : Moment) → IsCanonicalForm m.at → SumMayBe (sign_at p m) (sign_at q m) (sign_at (quadratic_sum p q) m)
 unfolding sign_at
-sign_at-sum p q m c = phase_sum p q m.at m.phase c.form
+sign_at-sum-form p q m form = phase_sum p q m.at m.phase form
+
+pub sign_at-sum : (p q : Quadratic) (m : Moment) → IsCanonical m.at → SumMayBe (sign_at p m) (sign_at q m) (sign_at (quadratic_sum p q) m)
+sign_at-sum p q m c = sign_at-sum-form p q m c.form

@@ -12,7 +12,7 @@ use Rattle.kin_num.specs.declared.instant.Phase.TheVariants.{At, After}
 use Rattle.kin_num.specs.declared.instant.Moment.{Moment}
 use Rattle.kin_num.specs.Canonical.{IsCanonicalForm, IsWideShape}
 use Rattle.kin_num.specs.Instants.{number_of, sign_at_instant, seat_of, line}
-use Rattle.kin_num.specs.Laws.{IsRadicand, PairSignsAreOrdered, SignsAreOrdered, InstantsAreOrdered, MomentsAreOrdered, IsLessByGrain, InstantsLieApart}
+use Rattle.kin_num.specs.Laws.{IsRadicand, PairSignsAreOrdered, SignsAddAndMultiply, SignsAreOrdered, InstantsAreOrdered, MomentsAreOrdered, IsLessByGrain, InstantsLieApart}
 use Rattle.kin_num.proofs.Values.{radical_of, canonical-sound}
 use Rattle.kin_num.proofs.NumberRing.{flat}
 use Rattle.kin_num.proofs.Near.{Bracket, bracket, line_sign}
@@ -22,6 +22,9 @@ use Rattle.kin_num.proofs.LowerFractions.{not_less_itself, less_trans, less_asym
 use Rattle.kin_num.proofs.Sizes.{wide_size}
 use Rattle.kin_num.proofs.InstantOrder.{total, level_same, same_level, wide_compared}
 use Rattle.kin_num.proofs.MomentOrder.{not_earlier_itself, earlier_trans, earlier_total}
+use Rattle.kin_num.proofs.SignLaws.{sign_at-neg}
+use Rattle.kin_num.proofs.InstantLaws.{sign_at-sum-form}
+use Rattle.kin_num.proofs.Products.{sign_at-product}
 use Rattle.kin_num.proofs.Seat.{seat}
 
 -- ---- pairs
@@ -56,6 +59,13 @@ pub signs : (m : Moment) → IsCanonicalForm m.at → IsWideShape m.at → Signs
 signs m form wide = record {
   at_seat = λ p k. seat p (omega (arith, k.a_most)) k.b_most (omega (arith, k.c_most)) m form wide;
   ordered = subst PairSignsAreOrdered (same_radicand m.at m.phase) (sound_pairs (number_of m.at).radicand (canonical-sound m.at form));
+}
+
+pub sums_and_products : (m : Moment) → IsCanonicalForm m.at → SignsAddAndMultiply m
+sums_and_products m form = record {
+  negative = λ p. sign_at-neg p m;
+  sum = λ p q. sign_at-sum-form p q m form;
+  product = sign_at-product m form;
 }
 
 -- ---- the order

@@ -48,3 +48,12 @@ earlier_total m n fm fn = at (total m.at n.at fm fn)
     at (inl l) = inl (inl l)
     at (inr (inl l)) = inr (inl (inl l))
     at (inr (inr e)) = phases e m.phase n.phase refl refl
+
+-- "not earlier" goes through
+pub not_earlier_trans : (l m n : Moment) → IsCanonicalForm l.at → IsCanonicalForm m.at → IsCanonicalForm n.at → ¬ (IsEarlier m l) → ¬ (IsEarlier n m) → ¬ (IsEarlier n l)
+not_earlier_trans l m n fl fm fn h k p = at (earlier_total m n fm fn)
+  where
+    at : IsEarlier m n ⊎ (IsEarlier n m ⊎ (m ≡ n)) → ⊥
+    at (inl q) = h (earlier_trans m n l fm fn fl q p)
+    at (inr (inl q)) = k q
+    at (inr (inr e)) = h (subst (λ x. IsEarlier x l) (sym e) p)

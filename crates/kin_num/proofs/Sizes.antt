@@ -5,6 +5,7 @@ use Rattle.std.proofs.lemmas.Int.{ints, unsigned_abs-mul}
 use lib.IntN.{neg_ℤ}
 use Rattle.kin_num.specs.declared.instant.Shape.{Shape}
 use Rattle.kin_num.specs.declared.instant.Shape.TheVariants.{Ratio, Root}
+use Rattle.kin_num.specs.Quadratic.{Quadratic}
 use Rattle.kin_num.specs.Canonical.{IsCanonicalForm, IsWideShape, discriminant}
 use Rattle.kin_num.specs.Instants.{number_of, line, derivative}
 use Rattle.kin_num.proofs.Values.{canonical-sound}
@@ -46,6 +47,13 @@ own_height (Root a b c upper) = quadratic-height a b c _ (omega arith) (omega ar
 pub height_some : (w : Shape) → 0 < height_of w
 height_some (Ratio n d) = omega arith
 height_some (Root a b c upper) = omega arith
+
+-- a height of a polynomial and its derivative
+abbrev pub tall : Quadratic → ℕ
+tall p = 2 * unsigned_abs p.a + unsigned_abs p.b + unsigned_abs p.c + 1
+
+pub tall-height : (p : Quadratic) (h : ℕ) → tall p ≤ h → HaveHeight p.a p.b p.c h
+tall-height p h k = quadratic-height p.a p.b p.c h (omega (arith, k)) (omega (arith, k)) (omega (arith, k))
 
 -- ---- sizes
 pub size_by : (w : Shape) → IsCanonicalForm w → (r m : ℕ) → pos 0 ≤ℤ (pos (r * r) -ℤ (number_of w).radicand) → unsigned_abs (number_of w).whole + unsigned_abs (number_of w).root * r ≤ m → unsigned_abs (number_of w).divisor ≤ m → HasSize (number_of w) m

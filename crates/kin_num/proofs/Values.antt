@@ -10,6 +10,7 @@ use Rattle.kin_algebra.proofs.Pairs.{Pair, pair, pair_plus, pair_negative, Sound
 use Rattle.kin_num.specs.declared.instant.Shape.{Shape}
 use Rattle.kin_num.specs.declared.instant.Shape.TheVariants.{Ratio, Root}
 use Rattle.kin_num.specs.Quadratic.{Quadratic}
+pub use Rattle.kin_num.specs.Quadratic.{quadratic_sum, negated}
 use Rattle.kin_num.specs.Canonical.{IsCanonicalForm, IsIrreducible, discriminant}
 use Rattle.kin_num.specs.Instants.{Number, number_of, whole_part, root_part}
 
@@ -38,12 +39,6 @@ canonical-sound (Root a b c true) i = irreducible-sound a b c i
 canonical-sound (Root a b c false) i = irreducible-sound a b c i
 
 -- ---- sums and negatives
-abbrev pub quadratic_sum : Quadratic → Quadratic → Quadratic
-quadratic_sum p q = record { a = p.a +ℤ q.a; b = p.b +ℤ q.b; c = p.c +ℤ q.c }
-
-abbrev pub negated : Quadratic → Quadratic
-negated p = record { a = neg_ℤ p.a; b = neg_ℤ p.b; c = neg_ℤ p.c }
-
 whole_sum : (a b c a' b' c' n m d q : ℤ) →
     (a +ℤ a') *ℤ (n *ℤ n +ℤ m *ℤ m *ℤ d) +ℤ (b +ℤ b') *ℤ n *ℤ q +ℤ (c +ℤ c') *ℤ q *ℤ q
     ≡ (a *ℤ (n *ℤ n +ℤ m *ℤ m *ℤ d) +ℤ b *ℤ n *ℤ q +ℤ c *ℤ q *ℤ q) +ℤ (a' *ℤ (n *ℤ n +ℤ m *ℤ m *ℤ d) +ℤ b' *ℤ n *ℤ q +ℤ c' *ℤ q *ℤ q)

@@ -5,7 +5,7 @@ use Rattle.kin_algebra.specs.declared.sign.Sign.TheVariants.{Plus}
 use Rattle.kin_algebra.specs.Signs.{sign_of, opposite_of, product_of, pair_sign_of, SumMayBe}
 use Rattle.kin_num.specs.declared.instant.Shape.{Shape}
 use Rattle.kin_num.specs.declared.instant.Moment.{Moment}
-use Rattle.kin_num.specs.Quadratic.{Quadratic}
+use Rattle.kin_num.specs.Quadratic.{Quadratic, quadratic_sum, negated, linear, linear_product}
 use Rattle.kin_num.specs.Canonical.{IsCanonicalForm, IsWideQuadratic, IsWideShape}
 use Rattle.kin_num.specs.Instants.{sign_at_number, sign_at_instant, sign_at, seat_of, line}
 use Rattle.kin_num.specs.Order.{Separates, IsLess, AreLevel, IsEarlier}
@@ -26,6 +26,12 @@ pub record PairSignsAreOrdered (d : ℤ) : Type 0 where
 pub record SignsAreOrdered (m : Moment) : Type 0 where
   pub at_seat : (p : Quadratic) → IsWideQuadratic p.a p.b p.c → sign_at p m ≡ sign_at_number p (seat_of m.at m.phase)
   pub ordered : PairSignsAreOrdered (seat_of m.at m.phase).radicand
+
+-- signs at one moment go with negatives, sums and products as those of numbers do
+pub record SignsAddAndMultiply (m : Moment) : Type 0 where
+  pub negative : (p : Quadratic) → sign_at (negated p) m ≡ opposite_of (sign_at p m)
+  pub sum : (p q : Quadratic) → SumMayBe (sign_at p m) (sign_at q m) (sign_at (quadratic_sum p q) m)
+  pub product : (b c b' c' : ℤ) → sign_at (linear_product b c b' c') m ≡ product_of (sign_at (linear b c) m) (sign_at (linear b' c') m)
 
 -- "less" is a strict total order of the canonical instants, and the level ones are the same
 pub record InstantsAreOrdered : Type 0 where

@@ -6,14 +6,19 @@
 ghost use Rattle.std.specs.Prelude.{ℤ};
 ghost use Rattle.kin_num.specs.declared.instant.Moment.{Moment as Time};
 ghost use Rattle.kin_num.specs.Canonical.{IsCanonicalForm, IsWideShape};
-ghost use Rattle.kin_num.specs.Laws.{IsRadicand, PairSignsAreOrdered, SignsAreOrdered, InstantsAreOrdered, MomentsAreOrdered, InstantsLieApart};
+ghost use Rattle.kin_num.specs.Laws.{IsRadicand, PairSignsAreOrdered, SignsAddAndMultiply, SignsAreOrdered, InstantsAreOrdered, MomentsAreOrdered, InstantsLieApart};
 
 /// The signs of sums and products of pairs over one radicand are those of an ordered ring.
 pub fn pair_signs_are_ordered()
     ensures { (d : ℤ) → IsRadicand d → PairSignsAreOrdered d }
 {}
 
-/// The signs at one moment are those of an ordered ring: with its sums and products of any degree.
+/// The signs at one moment go with negatives, sums and products.
+pub fn signs_add_and_multiply()
+    ensures { (m : Time) → IsCanonicalForm m.at → SignsAddAndMultiply m }
+{}
+
+/// The signs at one moment are those of values in one ordered ring, which has products of any degree.
 pub fn signs_are_ordered()
     ensures { (m : Time) → IsCanonicalForm m.at → IsWideShape m.at → SignsAreOrdered m }
 {}

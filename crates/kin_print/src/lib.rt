@@ -4,6 +4,10 @@
 //! memory runs out, a front of them.
 #![tactic(auto)]
 
+pub use list::put_list;
+pub use moment::put_moment;
+pub use piece::{put_bytes, put_number, put_pieces};
+
 pub mod list;
 pub mod moment;
 pub mod piece;

@@ -6,7 +6,7 @@ ghost use Rattle.kin_script.specs.Printed.{list_line, PutsFront};
 ghost use Rattle.kin_print.specs.Pieces.{spaced};
 
 use crate::piece::{put_bytes, put_number};
-use kin_num::memory::NoMemory;
+use kin_num::NoMemory;
 
 /// Appends the numbers, separated by one space, or the word `none`, as a line.
 pub fn put_list(out: &mut Vec<u8>, list: &[u32]) -> Result<(), NoMemory>

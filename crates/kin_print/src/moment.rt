@@ -6,8 +6,7 @@ ghost use Rattle.kin_script.specs.Printed.{ratio_text, root_text, side_text, ins
 
 use crate::piece::{put_bytes, put_pieces};
 use itoa::Buffer;
-use kin_num::instant::{Instant, Moment, Phase, Shape};
-use kin_num::memory::NoMemory;
+use kin_num::{Instant, Moment, NoMemory, Phase, Shape};
 
 /// The decimal digits of a number, behind a minus where it is negative.
 fn digits(buffer: &mut Buffer, n: i64) -> &[u8]

@@ -5,7 +5,7 @@ ghost use Rattle.kin_script.specs.Printed.{PutsFront};
 ghost use Rattle.kin_print.specs.Pieces.{joined};
 
 use itoa::{Buffer, Integer};
-use kin_num::memory::NoMemory;
+use kin_num::NoMemory;
 
 /// Appends bytes, or nothing.
 pub fn put_bytes(out: &mut Vec<u8>, bytes: &[u8]) -> Result<(), NoMemory>

@@ -1,11 +1,11 @@
 -- What the words of a line say.
-use Rattle.std.specs.Prelude.{ℕ, ◌+◌, ◌-◌, ◌^◌, ℤ, pos, Bool, false, List, [], ◌∷◌, Option, Some, None, option_map, codes, if◌then◌else◌, ◌==◌, unsigned_abs}
+use Rattle.std.specs.Prelude.{ℕ, ◌+◌, ◌-◌, ◌^◌, ℤ, pos, Bool, true, false, List, [], ◌∷◌, Option, Some, None, option_map, codes, if◌then◌else◌, ◌==◌, unsigned_abs}
 use Rattle.std.specs.Str.{bytes_eq}
 use Rattle.kin_motion.specs.declared.keep.Keep.{Keep}
 use Rattle.kin_motion.specs.declared.keep.Keep.TheVariants as keep
 use Rattle.kin_motion.specs.Course.{Course}
 use Rattle.kin_script.specs.declared.command.Command.{Command}
-use Rattle.kin_script.specs.declared.command.Command.TheVariants.{Insert, AtRatio, Order, Extreme, Hull, Closest, Inside}
+use Rattle.kin_script.specs.declared.command.Command.TheVariants.{Insert, AtRatio, AtRoot, Order, Extreme, Hull, Closest, Inside}
 use Rattle.kin_script.specs.declared.line.Setting.{Setting}
 use Rattle.kin_script.specs.declared.line.Setting.TheVariants as setting
 use Rattle.kin_script.specs.Lines.{Word, is_nil}
@@ -40,12 +40,35 @@ insert_of size ws = do
   motion ← motion_at number.1
   last (Insert number.0 motion.0) motion.1
 
--- at N/D, at N
+-- lo or hi, and the words behind it: whether the greater root is meant
+unfoldable pub side_at : List Word → Option (Bool × List Word)
+side_at [] = None
+side_at (w ∷ ws) =
+    if bytes_eq w (codes "lo") then Some (false, ws)
+    else if bytes_eq w (codes "hi") then Some (true, ws)
+    else None
+
+-- the coefficients A B C, with A not 0, and the words behind them
+unfoldable pub quadratic_at : List Word → Option ((ℤ × ℤ × ℤ) × List Word)
+quadratic_at ws = do
+  a ← integer_at 268435456 ws
+  b ← integer_at 536870912 a.1
+  c ← integer_at 268435456 b.1
+  if unsigned_abs a.0 == 0 then None else Some ((a.0, b.0, c.0), c.1)
+
+-- at root A B C lo, at root A B C hi
+unfoldable pub root_of : List Word → Option Command
+root_of ws = do
+  q ← quadratic_at ws
+  upper ← side_at q.1
+  last (AtRoot q.0.0 q.0.1 q.0.2 upper.0) upper.1
+
+-- at N/D, at N, and the lines of a root
 unfoldable pub at_of : List Word → Option Command
 at_of [] = None
-at_of (w ∷ ws) = do
+at_of (w ∷ ws) = if bytes_eq w (codes "root") then root_of ws else (do
   r ← ratio_of w
-  last (AtRatio (pos r.0) (pos r.1)) ws
+  last (AtRatio (pos r.0) (pos r.1)) ws)
 
 -- order S
 unfoldable pub order_of : List Word → Option Command

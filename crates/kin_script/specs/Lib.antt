@@ -7,3 +7,5 @@ pub mod Ranges
 pub mod Gives
 pub mod Reading
 pub mod Printed
+pub mod Replay
+pub mod Text

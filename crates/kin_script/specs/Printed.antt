@@ -8,12 +8,13 @@ use Rattle.kin_num.specs.declared.instant.Phase.{Phase}
 use Rattle.kin_num.specs.declared.instant.Phase.TheVariants.{At, After}
 use Rattle.kin_num.specs.declared.instant.Moment.{Moment}
 use Rattle.kin_script.specs.declared.refusal.Refusal.{Refusal}
-use Rattle.kin_script.specs.declared.refusal.Refusal.TheVariants.{Taken, NotKept, Past}
+use Rattle.kin_script.specs.declared.refusal.Refusal.TheVariants.{Taken, NotKept, NoRoot, Past}
 
 -- the name of a refusal
 abbrev pub name_of : Refusal → List ℕ
 name_of Taken = codes "Taken"
 name_of NotKept = codes "NotKept"
+name_of NoRoot = codes "NoRoot"
 name_of Past = codes "Past"
 
 -- a fraction, as 7/3, or as 5 for 5/1

@@ -5,7 +5,7 @@ use Rattle.kin_motion.specs.declared.keep.Keep.TheVariants as keep
 use Rattle.kin_motion.specs.declared.keep.Rect.{Rect}
 use Rattle.kin_motion.specs.Course.{IsSlow}
 use Rattle.kin_script.specs.declared.command.Command.{Command}
-use Rattle.kin_script.specs.declared.command.Command.TheVariants.{Insert, AtRatio, Order, Extreme, Hull, Closest, Inside}
+use Rattle.kin_script.specs.declared.command.Command.TheVariants.{Insert, AtRatio, AtRoot, Order, Extreme, Hull, Closest, Inside}
 use Rattle.kin_script.specs.declared.line.Setting.{Setting}
 use Rattle.kin_script.specs.declared.line.Setting.TheVariants as setting
 use Rattle.kin_script.specs.declared.script.Script.{Script}
@@ -35,6 +35,13 @@ pub record IsRatioInRange (n d : ℤ) : Type 0 where
   pub d_low : pos 1 ≤ℤ d
   pub d_small : unsigned_abs d < 2 ^ 31
 
+-- the quadratic of a root as a script writes it, with a common divisor or not
+pub record IsRootInRange (a b c : ℤ) : Type 0 where
+  pub a_small : unsigned_abs a ≤ 2 ^ 28
+  pub a_not_zero : 0 < unsigned_abs a
+  pub b_small : unsigned_abs b ≤ 2 ^ 29
+  pub c_small : unsigned_abs c ≤ 2 ^ 28
+
 -- the border of a rectangle is in -2^24..2^24
 pub record IsRectInRange (r : Rect) : Type 0 where
   pub x1_small : unsigned_abs r.x1 ≤ 2 ^ 24
@@ -46,6 +53,7 @@ pub record IsRectInRange (r : Rect) : Type 0 where
 abbrev pub IsCommandInRange : ℕ → Command → Type 0
 IsCommandInRange size (Insert number motion) = (number < 2 ^ size) × IsSlow motion
 IsCommandInRange size (AtRatio n d) = IsRatioInRange n d
+IsCommandInRange size (AtRoot a b c upper) = IsRootInRange a b c
 IsCommandInRange size (Order s) = s ≤ 31
 IsCommandInRange size (Extreme s) = s ≤ 31
 IsCommandInRange size Hull = Unit {0}

@@ -5,6 +5,11 @@
 //! answers what the grammar says; every number of a script it gives is in its range.
 #![tactic(auto)]
 
+pub use command::Command;
+pub use read::ReadError;
+pub use refusal::Refusal;
+pub use script::{Commands, Keeps, Script};
+
 pub mod command;
 mod line;
 mod lines;

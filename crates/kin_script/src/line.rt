@@ -1,13 +1,14 @@
 //! What a line says: one function for each kind of line.
 
-ghost use Rattle.std.specs.Prelude.{◌≡◌, ℕ, ◌≤◌, IfSome};
-ghost use Rattle.kin_script.specs.Commands.{insert_of, at_of, order_of, extreme_of, box_of, command_of, size_of, direction_of, keep_of, journal_of, setting_of};
-ghost use Rattle.kin_script.specs.Ranges.{IsCommandInRange, IsKeepInRange, IsDirection, IsSettingInRange};
+ghost use Rattle.std.specs.Prelude.{◌≡◌, ℕ, ◌≤◌, IfSome, option_map};
+ghost use Rattle.kin_script.specs.declared.command.Command.TheVariants.{AtRoot};
+ghost use Rattle.kin_script.specs.Commands.{insert_of, quadratic_at, root_of, at_of, order_of, extreme_of, box_of, command_of, size_of, direction_of, keep_of, journal_of, setting_of};
+ghost use Rattle.kin_script.specs.Ranges.{IsCommandInRange, IsRootInRange, IsKeepInRange, IsDirection, IsSettingInRange};
 
 use crate::command::Command;
 use crate::number::ratio;
 use crate::words::Words;
-use kin_motion::keep::{Keep, Rect};
+use kin_motion::{Keep, Rect};
 
 /// A line of the header, behind the size line.
 pub enum Setting {
@@ -27,12 +28,52 @@ fn insert(size: u32, words: &mut Words<'_>) -> Option<Command>
     words.last(Command::Insert { no, m })
 }
 
+/// Three coefficients, of which the first is not 0.
+#[tactic(auto, unfolding(crate::specs::Commands::quadratic_at))]
+fn quadratic(words: &mut Words<'_>) -> Option<(i32, i32, i32)>
+    ensures value { option_map (λ q. (q, words.new)) result ≡ quadratic_at words.old }
+    ensures range { IfSome result (λ q. IsRootInRange q.0 q.1 q.2) }
+{
+    let a = words.integer(1 << 28)?;
+    let b = words.integer(1 << 29)?;
+    let c = words.integer(1 << 28)?;
+    if a == 0 {
+        return None;
+    }
+    Some((a, b, c))
+}
+
+#[tactic(auto, unfolding(crate::specs::Commands::root_of))]
+fn root(words: &mut Words<'_>) -> Option<Command>
+    ensures value { result ≡ root_of words.old }
+    ensures range { (size : ℕ) → IfSome result (IsCommandInRange size) }
+{
+    let (a, b, c) = quadratic(words)?;
+    let upper = words.side()?;
+    words.last(at_root(a, b, c, upper))
+}
+
+fn at_root(a: i32, b: i32, c: i32, upper: bool) -> Command
+    ensures { result ≡ AtRoot a b c upper }
+{
+    Command::AtRoot {
+        a: i64::from(a),
+        b: i64::from(b),
+        c: i64::from(c),
+        upper,
+    }
+}
+
 #[tactic(auto, unfolding(crate::specs::Commands::at_of))]
 fn at(words: &mut Words<'_>) -> Option<Command>
     ensures value { result ≡ at_of words.old }
     ensures range { (size : ℕ) → IfSome result (IsCommandInRange size) }
 {
-    let (n, d) = ratio(words.next()?)?;
+    let word = words.next()?;
+    if word == b"root".as_slice() {
+        return root(words);
+    }
+    let (n, d) = ratio(word)?;
     words.last(Command::AtRatio {
         n: i64::from(n),
         d: i64::from(d),

@@ -168,9 +168,8 @@ pub fn read(alloc: Global, bytes: &[u8]) -> Result<Script, ReadError>
 mod tests {
     use super::*;
     use crate::command::Command;
-    use kin_motion::keep::{Keep, Rect};
-    use kin_motion::motion::Motion;
-    use kin_num::memory::NoMemory;
+    use kin_motion::{Keep, Motion, Rect};
+    use kin_num::NoMemory;
     use std::test::Fail;
 
     /// The first line outside the grammar, or 0 where there is none.
@@ -235,7 +234,7 @@ mod tests {
 
     #[test]
     fn ranges_end_where_they_should(rt: HostRuntime) -> Result<(), Fail> {
-        let table: [(&[u8], u32); 61] = [
+        let table: [(&[u8], u32); 72] = [
             (b"", 1),
             (b"\n", 2),
             (b"# only words in a comment\n\n", 3),
@@ -291,6 +290,17 @@ mod tests {
             (b"size 1\nat 1/ 2", 2),
             (b"size 1\nat /2", 2),
             (b"size 1\nat 1/2/3", 2),
+            (b"size 1\nat root 268435456 -536870912 268435456 lo", 0),
+            (b"size 1\nat root -1 0 2 hi", 0),
+            (b"size 1\nat root 0 1 2 hi", 2),
+            (b"size 1\nat root -0 1 2 hi", 2),
+            (b"size 1\nat root 268435457 0 0 lo", 2),
+            (b"size 1\nat root 1 536870913 0 lo", 2),
+            (b"size 1\nat root 1 0 -268435457 lo", 2),
+            (b"size 1\nat root 1 0 0", 2),
+            (b"size 1\nat root 1 0 0 up", 2),
+            (b"size 1\nat root 1 0 0 hi lo", 2),
+            (b"size 1\nat root", 2),
             (b"size 1\norder 32", 2),
             (b"size 1\nextreme 31\norder 31", 0),
             (b"size 1\nhull 0", 2),

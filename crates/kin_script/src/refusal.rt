@@ -10,6 +10,8 @@ pub enum Refusal {
     Taken,
     /// No such structure is kept.
     NotKept,
+    /// The quadratic has no real root.
+    NoRoot,
     /// The asked moment is before now.
     Past,
 }
@@ -22,6 +24,7 @@ impl Refusal {
         match self {
             Refusal::Taken => "Taken",
             Refusal::NotKept => "NotKept",
+            Refusal::NoRoot => "NoRoot",
             Refusal::Past => "Past",
         }
     }

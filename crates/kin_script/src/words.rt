@@ -3,10 +3,10 @@
 ghost use Rattle.std.specs.Prelude.{◌≡◌, ◌<◌, ◌≤◌, ◌^◌, ◌∷◌, [], length, position, slice_index, false, ◌==◌, MatchOption, IfSome, option_map, unsigned_abs};
 ghost use Rattle.kin_motion.specs.Course.{IsSlow};
 ghost use Rattle.kin_script.specs.Lines.{is_blank, pieces_of, words_of, is_nil};
-ghost use Rattle.kin_script.specs.Commands.{natural_at, integer_at, motion_at, last};
+ghost use Rattle.kin_script.specs.Commands.{natural_at, integer_at, side_at, motion_at, last};
 
 use crate::number;
-use kin_motion::motion::Motion;
+use kin_motion::Motion;
 use std::marker::Model;
 
 /// The words that are left to read.
@@ -83,6 +83,21 @@ impl<'a> Words<'a> {
         ensures range { IfSome result (λ z. unsigned_abs z ≤ far) }
     {
         number::integer(self.next()?, far)
+    }
+
+    /// The next word as a side: whether it names the greater root.
+    #[tactic(auto, unfolding(crate::specs::Commands::side_at))]
+    pub fn side(&mut self) -> Option<bool>
+        ensures { option_map (λ upper. (upper, self.new)) result ≡ side_at self.old }
+    {
+        let word = self.next()?;
+        if word == b"lo".as_slice() {
+            Some(false)
+        } else if word == b"hi".as_slice() {
+            Some(true)
+        } else {
+            None
+        }
     }
 
     /// The next four words as a motion.
