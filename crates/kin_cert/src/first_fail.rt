@@ -42,7 +42,7 @@ pub fn first_fail<L: Ledger>(
 
 // When a polynomial leaves the sign 0.
 fn left_zero(p: &Poly, now: &Moment) -> Option<Moment>
-    requires holds { sign_at p.now now.now ≡ Sign.Zero }
+    requires { sign_at p.now now.now ≡ Sign.Zero }
     ensures { (f : Known) → f.sign ≡ Sign.Zero → IsFailure (seen_by p.now) now.now f result }
 {
     let _ = now.at.shape();
