@@ -1,0 +1,5 @@
+pub mod AfterWrite
+pub mod Under
+pub mod Bests
+pub mod Played
+pub mod Doubts
