@@ -3,3 +3,7 @@ pub mod Under
 pub mod Bests
 pub mod Played
 pub mod Doubts
+pub mod Entries
+pub mod Placements
+pub mod Trees
+pub mod Mending

@@ -67,6 +67,20 @@ match_at key sign t v = match_of key sign (entry_at t (2 * v)) (entry_at t (2 * 
 abbrev pub IsRight : {Item : Type 0} → Key Item → (Form → Sign) → Standings Item → ℕ → Type 0
 IsRight key sign t v = (best_in t.best v, fact_in t.facts v) ≡ match_at key sign t v
 
+-- the facts of a node, as a list
+abbrev pub placed_of : ℕ → Option Fact → List Placed
+placed_of v None = []
+placed_of v (Some f) = record { part = v; fact = f } ∷ []
+
+-- the facts of the nodes from v on, each in the part of its node
+abbrev pub placed_from : ℕ → List (Option Fact) → List Placed
+placed_from v [] = []
+placed_from v (None ∷ fs) = placed_from (v + 1) fs
+placed_from v (Some f ∷ fs) = record { part = v; fact = f } ∷ placed_from (v + 1) fs
+
+abbrev pub placed_facts : {Item : Type 0} → Standings Item → List Placed
+placed_facts t = placed_from 0 t.facts
+
 abbrev pub is_doubt : Doubt → Bool
 is_doubt Clear = false
 is_doubt Below = true

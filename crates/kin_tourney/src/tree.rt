@@ -1,14 +1,15 @@
 //! The tree of matches over the slots.
 
-ghost use Rattle.std.specs.Prelude.{◌≡◌, ◌≢◌, ℕ, ◌+◌, ◌*◌, ◌/◌, ◌^◌, ◌<◌, ◌≤◌, ◌↔◌, true, false, length, replicate, slice_set, IsTrue, IfOk, OnOk, MatchOption, Contains};
+ghost use Rattle.std.specs.Prelude.{◌≡◌, ◌≢◌, ℕ, ◌+◌, ◌*◌, ◌/◌, ◌^◌, ◌<◌, ◌≤◌, ◌↔◌, true, false, length, replicate, slice_set, slice_index_or, IsTrue, IfOk, IfSome, OnOk, MatchOption, Contains};
 ghost use Rattle.kin_motion.specs.declared.fact.Placed.{Placed as Put};
 ghost use Rattle.kin_motion.specs.Scene.{Scene};
 ghost use Rattle.kin_motion.specs.Tournaments.{item_in};
 ghost use Rattle.kin_tourney.specs.Names.{AreLive};
-ghost use Rattle.kin_tourney.specs.Standings.{Standings, IsTree, entry_at, match_at, doubt_in};
-ghost use Rattle.kin_tourney.specs.Repairs.{SameButDoubts, IsSpread, IsDoubted, IsReported, IsRenewed};
+ghost use Rattle.kin_motion.specs.Kinetics.{HasChanged};
+ghost use Rattle.kin_tourney.specs.Standings.{Standings, IsTree, named_at, entry_at, match_at, doubt_in, mark_in, doubt_count, placed_facts};
+ghost use Rattle.kin_tourney.specs.Repairs.{IsSpread, IsDoubted, IsReported, IsReplayed, IsCleared, IsDoubtful};
 
-use crate::doubt::Doubt;
+use crate::doubt::{Doubt, doubt_failed, doubt_path};
 use crate::entry::Entry;
 use crate::keyed::Keyed;
 use kin_motion::fact::{Delta, Fact, Placed};
@@ -76,35 +77,45 @@ impl<I: Copy> Tree<I> {
         self.items.len()
     }
 
+    /// The slot that a node names: of its best item, or its own at a leaf.
+    fn named(&self, node: usize) -> Option<u32>
+        requires tree { IsTree self.now }
+        requires node { node < 2 * length self.now.items }
+        ensures value { result ≡ named_at self.now node }
+        ensures low { IfSome result (λ slot. slot < length self.now.items) }
+    {
+        if node < self.slots() {
+            self.best[node]
+        } else {
+            Some((node - self.slots()) as u32)
+        }
+    }
+
     /// The best item of a node, where it has one.
     pub fn entry(&self, node: usize) -> Option<Entry<I>>
         requires tree { IsTree self.now }
         requires node { node < 2 * length self.now.items }
         ensures { result ≡ entry_at self.now node }
     {
-        let slot = if node < self.slots() {
-            self.best[node]?
-        } else {
-            (node - self.slots()) as u32
-        };
+        let slot = self.named(node)?;
         let item = self.items[slot as usize]?;
         Some(Entry { slot, item })
     }
 
-    /// Puts a node and those above it into this doubt, as far as they are clear.
-    fn doubt_path(&mut self, node: usize, doubt: Doubt)
-        requires tree { IsTree self.old }
-        requires node { node < length self.old.items }
-        requires doubt { doubt ≢ Doubt.Clear }
-        ensures tree { IsTree self.new }
-        ensures same { SameButDoubts self.old self.new }
-        ensures spread { IsSpread self.old.doubts self.new.doubts doubt node self.old.size }
+    fn is_clear(&self, node: usize) -> bool
+        requires tree { IsTree self.now }
+        requires inner { node < length self.now.items }
+        ensures { IsTrue result ↔ (doubt_in self.now.doubts node ≡ Doubt.Clear) }
     {
-        let mut node = node;
-        while self.doubts[node].is_clear() {
-            self.doubts[node] = doubt;
-            node /= 2;
-        }
+        self.doubts[node].is_clear()
+    }
+
+    fn is_here(&self, node: usize) -> bool
+        requires tree { IsTree self.now }
+        requires inner { node < length self.now.items }
+        ensures { IsTrue result ↔ (doubt_in self.now.doubts node ≡ Doubt.Here) }
+    {
+        self.doubts[node].is_here()
     }
 
     /// Marks a slot and changes what it holds.
@@ -113,28 +124,26 @@ impl<I: Copy> Tree<I> {
         requires slot { slot < length self.old.items }
         ensures tree { IsTree self.new }
         ensures same { self.new ≡ record self.old { items = slice_set self.old.items slot item; marked = slice_set self.old.marked slot true; doubts = self.new.doubts } }
-        ensures spread { self.new ≡ record self.old { items = slice_set self.old.items slot item; marked = slice_set self.old.marked slot true; doubts = self.new.doubts } }
+        ensures spread { mark_in self.old.marked slot ≡ false → IsSpread self.old.doubts self.new.doubts Doubt.Here ((length self.old.items + slot) / 2) }
+        ensures again { mark_in self.old.marked slot ≡ true → self.new.doubts ≡ self.old.doubts }
     {
+        let leaf = self.slots() + slot as usize;
         self.items[slot as usize] = item;
         if !self.marked[slot as usize] {
             self.marked[slot as usize] = true;
-            self.doubt_path((self.slots() + slot as usize) / 2, Doubt::Here);
+            doubt_path(&mut self.doubts, leaf / 2, Doubt::Here);
         }
     }
 
     /// Puts the nodes of failed facts into doubt.
     pub fn doubt_failed(&mut self, failed: &[Placed])
         requires tree { IsTree self.old }
-        requires inner { (p : Put) → Contains failed.now p → p.part < length self.old.items }
+        requires inner { (k : ℕ) (d : Put) → k < length failed.now → (slice_index_or failed.now k d).part < length self.old.items }
         ensures tree { IsTree self.new }
-        ensures same { SameButDoubts self.old self.new }
-        ensures doubted { IsDoubted self.old.doubts self.new.doubts failed.now self.old.size }
+        ensures same { self.new ≡ record self.old { doubts = self.new.doubts } }
+        ensures doubted { IsDoubted self.old.doubts self.new.doubts failed.now (length failed.now) }
     {
-        for placed in failed.iter() {
-            let node = placed.part as usize;
-            self.doubt_path(node, Doubt::Below);
-            self.doubts[node] = Doubt::Here;
-        }
+        doubt_failed(&mut self.doubts, failed);
     }
 
     /// The match of the two halves of a node: the slot of its winner, and the fact.
@@ -166,6 +175,121 @@ impl<I: Copy> Tree<I> {
             (None, Some(right)) => (Some(right.slot), None),
             (None, None) => (None, None),
         }
+    }
+
+    /// Plays the match of a node again. Where its winner changes, the node above has to be played
+    /// again too.
+    fn replay<K: Keyed<Item = I>, O: Signs, L: Ledger>(
+        &mut self,
+        node: usize,
+        key: &K,
+        now: &O,
+        out: &mut Delta,
+        steps: &mut Steps<L>,
+    ) -> Result<(), NoMemory>
+        requires tree { IsTree self.old }
+        requires root { 0 < node }
+        requires inner { node < length self.old.items }
+        requires here { doubt_in self.old.doubts node ≡ Doubt.Here }
+        requires live { (i : ℕ) (a : I) → item_in self.old.items i ≡ Some a → AreLive (O.scene now.now).live (K.names a) }
+        ensures tree { IsTree self.new }
+        ensures replayed { OnOk result (IsReplayed (K.key key.now) (O.scene now.now).sign node self.old self.new out.old out.new) }
+        ensures cost { OnOk result (steps.new ≤ steps.old + 1) }
+    {
+        let (best, fact) = self.play(node, key, now, steps);
+        report(node as u32, self.facts[node], fact, out)?;
+        self.facts[node] = fact;
+        if best != self.best[node] {
+            self.best[node] = best;
+            self.doubts[node / 2] = Doubt::Here;
+        }
+        Ok(())
+    }
+
+    /// Clears a node whose halves are clear, and unmarks the slots right below it.
+    fn settle_node(&mut self, node: usize)
+        requires tree { IsTree self.old }
+        requires root { 0 < node }
+        requires inner { node < length self.old.items }
+        requires halves { (v : ℕ) → 0 < v → v / 2 ≡ node → doubt_in self.old.doubts v ≡ Doubt.Clear }
+        ensures tree { IsTree self.new }
+        ensures cleared { IsCleared node self.old self.new }
+    {
+        unmark_below(&mut self.marked, node);
+        self.doubts[node] = Doubt::Clear;
+    }
+
+    /// The first inner half of a node that isn't clear.
+    fn doubted_half(&self, node: usize) -> Option<usize>
+        requires tree { IsTree self.now }
+        requires root { 0 < node }
+        requires inner { node < length self.now.items }
+        ensures { MatchOption result
+            ((v : ℕ) → 0 < v → v / 2 ≡ node → doubt_in self.now.doubts v ≡ Doubt.Clear)
+            (λ half. (half / 2 ≡ node) × (node < half) × (half < length self.now.items) × (doubt_in self.now.doubts half ≢ Doubt.Clear)) }
+    {
+        let left = 2 * node;
+        if left >= self.slots() {
+            return None;
+        }
+        if !self.is_clear(left) {
+            return Some(left);
+        }
+        if !self.is_clear(left + 1) {
+            return Some(left + 1);
+        }
+        None
+    }
+
+    /// Plays every match in doubt again, the halves of a node before the node. The doubts lead the
+    /// way down, and only nodes in doubt are visited.
+    pub fn repair<K: Keyed<Item = I>, O: Signs, L: Ledger>(
+        &mut self,
+        key: &K,
+        now: &O,
+        out: &mut Delta,
+        steps: &mut Steps<L>,
+    ) -> Result<(), NoMemory>
+        requires doubtful { IsDoubtful (K.key key.now) (O.scene now.now).sign self.old }
+        requires some { 1 ≤ self.old.size }
+        requires live { (i : ℕ) (a : I) → item_in self.old.items i ≡ Some a → AreLive (O.scene now.now).live (K.names a) }
+        ensures tree { IsTree self.new }
+        ensures same_size { OnOk result (self.new.size ≡ self.old.size) }
+        ensures same_items { OnOk result (self.new.items ≡ self.old.items) }
+        ensures known { OnOk result (IsDoubtful (K.key key.now) (O.scene now.now).sign self.new) }
+        ensures clear { OnOk result ((v : ℕ) → 0 < v → doubt_in self.new.doubts v ≡ Doubt.Clear) }
+        ensures delta { OnOk result (HasChanged (placed_facts self.old) (placed_facts self.new) out.old out.new) }
+        ensures cost { OnOk result (steps.new + 1 ≤ steps.old + doubt_count self.old.doubts) }
+    {
+        let mut node = if self.is_clear(1) { 0 } else { 1 };
+        while node > 0 {
+            if let Some(half) = self.doubted_half(node) {
+                node = half;
+            } else {
+                if self.is_here(node) {
+                    self.replay(node, key, now, out, steps)?;
+                }
+                self.settle_node(node);
+                node /= 2;
+            }
+        }
+        Ok(())
+    }
+}
+
+/// Unmarks the slots right below a node.
+fn unmark_below(marked: &mut [bool], node: usize)
+    requires inner { node < length marked.old }
+    requires even { length marked.old ≢ 2 * node + 1 }
+    requires small { length marked.old ≤ 2 ^ 15 }
+    ensures unmarked { (i : ℕ) → (length marked.old + i) / 2 ≡ node → mark_in marked.new i ≡ false }
+    ensures kept { (i : ℕ) → (length marked.old + i) / 2 ≢ node → mark_in marked.new i ≡ mark_in marked.old i }
+{
+    let left = 2 * node;
+    if left >= marked.len() {
+        let slot = left - marked.len();
+        marked[slot] = false;
+        marked[slot + 1] = false;
     }
 }
 
