@@ -24,7 +24,7 @@ here_cases Clear = inr (λ e. absurd cc)
 pub here_is_doubt : Here ≢ Clear
 here_is_doubt e = absurd cc
 
-abbrev weight : Doubt → ℕ
+abbrev pub weight : Doubt → ℕ
 weight d = cond (is_doubt d) 1 0
 
 weight_of_doubt : (d : Doubt) → d ≢ Clear → weight d ≡ 1

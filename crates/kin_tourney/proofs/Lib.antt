@@ -7,3 +7,5 @@ pub mod Entries
 pub mod Placements
 pub mod Trees
 pub mod Mending
+pub mod Marks
+pub mod Entrants

@@ -10,12 +10,20 @@ use Rattle.kin_motion.specs.Kinetics.{HasChanged}
 use Rattle.kin_motion.specs.Tournaments.{Key}
 use Rattle.kin_tourney.specs.declared.doubt.Doubt.{Doubt}
 use Rattle.kin_tourney.specs.declared.doubt.Doubt.TheVariants.{Clear, Here}
-use Rattle.kin_tourney.specs.Standings.{Standings, IsTree, IsRight, best_in, fact_in, doubt_in, mark_in, doubt_count, entry_in, entry_at, match_of, match_at, placed_facts}
-use Rattle.kin_tourney.specs.Repairs.{IsDoubtful, IsReplayed, IsCleared}
+use Rattle.kin_tourney.specs.Tournament.{mark_in}
+use Rattle.kin_tourney.specs.Standings.{Standings, IsTree, IsRight, best_in, fact_in, doubt_in, doubt_count, entry_in, entry_at, match_of, match_at, placed_facts}
+use Rattle.kin_tourney.specs.Repairs.{IsDoubtful, IsReplayed, IsRenewed, IsCleared}
 use Rattle.kin_tourney.proofs.AfterWrite.{same_or_not, read_set}
 use Rattle.kin_tourney.proofs.Doubts.{here_is_doubt, count_kept, count_lowered}
 use Rattle.kin_tourney.proofs.Placements.{changed_on, changed_none}
 use Rattle.kin_tourney.proofs.Trees.{above_in_doubt}
+
+-- the measure falls where a node is cleared
+falls : (n count less at : ℕ) → less + 1 ≡ count → at < n → less * n + (n - at / 2) < count * n + (n - at)
+falls n count less at e inside = let k : count * n ≡ less * n + n = ap (λ c. c * n) (sym e) ∙ more less n in omega arith
+  where
+    more : (a b : ℕ) → (a + 1) * b ≡ a * b + b
+    more a b = omega arith
 
 module _ {Item : Type 0} (key : Key Item) (sign : Form → Sign) where
   -- from the start on; only the node "except" may differ in its fact though it is still in doubt
@@ -219,3 +227,56 @@ module _ {Item : Type 0} (key : Key Item) (sign : Form → Sign) where
         at : ((1 ≡ node) × (doubt_in next.doubts 1 ≡ Clear)) ⊎ ((1 ≢ node) × (doubt_in next.doubts 1 ≡ doubt_in t.doubts 1)) → doubt_in next.doubts 1 ≡ Clear
         at (inl k) = k.1
         at (inr k) = absurd (k.0 (omega arith))
+
+  -- after the node is played again or passed
+  pub record IsPassed (start mid : Standings Item) (node : ℕ) (before after : Change) (count room : ℕ) : Type 0 where
+    pub mending : IsMending start node mid before after
+    pub own : IsRight key sign mid node
+    pub doubted : doubt_in mid.doubts node ≢ Clear
+    pub halves_clear : (v : ℕ) → 0 < v → v / 2 ≡ node → doubt_in mid.doubts v ≡ Clear
+    pub same_count : doubt_count mid.doubts ≡ count
+    pub same_room : length mid.items ≡ room
+
+  pub passed : (start t mid : Standings Item) (before middle after : Change) (node : ℕ) → 0 < node → node < length t.items → doubt_in t.doubts node ≢ Clear
+      → ((v : ℕ) → 0 < v → v / 2 ≡ node → doubt_in t.doubts v ≡ Clear) → IsMending start 0 t before middle → IsTree mid → IsRenewed key sign node t mid middle after
+      → IsPassed start mid node before after (doubt_count t.doubts) (length t.items)
+  passed start t mid before middle after node some inside in_doubt halves h tree (inl (here, r)) = record {
+    mending = mending_replayed start t mid before middle after node some inside here h tree r;
+    own = played_right start t mid before middle after node some inside here h tree r;
+    doubted = doubt_kept start t mid before middle after node some inside here h tree r;
+    halves_clear = halves_kept start t mid before middle after node some inside here h tree r halves;
+    same_count = count_replayed start t mid before middle after node some inside here h tree r;
+    same_room = ap length r.same_items;
+  }
+  passed start t mid before middle after node some inside in_doubt halves h tree (inr (n, same, told)) =
+      subst (λ (x : Standings Item). IsPassed start x node before after (doubt_count t.doubts) (length t.items)) (sym same)
+        (subst (λ (d : Change). IsPassed start t node before d (doubt_count t.doubts) (length t.items)) (sym told) (record {
+          mending = mending_passed start t before middle node h;
+          own = h.doubtful.right node some inside n;
+          doubted = in_doubt;
+          halves_clear = halves;
+          same_count = refl;
+          same_room = refl;
+        }))
+
+  -- one turn of the loop that clears a node
+  pub record IsStepped (start t next : Standings Item) (node : ℕ) (before after : Change) : Type 0 where
+    pub mending : IsMending start 0 next before after
+    pub place : 0 < node / 2 → (node / 2 < length next.items) × (doubt_in next.doubts (node / 2) ≢ Clear)
+    pub ended : node / 2 ≡ 0 → doubt_in next.doubts 1 ≡ Clear
+    pub count : doubt_count next.doubts + 1 ≡ doubt_count t.doubts
+    pub smaller : doubt_count next.doubts * length next.items + (length next.items - node / 2) < doubt_count t.doubts * length t.items + (length t.items - node)
+
+  pub stepped : (start t mid next : Standings Item) (before after : Change) (node : ℕ) → 0 < node → node < length t.items
+      → IsPassed start mid node before after (doubt_count t.doubts) (length t.items) → IsTree next → IsCleared node mid next → IsStepped start t next node before after
+  stepped start t mid next before after node some inside p tree c =
+      let room : length next.items ≡ length t.items = ap (λ (x : Standings Item). length x.items) c.same ∙ p.same_room in
+      let here : node < length mid.items = let e = p.same_room in omega arith in
+      let less : doubt_count next.doubts + 1 ≡ doubt_count t.doubts = count_cleared start mid next before after node some here p.doubted p.mending p.own tree c ∙ p.same_count in
+      record {
+        mending = mending_cleared start mid next before after node some here p.doubted p.mending p.own tree c;
+        place = up_in_doubt start mid next before after node some here p.doubted p.mending p.own tree c;
+        ended = root_cleared start mid next before after node some here p.doubted p.mending p.own tree c;
+        count = less;
+        smaller = subst (λ n. doubt_count next.doubts * n + (n - node / 2) < doubt_count t.doubts * length t.items + (length t.items - node)) (sym room) (falls (length t.items) (doubt_count t.doubts) (doubt_count next.doubts) node less inside);
+      }

@@ -3,11 +3,12 @@ use Rattle.std.proofs.Common.{◌≡◌, ◌≢◌, ◌⊎◌, inl, inr, refl, s
 use Rattle.std.specs.Prelude.{Option, Some, None, IfSome}
 use Rattle.std.proofs.lemmas.List.{length-set, get_or-set_other, get_or_past, get_or_read}
 use Rattle.std.proofs.lemmas.Nat.{pow-add}
+use Rattle.std.proofs.Math.Pow.{pow_mono}
 use Rattle.kin_motion.specs.declared.fact.Fact.{Fact}
 use Rattle.kin_motion.specs.Tournaments.{is_under}
 use Rattle.kin_tourney.specs.declared.doubt.Doubt.{Doubt}
 use Rattle.kin_tourney.specs.declared.doubt.Doubt.TheVariants.{Clear, Below, Here}
-use Rattle.kin_tourney.specs.Standings.{Standings, IsTree, IsClosed, best_in, fact_in, doubt_in, mark_in}
+use Rattle.kin_tourney.specs.Standings.{Standings, IsTree, IsClosed, best_in, fact_in, doubt_in}
 use Rattle.kin_tourney.proofs.AfterWrite.{same_or_not, read_set}
 use Rattle.kin_tourney.proofs.Doubts.{closed_raised, doubt_cases}
 
@@ -94,3 +95,7 @@ all_clear ds h root v some = from v v some (omega arith)
         at : (v ≡ 1) ⊎ (v ≢ 1) → (0 < v / 2 → v / 2 ≤ far → doubt_in ds (v / 2) ≡ Clear) → doubt_in ds v ≡ Clear
         at (inl e) rest = ap (doubt_in ds) e ∙ root
         at (inr n) rest = h.below v some (rest (omega arith) (omega arith))
+
+-- there is an inner node
+pub some_inner : {Item : Type 0} (t : Standings Item) → IsTree t → 1 ≤ t.size → 1 < length t.items
+some_inner {Item} t h some = let p : 2 ^ 1 ≤ 2 ^ t.size = pow_mono some in let r = h.items_room in let q : 2 ^ 1 ≡ 2 = refl in omega arith

@@ -8,7 +8,8 @@ use Rattle.kin_motion.specs.Deltas.{Change}
 use Rattle.kin_motion.specs.Tournaments.{Key}
 use Rattle.kin_tourney.specs.declared.doubt.Doubt.{Doubt}
 use Rattle.kin_tourney.specs.declared.doubt.Doubt.TheVariants.{Clear, Here}
-use Rattle.kin_tourney.specs.Standings.{Standings, IsTree, doubt_in, doubt_count, best_in, fact_in, mark_in, match_at, IsRight, placed_of}
+use Rattle.kin_tourney.specs.Tournament.{mark_in}
+use Rattle.kin_tourney.specs.Standings.{Standings, IsTree, doubt_in, doubt_count, best_in, fact_in, match_at, IsRight, placed_of}
 
 -- only the doubts differ
 abbrev pub SameButDoubts : {Item : Type 0} → Standings Item → Standings Item → Type 0
@@ -52,6 +53,12 @@ pub record IsReplayed {Item : Type 0} (key : Key Item) (sign : Form → Sign) (n
   pub played : (best_in new.best node, fact_in new.facts node) ≡ match_at key sign old node
   pub reported : IsReported node (fact_in old.facts node) (fact_in new.facts node) before after
   pub doubts : ((best_in new.best node ≡ best_in old.best node) × (new.doubts ≡ old.doubts)) ⊎ (new.doubts ≡ slice_set old.doubts (node / 2) Here)
+
+-- a node was played again where it was in doubt itself
+abbrev pub IsRenewed : {Item : Type 0} → Key Item → (Form → Sign) → ℕ → Standings Item → Standings Item → Change → Change → Type 0
+IsRenewed key sign node old new before after =
+    ((doubt_in old.doubts node ≡ Here) × IsReplayed key sign node old new before after)
+    ⊎ ((doubt_in old.doubts node ≢ Here) × (new ≡ old) × (after ≡ before))
 
 -- a node is clear now, and slots right below it are unmarked
 pub record IsCleared {Item : Type 0} (node : ℕ) (old new : Standings Item) : Type 0 where

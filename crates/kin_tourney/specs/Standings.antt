@@ -29,9 +29,6 @@ fact_in facts v = slice_index_or facts v None
 abbrev pub doubt_in : List Doubt → ℕ → Doubt
 doubt_in doubts v = slice_index_or doubts v Clear
 
-abbrev pub mark_in : List Bool → ℕ → Bool
-mark_in marked i = slice_index_or marked i false
-
 abbrev pub entry_with : {Item : Type 0} → ℕ → Option Item → Option (Entry Item)
 entry_with i None = None
 entry_with i (Some a) = Some (record { slot = i; item = a })
@@ -90,10 +87,6 @@ is_doubt Here = true
 abbrev pub doubt_count : List Doubt → ℕ
 doubt_count doubts = count_by is_doubt doubts
 
--- how many slots are marked
-abbrev pub mark_count : List Bool → ℕ
-mark_count marked = count_by (λ m. m) marked
-
 -- above a node in doubt all are, and node 0 always is
 pub record IsClosed (doubts : List Doubt) : Type 0 where
   pub top : doubt_in doubts 0 ≡ Here
@@ -110,3 +103,7 @@ pub record IsTree {Item : Type 0} (t : Standings Item) : Type 0 where
   pub best_low : (v i : ℕ) → best_in t.best v ≡ Some i → i < length t.items
   pub best_under : (v i : ℕ) → best_in t.best v ≡ Some i → is_under t.size v i ≡ true
   pub closed : IsClosed t.doubts
+
+-- the winner of each node
+abbrev pub winners_of : {Item : Type 0} → Standings Item → List (Option Item)
+winners_of t = map (λ o. item_of (entry_in t.items o)) t.best ++ t.items

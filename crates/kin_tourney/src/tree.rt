@@ -1,13 +1,14 @@
 //! The tree of matches over the slots.
 
-ghost use Rattle.std.specs.Prelude.{◌≡◌, ◌≢◌, ℕ, ◌+◌, ◌*◌, ◌/◌, ◌^◌, ◌<◌, ◌≤◌, ◌↔◌, true, false, length, replicate, slice_set, slice_index_or, IsTrue, IfOk, IfSome, OnOk, MatchOption, Contains};
+ghost use Rattle.std.specs.Prelude.{◌≡◌, ◌≢◌, ◌⊎◌, ℕ, ◌+◌, ◌*◌, ◌/◌, ◌^◌, ◌<◌, ◌≤◌, ◌↔◌, true, false, length, replicate, slice_set, slice_index_or, IsTrue, IfOk, IfSome, OnOk, MatchOption, Contains};
 ghost use Rattle.kin_motion.specs.declared.fact.Placed.{Placed as Put};
 ghost use Rattle.kin_motion.specs.Scene.{Scene};
 ghost use Rattle.kin_motion.specs.Tournaments.{item_in};
 ghost use Rattle.kin_tourney.specs.Names.{AreLive};
 ghost use Rattle.kin_motion.specs.Kinetics.{HasChanged};
-ghost use Rattle.kin_tourney.specs.Standings.{Standings, IsTree, named_at, entry_at, match_at, doubt_in, mark_in, doubt_count, placed_facts};
-ghost use Rattle.kin_tourney.specs.Repairs.{IsSpread, IsDoubted, IsReported, IsReplayed, IsCleared, IsDoubtful};
+ghost use Rattle.kin_tourney.specs.Standings.{Standings, IsTree, named_at, entry_at, match_at, doubt_in, doubt_count, placed_facts};
+ghost use Rattle.kin_tourney.specs.Tournament.{mark_in};
+ghost use Rattle.kin_tourney.specs.Repairs.{IsSpread, IsDoubted, IsReported, IsReplayed, IsRenewed, IsCleared, IsDoubtful};
 
 use crate::doubt::{Doubt, doubt_failed, doubt_path};
 use crate::entry::Entry;
@@ -206,6 +207,29 @@ impl<I: Copy> Tree<I> {
         Ok(())
     }
 
+    /// Plays the match of a node again where it is in doubt itself.
+    fn renew<K: Keyed<Item = I>, O: Signs, L: Ledger>(
+        &mut self,
+        node: usize,
+        key: &K,
+        now: &O,
+        out: &mut Delta,
+        steps: &mut Steps<L>,
+    ) -> Result<(), NoMemory>
+        requires tree { IsTree self.old }
+        requires root { 0 < node }
+        requires inner { node < length self.old.items }
+        requires live { (i : ℕ) (a : I) → item_in self.old.items i ≡ Some a → AreLive (O.scene now.now).live (K.names a) }
+        ensures tree { IsTree self.new }
+        ensures renewed { OnOk result (IsRenewed (K.key key.now) (O.scene now.now).sign node self.old self.new out.old out.new) }
+        ensures cost { OnOk result (steps.new ≤ steps.old + 1) }
+    {
+        if self.is_here(node) {
+            return self.replay(node, key, now, out, steps);
+        }
+        Ok(())
+    }
+
     /// Clears a node whose halves are clear, and unmarks the slots right below it.
     fn settle_node(&mut self, node: usize)
         requires tree { IsTree self.old }
@@ -217,6 +241,15 @@ impl<I: Copy> Tree<I> {
     {
         unmark_below(&mut self.marked, node);
         self.doubts[node] = Doubt::Clear;
+    }
+
+    /// The root where it isn't clear, or 0.
+    fn doubted_root(&self) -> usize
+        requires tree { IsTree self.now }
+        requires some { 1 < length self.now.items }
+        ensures { (result ≡ 0) × (doubt_in self.now.doubts 1 ≡ Doubt.Clear) ⊎ (result ≡ 1) × (doubt_in self.now.doubts 1 ≢ Doubt.Clear) }
+    {
+        if self.is_clear(1) { 0 } else { 1 }
     }
 
     /// The first inner half of a node that isn't clear.
@@ -261,14 +294,12 @@ impl<I: Copy> Tree<I> {
         ensures delta { OnOk result (HasChanged (placed_facts self.old) (placed_facts self.new) out.old out.new) }
         ensures cost { OnOk result (steps.new + 1 ≤ steps.old + doubt_count self.old.doubts) }
     {
-        let mut node = if self.is_clear(1) { 0 } else { 1 };
+        let mut node = self.doubted_root();
         while node > 0 {
             if let Some(half) = self.doubted_half(node) {
                 node = half;
             } else {
-                if self.is_here(node) {
-                    self.replay(node, key, now, out, steps)?;
-                }
+                self.renew(node, key, now, out, steps)?;
                 self.settle_node(node);
                 node /= 2;
             }
@@ -278,12 +309,13 @@ impl<I: Copy> Tree<I> {
 }
 
 /// Unmarks the slots right below a node.
-fn unmark_below(marked: &mut [bool], node: usize)
-    requires inner { node < length marked.old }
-    requires even { length marked.old ≢ 2 * node + 1 }
-    requires small { length marked.old ≤ 2 ^ 15 }
-    ensures unmarked { (i : ℕ) → (length marked.old + i) / 2 ≡ node → mark_in marked.new i ≡ false }
-    ensures kept { (i : ℕ) → (length marked.old + i) / 2 ≢ node → mark_in marked.new i ≡ mark_in marked.old i }
+fn unmark_below(marked: &mut Vec<bool>, node: usize)
+    requires inner { node < length marked.old.items }
+    requires even { length marked.old.items ≢ 2 * node + 1 }
+    requires small { length marked.old.items ≤ 2 ^ 15 }
+    ensures room { length marked.new.items ≡ length marked.old.items }
+    ensures unmarked { (i : ℕ) → (length marked.old.items + i) / 2 ≡ node → mark_in marked.new.items i ≡ false }
+    ensures kept { (i : ℕ) → (length marked.old.items + i) / 2 ≢ node → mark_in marked.new.items i ≡ mark_in marked.old.items i }
 {
     let left = 2 * node;
     if left >= marked.len() {
