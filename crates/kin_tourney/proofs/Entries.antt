@@ -10,7 +10,7 @@ use Rattle.kin_motion.specs.declared.fact.Fact.{Fact}
 use Rattle.kin_motion.specs.Tournaments.{Key, item_in, is_under}
 use Rattle.kin_tourney.specs.declared.entry.Entry.{Entry}
 use Rattle.kin_tourney.specs.Standings.{Standings, IsTree, best_in, named_at, entry_at, entry_in, entry_with, match_of, match_at}
-use Rattle.kin_tourney.proofs.Under.{is_under-leaf, is_under-left, is_under-right}
+use Rattle.kin_tourney.specs.Under.{is_under-leaf, is_under-left, is_under-right}
 
 pub room_small : {Item : Type 0} (t : Standings Item) → IsTree t → length t.items ≤ 2 ^ 15
 room_small {Item} t h = let k = h.items_room in let s = h.small in let p : 2 ^ t.size ≤ 2 ^ 15 = pow_mono s in omega arith

@@ -1,7 +1,4 @@
 pub mod AfterWrite
-pub mod Under
-pub mod Bests
-pub mod Played
 pub mod Doubts
 pub mod Entries
 pub mod Placements
@@ -9,3 +6,4 @@ pub mod Trees
 pub mod Mending
 pub mod Marks
 pub mod Entrants
+pub mod Soundness

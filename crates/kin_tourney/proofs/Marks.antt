@@ -10,7 +10,7 @@ use Rattle.kin_tourney.specs.declared.doubt.Doubt.TheVariants.{Clear, Below, Her
 use Rattle.kin_tourney.specs.Tournament.{mark_in, mark_count, is_above_mark, is_above_mark_from}
 use Rattle.kin_tourney.specs.Standings.{IsClosed, doubt_in, doubt_count, is_doubt}
 use Rattle.kin_tourney.proofs.AfterWrite.{same_or_not, read_set}
-use Rattle.kin_tourney.proofs.Under.{either_true, comes_to-le}
+use Rattle.kin_tourney.specs.Under.{either_true, comes_to-le}
 use Rattle.kin_tourney.proofs.Doubts.{weight, doubt_cases, here_is_doubt, count_lowered, count_top}
 
 -- above a node in doubt, all are

@@ -6,3 +6,8 @@ pub mod Tournament
 pub mod Standings
 pub mod Repairs
 pub mod Sound
+pub mod Under
+pub mod Bests
+pub mod Played
+pub mod Ready
+pub mod Determined

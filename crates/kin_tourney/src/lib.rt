@@ -14,4 +14,5 @@ pub mod along;
 mod doubt;
 mod entry;
 pub mod keyed;
+pub mod tourney;
 mod tree;

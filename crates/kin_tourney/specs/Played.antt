@@ -14,8 +14,8 @@ use Rattle.kin_motion.specs.Tournaments.{Key, beats, IsBest, IsNodeFact, item_in
 use Rattle.kin_motion.specs.Contents.{IsWinner, IsSettledTournament}
 use Rattle.kin_tourney.specs.Fair.{IsFair}
 use Rattle.kin_tourney.specs.Locals.{HasNoFact, IsMatch, IsPlayed}
-use Rattle.kin_tourney.proofs.Under.{is_under-leaf, is_under-leaf_alone, is_under-none, is_under-le, is_under-left, is_under-right, is_under-cases}
-use Rattle.kin_tourney.proofs.Bests.{same_item, other_false, one_best, best_of_left, joined, joined_same}
+use Rattle.kin_tourney.specs.Under.{is_under-leaf, is_under-leaf_alone, is_under-none, is_under-le, is_under-left, is_under-right, is_under-cases}
+use Rattle.kin_tourney.specs.Bests.{same_item, other_false, one_best, best_of_left, joined, joined_same}
 
 none_some : {A : Type 0} {a : A} {o : Option A} → o ≡ None → o ≡ Some a → ⊥
 none_some {A} {a} {o} e f = let k : None ≡ Some a = sym e ∙ f in cc
