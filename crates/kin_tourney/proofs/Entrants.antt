@@ -38,13 +38,6 @@ module _ {Item : Type 0} (key : Key Item) (sign : Form → Sign) (t : Standings 
       at true e = refl
       at false e = let past : length t.items ≤ v = grind (arith, nat_tests, e) in absurd (omega arith)
 
-  named_leaf : (i : ℕ) → named_at t (length t.items + i) ≡ Some i
-  named_leaf i = at (nat_lt (length t.items + i) (length t.items)) refl
-    where
-      at : (b : Bool) → nat_lt (length t.items + i) (length t.items) ≡ b → cond b (best_in t.best (length t.items + i)) (Some (length t.items + i - length t.items)) ≡ Some i
-      at true e = let low : length t.items + i < length t.items = grind (arith, nat_tests, e) in absurd (omega arith)
-      at false e = let same : length t.items + i - length t.items ≡ i = omega arith in ap Some same
-
   holds : (v : ℕ) (e : Entry Item) → entry_at t v ≡ Some e → item_in t.items e.slot ≡ Some e.item
   holds v e f = (entry_in_slot t.items (named_at t v) e f).1
 
@@ -85,6 +78,16 @@ winner_seen {Item} t h v = at (nat_lt v (length t.items)) refl
         let room = h.best_room in
         get_or-append_right (map (λ o. item_of (entry_in t.items o)) t.best) t.items (length t.items) v None (length-map t.best (λ o. item_of (entry_in t.items o)) ∙ h.best_room) past
         ∙ sym (item_of_held (v - length t.items) (item_in t.items (v - length t.items)))
+
+pub entry_leaf : {Item : Type 0} (t : Standings Item) → IsTree t → (i : ℕ) → item_of (entry_at t (2 ^ t.size + i)) ≡ item_in t.items i
+entry_leaf {Item} t h i = ap (λ n. item_of (entry_at t (n + i))) (sym h.items_room) ∙ ap (λ o. item_of (entry_in t.items o)) at ∙ item_of_held i (item_in t.items i)
+  where
+    at : named_at t (length t.items + i) ≡ Some i
+    at = leaf_named (nat_lt (length t.items + i) (length t.items)) refl
+      where
+        leaf_named : (b : Bool) → nat_lt (length t.items + i) (length t.items) ≡ b → cond b (best_in t.best (length t.items + i)) (Some (length t.items + i - length t.items)) ≡ Some i
+        leaf_named true e = let low : length t.items + i < length t.items = grind (arith, nat_tests, e) in absurd (omega arith)
+        leaf_named false e = let same : length t.items + i - length t.items ≡ i = omega arith in ap Some same
 
 -- a clear node is right at the signs of a scene where its fact holds there
 pub right_where_held : {Item : Type 0} (key : Key Item) (t : Standings Item) (v : ℕ) (sign : Sign) (signs : Form → Sign) → IsRight key (λ f. sign) t v
@@ -160,8 +163,7 @@ module _ {Item : Type 0} (s : Scene) (key : Key Item) (t : Standings Item) (tree
 
   pub played_from_right : IsPlayed s key t.size t.items seen (placed_facts t)
   played_from_right = record {
-    leaves = λ i inside. let room = tree.items_room in
-        winner_seen t tree (2 ^ t.size + i) ∙ ap (λ n. item_of (entry_at t (n + i))) (sym tree.items_room) ∙ ap (λ o. item_of (entry_in t.items o)) (named_leaf key s.sign t tree i) ∙ item_of_held i (item_in t.items i);
+    leaves = λ i inside. winner_seen t tree (2 ^ t.size + i) ∙ entry_leaf t tree i;
     matches = λ v some inside. at v some (let room = tree.items_room in omega arith);
     once = placed_facts_once t.facts;
     one_fact = one_placed;

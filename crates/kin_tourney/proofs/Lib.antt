@@ -7,3 +7,6 @@ pub mod Mending
 pub mod Marks
 pub mod Entrants
 pub mod Soundness
+pub mod Fresh
+pub mod Vacant
+pub mod Settled

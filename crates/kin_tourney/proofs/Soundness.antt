@@ -142,6 +142,33 @@ module _ {Item : Type 0} (key : Key Item) where
       few = subst (λ n. doubt_count new.doubts ≤ 1 + n * mark_count new.marked) (sym size_same) few;
     }
 
+  -- the same by what marking a slot says
+  pub sound_put : (t new : Standings Item) → IsTree t → IsTree new → IsSound key t → (slot : ℕ) → slot < length t.items → (item : Option Item)
+      → new ≡ record t { items = set t.items slot item; marked = set t.marked slot true; doubts = new.doubts }
+      → (mark_in t.marked slot ≡ false → IsSpread t.doubts new.doubts Here ((length t.items + slot) / 2)) → (mark_in t.marked slot ≡ true → new.doubts ≡ t.doubts) → IsSound key new
+  sound_put t new tree tree' sound slot inside item same spread again = at (mark_in t.marked slot) refl
+    where
+      room : slot < length t.marked
+      room = let r = tree.marked_room in omega arith
+
+      marked_are : mark_count new.marked ≡ mark_count (set t.marked slot true)
+      marked_are = ap (λ (x : Standings Item). mark_count x.marked) same
+
+      at : (b : Bool) → mark_in t.marked slot ≡ b → IsSound key new
+      at true e = sound_marked t new tree tree' sound slot inside item same (λ v. inl (ap (λ ds. doubt_in ds v) (again e))) (λ d. sound.leaves slot e (sym (ap (λ ds. doubt_in ds ((length t.items + slot) / 2)) (again e)) ∙ d))
+          (let k = mark_again t.marked slot room e in let c : mark_count new.marked ≡ mark_count t.marked = marked_are ∙ k in
+            let d : doubt_count new.doubts ≡ doubt_count t.doubts = ap doubt_count (again e) in let f = sound.few in
+            subst (λ n. doubt_count new.doubts ≤ 1 + t.size * n) (sym c) (omega arith))
+      at false e =
+          let s = spread e in
+          sound_marked t new tree tree' sound slot inside item same s.each s.reached
+            (let k = mark_more t.marked slot room e in let c : mark_count new.marked ≡ mark_count t.marked + 1 = marked_are ∙ k in
+              let r = tree.items_room in let d = s.few t.size (omega arith) in let f = sound.few in
+              subst (λ n. doubt_count new.doubts ≤ 1 + t.size * n) (sym c) (enough (doubt_count new.doubts) (doubt_count t.doubts) t.size (mark_count t.marked) d f))
+        where
+          enough : (new old size marks : ℕ) → new ≤ old + size → old ≤ 1 + size * marks → new ≤ 1 + size * (marks + 1)
+          enough new old size marks p q = let m : size * (marks + 1) ≡ size * marks + size = omega arith in omega arith
+
   -- ---- a repair starts
   pub doubtful_starts : (t new : Standings Item) (s : Scene) (failed : List Placed) → IsTree t → IsTree new → IsSound key t → new ≡ record t { doubts = new.doubts }
       → ListsFailing (placed_facts t) (λ p. is_above_mark t.size t.marked p.part) s failed → IsDoubted t.doubts new.doubts failed (length failed) → IsDoubtful key s.sign new

@@ -10,6 +10,7 @@ use Rattle.kin_motion.specs.Tournaments.{Key, item_in, is_under}
 use Rattle.kin_tourney.specs.declared.doubt.Doubt.{Doubt}
 use Rattle.kin_tourney.specs.declared.doubt.Doubt.TheVariants.{Clear, Below, Here}
 use Rattle.kin_tourney.specs.declared.entry.Entry.{Entry}
+use Rattle.kin_tourney.specs.Tournament.{Tournament}
 
 -- items and marks by slot; best slots, facts and doubts by inner node
 pub record Standings (Item : Type 0) : Type 0 where
@@ -107,3 +108,7 @@ pub record IsTree {Item : Type 0} (t : Standings Item) : Type 0 where
 -- the winner of each node
 abbrev pub winners_of : {Item : Type 0} → Standings Item → List (Option Item)
 winners_of t = map (λ o. item_of (entry_in t.items o)) t.best ++ t.items
+
+-- what callers see of a key and a tree of matches
+abbrev pub seen_as : {K Item : Type 0} → K → Standings Item → Bool → Tournament K Item
+seen_as k t whole = record { key = k; size = t.size; slots = t.items; marked = t.marked; winners = winners_of t; facts = placed_facts t; whole = whole }

@@ -32,12 +32,12 @@ pub struct Tourney<K: Keyed> {
 impl<K: Keyed> Model for Tourney<K> {
     ghost use Rattle.std.specs.Prelude.{◌≤◌, IsTrue};
     ghost use Rattle.kin_tourney.specs.Tournament.{Tournament};
-    ghost use Rattle.kin_tourney.specs.Standings.{IsTree, winners_of, placed_facts};
+    ghost use Rattle.kin_tourney.specs.Standings.{IsTree, seen_as};
     ghost use Rattle.kin_tourney.specs.Sound.{IsSound};
 
     ghost Value = { Tournament K K.Item };
 
-    ghost view = { λ t. record { key = t.key; size = t.tree.size; slots = t.tree.items; marked = t.tree.marked; winners = winners_of t.tree; facts = placed_facts t.tree; whole = t.whole } };
+    ghost view = { λ t. seen_as t.key t.tree t.whole };
 
     ghost invariant = { λ t. IsTree t.tree × (1 ≤ t.tree.size) × (IsTrue t.whole → IsSound (K.key t.key) t.tree) };
 }
@@ -123,6 +123,9 @@ impl<K: Keyed> Kinetic for Tourney<K> {
         out: &mut Delta,
         steps: &mut Steps<L>,
     ) -> Result<(), NoMemory>
+        requires real { IsReal (O.scene now.now) }
+        requires ready { IsReady K.names self.old (O.scene now.now) }
+        requires failing { ListsFailing self.old.facts (λ p. is_above_mark self.old.size self.old.marked p.part) (O.scene now.now) failed.now }
         ensures rest { OnOk result (IsAtRest self.new) }
         ensures settled { OnOk result (IsSettled K.names (K.key self.new.key) self.new (O.scene now.now)) }
         ensures delta { OnOk result (HasChanged self.old.facts self.new.facts out.old out.new) }
