@@ -70,8 +70,9 @@ module _ (Item : Type 0) (size : ℕ) where
   no_entry None = refl
   no_entry (Some i) = ap (entry_with i) (no_item i)
 
-  pub fresh_sound : (key : Key Item) → IsSound key (fresh Item size)
-  fresh_sound key = record {
+  pub fresh_sound : 1 ≤ size → (key : Key Item) → IsSound key (fresh Item size)
+  fresh_sound some key = record {
+    some = some;
     no_way = way;
     leaves = λ i e. absurd (let k : false ≡ true = sym (same_all (2 ^ size) i false) ∙ e in cc);
     consistent = λ v some inside e. (Zero, right v);

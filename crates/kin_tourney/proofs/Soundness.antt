@@ -135,6 +135,7 @@ module _ {Item : Type 0} (key : Key Item) where
 
     pub sound_marked : IsSound key new
     sound_marked = record {
+      some = subst (λ n. 1 ≤ n) (sym size_same) sound.some;
       no_way = no_way_after;
       leaves = leaves_after;
       consistent = consistent_after;
@@ -221,8 +222,9 @@ module _ {Item : Type 0} (key : Key Item) where
           none_there {o} e f = let z : None ≡ Some p.fact = sym e ∙ f in cc
 
   -- ---- a repair ends
-  pub sound_repaired : (t : Standings Item) (signs : Form → Sign) → IsDoubtful key signs t → ((v : ℕ) → 0 < v → doubt_in t.doubts v ≡ Clear) → IsSound key t
-  sound_repaired t signs h clear = record {
+  pub sound_repaired : (t : Standings Item) (signs : Form → Sign) → 1 ≤ t.size → IsDoubtful key signs t → ((v : ℕ) → 0 < v → doubt_in t.doubts v ≡ Clear) → IsSound key t
+  sound_repaired t signs big h clear = record {
+    some = big;
     no_way = no_way_last;
     leaves = h.leaves;
     consistent = λ v some inside e. right_at_one key t v signs (h.right v some inside (λ f. absurd (let k : Clear ≡ Here = sym e ∙ f in cc)));

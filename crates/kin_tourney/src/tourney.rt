@@ -30,7 +30,7 @@ pub struct Tourney<K: Keyed> {
 }
 
 impl<K: Keyed> Model for Tourney<K> {
-    ghost use Rattle.std.specs.Prelude.{◌≤◌, IsTrue};
+    ghost use Rattle.std.specs.Prelude.{IsTrue};
     ghost use Rattle.kin_tourney.specs.Tournament.{Tournament};
     ghost use Rattle.kin_tourney.specs.Standings.{IsTree, seen_as};
     ghost use Rattle.kin_tourney.specs.Sound.{IsSound};
@@ -39,7 +39,7 @@ impl<K: Keyed> Model for Tourney<K> {
 
     ghost view = { λ t. seen_as t.key t.tree t.whole };
 
-    ghost invariant = { λ t. IsTree t.tree × (1 ≤ t.tree.size) × (IsTrue t.whole → IsSound (K.key t.key) t.tree) };
+    ghost invariant = { λ t. IsTree t.tree × (IsTrue t.whole → IsSound (K.key t.key) t.tree) };
 }
 
 impl<K: Keyed> Tourney<K> {

@@ -10,8 +10,7 @@ invariant_of-result g c =
     let item = g.row.K-Item.Denot in
     let is : c.in_ok-tree.tree ≡ fresh item c.args.size = c.in_ok-tree.ensures in
     (subst (λ (t : Standings item). IsTree t) (sym is) (fresh_tree item c.args.size c.requires.high),
-      subst (λ (t : Standings item). 1 ≤ t.size) (sym is) c.requires.low,
-      λ w. subst (λ (t : Standings item). IsSound (g.K.Keyed.key c.args.key) t) (sym is) (fresh_sound item c.args.size (g.K.Keyed.key c.args.key)))
+      λ w. subst (λ (t : Standings item). IsSound (g.K.Keyed.key c.args.key) t) (sym is) (fresh_sound item c.args.size c.requires.low (g.K.Keyed.key c.args.key)))
 
 pub returns-clause-facts : goal.returns-clause-facts
 returns-clause-facts g c =
