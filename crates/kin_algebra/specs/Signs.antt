@@ -1,37 +1,51 @@
--- Signs of whole numbers, and of u + v * sqrt(d).
+-- Signs of whole numbers, and of the numbers u + v * sqrt(d).
 use Rattle.std.specs.Prelude.{◌≡◌, zero, suc, ℤ, pos, negsuc, ◌-ℤ◌, ◌*ℤ◌}
 use Rattle.kin_algebra.specs.declared.sign.Sign.{Sign}
 use Rattle.kin_algebra.specs.declared.sign.Sign.TheVariants.{Minus, Zero, Plus}
 
+-- the sign of a whole number
 abbrev pub sign_of : ℤ → Sign
 sign_of (pos zero) = Zero
 sign_of (pos (suc n)) = Plus
 sign_of (negsuc n) = Minus
 
+-- the sign of the negated number
 abbrev pub opposite_of : Sign → Sign
 opposite_of Minus = Plus
 opposite_of Zero = Zero
 opposite_of Plus = Minus
 
--- v, which counts as 0 where d is 0
-abbrev pub counted : ℤ → ℤ → ℤ
-counted v (pos zero) = pos 0
-counted v (pos (suc n)) = v
-counted v (negsuc n) = v
+-- the sign of a product
+abbrev pub product_of : Sign → Sign → Sign
+product_of Minus t = opposite_of t
+product_of Zero t = Zero
+product_of Plus t = t
 
--- the sign of a sum of two numbers, by their signs and by the sign of the difference of their squares
+-- the first of two signs that isn't 0
+abbrev pub first_of : Sign → Sign → Sign
+first_of Minus t = Minus
+first_of Zero t = t
+first_of Plus t = Plus
+
+-- the sign of a sum of numbers of the signs s and t; the first one's square less the second one's has the sign n
 abbrev pub sum_sign_of : Sign → Sign → Sign → Sign
-sum_sign_of Zero v s = v
-sum_sign_of Plus Zero s = Plus
-sum_sign_of Plus Plus s = Plus
-sum_sign_of Plus Minus s = s
-sum_sign_of Minus Zero s = Minus
-sum_sign_of Minus Plus s = opposite_of s
-sum_sign_of Minus Minus s = Minus
+sum_sign_of Zero t n = t
+sum_sign_of Plus Zero n = Plus
+sum_sign_of Plus Plus n = Plus
+sum_sign_of Plus Minus n = n
+sum_sign_of Minus Zero n = Minus
+sum_sign_of Minus Minus n = Minus
+sum_sign_of Minus Plus n = opposite_of n
 
--- the sign of u + v * sqrt(d)
+-- the square of u less that of v * sqrt(d)
+abbrev pub norm_of : ℤ → ℤ → ℤ → ℤ
+norm_of u v d = u *ℤ u -ℤ v *ℤ v *ℤ d
+
+-- the sign of u + v * sqrt(d), where v counts as 0 if d is 0
 abbrev pub pair_sign_of : ℤ → ℤ → ℤ → Sign
-pair_sign_of u v d = sum_sign_of (sign_of u) (sign_of (counted v d)) (sign_of (u *ℤ u -ℤ v *ℤ v *ℤ d))
+pair_sign_of u v (pos zero) = sign_of u
+pair_sign_of u v (pos (suc d)) = sum_sign_of (sign_of u) (sign_of v) (sign_of (norm_of u v (pos (suc d))))
+pair_sign_of u v (negsuc d) = Zero
 
 -- what the signs of two numbers say of the sign of their sum
 abbrev pub SumMayBe : Sign → Sign → Sign → Type 0

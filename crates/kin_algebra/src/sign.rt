@@ -1,8 +1,9 @@
-//! Signs.
+//! Signs as values.
 
 ghost use Rattle.std.specs.Prelude.{◌≡◌};
-ghost use Rattle.kin_algebra.specs.Signs.{sign_of, opposite_of};
+ghost use Rattle.kin_algebra.specs.Signs.{sign_of, opposite_of, product_of, first_of};
 
+/// The sign of a number.
 #[derive(Clone, Copy, Debug, PartialEq, Eq)]
 pub enum Sign {
     Minus,
@@ -11,7 +12,7 @@ pub enum Sign {
 }
 
 impl Sign {
-    /// The sign of a number.
+    /// The sign of `x`.
     pub fn of(x: i128) -> Sign
         ensures { result ≡ sign_of x }
     {
@@ -32,6 +33,27 @@ impl Sign {
             Sign::Minus => Sign::Plus,
             Sign::Zero => Sign::Zero,
             Sign::Plus => Sign::Minus,
+        }
+    }
+
+    /// The sign of the product of two numbers.
+    pub fn times(self, other: Sign) -> Sign
+        ensures { result ≡ product_of self other }
+    {
+        match self {
+            Sign::Minus => other.opposite(),
+            Sign::Zero => Sign::Zero,
+            Sign::Plus => other,
+        }
+    }
+
+    /// This sign, or the next one where this is zero.
+    pub fn then(self, next: Sign) -> Sign
+        ensures { result ≡ first_of self next }
+    {
+        match self {
+            Sign::Zero => next,
+            own => own,
         }
     }
 }

@@ -97,7 +97,7 @@ contains_from_in (x ∷ xs) i e = at (nat_eq i x) refl (contains_from_in xs i) e
     at true f rest e = let same : x ≡ i = grind (arith, nat_tests, f) in (zero, omega arith, same)
     at false f rest e = contains_tail x i xs (rest e)
 
-farther_otherwise : (t : Sign) (i j : ℕ) → left_is_farther t i j ≡ false → (i ≡ j) ⊎ (left_is_farther (opposite_of t) j i ≡ true)
+pub farther_otherwise : (t : Sign) (i j : ℕ) → left_is_farther t i j ≡ false → (i ≡ j) ⊎ (left_is_farther (opposite_of t) j i ≡ true)
 farther_otherwise Minus i j e = absurd cc
 farther_otherwise Plus i j e = inr refl
 farther_otherwise Zero i j e = at (nat_eq i j) refl

@@ -16,7 +16,7 @@ use Rattle.kin_motion.specs.Laws.{HasTurnLaws}
 use Rattle.kin_motion.proofs.AgreementLaws.{none_passes, halves}
 
 -- each two segments that meet fall
-abbrev Falls : Scene → List ℕ → Type 0
+abbrev pub Falls : Scene → List ℕ → Type 0
 Falls s [] = Unit {0}
 Falls s (i ∷ []) = Unit {0}
 Falls s (i ∷ j ∷ []) = Unit {0}
@@ -54,7 +54,7 @@ chain_falls s laws set (i ∷ j ∷ k ∷ ps) m c =
       chain_falls s laws set (j ∷ k ∷ ps) (λ p h. m p (grind (arith, nat_tests, h))) c.1,
     )
 
-upper_falls : (s : Scene) → HasTurnLaws s → (set xs : List ℕ) → IsUpperChain s set xs → Falls s xs
+pub upper_falls : (s : Scene) → HasTurnLaws s → (set xs : List ℕ) → IsUpperChain s set xs → Falls s xs
 upper_falls s laws set xs u = chain_falls s laws set xs (λ p h. sym (u.members p) ∙ h) u.rising
 
 rest_of : List ℕ → List ℕ

@@ -10,6 +10,7 @@ use Rattle.kin_motion.specs.Course.{Course}
 use Rattle.kin_motion.specs.Forms.{along, x_of, y_of}
 use Rattle.kin_motion.specs.Numbers.{filled_from}
 
+-- + or 0
 abbrev pub is_not_minus : Sign → Bool
 is_not_minus Minus = false
 is_not_minus Zero = true

@@ -7,11 +7,13 @@ use Rattle.kin_motion.specs.declared.form.Form.TheVariants.{Turn}
 use Rattle.kin_motion.specs.Numbers.{is_in, IsChain, sorted_by}
 use Rattle.kin_motion.specs.Scene.{Scene, x_sign, y_sign, turned}
 
+-- the sign is +
 abbrev pub is_plus : Sign → Bool
 is_plus Plus = true
 is_plus Zero = false
 is_plus Minus = false
 
+-- the sign is 0
 abbrev pub is_zero : Sign → Bool
 is_zero Plus = false
 is_zero Zero = true
@@ -50,6 +52,7 @@ IsLowerChain s set xs = IsUpperChain (turned s) set xs
 abbrev pub round : List ℕ → List ℕ → List ℕ
 round lower upper = lower ++ filter (λ p. not (is_in p lower)) (reverse upper)
 
+-- both chains of all live numbers, one after the other as above
 pub record IsHullCycle (s : Scene) (xs : List ℕ) : Type 0 where
   pub lower : List ℕ
   pub upper : List ℕ
@@ -61,8 +64,10 @@ pub record IsHullCycle (s : Scene) (xs : List ℕ) : Type 0 where
 abbrev pub upper_chain_of : Scene → List ℕ → List ℕ
 upper_chain_of s set = sorted_by (is_left s) (filter (is_bare s set) set)
 
+-- the lower chain by computation
 abbrev pub lower_chain_of : Scene → List ℕ → List ℕ
 lower_chain_of s set = upper_chain_of (turned s) set
 
+-- the hull cycle by computation
 abbrev pub cycle_of : Scene → List ℕ
 cycle_of s = round (lower_chain_of s s.live) (upper_chain_of s s.live)

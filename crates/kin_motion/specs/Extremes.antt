@@ -24,6 +24,7 @@ left_is_farther Minus i j = true
 left_is_farther Zero i j = nat_lt i j
 left_is_farther Plus i j = false
 
+-- points compared along a direction
 abbrev pub along_key : ℤ → ℤ → Key ℕ
 along_key dx dy = record { form = Line dx dy (pos 0); left_wins = left_is_farther }
 
@@ -35,11 +36,14 @@ extreme_of s dx dy = best_of s (along_key dx dy) s.live
 abbrev pub slot_of_point : List ℕ → ℕ → Option ℕ
 slot_of_point live i = cond (is_in i live) (Some i) None
 
+-- the slots of all numbers below 2^size
 abbrev pub point_slots : ℕ → List ℕ → List (Option ℕ)
 point_slots size live = map (slot_of_point live) (numbers_from 0 (2 ^ size))
 
+-- a fact of the tournament of the points along a direction
 abbrev pub IsExtremeFact : ℕ → Scene → ℤ → ℤ → Placed → Type 0
 IsExtremeFact size s dx dy p = IsNodeFact s (along_key dx dy) size (point_slots size s.live) p
 
+-- the same by computation
 abbrev pub extreme_facts : ℕ → Scene → ℤ → ℤ → List Placed
 extreme_facts size s dx dy = tournament_facts s (along_key dx dy) size (point_slots size s.live)

@@ -35,42 +35,50 @@ IsAskable live (Turn i j k) = IsIn i live × IsIn j live × IsIn k live
 IsAskable live (Slope i j k l) = IsIn i live × IsIn j live × IsIn k live × IsIn l live
 IsAskable live (Dist i j k l) = IsIn i live × IsIn j live × IsIn k live × IsIn l live
 
--- slope*t + start
+-- the line slope*t + start
 pub record Linear : Type 0 where
   pub slope : ℤ
   pub start : ℤ
 
+-- the difference of two lines
 abbrev pub minus : Linear → Linear → Linear
 minus p q = record { slope = p.slope -ℤ q.slope; start = p.start -ℤ q.start }
 
+-- the product of two lines
 abbrev pub product : Linear → Linear → Quadratic
 product p q = record { a = p.slope *ℤ q.slope; b = p.slope *ℤ q.start +ℤ p.start *ℤ q.slope; c = p.start *ℤ q.start }
 
+-- the sum of two polynomials
 abbrev pub plus : Quadratic → Quadratic → Quadratic
 plus p q = record { a = p.a +ℤ q.a; b = p.b +ℤ q.b; c = p.c +ℤ q.c }
 
+-- the difference of two polynomials
 abbrev pub difference : Quadratic → Quadratic → Quadratic
 difference p q = record { a = p.a -ℤ q.a; b = p.b -ℤ q.b; c = p.c -ℤ q.c }
 
+-- the x of a point, x + u*t
 abbrev pub x_of_course : Option Course → Linear
 x_of_course (Some c) = record { slope = c.u; start = c.x }
 x_of_course None = record { slope = pos 0; start = pos 0 }
 
+-- the y of a point, y + v*t
 abbrev pub y_of_course : Option Course → Linear
 y_of_course (Some c) = record { slope = c.v; start = c.y }
 y_of_course None = record { slope = pos 0; start = pos 0 }
 
--- where point i is, as polynomials in t
+-- the x of point i
 abbrev pub x_of : List (Option Course) → ℕ → Linear
 x_of ms i = x_of_course (motion_of ms i)
 
+-- the y of point i
 abbrev pub y_of : List (Option Course) → ℕ → Linear
 y_of ms i = y_of_course (motion_of ms i)
 
--- the step from i to j
+-- the step from i to j along x
 abbrev pub x_step : List (Option Course) → ℕ → ℕ → Linear
 x_step ms i j = minus (x_of ms j) (x_of ms i)
 
+-- the step from i to j along y
 abbrev pub y_step : List (Option Course) → ℕ → ℕ → Linear
 y_step ms i j = minus (y_of ms j) (y_of ms i)
 

@@ -10,7 +10,8 @@ use Rattle.kin_motion.specs.declared.keep.Keep.{Keep}
 use Rattle.kin_motion.specs.Numbers.{IsChain, sorted_by}
 use Rattle.kin_motion.specs.Scene.{Scene}
 use Rattle.kin_motion.specs.Live.{Certificate, IsLiveFact, live_facts}
-use Rattle.kin_motion.specs.Moments.{IsEarlier, HoldsAt, HoldsUntil}
+use Rattle.kin_num.specs.Order.{IsEarlier}
+use Rattle.kin_motion.specs.Moments.{HoldsAt, HoldsUntil}
 
 -- what is kept, and what is seen at each moment
 pub record Setting : Type 0 where
@@ -23,6 +24,7 @@ pub record Failure : Type 0 where
   pub was : Certificate
   pub now : Sign
 
+-- the failures at one moment
 pub record Block : Type 0 where
   pub moment : Moment
   pub failures : List Failure
@@ -34,6 +36,7 @@ form_rank (Turn i j k) = pos 1 ∷ pos i ∷ pos j ∷ pos k ∷ []
 form_rank (Slope i j k l) = pos 2 ∷ pos i ∷ pos j ∷ pos k ∷ pos l ∷ []
 form_rank (Dist i j k l) = pos 3 ∷ pos i ∷ pos j ∷ pos k ∷ pos l ∷ []
 
+-- the numbers by which a failure is ordered, from the one that weighs most on
 abbrev pub rank_of : Failure → List ℤ
 rank_of f = pos f.was.structure ∷ pos f.was.placed.part ∷ form_rank f.was.placed.fact.form
 
@@ -43,6 +46,7 @@ is_less_rank [] ys = false
 is_less_rank (x ∷ xs) [] = false
 is_less_rank (x ∷ xs) (y ∷ ys) = int_lt x y || (int_le x y && is_less_rank xs ys)
 
+-- the failure with the lesser rank is listed first
 abbrev pub is_listed_before : Failure → Failure → Bool
 is_listed_before f g = is_less_rank (rank_of f) (rank_of g)
 
@@ -56,6 +60,7 @@ pub record IsFailure (t : Setting) (now m : Moment) (f : Failure) : Type 0 where
 abbrev pub AllHoldUntil : Setting → Moment → Moment → Type 0
 AllHoldUntil t first last = (c : Certificate) → IsLiveFact t.size t.keeps (t.scene first) c → HoldsUntil t.scene first last c.placed.fact
 
+-- every fact live at the first moment holds at the other
 abbrev pub AllHoldAt : Setting → Moment → Moment → Type 0
 AllHoldAt t first m = (c : Certificate) → IsLiveFact t.size t.keeps (t.scene first) c → HoldsAt t.scene m c.placed.fact
 
@@ -89,11 +94,14 @@ same_sign Zero Plus = false
 same_sign Plus Minus = false
 same_sign Plus Zero = false
 
+-- a fact with its sign in the scene
 abbrev pub seen_in : Scene → Certificate → Failure
 seen_in s c = record { was = c; now = s.sign c.placed.fact.form }
 
+-- the sign now is another
 abbrev pub has_failed : Failure → Bool
 has_failed f = not (same_sign f.now f.was.placed.fact.sign)
 
+-- the facts live at `now` whose sign at m is another, in the order of failures
 abbrev pub failures_at : Setting → Moment → Moment → List Failure
 failures_at t now m = sorted_by is_listed_before (filter has_failed (map (seen_in (t.scene m)) (live_facts t.size t.keeps (t.scene now))))

@@ -10,10 +10,12 @@ use Rattle.kin_motion.specs.Scene.{Scene, x_sign, placed_at, turned}
 use Rattle.kin_motion.specs.Chains.{is_zero, IsUpperChain, upper_chain_of}
 use Rattle.kin_motion.specs.Tournaments.{is_under}
 
+-- the two halves of a node: every number of A is less than every number of B
 pub data Half : Type 0 where
   A : Half
   B : Half
 
+-- whether it is of that half
 abbrev pub is_of : Half → Half → Bool
 is_of A A = true
 is_of A B = false
@@ -32,6 +34,7 @@ breakpoints_of h [] = []
 breakpoints_of h (i ∷ []) = []
 breakpoints_of h (i ∷ j ∷ ps) = record { half = h; left = i; right = j } ∷ breakpoints_of h (j ∷ ps)
 
+-- the form that compares two breakpoints by slope
 abbrev pub slope_form : Breakpoint → Breakpoint → Form
 slope_form e f = Slope e.left e.right f.left f.right
 
@@ -41,6 +44,7 @@ goes_first Plus g h = true
 goes_first Zero g h = is_of A g && is_of B h
 goes_first Minus g h = false
 
+-- whether e is placed before f, where they are of different chains
 abbrev pub is_placed_before : Scene → Breakpoint → Breakpoint → Bool
 is_placed_before s e f = goes_first (s.sign (slope_form e f)) e.half f.half
 
@@ -50,15 +54,17 @@ pub record IsBreakpointList (s : Scene) (a b : List ℕ) (es : List Breakpoint) 
   pub of_b : filter (λ e. is_of B e.half) es ≡ breakpoints_of B b
   pub falling : IsChain (is_placed_before s) es
 
--- the same by computation: each breakpoint of A is put in before the first that it is placed before
+-- the list fs with e put before the first that it is placed before
 abbrev pub put_before : Scene → Breakpoint → List Breakpoint → List Breakpoint
 put_before s e [] = e ∷ []
 put_before s e (f ∷ fs) = cond (is_placed_before s e f) (e ∷ f ∷ fs) (f ∷ put_before s e fs)
 
+-- the list es put into fs
 abbrev pub merged : Scene → List Breakpoint → List Breakpoint → List Breakpoint
 merged s [] fs = fs
 merged s (e ∷ es) fs = put_before s e (merged s es fs)
 
+-- the list of breakpoints by computation
 abbrev pub breakpoint_list : Scene → List ℕ → List ℕ → List Breakpoint
 breakpoint_list s a b = merged s (breakpoints_of A a) (breakpoints_of B b)
 
@@ -80,6 +86,7 @@ turns_from a b (e ∷ es) = Turn e.left e.right (other_current e.half a b) ∷ t
 abbrev pub slope_between : Breakpoint → Breakpoint → List Form
 slope_between e f = cond (is_of e.half f.half) [] (slope_form e f ∷ [])
 
+-- all slopes along a list of breakpoints
 abbrev pub slopes_from : List Breakpoint → List Form
 slopes_from [] = []
 slopes_from (e ∷ []) = []
@@ -89,6 +96,7 @@ slopes_from (e ∷ f ∷ es) = slope_between e f ++ slopes_from (f ∷ es)
 abbrev pub end_forms : Scene → ℕ → ℕ → List Form
 end_forms s a b = Line (pos 1) (pos 0) (pos 0) a b ∷ cond (is_zero (x_sign s a b)) (Line (pos 0) (pos 1) (pos 0) a b ∷ []) []
 
+-- the last point of a chain that begins with p
 abbrev pub last_of : ℕ → List ℕ → ℕ
 last_of p [] = p
 last_of p (q ∷ qs) = last_of q qs
@@ -118,6 +126,7 @@ pub record IsMergeForm (s : Scene) (left right : List ℕ) (f : Form) : Type 0 w
 abbrev pub forms_of_chains : Scene → List ℕ → List ℕ → List Form
 forms_of_chains s a b = forms_of_merge s a b (breakpoint_list s a b)
 
+-- the forms of the merge of two sets by computation
 abbrev pub merge_forms : Scene → List ℕ → List ℕ → List Form
 merge_forms s left right = forms_of_chains s (upper_chain_of s left) (upper_chain_of s right)
 
@@ -129,6 +138,7 @@ points_under size s v = filter (is_under size v) s.live
 abbrev pub IsNodeForm : ℕ → Scene → ℕ → Form → Type 0
 IsNodeForm size s v f = IsMergeForm s (points_under size s (2 * v)) (points_under size s (2 * v + 1)) f
 
+-- the forms at a node by computation
 abbrev pub node_forms : ℕ → Scene → ℕ → List Form
 node_forms size s v = merge_forms s (points_under size s (2 * v)) (points_under size s (2 * v + 1))
 
@@ -144,19 +154,21 @@ pub record IsMergeFact (s : Scene) (a b : List ℕ) (part : ℕ) (p : Placed) : 
   pub merge : IsMergeForm s a b form
   pub fact : p ≡ placed_at s part form
 
--- a fact of the upper tree, or of the lower tree, whose forms are those after y is turned round and whose signs are the real ones
+-- a fact of the upper tree
 pub record IsUpperFact (size : ℕ) (s : Scene) (p : Placed) : Type 0 where
   pub node : ℕ
   pub form : Form
   pub merge : IsNodeForm size s node form
   pub fact : p ≡ placed_at s (2 * node) form
 
+-- a fact of the lower tree: its forms are those after y is turned round, and its signs are the real ones
 pub record IsLowerFact (size : ℕ) (s : Scene) (p : Placed) : Type 0 where
   pub node : ℕ
   pub form : Form
   pub merge : IsNodeForm size (turned s) node form
   pub fact : p ≡ placed_at s (2 * node + 1) form
 
+-- a fact of the upper tree or of the lower tree
 abbrev pub IsHullFact : ℕ → Scene → Placed → Type 0
 IsHullFact size s p = IsUpperFact size s p ⊎ IsLowerFact size s p
 
@@ -164,5 +176,6 @@ IsHullFact size s p = IsUpperFact size s p ⊎ IsLowerFact size s p
 abbrev pub hull_facts_of_node : ℕ → Scene → ℕ → List Placed
 hull_facts_of_node size s v = map (placed_at s (2 * v)) (node_forms size s v) ++ map (placed_at s (2 * v + 1)) (node_forms size (turned s) v)
 
+-- all facts of the hull by computation
 abbrev pub hull_facts : ℕ → Scene → List Placed
 hull_facts size s = flat_map (hull_facts_of_node size s) (numbers_from 1 (2 ^ size - 1))

@@ -19,9 +19,11 @@ pub record Reading : Type 0 where
 abbrev pub comes_after : Scene → Reading → ℕ → ℕ → Bool
 comes_after s r p q = cond r.from_end (is_before s r.dx r.dy q p) (is_before s r.dx r.dy p q)
 
+-- along a direction from the front
 abbrev pub forward : ℤ → ℤ → Reading
 forward dx dy = record { dx = dx; dy = dy; from_end = false }
 
+-- along a direction from the end
 abbrev pub back : ℤ → ℤ → Reading
 back dx dy = record { dx = dx; dy = dy; from_end = true }
 
@@ -31,6 +33,7 @@ pub record Octant : Type 0 where
   pub second : Reading
   pub third : Reading
 
+-- an octant by its three orders
 abbrev pub octant : Reading → Reading → Reading → Octant
 octant f g t = record { first = f; second = g; third = t }
 
@@ -60,15 +63,21 @@ pub record IsCandidate (s : Scene) (o : Octant) (p c : ℕ) : Type 0 where
   pub member : IsIn c (octant_members s o p)
   pub first : (q : ℕ) → IsIn q (octant_members s o p) → (q ≡ c) ⊎ (comes_after s o.third c q ≡ true)
 
--- the same by computation
+-- the candidate of p, or none where the octant is empty
+abbrev pub IsCandidateAnswer : Scene → Octant → ℕ → Option ℕ → Type 0
+IsCandidateAnswer s o p answer = MatchOption answer ((c : ℕ) → ¬ (IsCandidate s o p c)) (IsCandidate s o p)
+
+-- the earlier of p and another, in an order as it is read
 abbrev pub earlier_of : Scene → Reading → ℕ → Option ℕ → Option ℕ
 earlier_of s r p None = Some p
 earlier_of s r p (Some q) = Some (cond (comes_after s r p q) p q)
 
+-- the first of these numbers in an order as it is read
 abbrev pub first_in : Scene → Reading → List ℕ → Option ℕ
 first_in s r [] = None
 first_in s r (p ∷ ps) = earlier_of s r p (first_in s r ps)
 
+-- the candidate by computation
 abbrev pub candidate_of : Scene → Octant → ℕ → Option ℕ
 candidate_of s o p = first_in s o.third (octant_members s o p)
 
@@ -94,11 +103,13 @@ pub record Near : Type 0 where
 abbrev pub is_less_pair : Near → Near → Bool
 is_less_pair p q = nat_lt p.i q.i || (nat_eq p.i q.i && (nat_lt p.j q.j || (nat_eq p.j q.j && nat_lt p.slot q.slot)))
 
+-- the left pair wins where it is closer, or as close and less
 abbrev pub left_is_nearer : Sign → Near → Near → Bool
 left_is_nearer Plus p q = true
 left_is_nearer Zero p q = is_less_pair p q
 left_is_nearer Minus p q = false
 
+-- pairs compared by distance
 abbrev pub distance_key : Key Near
 distance_key = record { form = λ p q. Dist p.i p.j q.i q.j; left_wins = left_is_nearer }
 
@@ -107,14 +118,17 @@ abbrev pub pairs_with : ℕ → List ℕ → List Near
 pairs_with i [] = []
 pairs_with i (j ∷ js) = record { i = i; j = j; slot = 0 } ∷ pairs_with i js
 
+-- all pairs of a rising list
 abbrev pub pairs_of : List ℕ → List Near
 pairs_of [] = []
 pairs_of (i ∷ is) = pairs_with i is ++ pairs_of is
 
+-- the two numbers of a pair
 abbrev pub pair_in : Option Near → Option (ℕ × ℕ)
 pair_in None = None
 pair_in (Some p) = Some (p.i, p.j)
 
+-- the closest pair by computation
 abbrev pub closest_of : Scene → Option (ℕ × ℕ)
 closest_of s = pair_in (best_of s distance_key (pairs_of s.live))
 
@@ -136,10 +150,12 @@ abbrev pub near_of : ℕ → ℕ → Option ℕ → Option Near
 near_of slot p None = None
 near_of slot p (Some c) = Some (near slot p c)
 
+-- the slots of p for these octants, from a slot on
 abbrev pub near_slots_of_point : Scene → ℕ → ℕ → List Octant → List (Option Near)
 near_slots_of_point s p slot [] = []
 near_slots_of_point s p slot (o ∷ os) = cond (is_in p s.live) (near_of slot p (candidate_of s o p)) None ∷ near_slots_of_point s p (slot + 1) os
 
+-- all slots by computation
 abbrev pub near_slots : ℕ → Scene → List (Option Near)
 near_slots size s = flat_map (λ p. near_slots_of_point s p (8 * p) octants) (numbers_from 0 (2 ^ size))
 
@@ -148,9 +164,11 @@ pub record Direction : Type 0 where
   pub dx : ℤ
   pub dy : ℤ
 
+-- a direction by its two parts
 abbrev pub direction : ℤ → ℤ → Direction
 direction dx dy = record { dx = dx; dy = dy }
 
+-- the directions of the parts 0 to 7
 abbrev pub eight_directions : List Direction
 eight_directions =
     direction (pos 0) (pos 1) ∷ direction (pos 1) (negsuc 0) ∷ direction (pos 1) (pos 0) ∷ direction (pos 1) (pos 1)
@@ -170,6 +188,7 @@ pub record IsPairFact (size : ℕ) (s : Scene) (p : Placed) : Type 0 where
   pub fact : IsNodeFact s distance_key (size + 3) slots node
   pub placed : p ≡ record { part = 8 + node.part; fact = node.fact }
 
+-- a fact of the eight orders, or of the tournament of pairs
 abbrev pub IsClosestFact : ℕ → Scene → Placed → Type 0
 IsClosestFact size s p = IsWedgeFact s p ⊎ IsPairFact size s p
 
@@ -178,6 +197,7 @@ abbrev pub wedge_facts_from : Scene → ℕ → List Direction → List Placed
 wedge_facts_from s part [] = []
 wedge_facts_from s part (d ∷ ds) = order_facts s d.dx d.dy part ++ wedge_facts_from s (part + 1) ds
 
+-- all facts of the closest pair by computation
 abbrev pub closest_facts : ℕ → Scene → List Placed
 closest_facts size s =
     wedge_facts_from s 0 eight_directions

@@ -33,6 +33,7 @@ y_sign s i j = s.sign (Line (pos 0) (pos 1) (pos 0) i j)
 abbrev pub fact_at : Scene → Form → Fact
 fact_at s f = record { form = f; sign = s.sign f }
 
+-- a form with its sign, in a part
 abbrev pub placed_at : Scene → ℕ → Form → Placed
 placed_at s part f = record { part = part; fact = fact_at s f }
 

@@ -11,6 +11,7 @@ pub record Key (Item : Type 0) : Type 0 where
   pub form : Item → Item → Form
   pub left_wins : Sign → Item → Item → Bool
 
+-- item a beats item b: a wins as the left one against b as the right one
 abbrev pub beats : {Item : Type 0} → Scene → Key Item → Item → Item → Bool
 beats s key a b = key.left_wins (s.sign (key.form a b)) a b
 
@@ -30,6 +31,7 @@ abbrev pub better_of : {Item : Type 0} → Scene → Key Item → Item → Optio
 better_of s key a None = Some a
 better_of s key a (Some b) = Some (cond (beats s key a b) a b)
 
+-- the best of these items by computation
 abbrev pub best_of : {Item : Type 0} → Scene → Key Item → List Item → Option Item
 best_of s key [] = None
 best_of s key (a ∷ items) = better_of s key a (best_of s key items)
@@ -49,6 +51,7 @@ items_from size v i [] = []
 items_from size v i (None ∷ slots) = items_from size v (i + 1) slots
 items_from size v i (Some a ∷ slots) = cond (is_under size v i) (a ∷ items_from size v (i + 1) slots) (items_from size v (i + 1) slots)
 
+-- the items of the slots under a node
 abbrev pub items_under : {Item : Type 0} → ℕ → ℕ → List (Option Item) → List Item
 items_under size v slots = items_from size v 0 slots
 
@@ -66,5 +69,6 @@ node_fact s key v (Some a) (Some b) = placed_at s v (key.form a b) ∷ []
 node_fact s key v (Some a) None = []
 node_fact s key v None b = []
 
+-- the facts of all inner nodes by computation
 abbrev pub tournament_facts : {Item : Type 0} → Scene → Key Item → ℕ → List (Option Item) → List Placed
 tournament_facts s key size slots = flat_map (λ v. node_fact s key v (best_of s key (items_under size (2 * v) slots)) (best_of s key (items_under size (2 * v + 1) slots))) (numbers_from 1 (2 ^ size - 1))

@@ -1,8 +1,8 @@
--- Values and signs at instants and moments, and the order of instants.
-use Rattle.std.specs.Prelude.{◌≡◌, ◌≢◌, true, false, ℤ, pos, negsuc, ◌+ℤ◌, ◌*ℤ◌, ◌<ℤ◌}
+-- The number that an instant stands for, and signs of polynomials at instants and at moments.
+use Rattle.std.specs.Prelude.{true, false, ◌^◌, ℤ, pos, negsuc, ◌+ℤ◌, ◌*ℤ◌}
 use lib.IntN.{neg_ℤ}
 use Rattle.kin_algebra.specs.declared.sign.Sign.{Sign}
-use Rattle.kin_algebra.specs.declared.sign.Sign.TheVariants.{Minus, Zero, Plus}
+use Rattle.kin_algebra.specs.Signs.{pair_sign_of, first_of}
 use Rattle.kin_num.specs.declared.instant.Shape.{Shape}
 use Rattle.kin_num.specs.declared.instant.Shape.TheVariants.{Ratio, Root}
 use Rattle.kin_num.specs.declared.instant.Phase.{Phase}
@@ -10,51 +10,45 @@ use Rattle.kin_num.specs.declared.instant.Phase.TheVariants.{At, After}
 use Rattle.kin_num.specs.declared.instant.Moment.{Moment}
 use Rattle.kin_num.specs.Quadratic.{Quadratic}
 use Rattle.kin_num.specs.Canonical.{discriminant}
-use Rattle.kin_algebra.specs.Signs.{pair_sign_of}
 
--- an instant is (whole + surd * sqrt(radicand)) / divisor
-abbrev pub whole : Shape → ℤ
-whole (Ratio n d) = n
-whole (Root a b c upper) = neg_ℤ b
+-- (whole + root * sqrt(radicand)) / divisor
+pub record Number : Type 0 where
+  pub whole : ℤ
+  pub root : ℤ
+  pub radicand : ℤ
+  pub divisor : ℤ
 
-abbrev pub surd : Shape → ℤ
-surd (Ratio n d) = pos 0
-surd (Root a b c true) = pos 1
-surd (Root a b c false) = negsuc 0
+-- the number that an instant stands for
+abbrev pub number_of : Shape → Number
+number_of (Ratio n d) = record { whole = n; root = pos 0; radicand = pos 0; divisor = d }
+number_of (Root a b c true) = record { whole = neg_ℤ b; root = pos 1; radicand = discriminant a b c; divisor = pos 2 *ℤ a }
+number_of (Root a b c false) = record { whole = neg_ℤ b; root = negsuc 0; radicand = discriminant a b c; divisor = pos 2 *ℤ a }
 
-abbrev pub radicand : Shape → ℤ
-radicand (Ratio n d) = pos 0
-radicand (Root a b c upper) = discriminant a b c
+-- the value of a polynomial at a number, times the square of the divisor, is whole_part + root_part * sqrt(radicand)
+abbrev pub whole_part : Quadratic → Number → ℤ
+whole_part p x =
+    p.a *ℤ (x.whole *ℤ x.whole +ℤ x.root *ℤ x.root *ℤ x.radicand) +ℤ p.b *ℤ x.whole *ℤ x.divisor +ℤ p.c *ℤ x.divisor *ℤ x.divisor
 
-abbrev pub divisor : Shape → ℤ
-divisor (Ratio n d) = d
-divisor (Root a b c upper) = pos 2 *ℤ a
+abbrev pub root_part : Quadratic → Number → ℤ
+root_part p x = pos 2 *ℤ p.a *ℤ x.whole *ℤ x.root +ℤ p.b *ℤ x.root *ℤ x.divisor
 
--- the value of a quadratic at an instant, times the square of the divisor, is rational_part + surd_part * sqrt(radicand)
-abbrev pub rational_part : Quadratic → Shape → ℤ
-rational_part p w =
-    p.a *ℤ (whole w *ℤ whole w +ℤ surd w *ℤ surd w *ℤ radicand w)
-    +ℤ p.b *ℤ whole w *ℤ divisor w
-    +ℤ p.c *ℤ divisor w *ℤ divisor w
+-- the sign of a polynomial at a number
+abbrev pub sign_at_number : Quadratic → Number → Sign
+sign_at_number p x = pair_sign_of (whole_part p x) (root_part p x) x.radicand
 
-abbrev pub surd_part : Quadratic → Shape → ℤ
-surd_part p w = pos 2 *ℤ p.a *ℤ whole w *ℤ surd w +ℤ p.b *ℤ surd w *ℤ divisor w
-
+-- the sign of a polynomial at an instant
 unfoldable pub sign_at_instant : Quadratic → Shape → Sign
-sign_at_instant p w = pair_sign_of (rational_part p w) (surd_part p w) (radicand w)
+sign_at_instant p w = sign_at_number p (number_of w)
 
 abbrev pub derivative : Quadratic → Quadratic
 derivative p = record { a = pos 0; b = pos 2 *ℤ p.a; c = p.b }
 
-abbrev pub first_of : Sign → Sign → Sign
-first_of Minus s = Minus
-first_of Zero s = s
-first_of Plus s = Plus
-
+-- just after an instant the sign is that of the first of P, P', P'' that isn't 0 there
 abbrev pub sign_at_phase : Quadratic → Shape → Phase → Sign
 sign_at_phase p w At = sign_at_instant p w
 sign_at_phase p w After = first_of (sign_at_instant p w) (first_of (sign_at_instant (derivative p) w) (sign_at_instant (derivative (derivative p)) w))
 
+-- the sign of a polynomial at a moment
 unfoldable pub sign_at : Quadratic → Moment → Sign
 sign_at p m = sign_at_phase p m.at m.phase
 
@@ -62,11 +56,10 @@ sign_at p m = sign_at_phase p m.at m.phase
 abbrev pub line : ℤ → ℤ → Quadratic
 line n d = record { a = pos 0; b = d; c = neg_ℤ n }
 
--- a fraction lies at or after the first instant and before the second
-pub record Separates (v w : Shape) (n d : ℤ) : Type 0 where
-  pub proper : pos 0 <ℤ d
-  pub first : sign_at_instant (line n d) v ≢ Plus
-  pub second : sign_at_instant (line n d) w ≡ Plus
+-- the number at which each polynomial has its sign at a moment: the instant's own, or a little more just after it
+abbrev pub later_by : ℤ → Number → Number
+later_by t x = record { whole = x.whole *ℤ t +ℤ x.divisor; root = x.root *ℤ t; radicand = x.radicand; divisor = x.divisor *ℤ t }
 
-abbrev pub IsLess : Shape → Shape → Type 0
-IsLess v w = (n d : ℤ) × Separates v w n d
+abbrev pub seat_of : Shape → Phase → Number
+seat_of w At = number_of w
+seat_of w After = later_by (pos (2 ^ 200)) (number_of w)

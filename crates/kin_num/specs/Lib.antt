@@ -1,3 +1,6 @@
+pub mod Roots
 pub mod Quadratic
 pub mod Canonical
 pub mod Instants
+pub mod Order
+pub mod Laws

@@ -1,4 +1,4 @@
-//! The one free answer.
+//! Want of memory.
 
 use std::alloc::AllocError;
 

@@ -1,13 +1,13 @@
-//! The sign of u + v * sqrt(d).
+//! The sign of `u + v*sqrt(d)`.
 
 ghost use Rattle.std.specs.Prelude.{◌≡◌, ◌≤◌, ◌<◌, ◌^◌, pos, unsigned_abs, ◌+◌, ◌*◌, ◌-ℤ◌, ◌*ℤ◌};
-ghost use Rattle.kin_algebra.specs.Signs.{pair_sign_of};
+ghost use Rattle.kin_algebra.specs.Signs.{pair_sign_of, sum_sign_of, norm_of};
 
 use kin_algebra::sign::Sign;
 
 /// A product that fits.
 fn product(a: i128, b: i128) -> i128
-    requires { unsigned_abs a * unsigned_abs b < 2 ^ 127 }
+    requires fits { unsigned_abs a * unsigned_abs b < 2 ^ 127 }
     ensures value { result ≡ a *ℤ b }
     ensures size { unsigned_abs result ≡ unsigned_abs a * unsigned_abs b }
 {
@@ -16,41 +16,48 @@ fn product(a: i128, b: i128) -> i128
 
 /// A difference that fits.
 fn difference(a: i128, b: i128) -> i128
-    requires { unsigned_abs a + unsigned_abs b < 2 ^ 127 }
+    requires fits { unsigned_abs a + unsigned_abs b < 2 ^ 127 }
     ensures value { result ≡ a -ℤ b }
     ensures size { unsigned_abs result ≤ unsigned_abs a + unsigned_abs b }
 {
     a - b
 }
 
-/// The square of `u` less `d` times the square of `v`.
-fn excess(u: i128, v: i128, d: i128) -> i128
+/// The square of `u` less that of `v*sqrt(d)`.
+fn norm(u: i128, v: i128, d: i128) -> i128
     requires u_small { unsigned_abs u ≤ 2 ^ 62 }
     requires v_small { unsigned_abs v ≤ 2 ^ 31 }
     requires d_small { unsigned_abs d < 2 ^ 63 }
-    ensures { result ≡ u *ℤ u -ℤ v *ℤ v *ℤ d }
+    ensures { result ≡ norm_of u v d }
 {
     difference(product(u, u), product(product(v, v), d))
 }
 
-/// The sign of `u + v * sqrt(d)`.
+/// The sign of a sum of numbers of the signs `first` and `second`, where the first one's square less the second one's
+/// has the sign `norm`.
+fn sum_sign(first: Sign, second: Sign, norm: Sign) -> Sign
+    ensures { result ≡ sum_sign_of first second norm }
+{
+    match (first, second) {
+        (Sign::Zero, _) => second,
+        (Sign::Plus, Sign::Minus) => norm,
+        (Sign::Minus, Sign::Plus) => norm.opposite(),
+        _ => first,
+    }
+}
+
+/// The sign of `u + v*sqrt(d)`. No root is taken: where `u` and `v` have opposite signs, `u*u` is compared with `v*v*d`.
 pub fn pair_sign(u: i64, v: i64, d: u64) -> Sign
     requires u_small { unsigned_abs u ≤ 2 ^ 62 }
     requires v_small { unsigned_abs v ≤ 2 ^ 31 }
     requires d_small { d < 2 ^ 63 }
     ensures { result ≡ pair_sign_of u v (pos d) }
 {
-    if d == 0 {
-        return Sign::of(i128::from(u));
-    }
     let (u, v, d) = (i128::from(u), i128::from(v), i128::from(d));
-    match (Sign::of(u), Sign::of(v)) {
-        (Sign::Zero, other) => other,
-        (own, Sign::Zero) => own,
-        (Sign::Plus, Sign::Plus) => Sign::Plus,
-        (Sign::Minus, Sign::Minus) => Sign::Minus,
-        (Sign::Plus, Sign::Minus) => Sign::of(excess(u, v, d)),
-        (Sign::Minus, Sign::Plus) => Sign::of(excess(u, v, d)).opposite(),
+    if d == 0 {
+        Sign::of(u)
+    } else {
+        sum_sign(Sign::of(u), Sign::of(v), Sign::of(norm(u, v, d)))
     }
 }
 
@@ -65,6 +72,17 @@ mod tests {
         assert_eq!(rt; pair_sign(-2, 2, 2), Sign::Plus);
         assert_eq!(rt; pair_sign(-2, 1, 4), Sign::Zero);
         assert_eq!(rt; pair_sign(5, -7, 0), Sign::Plus);
+        Ok(())
+    }
+
+    #[test]
+    fn signs_at_the_bounds(rt: HostRuntime) -> Result<(), Fail> {
+        let (u, v, d) = (1 << 62, 1 << 31, (1 << 63) - 1);
+        assert_eq!(rt; pair_sign(u, -v, d), Sign::Minus);
+        assert_eq!(rt; pair_sign(-u, v, d), Sign::Plus);
+        assert_eq!(rt; pair_sign(-u, -v, d), Sign::Minus);
+        assert_eq!(rt; pair_sign(u, -v, 1 << 62), Sign::Zero);
+        assert_eq!(rt; pair_sign(u, -v, (1 << 62) - 1), Sign::Plus);
         Ok(())
     }
 }

@@ -1,0 +1,84 @@
+//! The command. It takes the words after the program's name, the standard input and the standard
+//! output, runs the words, and ends with the exit status of the run.
+//!
+//! What it does before it calls `run` is in no contract. It writes nothing to standard error.
+#![tactic(auto)]
+
+use kin_io::standard::{StdSink, StdSource};
+use kin_run::run::run;
+use kin_run::status::Status;
+use std::alloc::AllocError;
+use std::process::ExitCode;
+use std::rt::Env;
+use std::{env, io};
+use thiserror::Error;
+
+/// Why there are no words to run. It tells two statuses apart, and is never printed.
+#[derive(Debug, Drop, Error)]
+enum WordsFault {
+    #[error("no memory for the words")]
+    NoMemory(#[from(alloc)] AllocError),
+    #[error("the words are not text")]
+    NotText,
+}
+
+impl From<io::Error> for WordsFault {
+    fn from(error: io::Error) -> WordsFault {
+        match error.kind() {
+            io::ErrorKind::OutOfMemory => WordsFault::NoMemory(AllocError),
+            _ => WordsFault::NotText,
+        }
+    }
+}
+
+/// The words after the program's name.
+fn words_of<R: Env + AllocGlobal>(rt: &R) -> Result<Vec<String>, WordsFault> {
+    Ok(env::args(rt)?.skip(1).collect(rt.alloc())?)
+}
+
+/// The exit status of a run.
+fn exit_of(status: Status) -> u8 {
+    match status {
+        Status::Done => 0,
+        Status::Fault(_) => 1,
+        Status::Script(_) | Status::TooLong => 2,
+        Status::Command(_, _) => 3,
+        Status::NoMemory => 4,
+        Status::Words => 5,
+    }
+}
+
+fn main(rt: HostRuntime) -> ExitCode {
+    let status = match words_of(&rt) {
+        Ok(words) => {
+            let mut source = StdSource::new(rt.reader());
+            let mut sink = StdSink::new(io::writer(&rt));
+            run(rt.alloc(), &words, &mut source, &mut sink)
+        }
+        Err(WordsFault::NoMemory(_)) => Status::NoMemory,
+        Err(WordsFault::NotText) => Status::Words,
+    };
+    ExitCode::from(exit_of(status))
+}
+
+#[cfg(test)]
+mod tests {
+    use super::*;
+    use kin_run::status::{Refusal, Side};
+
+    #[test]
+    fn each_status_has_its_exit(rt: HostRuntime) {
+        for (status, exit) in [
+            (Status::Done, 0),
+            (Status::Fault(Side::Read), 1),
+            (Status::Fault(Side::Write), 1),
+            (Status::Script(1), 2),
+            (Status::TooLong, 2),
+            (Status::Command(1, Refusal::Past), 3),
+            (Status::NoMemory, 4),
+            (Status::Words, 5),
+        ] {
+            assert_eq!(rt; exit_of(status), exit);
+        }
+    }
+}

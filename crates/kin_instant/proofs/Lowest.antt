@@ -1,0 +1,59 @@
+-- Division by a greatest common divisor.
+use Rattle.std.proofs.Common.{◌≡◌, ℕ, zero, suc, ◌*◌, ◌<◌, ℤ, pos, negsuc, ◌+ℤ◌, ◌-ℤ◌, ◌*ℤ◌, unsigned_abs, sym, refl, ap, ◌∙◌, subst, arith, [], ◌∷◌}
+use Rattle.std.specs.Prelude.{◌<ℤ◌}
+use Rattle.std.specs.Int.{IsGcd, ◌∣◌}
+use Rattle.std.proofs.lemmas.Int.{ints, unsigned_abs-mul}
+use Rattle.std.proofs.Math.Nat.{dvd-mul_right, mul-dvd-mul_left, dvd_of_mul-dvd-mul_left}
+use lib.IntN.{neg_ℤ}
+use Rattle.kin_algebra.proofs.Ring.{by_ring, quotes}
+
+-- where x = x' * g and y = y' * g, and g is the greatest common divisor, x' and y' have none but 1
+pub lowest_after : (x y x' y' g : ℕ) → 0 < g → IsGcd x y g → x ≡ x' * g → y ≡ y' * g → IsGcd x' y' 1
+lowest_after x y x' y' g h i p q = (one x', one y', λ k s t. dvd_of_mul-dvd-mul_left k h (subst (λ z. g * k ∣ z) (sym (times_one g)) (i.2 (g * k) (subst (λ z. g * k ∣ z) (sym (p ∙ turned x' g)) (mul-dvd-mul_left k g s)) (subst (λ z. g * k ∣ z) (sym (q ∙ turned y' g)) (mul-dvd-mul_left k g t)))))
+  where
+    one : (x : ℕ) → 1 ∣ x
+    one x = subst (λ z. 1 ∣ z) (times_one' x) (dvd-mul_right 1 x)
+      where
+        times_one' : (x : ℕ) → 1 * x ≡ x
+        times_one' x = omega arith
+
+    times_one : (e : ℕ) → e * 1 ≡ e
+    times_one e = omega arith
+
+    turned : (x g : ℕ) → x * g ≡ g * x
+    turned x g = omega arith
+
+-- a division that leaves no remainder
+multiple_of : (x g : ℤ) → unsigned_abs g ∣ unsigned_abs x → (k : ℕ) → unsigned_abs x ≡ unsigned_abs g * k → pos 0 <ℤ g → (s : ℤ) × (x ≡ s *ℤ g)
+multiple_of (pos n) (pos m) d k e h = (pos k, positive m n k e)
+  where
+    positive : (m n k : ℕ) → n ≡ m * k → pos n ≡ pos k *ℤ pos m
+    positive m n k e = ap pos (e ∙ omega arith)
+multiple_of (negsuc n) (pos m) d k e h = (neg_ℤ (pos k), negative m n k e)
+  where
+    negative : (m n k : ℕ) → suc n ≡ m * k → negsuc n ≡ neg_ℤ (pos k) *ℤ pos m
+    negative m n k e = ap (λ x. neg_ℤ (pos x)) (e ∙ swapped m k) ∙ turned (pos k) (pos m)
+      where
+        swapped : (m k : ℕ) → m * k ≡ k * m
+        swapped m k = omega arith
+
+        turned : (x y : ℤ) → neg_ℤ (x *ℤ y) ≡ neg_ℤ x *ℤ y
+        turned x y = by_ring (x ∷ y ∷ []) _ _ (search quotes depth 16) (search quotes depth 16) refl
+multiple_of x (negsuc m) d k e h = absurd (omega (arith, ints))
+
+pub no_remainder : (x g q r : ℤ) (k : ℕ) → pos 0 <ℤ g → unsigned_abs x ≡ unsigned_abs g * k → unsigned_abs g ∣ unsigned_abs x → q *ℤ g +ℤ r ≡ x → unsigned_abs r < unsigned_abs g → x ≡ q *ℤ g
+no_remainder x g q r k h e d f l =
+    let s = multiple_of x g d k e h in
+    let rest : r ≡ (s.0 -ℤ q) *ℤ g = left r (q *ℤ g) x f ∙ ap (λ (z : ℤ). z -ℤ q *ℤ g) s.1 ∙ by_ring (s.0 ∷ q ∷ g ∷ []) _ _ (search quotes depth 16) (search quotes depth 16) refl in
+    let none : unsigned_abs (s.0 -ℤ q) ≡ 0 = below (unsigned_abs (s.0 -ℤ q)) (unsigned_abs g) (unsigned_abs r) (ap unsigned_abs rest ∙ unsigned_abs-mul (s.0 -ℤ q) g) l in
+    s.1 ∙ ap (λ (z : ℤ). z *ℤ g) (same s.0 q none)
+  where
+    left : (r y x : ℤ) → y +ℤ r ≡ x → r ≡ x -ℤ y
+    left r y x f = omega (arith, ints, f)
+
+    below : (x y z : ℕ) → z ≡ x * y → z < y → x ≡ 0
+    below zero y z e l = refl
+    below (suc x) y z e l = absurd (omega (arith, e))
+
+    same : (n m : ℤ) → unsigned_abs (n -ℤ m) ≡ 0 → n ≡ m
+    same n m z = omega (arith, ints, z)

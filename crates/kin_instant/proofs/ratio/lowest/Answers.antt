@@ -1,0 +1,112 @@
+use Rattle.std.proofs.Common.{◌≡◌, ℕ, ◌*◌, ◌<◌, ◌≤◌, ◌^◌, ℤ, pos, ◌*ℤ◌, unsigned_abs, w64, to_z, of_z, arith, refl, ap, sym, ◌∙◌, subst, [], ◌∷◌}
+use Rattle.std.specs.Prelude.{◌<ℤ◌}
+use Rattle.std.specs.Int.{IsGcd, ◌∣◌}
+use Rattle.std.proofs.lemmas.Int.{ints, to_z_pos, fits_signed_from_abs, unsigned_abs-mul}
+use Rattle.std.proofs.lemmas.Nat.Gcd.{le_of_dvd}
+use Rattle.std.proofs.Math.Nat.{pos_of_dvd_of_pos}
+use Rattle.kin_algebra.specs.declared.sign.Sign.TheVariants.{Plus}
+use Rattle.kin_algebra.specs.Signs.{sign_of}
+use Rattle.kin_algebra.proofs.Ring.{by_ring, quotes}
+use Rattle.kin_algebra.proofs.Signs.{same_from_product}
+use Rattle.kin_algebra.proofs.IntegerSigns.{sign_in, sign_out, sign_of-times}
+use Rattle.kin_num.specs.Canonical.{IsLowest}
+use Rattle.kin_instant.proofs.Widths.{clean}
+use Rattle.kin_instant.proofs.Lowest.{lowest_after}
+use Rattle.kin_instant.proofs.ratio.lowest.Goals as goal
+
+-- the greatest common divisor g of |n| and |d|, as the code has it
+record Common (n d : ℤ) (g : ℕ) : Type 0 where
+  some : 0 < g
+  less : g < 2 ^ 63
+  common : IsGcd (unsigned_abs n) (unsigned_abs d) g
+
+common_of : (n d n' d' : ℤ) (u v g : ℕ) → pos 0 <ℤ d → unsigned_abs d < 2 ^ 63 → n' ≡ n → d' ≡ d → u ≡ unsigned_abs n' → v ≡ unsigned_abs d' → IsGcd u v g → Common n d g
+common_of n d n' d' u v g h k e f p q i =
+    let j : IsGcd (unsigned_abs n) (unsigned_abs d) g = subst (λ (x : ℕ). IsGcd x (unsigned_abs d) g) (p ∙ ap unsigned_abs e) (subst (λ (y : ℕ). IsGcd u y g) (q ∙ ap unsigned_abs f) i) in
+    let positive : 0 < unsigned_abs d = above d h in
+    record { some = pos_of_dvd_of_pos j.1 positive; less = below g (unsigned_abs d) (le_of_dvd positive j.1) k; common = j }
+  where
+    above : (d : ℤ) → pos 0 <ℤ d → 0 < unsigned_abs d
+    above d h = omega (arith, ints)
+
+    below : (g m : ℕ) → g ≤ m → m < 2 ^ 63 → g < 2 ^ 63
+    below g m h k = omega arith
+
+read : (g : ℕ) → g < 2 ^ 63 → to_z w64 g ≡ pos g
+read g h = to_z_pos w64 g h
+
+divides : (x x' : ℤ) (g : ℕ) → g < 2 ^ 63 → x' ≡ x → g ∣ unsigned_abs x → unsigned_abs (to_z w64 g) ∣ unsigned_abs x'
+divides x x' g h e d = subst (λ (z : ℤ). unsigned_abs z ∣ unsigned_abs x') (sym (read g h)) (subst (λ (z : ℤ). g ∣ unsigned_abs z) (sym e) d)
+
+positive : (g : ℕ) → 0 < g → g < 2 ^ 63 → pos 0 <ℤ to_z w64 g
+positive g h k = subst (λ (z : ℤ). pos 0 <ℤ z) (sym (read g k)) (some g h)
+  where
+    some : (g : ℕ) → 0 < g → pos 0 <ℤ pos g
+    some g h = omega (arith, ints)
+
+quotient : (x x' q : ℤ) (g : ℕ) → g < 2 ^ 63 → x' ≡ x → x' ≡ q *ℤ to_z w64 g → x ≡ q *ℤ pos g
+quotient x x' q g h e f = sym e ∙ f ∙ ap (λ (z : ℤ). q *ℤ z) (read g h)
+
+abs_of : (x q : ℤ) (g : ℕ) → x ≡ q *ℤ pos g → unsigned_abs x ≡ unsigned_abs q * g
+abs_of x q g e = ap unsigned_abs e ∙ unsigned_abs-mul q (pos g)
+
+lowest_of : (n d m e : ℤ) (g : ℕ) → Common n d g → pos 0 <ℤ d → n ≡ m *ℤ pos g → d ≡ e *ℤ pos g → IsLowest m e
+lowest_of n d m e g c h p q = record {
+  positive = sign_out Plus e ((same_from_product _ _ (sym (sign_of-times e (pos g)) ∙ ap sign_of (sym q) ∙ sign_in Plus d h)).0 ∙ sign_in Plus (pos g) (some g c.some));
+  lowest = lowest_after (unsigned_abs n) (unsigned_abs d) (unsigned_abs m) (unsigned_abs e) g c.some c.common (abs_of n m g p) (abs_of d e g q);
+}
+  where
+    some : (g : ℕ) → 0 < g → pos 0 <ℤ pos g
+    some g h = omega (arith, ints)
+
+crossed : (n d m e g : ℤ) → n ≡ m *ℤ g → d ≡ e *ℤ g → m *ℤ d ≡ n *ℤ e
+crossed n d m e g p q = ap (λ (z : ℤ). m *ℤ z) q ∙ by_ring (m ∷ e ∷ g ∷ []) (m *ℤ (e *ℤ g)) ((m *ℤ g) *ℤ e) (search quotes depth 16) (search quotes depth 16) refl ∙ ap (λ (z : ℤ). z *ℤ e) (sym p)
+
+not_more : (x q : ℤ) (g : ℕ) → 0 < g → x ≡ q *ℤ pos g → unsigned_abs q ≤ unsigned_abs x
+not_more x q g h e = at_least (unsigned_abs q) g (unsigned_abs x) h (abs_of x q g e)
+  where
+    at_least : (q g x : ℕ) → 0 < g → x ≡ q * g → q ≤ x
+    at_least q g x h e = grind (arith, e)
+
+pub overflow_cast-divisor : goal.overflow_cast-divisor
+overflow_cast-divisor c =
+    let k = common_of c.args.n c.args.d _ _ c.unsigned_abs.result c.unsigned_abs-2.result c.gcd-divisor.result c.requires.d_positive c.requires.d_small (clean w64 c.args.n c.ranges.n.sfits) (clean w64 c.args.d c.ranges.d.sfits) c.unsigned_abs.ensures.value c.unsigned_abs-2.ensures.value c.gcd-divisor.ensures in
+    fits_signed_from_abs w64 (pos c.gcd-divisor.result) k.less
+
+pub exact_quotient-requires-clause-positive : goal.exact_quotient-requires-clause-positive
+exact_quotient-requires-clause-positive c =
+    let k = common_of c.args.n c.args.d _ _ c.unsigned_abs.result c.unsigned_abs-2.result c.gcd-divisor.result c.requires.d_positive c.requires.d_small (clean w64 c.args.n c.ranges.n.sfits) (clean w64 c.args.d c.ranges.d.sfits) c.unsigned_abs.ensures.value c.unsigned_abs-2.ensures.value c.gcd-divisor.ensures in
+    positive c.gcd-divisor.result k.some k.less
+
+pub exact_quotient-requires-clause-divides : goal.exact_quotient-requires-clause-divides
+exact_quotient-requires-clause-divides c =
+    let k = common_of c.args.n c.args.d _ _ c.unsigned_abs.result c.unsigned_abs-2.result c.gcd-divisor.result c.requires.d_positive c.requires.d_small (clean w64 c.args.n c.ranges.n.sfits) (clean w64 c.args.d c.ranges.d.sfits) c.unsigned_abs.ensures.value c.unsigned_abs-2.ensures.value c.gcd-divisor.ensures in
+    divides c.args.n _ c.gcd-divisor.result k.less (clean w64 c.args.n c.ranges.n.sfits) k.common.0
+
+pub exact_quotient-requires-2-clause-positive : goal.exact_quotient-requires-2-clause-positive
+exact_quotient-requires-2-clause-positive c =
+    let k = common_of c.args.n c.args.d _ _ c.unsigned_abs.result c.unsigned_abs-2.result c.gcd-divisor.result c.requires.d_positive c.requires.d_small (clean w64 c.args.n c.ranges.n.sfits) (clean w64 c.args.d c.ranges.d.sfits) c.unsigned_abs.ensures.value c.unsigned_abs-2.ensures.value c.gcd-divisor.ensures in
+    positive c.gcd-divisor.result k.some k.less
+
+pub exact_quotient-requires-2-clause-divides : goal.exact_quotient-requires-2-clause-divides
+exact_quotient-requires-2-clause-divides c =
+    let k = common_of c.args.n c.args.d _ _ c.unsigned_abs.result c.unsigned_abs-2.result c.gcd-divisor.result c.requires.d_positive c.requires.d_small (clean w64 c.args.n c.ranges.n.sfits) (clean w64 c.args.d c.ranges.d.sfits) c.unsigned_abs.ensures.value c.unsigned_abs-2.ensures.value c.gcd-divisor.ensures in
+    divides c.args.d _ c.gcd-divisor.result k.less (clean w64 c.args.d c.ranges.d.sfits) k.common.1
+
+pub returns : goal.returns
+returns c =
+    let cn = clean w64 c.args.n c.ranges.n.sfits in
+    let cd = clean w64 c.args.d c.ranges.d.sfits in
+    let k = common_of c.args.n c.args.d _ _ c.unsigned_abs.result c.unsigned_abs-2.result c.gcd-divisor.result c.requires.d_positive c.requires.d_small cn cd c.unsigned_abs.ensures.value c.unsigned_abs-2.ensures.value c.gcd-divisor.ensures in
+    let m = c.exact_quotient.result in
+    let e = c.exact_quotient-2.result in
+    let cm = clean w64 m c.exact_quotient.type_inv in
+    let ce = clean w64 e c.exact_quotient-2.type_inv in
+    let p = quotient c.args.n _ m c.gcd-divisor.result k.less cn c.exact_quotient.ensures in
+    let q = quotient c.args.d _ e c.gcd-divisor.result k.less cd c.exact_quotient-2.ensures in
+    record {
+      lowest = subst (λ (x : ℤ). IsLowest x (to_z w64 (of_z w64 e))) (sym cm) (subst (λ (y : ℤ). IsLowest m y) (sym ce) (lowest_of c.args.n c.args.d m e c.gcd-divisor.result k c.requires.d_positive p q));
+      same = ap (λ (x : ℤ). x *ℤ c.args.d) cm ∙ crossed c.args.n c.args.d m e (pos c.gcd-divisor.result) p q ∙ ap (λ (y : ℤ). c.args.n *ℤ y) (sym ce);
+      n_less = subst (λ (x : ℤ). unsigned_abs x ≤ unsigned_abs c.args.n) (sym cm) (not_more c.args.n m c.gcd-divisor.result k.some p);
+      d_less = subst (λ (y : ℤ). unsigned_abs y ≤ unsigned_abs c.args.d) (sym ce) (not_more c.args.d e c.gcd-divisor.result k.some q);
+    }

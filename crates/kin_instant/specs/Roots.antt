@@ -1,0 +1,75 @@
+-- The real roots of a quadratic, as instants.
+use Rattle.std.specs.Prelude.{◌≡◌, ◌⊎◌, ◌↔◌, Option, Some, None, ℕ, ℤ, pos, ◌*ℤ◌}
+use Rattle.kin_algebra.specs.declared.sign.Sign.{Sign}
+use Rattle.kin_algebra.specs.declared.sign.Sign.TheVariants.{Minus, Zero, Plus}
+use Rattle.kin_algebra.specs.Signs.{sign_of}
+use Rattle.kin_num.specs.declared.instant.Shape.{Shape}
+use Rattle.kin_num.specs.declared.instant.Shape.TheVariants.{Ratio, Root}
+use Rattle.kin_num.specs.Quadratic.{Quadratic}
+use Rattle.kin_num.specs.Canonical.{IsCanonical, IsCanonicalForm, discriminant}
+use Rattle.kin_num.specs.Instants.{sign_at_instant}
+use Rattle.kin_num.specs.Order.{IsLess}
+use Rattle.kin_instant.specs.declared.roots.Roots.{Roots}
+use Rattle.kin_instant.specs.declared.roots.Roots.TheVariants.{Nowhere, One, Two, All}
+
+-- the instant is the fraction n/d
+abbrev pub IsFraction : ℤ → ℤ → Shape → Type 0
+IsFraction n d (Ratio m e) = m *ℤ d ≡ n *ℤ e
+IsFraction n d (Root a b c upper) = ⊥
+
+-- the instant stands in the answer
+abbrev pub Lists : Roots → Shape → Type 0
+Lists Nowhere w = ⊥
+Lists (One r) w = w ≡ r
+Lists (Two r s) w = (w ≡ r) ⊎ (w ≡ s)
+Lists All w = Unit {0}
+
+-- each instant that stands by itself in the answer is canonical
+abbrev pub AreCanonical : Roots → Type 0
+AreCanonical Nowhere = Unit {0}
+AreCanonical (One r) = IsCanonical r
+AreCanonical (Two r s) = IsCanonical r × IsCanonical s
+AreCanonical All = Unit {0}
+
+-- of two roots the first is the lesser one
+abbrev pub IsRising : Roots → Type 0
+IsRising Nowhere = Unit {0}
+IsRising (One r) = Unit {0}
+IsRising (Two r s) = IsLess r s
+IsRising All = Unit {0}
+
+-- how many roots the answer has, if not all instants
+abbrev pub count_of : Roots → Option ℕ
+count_of Nowhere = Some 0
+count_of (One r) = Some 1
+count_of (Two r s) = Some 2
+count_of All = None
+
+-- the number of real roots by the signs of the coefficients and of the discriminant: none is told where all instants are roots
+abbrev pub count_by : Sign → Sign → Sign → Sign → Option ℕ
+count_by Zero Zero Zero d = None
+count_by Zero Zero Minus d = Some 0
+count_by Zero Zero Plus d = Some 0
+count_by Zero Minus c d = Some 1
+count_by Zero Plus c d = Some 1
+count_by Minus b c Minus = Some 0
+count_by Minus b c Zero = Some 1
+count_by Minus b c Plus = Some 2
+count_by Plus b c Minus = Some 0
+count_by Plus b c Zero = Some 1
+count_by Plus b c Plus = Some 2
+
+-- a*t^2 + b*t + c
+abbrev pub quadratic : ℤ → ℤ → ℤ → Quadratic
+quadratic a b c = record { a = a; b = b; c = c }
+
+-- the number of real roots of a quadratic
+abbrev pub root_count : Quadratic → Option ℕ
+root_count p = count_by (sign_of p.a) (sign_of p.b) (sign_of p.c) (sign_of (discriminant p.a p.b p.c))
+
+-- the answer lists, by rising time, exactly the canonical forms of the real roots
+pub record AreRootsOf (p : Quadratic) (answer : Roots) : Type 0 where
+  pub canonical : AreCanonical answer
+  pub exact : (w : Shape) → IsCanonicalForm w → (sign_at_instant p w ≡ Zero) ↔ Lists answer w
+  pub rising : IsRising answer
+  pub number : count_of answer ≡ root_count p

@@ -1,0 +1,44 @@
+//! Fractions in lowest terms.
+
+ghost use Rattle.std.specs.Prelude.{◌≡◌, ◌≤◌, ◌<◌, ◌^◌, ◌*ℤ◌, ◌<ℤ◌, pos, unsigned_abs};
+ghost use Rattle.std.specs.Int.{◌∣◌};
+ghost use Rattle.kin_num.specs.Canonical.{IsCanonical, IsLowest};
+ghost use Rattle.kin_instant.specs.Roots.{IsFraction};
+
+use kin_num::divisor::gcd;
+use kin_num::instant::{Instant, Shape};
+
+/// `x / divisor`, which leaves no remainder.
+pub(crate) fn exact_quotient(x: i64, divisor: i64) -> i64
+    requires positive { pos 0 <ℤ divisor }
+    requires divides { unsigned_abs divisor ∣ unsigned_abs x }
+    ensures { x ≡ result *ℤ divisor }
+{
+    x / divisor
+}
+
+/// The numerator and the denominator of `n / d` in lowest terms.
+fn lowest(n: i64, d: i64) -> (i64, i64)
+    requires n_small { unsigned_abs n < 2 ^ 63 }
+    requires d_small { unsigned_abs d < 2 ^ 63 }
+    requires d_positive { pos 0 <ℤ d }
+    ensures lowest { IsLowest result.0 result.1 }
+    ensures same { result.0 *ℤ d ≡ n *ℤ result.1 }
+    ensures n_less { unsigned_abs result.0 ≤ unsigned_abs n }
+    ensures d_less { unsigned_abs result.1 ≤ unsigned_abs d }
+{
+    let divisor = gcd(n.unsigned_abs(), d.unsigned_abs()) as i64;
+    (exact_quotient(n, divisor), exact_quotient(d, divisor))
+}
+
+/// The instant `n / d`, for `|n| < 2^31` and `1 <= d < 2^31`.
+pub fn ratio(n: i64, d: i64) -> Instant
+    requires n_small { unsigned_abs n < 2 ^ 31 }
+    requires d_small { unsigned_abs d < 2 ^ 31 }
+    requires d_positive { pos 0 <ℤ d }
+    ensures value { IsFraction n d result }
+    ensures canonical { IsCanonical result }
+{
+    let (n, d) = lowest(n, d);
+    Instant::of(Shape::Ratio { n, d })
+}

@@ -1,0 +1,80 @@
+-- What structures report: nothing, one fact in the place of another, and the reports of two parts together.
+use Rattle.std.proofs.Common.{◌≡◌, ◌≢◌, ◌⊎◌, inl, inr, refl, sym, ap, ◌∙◌, List, [], ◌∷◌, ◌++◌}
+use Rattle.std.specs.Prelude.{Contains}
+use Rattle.std.proofs.lemmas.List.{append-nil, append_assoc}
+use Rattle.std.proofs.lemmas.List.Elements.{Contains-append_left, Contains-append_right, Contains-append_cases}
+use Rattle.kin_motion.specs.declared.fact.Placed.{Placed}
+use Rattle.kin_motion.specs.Deltas.{Change}
+use Rattle.kin_motion.specs.Kinetics.{HasGained, HasChanged}
+use Rattle.kin_motion.proofs.SetLaws.{contains_none, contains_head, contains_cases, exactly_none, exactly_one, exactly_both, exactly_in_words}
+
+-- the facts that were there and are not
+abbrev IsLost : List Placed → List Placed → Placed → Type 0
+IsLost old new p = Contains old p × ¬ (Contains new p)
+
+nothing_gained : (xs fs : List Placed) → HasGained xs xs (IsLost fs fs)
+nothing_gained xs fs = record { more = []; joined = sym (append-nil xs); exactly = exactly_none _ (λ p w. w.1 w.0) }
+
+-- where the facts are the same, nothing is reported
+pub nothing_changed : (fs : List Placed) (d : Change) → HasChanged fs fs d d
+nothing_changed fs d = record { dropped = nothing_gained d.dropped fs; born = nothing_gained d.born fs }
+
+one_gained : (xs : List Placed) (p q : Placed) → p ≢ q → HasGained xs (xs ++ p ∷ []) (IsLost (p ∷ []) (q ∷ []))
+one_gained xs p q n = record {
+  more = p ∷ [];
+  joined = refl;
+  exactly = exactly_one p _ (contains_head p [], λ h. other (contains_cases q p [] h)) (λ z w. same z (contains_cases p z [] w.0));
+}
+  where
+    other : (q ≡ p) ⊎ Contains [] p → ⊥
+    other (inl e) = n (sym e)
+    other (inr h) = contains_none p h
+
+    same : (z : Placed) → (p ≡ z) ⊎ Contains [] z → z ≡ p
+    same z (inl e) = sym e
+    same z (inr h) = absurd (contains_none z h)
+
+-- one fact takes the place of another
+pub one_changed : (p q : Placed) (d : Change) → p ≢ q → HasChanged (p ∷ []) (q ∷ []) d (record { dropped = d.dropped ++ p ∷ []; born = d.born ++ q ∷ [] })
+one_changed p q d n = record { dropped = one_gained d.dropped p q n; born = one_gained d.born q p (λ e. n (sym e)) }
+
+module _ (xs xs' ys ys' : List Placed) (apart : (p : Placed) → Contains xs p ⊎ Contains xs' p → Contains ys p ⊎ Contains ys' p → ⊥) where
+  lost-words : (p : Placed) → (IsLost xs xs' p ⊎ IsLost ys ys' p → IsLost (xs ++ ys) (xs' ++ ys') p) × (IsLost (xs ++ ys) (xs' ++ ys') p → IsLost xs xs' p ⊎ IsLost ys ys' p)
+  lost-words p = (to, λ w. from w (Contains-append_cases xs ys p w.0))
+    where
+      to : IsLost xs xs' p ⊎ IsLost ys ys' p → IsLost (xs ++ ys) (xs' ++ ys') p
+      to (inl w) = (Contains-append_left xs ys p w.0, λ h. at (Contains-append_cases xs' ys' p h))
+        where
+          at : Contains xs' p ⊎ Contains ys' p → ⊥
+          at (inl h) = w.1 h
+          at (inr h) = apart p (inl w.0) (inr h)
+      to (inr w) = (Contains-append_right xs ys p w.0, λ h. at (Contains-append_cases xs' ys' p h))
+        where
+          at : Contains xs' p ⊎ Contains ys' p → ⊥
+          at (inl h) = apart p (inr h) (inl w.0)
+          at (inr h) = w.1 h
+
+      from : IsLost (xs ++ ys) (xs' ++ ys') p → Contains xs p ⊎ Contains ys p → IsLost xs xs' p ⊎ IsLost ys ys' p
+      from w (inl h) = inl (h, λ k. w.1 (Contains-append_left xs' ys' p k))
+      from w (inr h) = inr (h, λ k. w.1 (Contains-append_right xs' ys' p k))
+
+  pub both_gained : (first second third : List Placed) → HasGained first second (IsLost xs xs') → HasGained second third (IsLost ys ys') → HasGained first third (IsLost (xs ++ ys) (xs' ++ ys'))
+  both_gained first second third g h = record {
+    more = g.more ++ h.more;
+    joined = h.joined ∙ ap (λ l. l ++ h.more) g.joined ∙ append_assoc first g.more h.more;
+    exactly =
+        exactly_in_words (g.more ++ h.more) (λ p. IsLost xs xs' p ⊎ IsLost ys ys' p) (IsLost (xs ++ ys) (xs' ++ ys')) lost-words
+        (exactly_both g.more h.more (IsLost xs xs') (IsLost ys ys') g.exactly h.exactly (λ p w v. apart p (inl w.0) (inl v.0)));
+  }
+
+-- the reports of two parts, one after the other, are the report of both
+pub both_changed : (xs xs' ys ys' : List Placed) (c d e : Change) → ((p : Placed) → Contains xs p ⊎ Contains xs' p → Contains ys p ⊎ Contains ys' p → ⊥)
+    → HasChanged xs xs' c d → HasChanged ys ys' d e → HasChanged (xs ++ ys) (xs' ++ ys') c e
+both_changed xs xs' ys ys' c d e apart g h = record {
+  dropped = both_gained xs xs' ys ys' apart c.dropped d.dropped e.dropped g.dropped h.dropped;
+  born = both_gained xs' xs ys' ys (λ p a b. apart p (other a) (other b)) c.born d.born e.born g.born h.born;
+}
+  where
+    other : {A B : Type 0} → A ⊎ B → B ⊎ A
+    other {A} {B} (inl a) = inr a
+    other {A} {B} (inr b) = inl b

@@ -1,0 +1,157 @@
+-- Lists that have exactly what is asked, each once: joined, mapped, and sorted into one list.
+use Rattle.std.proofs.Common.{◌≡◌, ◌⊎◌, inl, inr, refl, sym, ap, ◌∙◌, subst, arith, List, [], ◌∷◌, ◌++◌, ℕ, zero, suc, ◌+◌, ◌<◌, ◌≤◌, map}
+use Rattle.std.specs.Prelude.{Some, slice_get, Contains, ◌↔◌, flat_map}
+use Rattle.std.proofs.lemmas.List.Elements.{Contains-append_left, Contains-append_right, Contains-append_cases}
+use Rattle.kin_motion.specs.Numbers.{numbers_from}
+use Rattle.kin_motion.specs.Sets.{AreDistinct, ListsExactly}
+
+same_item : {A : Type 0} {x y : A} → Some x ≡ Some y → x ≡ y
+same_item {A} {x} {y} e = cc
+
+pub contains_none : {A : Type 0} (z : A) → Contains {X = A} [] z → ⊥
+contains_none {A} z (k, l, e) = absurd (omega arith)
+
+pub contains_head : {A : Type 0} (x : A) (xs : List A) → Contains (x ∷ xs) x
+contains_head {A} x xs = (zero, omega arith, refl)
+
+pub contains_tail : {A : Type 0} (x z : A) (xs : List A) → Contains xs z → Contains (x ∷ xs) z
+contains_tail {A} x z xs (k, l, e) = (suc k, omega arith, e)
+
+pub contains_cases : {A : Type 0} (x z : A) (xs : List A) → Contains (x ∷ xs) z → (x ≡ z) ⊎ Contains xs z
+contains_cases {A} x z xs (zero, l, e) = inl e
+contains_cases {A} x z xs (suc k, l, e) = inr (k, omega arith, e)
+
+pub contains_at : {A : Type 0} (xs : List A) (k : ℕ) (x : A) → slice_get xs k ≡ Some x → Contains xs x
+contains_at {A} [] k x e = absurd cc
+contains_at {A} (y ∷ ys) zero x e = subst (λ (z : A). Contains (y ∷ ys) z) (same_item e) (contains_head y ys)
+contains_at {A} (y ∷ ys) (suc k) x e = contains_tail y x ys (contains_at ys k x e)
+
+pub place_of : {A : Type 0} (xs : List A) (x : A) → Contains xs x → (k : ℕ) × (slice_get xs k ≡ Some x)
+place_of {A} [] x h = absurd (contains_none x h)
+place_of {A} (y ∷ ys) x h = at (contains_cases y x ys h) (place_of ys x)
+  where
+    at : (y ≡ x) ⊎ Contains ys x → (Contains ys x → (k : ℕ) × (slice_get ys k ≡ Some x)) → (k : ℕ) × (slice_get (y ∷ ys) k ≡ Some x)
+    at (inl e) f = (zero, ap (λ (z : A). Some z) e)
+    at (inr l) f = let p = f l in (suc (p.0), p.1)
+
+-- an item in front that isn't behind
+pub distinct_cons : {A : Type 0} (x : A) (xs : List A) → ¬ (Contains xs x) → AreDistinct xs → AreDistinct (x ∷ xs)
+distinct_cons {A} x xs new d zero zero z e f = refl
+distinct_cons {A} x xs new d zero (suc j) z e f = absurd (new (contains_at xs j x (f ∙ sym e)))
+distinct_cons {A} x xs new d (suc i) zero z e f = absurd (new (contains_at xs i x (e ∙ sym f)))
+distinct_cons {A} x xs new d (suc i) (suc j) z e f = ap suc (d i j z e f)
+
+pub distinct_head : {A : Type 0} (x : A) (xs : List A) → AreDistinct (x ∷ xs) → ¬ (Contains xs x)
+distinct_head {A} x xs d h = let p = place_of xs x h in let e : zero ≡ suc p.0 = d zero (suc p.0) x refl p.1 in absurd cc
+
+pub distinct_tail : {A : Type 0} (x : A) (xs : List A) → AreDistinct (x ∷ xs) → AreDistinct xs
+distinct_tail {A} x xs d i j z e f = let h : suc i ≡ suc j = d (suc i) (suc j) z e f in cc
+
+pub distinct_append : {A : Type 0} (xs ys : List A) → AreDistinct xs → AreDistinct ys → ((z : A) → Contains xs z → Contains ys z → ⊥) → AreDistinct (xs ++ ys)
+distinct_append {A} [] ys d e apart = e
+distinct_append {A} (x ∷ xs) ys d e apart =
+    distinct_cons x (xs ++ ys) (λ h. at (Contains-append_cases xs ys x h)) (distinct_append xs ys (distinct_tail x xs d) e (λ z h k. apart z (contains_tail x z xs h) k))
+  where
+    at : Contains xs x ⊎ Contains ys x → ⊥
+    at (inl h) = distinct_head x xs d h
+    at (inr k) = apart x (contains_head x xs) k
+
+pub distinct_none : {A : Type 0} → AreDistinct {A = A} []
+distinct_none {A} i j z e f = absurd cc
+
+pub exactly_none : {A : Type 0} (which : A → Type 0) → ((z : A) → ¬ (which z)) → ListsExactly [] which
+exactly_none {A} which none = record { once = distinct_none; each = λ z. ((λ h. absurd (contains_none z h)), (λ h. absurd (none z h))) }
+
+-- exactly one item
+pub exactly_one : {A : Type 0} (x : A) (which : A → Type 0) → which x → ((z : A) → which z → z ≡ x) → ListsExactly (x ∷ []) which
+exactly_one {A} x which own only = record {
+  once = distinct_cons x [] (contains_none x) distinct_none;
+  each = λ z. (
+    λ h. at z (contains_cases x z [] h),
+    λ w. subst (λ (y : A). Contains (x ∷ []) y) (sym (only z w)) (contains_head x []),
+  );
+}
+  where
+    at : (z : A) → (x ≡ z) ⊎ Contains [] z → which z
+    at z (inl e) = subst which e own
+    at z (inr h) = absurd (contains_none z h)
+
+-- two such lists, of which no item is in both
+pub exactly_both : {A : Type 0} (xs ys : List A) (p q : A → Type 0) → ListsExactly xs p → ListsExactly ys q → ((z : A) → p z → q z → ⊥) → ListsExactly (xs ++ ys) (λ z. p z ⊎ q z)
+exactly_both {A} xs ys p q l m apart = record {
+  once = distinct_append xs ys l.once m.once (λ z h k. apart z ((l.each z).0 h) ((m.each z).0 k));
+  each = λ z. (
+    λ h. to z (Contains-append_cases xs ys z h),
+    λ w. from z w,
+  );
+}
+  where
+    to : (z : A) → Contains xs z ⊎ Contains ys z → p z ⊎ q z
+    to z (inl h) = inl ((l.each z).0 h)
+    to z (inr h) = inr ((m.each z).0 h)
+
+    from : (z : A) → p z ⊎ q z → Contains (xs ++ ys) z
+    from z (inl w) = Contains-append_left xs ys z ((l.each z).1 w)
+    from z (inr w) = Contains-append_right xs ys z ((m.each z).1 w)
+
+-- the same list, with what is asked in other words
+pub exactly_in_words : {A : Type 0} (xs : List A) (p q : A → Type 0) → ((z : A) → p z ↔ q z) → ListsExactly xs p → ListsExactly xs q
+exactly_in_words {A} xs p q same l = record { once = l.once; each = λ z. ((λ h. (same z).0 ((l.each z).0 h)), (λ w. (l.each z).1 ((same z).1 w))) }
+
+-- what a mapped list has
+pub contains_mapped : {A B : Type 0} (f : A → B) (xs : List A) (z : B) → Contains (map f xs) z → (x : A) × Contains xs x × (z ≡ f x)
+contains_mapped {A} {B} f [] z h = absurd (contains_none z h)
+contains_mapped {A} {B} f (x ∷ xs) z h = at (contains_cases (f x) z (map f xs) h) (contains_mapped f xs z)
+  where
+    at : (f x ≡ z) ⊎ Contains (map f xs) z → (Contains (map f xs) z → (y : A) × Contains xs y × (z ≡ f y)) → (y : A) × Contains (x ∷ xs) y × (z ≡ f y)
+    at (inl e) g = (x, contains_head x xs, sym e)
+    at (inr l) g = let r = g l in (r.0, contains_tail x r.0 xs r.1, r.2)
+
+pub contains_map : {A B : Type 0} (f : A → B) (xs : List A) (x : A) → Contains xs x → Contains (map f xs) (f x)
+contains_map {A} {B} f [] x h = absurd (contains_none x h)
+contains_map {A} {B} f (y ∷ ys) x h = at (contains_cases y x ys h) (contains_map f ys x)
+  where
+    at : (y ≡ x) ⊎ Contains ys x → (Contains ys x → Contains (map f ys) (f x)) → Contains (f y ∷ map f ys) (f x)
+    at (inl e) g = subst (λ (z : A). Contains (f y ∷ map f ys) (f z)) e (contains_head (f y) (map f ys))
+    at (inr l) g = contains_tail (f y) (f x) (map f ys) (g l)
+
+pub distinct_mapped : {A B : Type 0} (f : A → B) (xs : List A) → ((x y : A) → f x ≡ f y → x ≡ y) → AreDistinct xs → AreDistinct (map f xs)
+distinct_mapped {A} {B} f [] one d = distinct_none
+distinct_mapped {A} {B} f (x ∷ xs) one d =
+    distinct_cons (f x) (map f xs) (λ h. let r = contains_mapped f xs (f x) h in distinct_head x xs d (subst (λ (y : A). Contains xs y) (sym (one x r.0 r.2)) r.1)) (distinct_mapped f xs one (distinct_tail x xs d))
+
+-- a list under a function that tells items apart
+pub exactly_mapped : {A B : Type 0} (f : A → B) (xs : List A) (p : A → Type 0) → ((x y : A) → f x ≡ f y → x ≡ y) → ListsExactly xs p → ListsExactly (map f xs) (λ z. (x : A) × p x × (z ≡ f x))
+exactly_mapped {A} {B} f xs p one l = record {
+  once = distinct_mapped f xs one l.once;
+  each = λ z. (
+    λ h. let r = contains_mapped f xs z h in (r.0, (l.each r.0).0 r.1, r.2),
+    λ w. subst (λ (y : B). Contains (map f xs) y) (sym w.2) (contains_map f xs w.0 ((l.each w.0).1 w.1)),
+  );
+}
+
+-- one list for each number
+pub exactly_in_turn : {A : Type 0} (f : ℕ → List A) (p : ℕ → A → Type 0) → ((n : ℕ) → ListsExactly (f n) (p n)) → ((m n : ℕ) (z : A) → p m z → p n z → m ≡ n)
+    → (a k : ℕ) → ListsExactly (flat_map f (numbers_from a k)) (λ z. (n : ℕ) × (a ≤ n) × (n < a + k) × p n z)
+exactly_in_turn {A} f p each apart a zero = exactly_none _ (λ z w. let h : a ≤ w.0 = w.1 in let g : w.0 < a + 0 = w.2 in omega (arith, h, g))
+exactly_in_turn {A} f p each apart a (suc k) =
+    exactly_in_words (f a ++ flat_map f (numbers_from (a + 1) k)) _ _ words
+    (exactly_both (f a) (flat_map f (numbers_from (a + 1) k)) (p a) _ (each a) (exactly_in_turn f p each apart (a + 1) k)
+    (λ z w v. let e : a ≡ v.0 = apart a v.0 z w v.3 in let h : a + 1 ≤ v.0 = v.1 in omega (arith, e, h)))
+  where
+    to : (z : A) → p a z ⊎ ((n : ℕ) × (a + 1 ≤ n) × (n < a + 1 + k) × p n z) → (n : ℕ) × (a ≤ n) × (n < a + suc k) × p n z
+    to z (inl w) = (a, omega arith, omega arith, w)
+    to z (inr (n, h, g, w)) = (n, omega (arith, h), omega (arith, g), w)
+
+    first_or_not : (n : ℕ) → a ≤ n → (a ≡ n) ⊎ (a + 1 ≤ n)
+    first_or_not n h = grind (arith, h)
+
+    from : (z : A) → (n : ℕ) × (a ≤ n) × (n < a + suc k) × p n z → p a z ⊎ ((n : ℕ) × (a + 1 ≤ n) × (n < a + 1 + k) × p n z)
+    from z (n, h, g, w) = at (first_or_not n h)
+      where
+        at : (a ≡ n) ⊎ (a + 1 ≤ n) → p a z ⊎ ((n : ℕ) × (a + 1 ≤ n) × (n < a + 1 + k) × p n z)
+        at (inl e) = inl (subst (λ (m : ℕ). p m z) (sym e) w)
+        at (inr l) = inr (n, l, omega (arith, g), w)
+
+    words : (z : A) → (p a z ⊎ ((n : ℕ) × (a + 1 ≤ n) × (n < a + 1 + k) × p n z)) ↔ ((n : ℕ) × (a ≤ n) × (n < a + suc k) × p n z)
+    words z = (to z, from z)

@@ -1,0 +1,84 @@
+-- What is proved of the definitions, as statements.
+use Rattle.std.specs.Prelude.{◌≡◌, ◌≢◌, ℕ, ℤ, List, Option, count_by, map}
+use Rattle.kin_num.specs.declared.instant.Moment.{Moment}
+use Rattle.kin_num.specs.Canonical.{IsCanonical}
+use Rattle.kin_motion.specs.declared.form.Form.{Form}
+use Rattle.kin_motion.specs.declared.fact.Fact.{Fact}
+use Rattle.kin_motion.specs.declared.fact.Placed.{Placed}
+use Rattle.kin_motion.specs.Course.{Course}
+use Rattle.kin_motion.specs.Mirrored.{mirrored}
+use Rattle.kin_motion.specs.Sets.{ListsExactly}
+use Rattle.kin_motion.specs.Scene.{Scene, IsReal, scene_at, turned}
+use Rattle.kin_motion.specs.Laws.{HasLineLaws, HasTurnLaws, HasDistanceLaws, HasSlopeLaws}
+use Rattle.kin_motion.specs.Kinetics.{AllHold, HaveSameLive}
+use Rattle.kin_motion.specs.Orders.{IsOrder, IsOrderFact}
+use Rattle.kin_motion.specs.Extremes.{IsExtremePoint}
+use Rattle.kin_motion.specs.Chains.{IsUpperChain, IsHullCycle}
+use Rattle.kin_motion.specs.Octants.{Octant, octants, is_in_octant, IsCandidate, IsClosest}
+use Rattle.kin_motion.specs.Moments.{FailsFirst}
+use Rattle.kin_motion.specs.Journal.{Setting, Block, IsNextBlock, IsJournal}
+
+-- signs are those of an ordered ring, as far as orders, chains and distances need
+pub record HasSignLaws (s : Scene) : Type 0 where
+  pub lines : HasLineLaws s
+  pub turns : HasTurnLaws s
+  pub distances : HasDistanceLaws s
+  pub slopes : HasSlopeLaws s
+
+-- in real scenes the laws of signs hold
+abbrev pub RealScenesHaveLaws : Type 0
+RealScenesHaveLaws = (s : Scene) → IsReal s → HasSignLaws s
+
+-- there is one order at most
+abbrev pub OneOrder : Type 0
+OneOrder = (s : Scene) (dx dy : ℤ) (xs ys : List ℕ) → IsReal s → IsOrder s dx dy xs → IsOrder s dx dy ys → xs ≡ ys
+
+-- there is one extreme point at most
+abbrev pub OneExtreme : Type 0
+OneExtreme = (s : Scene) (dx dy : ℤ) (a b : Option ℕ) → IsReal s → IsExtremePoint s dx dy a → IsExtremePoint s dx dy b → a ≡ b
+
+-- a set has one upper chain at most
+abbrev pub OneUpperChain : Type 0
+OneUpperChain = (s : Scene) (set xs ys : List ℕ) → IsReal s → IsUpperChain s set xs → IsUpperChain s set ys → xs ≡ ys
+
+-- there is one hull cycle at most
+abbrev pub OneHullCycle : Type 0
+OneHullCycle = (s : Scene) (xs ys : List ℕ) → IsReal s → IsHullCycle s xs → IsHullCycle s ys → xs ≡ ys
+
+-- there is one closest pair at most
+abbrev pub OneClosest : Type 0
+OneClosest = (s : Scene) (a b : Option (ℕ × ℕ)) → IsReal s → IsClosest s a → IsClosest s b → a ≡ b
+
+-- an apex has one candidate at most in an octant
+abbrev pub OneCandidate : Type 0
+OneCandidate = (s : Scene) (o : Octant) (p c d : ℕ) → IsReal s → IsCandidate s o p c → IsCandidate s o p d → c ≡ d
+
+-- each other point is in exactly one octant of the apex p
+abbrev pub OneOctant : Type 0
+OneOctant = (s : Scene) (p q : ℕ) → IsReal s → p ≢ q → count_by (λ b. b) (map (λ o. is_in_octant s o p q) octants) ≡ 1
+
+-- the turned scene shows the motions with every y and v negated
+abbrev pub TurnedIsMirrored : Type 0
+TurnedIsMirrored = (ms : List (Option Course)) (m : Moment) (f : Form) → (turned (scene_at ms m)).sign f ≡ (scene_at (mirrored ms) m).sign f
+
+-- and it is a real scene where the scene is
+abbrev pub TurnedIsReal : Type 0
+TurnedIsReal = (s : Scene) → IsReal s → IsReal (turned s)
+
+-- where the same numbers are live and all facts of an order hold, it is the order there, and the facts are those of the order there
+abbrev pub OrderIsDetermined : Type 0
+OrderIsDetermined = (v w : Scene) (dx dy : ℤ) (part : ℕ) (xs : List ℕ) (facts : List Placed) → IsReal w → HaveSameLive v w
+    → IsOrder v dx dy xs → ListsExactly facts (IsOrderFact v dx dy part) → AllHold w facts
+    → IsOrder w dx dy xs × ListsExactly facts (IsOrderFact w dx dy part)
+
+-- a fact has one first failure at most
+abbrev pub OneFirstFailure : Type 0
+OneFirstFailure = (scene : Moment → Scene) (now m n : Moment) (f : Fact) → IsCanonical now.at → FailsFirst scene now m f → FailsFirst scene now n f → m ≡ n
+
+-- there is one next block at most
+abbrev pub OneNextBlock : Type 0
+OneNextBlock = (t : Setting) (now : Moment) (b c : Block) → IsCanonical now.at → IsNextBlock t now b → IsNextBlock t now c → b ≡ c
+
+-- there is one journal between two moments at most
+abbrev pub OneJournal : Type 0
+OneJournal = (t : Setting) (now last : Moment) (bs cs : List Block) → IsCanonical now.at → IsCanonical last.at → IsJournal t now last bs → IsJournal t now last cs → bs ≡ cs

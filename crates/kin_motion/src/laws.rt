@@ -1,0 +1,85 @@
+//! What holds of the definitions. Each function's contract is one law; none of them does anything.
+
+ghost use Rattle.kin_motion.specs.Agreements.{CandidateAgrees, ChainAgrees, ClosestAgrees, ClosestFactsAgree, CycleAgrees, ExtremeAgrees, ExtremeFactsAgree, FailuresAgree, LiveFactsAgree, OrderAgrees, OrderFactsAgree};
+ghost use Rattle.kin_motion.specs.Theorems.{OneCandidate, OneClosest, OneExtreme, OneFirstFailure, OneHullCycle, OneJournal, OneNextBlock, OneOctant, OneOrder, OneUpperChain, OrderIsDetermined, RealScenesHaveLaws, TurnedIsMirrored, TurnedIsReal};
+
+/// In the scene of any motions at any canonical moment, signs of lines, turns, squared distances and
+/// slopes add up and change sides as those of numbers do.
+pub fn real_scenes_have_laws()
+    ensures { RealScenesHaveLaws }
+{}
+
+/// After y is turned round, the signs are those of the motions with every y and v negated.
+pub fn turned_is_mirrored()
+    ensures signs { TurnedIsMirrored }
+    ensures real { TurnedIsReal }
+{}
+
+/// There is one order along a direction at most.
+pub fn one_order()
+    ensures { OneOrder }
+{}
+
+/// There is one extreme point along a direction at most.
+pub fn one_extreme()
+    ensures { OneExtreme }
+{}
+
+/// A set of points has one upper chain at most.
+pub fn one_upper_chain()
+    ensures { OneUpperChain }
+{}
+
+/// There is one hull cycle at most.
+pub fn one_hull_cycle()
+    ensures { OneHullCycle }
+{}
+
+/// There is one closest pair at most.
+pub fn one_closest()
+    ensures { OneClosest }
+{}
+
+/// An apex has one candidate in an octant at most.
+pub fn one_candidate()
+    ensures { OneCandidate }
+{}
+
+/// Each other point is in exactly one octant of an apex, also one at the apex's place.
+pub fn one_octant()
+    ensures { OneOctant }
+{}
+
+/// The facts of an order determine it, and themselves.
+pub fn order_is_determined()
+    ensures { OrderIsDetermined }
+{}
+
+/// Seen from one moment, a fact has one first failure at most, there is one next block at most, and
+/// one journal up to a later moment.
+pub fn one_journal()
+    ensures failure { OneFirstFailure }
+    ensures block { OneNextBlock }
+    ensures journal { OneJournal }
+{}
+
+/// The functions that compute the answers give what the definitions ask for. So each answer
+/// exists, and an example may be computed.
+pub fn computed_answers_agree()
+    ensures order { OrderAgrees }
+    ensures extreme { ExtremeAgrees }
+    ensures chain { ChainAgrees }
+    ensures cycle { CycleAgrees }
+    ensures closest { ClosestAgrees }
+    ensures candidate { CandidateAgrees }
+{}
+
+/// The functions that compute facts and failures list exactly those of the definitions. Live facts
+/// and failures are computed so where no hull is kept.
+pub fn computed_facts_agree()
+    ensures order { OrderFactsAgree }
+    ensures extreme { ExtremeFactsAgree }
+    ensures closest { ClosestFactsAgree }
+    ensures live { LiveFactsAgree }
+    ensures failures { FailuresAgree }
+{}

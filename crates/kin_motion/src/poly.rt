@@ -1,0 +1,189 @@
+//! The polynomial that a form names.
+
+ghost use Rattle.std.specs.Prelude.{◌≡◌, ◌≤◌, ◌^◌, ◌+ℤ◌, ◌-ℤ◌, ◌*ℤ◌, unsigned_abs, Some};
+ghost use Rattle.kin_motion.specs.Course.{live_of, motion_of, IsSlow};
+ghost use Rattle.kin_motion.specs.Forms.{IsAskable, polynomial_of, product, plus, minus, difference, along, square_of_step, x_step, y_step};
+ghost use Rattle.kin_motion.specs.Numbers.{IsIn};
+ghost use Rattle.kin_motion.specs.Sizes.{IsShort, IsWithin};
+
+use crate::form::Form;
+use crate::motion::{Motion, Motions};
+use kin_num::poly::Poly;
+use std::marker::Model;
+
+/// `slope*t + start`.
+#[derive(Clone, Copy)]
+struct Linear {
+    slope: i64,
+    start: i64,
+}
+
+impl Model for Linear {
+    ghost use Rattle.kin_motion.specs.Forms.{Linear};
+
+    ghost Value = { Linear };
+
+    ghost view = { λ p. record { slope = p.slope; start = p.start } };
+
+    ghost inverse = { λ p. record { slope = p.slope; start = p.start } };
+}
+
+/// The step from one point to another.
+#[derive(Clone, Copy)]
+struct Step {
+    x: Linear,
+    y: Linear,
+}
+
+/// The motion of a live number.
+fn motion_at(motions: &Motions, no: u32) -> Motion
+    requires live { IsIn no (live_of motions.now) }
+    ensures motion { motion_of motions.now no ≡ Some result }
+    ensures slow { IsSlow result }
+{
+    match motions.get(no) {
+        Some(motion) => {
+            let _x = motion.x();
+            motion
+        }
+        None => unreachable!(),
+    }
+}
+
+/// How far it is from one coordinate to another.
+fn way(from: i32, to: i32) -> i64
+    requires from_small { unsigned_abs from ≤ 4096 }
+    requires to_small { unsigned_abs to ≤ 4096 }
+    ensures value { result ≡ to -ℤ from }
+    ensures size { unsigned_abs result ≤ 2 ^ 13 }
+{
+    i64::from(to) - i64::from(from)
+}
+
+/// The step from point `i` to point `j`.
+fn step_between(motions: &Motions, i: u32, j: u32) -> Step
+    requires i_live { IsIn i (live_of motions.now) }
+    requires j_live { IsIn j (live_of motions.now) }
+    ensures x { result.x ≡ x_step motions.now i j }
+    ensures y { result.y ≡ y_step motions.now i j }
+    ensures x_short { IsShort result.x }
+    ensures y_short { IsShort result.y }
+{
+    let (from, to) = (motion_at(motions, i), motion_at(motions, j));
+    Step {
+        x: Linear {
+            slope: way(from.u(), to.u()),
+            start: way(from.x(), to.x()),
+        },
+        y: Linear {
+            slope: way(from.v(), to.v()),
+            start: way(from.y(), to.y()),
+        },
+    }
+}
+
+/// A product of two coordinates of steps.
+fn times(x: i64, y: i64) -> i64
+    requires x_small { unsigned_abs x ≤ 2 ^ 13 }
+    requires y_small { unsigned_abs y ≤ 2 ^ 13 }
+    ensures value { result ≡ x *ℤ y }
+    ensures size { unsigned_abs result ≤ 2 ^ 26 }
+{
+    x * y
+}
+
+/// A sum of two products of coordinates.
+fn combined(a: i64, x: i64, b: i64, y: i64) -> i64
+    requires a_small { unsigned_abs a ≤ 2 ^ 13 }
+    requires x_small { unsigned_abs x ≤ 2 ^ 13 }
+    requires b_small { unsigned_abs b ≤ 2 ^ 13 }
+    requires y_small { unsigned_abs y ≤ 2 ^ 13 }
+    ensures value { result ≡ a *ℤ x +ℤ b *ℤ y }
+    ensures size { unsigned_abs result ≤ 2 ^ 27 }
+{
+    times(a, x) + times(b, y)
+}
+
+fn product(p: Linear, q: Linear) -> Poly
+    requires p_short { IsShort p }
+    requires q_short { IsShort q }
+    ensures value { result ≡ product p q }
+    ensures size { IsWithin (2 ^ 26) result }
+{
+    Poly::new(
+        times(p.slope, q.slope),
+        combined(p.slope, q.start, p.start, q.slope),
+        times(p.start, q.start),
+    )
+}
+
+/// A sum of two products.
+fn sum(p: Poly, q: Poly) -> Poly
+    requires p_small { IsWithin (2 ^ 26) p }
+    requires q_small { IsWithin (2 ^ 26) q }
+    ensures value { result ≡ plus p q }
+    ensures size { IsWithin (2 ^ 27) result }
+{
+    Poly::new(p.a() + q.a(), p.b() + q.b(), p.c() + q.c())
+}
+
+/// A difference of two products, or of two sums of products.
+fn difference(p: Poly, q: Poly) -> Poly
+    requires p_small { IsWithin (2 ^ 27) p }
+    requires q_small { IsWithin (2 ^ 27) q }
+    ensures { result ≡ difference p q }
+{
+    Poly::new(p.a() - q.a(), p.b() - q.b(), p.c() - q.c())
+}
+
+/// The squared length of a step.
+fn square(step: Step) -> Poly
+    requires x_short { IsShort step.x }
+    requires y_short { IsShort step.y }
+    ensures value { result ≡ plus (product step.x step.x) (product step.y step.y) }
+    ensures size { IsWithin (2 ^ 27) result }
+{
+    sum(product(step.x, step.x), product(step.y, step.y))
+}
+
+/// `dx*x + dy*y + off` along a step.
+fn along(dx: i64, dy: i64, off: i64, step: Step) -> Poly
+    requires dx_small { unsigned_abs dx ≤ 16 }
+    requires dy_small { unsigned_abs dy ≤ 16 }
+    requires off_small { unsigned_abs off ≤ 2 ^ 16 }
+    requires x_short { IsShort step.x }
+    requires y_short { IsShort step.y }
+    ensures { result ≡ along dx dy off step.x step.y }
+{
+    let b = combined(dx, step.x.slope, dy, step.y.slope);
+    let c = combined(dx, step.x.start, dy, step.y.start);
+    Poly::new(0, b, c + off)
+}
+
+/// The polynomial that a form names. Each named number is live.
+#[tactic(auto, unfolding(crate::specs::Forms::polynomial_of))]
+pub fn poly_of(form: &Form, motions: &Motions) -> Poly
+    requires askable { IsAskable (live_of motions.now) form.now }
+    ensures { result ≡ polynomial_of motions.now form.now }
+{
+    match *form {
+        Form::Line { dx, dy, off, i, j } => along(
+            i64::from(dx),
+            i64::from(dy),
+            i64::from(off),
+            step_between(motions, i, j),
+        ),
+        Form::Turn { i, j, k } => {
+            let (there, on) = (step_between(motions, i, j), step_between(motions, i, k));
+            difference(product(there.x, on.y), product(there.y, on.x))
+        }
+        Form::Slope { i, j, k, l } => {
+            let (first, second) = (step_between(motions, i, j), step_between(motions, k, l));
+            difference(product(first.y, second.x), product(second.y, first.x))
+        }
+        Form::Dist { i, j, k, l } => {
+            let (first, second) = (step_between(motions, i, j), step_between(motions, k, l));
+            difference(square(second), square(first))
+        }
+    }
+}

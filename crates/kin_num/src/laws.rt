@@ -1,0 +1,40 @@
+//! The laws of signs and of the order.
+//!
+//! Each function does nothing: its contract is the law. A number of any size may stand for a variable, and the laws of
+//! the order hold for canonical forms of any size, but for `instants_lie_apart`.
+
+ghost use Rattle.std.specs.Prelude.{ℤ};
+ghost use Rattle.kin_num.specs.declared.instant.Moment.{Moment as Time};
+ghost use Rattle.kin_num.specs.Canonical.{IsCanonicalForm, IsWideShape};
+ghost use Rattle.kin_num.specs.Laws.{IsRadicand, PairSignsAreOrdered, SignsAddAndMultiply, SignsAreOrdered, InstantsAreOrdered, MomentsAreOrdered, InstantsLieApart};
+
+/// The signs of sums and products of pairs over one radicand are those of an ordered ring.
+pub fn pair_signs_are_ordered()
+    ensures { (d : ℤ) → IsRadicand d → PairSignsAreOrdered d }
+{}
+
+/// The signs at one moment go with negatives, sums and products.
+pub fn signs_add_and_multiply()
+    ensures { (m : Time) → IsCanonicalForm m.at → SignsAddAndMultiply m }
+{
+}
+
+/// The signs at one moment are those of values in one ordered ring, which has products of any degree.
+pub fn signs_are_ordered()
+    ensures { (m : Time) → IsCanonicalForm m.at → IsWideShape m.at → SignsAreOrdered m }
+{}
+
+/// The order of instants is total, and only equal canonical forms are level.
+pub fn instants_are_ordered()
+    ensures { InstantsAreOrdered }
+{}
+
+/// The order of moments is total.
+pub fn moments_are_ordered()
+    ensures { MomentsAreOrdered }
+{}
+
+/// Of two different instants one is less by a fraction of the denominator `2^200`.
+pub fn instants_lie_apart()
+    ensures { InstantsLieApart }
+{}

@@ -1,0 +1,13 @@
+//! The printed text, appended to a buffer of the caller's.
+//!
+//! Each call appends exactly the bytes that the definitions of the printed text say, or, where
+//! memory runs out, a front of them.
+#![tactic(auto)]
+
+pub use list::put_list;
+pub use moment::put_moment;
+pub use piece::{put_bytes, put_number, put_pieces};
+
+pub mod list;
+pub mod moment;
+pub mod piece;

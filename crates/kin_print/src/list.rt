@@ -1,0 +1,68 @@
+//! Lists of numbers.
+
+ghost use Rattle.std.specs.Prelude.{◌≡◌, ◌++◌, OnOk, OnErr, codes};
+ghost use Rattle.std.specs.List.{flat_map};
+ghost use Rattle.kin_script.specs.Printed.{list_line, PutsFront};
+ghost use Rattle.kin_print.specs.Pieces.{spaced};
+
+use crate::piece::{put_bytes, put_number};
+use kin_num::NoMemory;
+
+/// Appends the numbers, separated by one space, or the word `none`, as a line.
+pub fn put_list(out: &mut Vec<u8>, list: &[u32]) -> Result<(), NoMemory>
+    ensures ok { OnOk result (out.new.items ≡ out.old.items ++ list_line list.now) }
+    ensures err { OnErr result (PutsFront out.old.items out.new.items (list_line list.now)) }
+{
+    match list {
+        [] => put_bytes(out, b"none\n"),
+        [first, rest @ ..] => {
+            put_number(out, *first)?;
+            put_rest(out, rest)
+        }
+    }
+}
+
+/// Appends the numbers behind the first, and the line end.
+fn put_rest(out: &mut Vec<u8>, list: &[u32]) -> Result<(), NoMemory>
+    ensures ok { OnOk result (out.new.items ≡ out.old.items ++ (flat_map spaced list.now ++ codes "\n")) }
+    ensures err { OnErr result (PutsFront out.old.items out.new.items (flat_map spaced list.now ++ codes "\n")) }
+{
+    for n in list {
+        put_spaced(out, *n)?;
+    }
+    put_bytes(out, b"\n")
+}
+
+/// Appends a space and a number.
+fn put_spaced(out: &mut Vec<u8>, n: u32) -> Result<(), NoMemory>
+    ensures ok { OnOk result (out.new.items ≡ out.old.items ++ spaced n) }
+    ensures err { OnErr result (PutsFront out.old.items out.new.items (spaced n)) }
+{
+    put_bytes(out, b" ")?;
+    put_number(out, n)
+}
+
+#[cfg(test)]
+mod tests {
+    use super::*;
+    use std::alloc::Global;
+    use std::test::Fail;
+
+    fn line(alloc: Global, list: &[u32]) -> Result<Vec<u8>, NoMemory> {
+        let mut out = Vec::new(alloc);
+        put_list(&mut out, list)?;
+        Ok(out)
+    }
+
+    #[test]
+    fn numbers_stand_behind_one_space_each(rt: HostRuntime) -> Result<(), Fail> {
+        let alloc = rt.alloc();
+        assert_eq!(rt; line(alloc, &[])?.as_slice(), b"none\n".as_slice());
+        assert_eq!(rt; line(alloc, &[5])?.as_slice(), b"5\n".as_slice());
+        assert_eq!(rt;
+            line(alloc, &[1, 0, 4095])?.as_slice(),
+            b"1 0 4095\n".as_slice()
+        );
+        Ok(())
+    }
+}

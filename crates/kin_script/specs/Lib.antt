@@ -1,0 +1,9 @@
+pub mod Lines
+pub mod Left
+pub mod Numbers
+pub mod Commands
+pub mod Grammar
+pub mod Ranges
+pub mod Gives
+pub mod Reading
+pub mod Printed

@@ -1,0 +1,76 @@
+-- The ranges of what a script holds.
+use Rattle.std.specs.Prelude.{ℕ, ◌+◌, ◌<◌, ◌≤◌, ◌^◌, ℤ, pos, ◌≤ℤ◌, unsigned_abs, length, All, AllPairs}
+use Rattle.kin_motion.specs.declared.keep.Keep.{Keep}
+use Rattle.kin_motion.specs.declared.keep.Keep.TheVariants as keep
+use Rattle.kin_motion.specs.declared.keep.Rect.{Rect}
+use Rattle.kin_motion.specs.Course.{IsSlow}
+use Rattle.kin_script.specs.declared.command.Command.{Command}
+use Rattle.kin_script.specs.declared.command.Command.TheVariants.{Insert, AtRatio, AtRoot, Order, Extreme, Hull, Closest, Inside}
+use Rattle.kin_script.specs.declared.line.Setting.{Setting}
+use Rattle.kin_script.specs.declared.line.Setting.TheVariants as setting
+use Rattle.kin_script.specs.declared.script.Script.{Script}
+
+-- both parts are in -16..16, and one is not 0
+pub record IsDirection (dx dy : ℤ) : Type 0 where
+  pub dx_small : unsigned_abs dx ≤ 16
+  pub dy_small : unsigned_abs dy ≤ 16
+  pub not_still : 0 < unsigned_abs dx + unsigned_abs dy
+
+-- a kept structure that a script can name
+abbrev pub IsKeepInRange : Keep → Type 0
+IsKeepInRange (keep.Order dx dy) = IsDirection dx dy
+IsKeepInRange (keep.Extreme dx dy) = IsDirection dx dy
+IsKeepInRange keep.Hull = Unit {0}
+IsKeepInRange keep.Closest = Unit {0}
+IsKeepInRange keep.Range = Unit {0}
+
+abbrev pub IsSettingInRange : Setting → Type 0
+IsSettingInRange (setting.Keep k) = IsKeepInRange k
+IsSettingInRange (setting.Journal on) = Unit {0}
+
+-- the numbers of a fraction as a script writes it, in lowest terms or not
+pub record IsRatioInRange (n d : ℤ) : Type 0 where
+  pub n_low : pos 0 ≤ℤ n
+  pub n_small : unsigned_abs n < 2 ^ 31
+  pub d_low : pos 1 ≤ℤ d
+  pub d_small : unsigned_abs d < 2 ^ 31
+
+-- the quadratic of a root as a script writes it, with a common divisor or not
+pub record IsRootInRange (a b c : ℤ) : Type 0 where
+  pub a_small : unsigned_abs a ≤ 2 ^ 28
+  pub a_not_zero : 0 < unsigned_abs a
+  pub b_small : unsigned_abs b ≤ 2 ^ 29
+  pub c_small : unsigned_abs c ≤ 2 ^ 28
+
+-- the border of a rectangle is in -2^24..2^24
+pub record IsRectInRange (r : Rect) : Type 0 where
+  pub x1_small : unsigned_abs r.x1 ≤ 2 ^ 24
+  pub x2_small : unsigned_abs r.x2 ≤ 2 ^ 24
+  pub y1_small : unsigned_abs r.y1 ≤ 2 ^ 24
+  pub y2_small : unsigned_abs r.y2 ≤ 2 ^ 24
+
+-- the numbers of a command, where the points have numbers below 2^size
+abbrev pub IsCommandInRange : ℕ → Command → Type 0
+IsCommandInRange size (Insert number motion) = (number < 2 ^ size) × IsSlow motion
+IsCommandInRange size (AtRatio n d) = IsRatioInRange n d
+IsCommandInRange size (AtRoot a b c upper) = IsRootInRange a b c
+IsCommandInRange size (Order s) = s ≤ 31
+IsCommandInRange size (Extreme s) = s ≤ 31
+IsCommandInRange size Hull = Unit {0}
+IsCommandInRange size Closest = Unit {0}
+IsCommandInRange size (Inside r) = IsRectInRange r
+
+-- every number of the script is in its range
+pub record IsWithin (s : Script) : Type 0 where
+  pub size_low : 1 ≤ s.size
+  pub size_high : s.size ≤ 12
+  pub few_keeps : length s.keeps ≤ 16
+  pub keeps : All IsKeepInRange s.keeps
+  pub commands : All (λ l. IsCommandInRange s.size l.1) s.lines
+
+-- and the line numbers rise: the first line with words is the size line, and a script has at most 2^20 lines
+pub record IsInRange (s : Script) : Type 0 where
+  pub within : IsWithin s
+  pub low : All (λ l. 2 ≤ l.0) s.lines
+  pub high : All (λ l. l.0 ≤ 2 ^ 20) s.lines
+  pub rising : AllPairs (λ l k. l.0 < k.0) s.lines

@@ -1,0 +1,25 @@
+//! The commands of a script.
+
+use kin_motion::{Motion, Rect};
+
+/// What one line behind the header asks for.
+#[derive(Clone, Copy, Debug, PartialEq, Eq)]
+pub enum Command {
+    /// A point of this number starts, with this motion.
+    Insert { no: u32, m: Motion },
+    /// Time goes to `n/d`, as it is written, in lowest terms or not.
+    AtRatio { n: i64, d: i64 },
+    /// Time goes to the greater (`upper`) or the lesser root of `a*t^2 + b*t + c`, as it is written.
+    /// With one root both name it.
+    AtRoot { a: i64, b: i64, c: i64, upper: bool },
+    /// The points along the direction of the kept order `s`.
+    Order { s: u32 },
+    /// The extreme point along the direction of the kept structure `s`.
+    Extreme { s: u32 },
+    /// The hull cycle.
+    Hull,
+    /// The closest pair.
+    Closest,
+    /// The points in a rectangle.
+    Inside { rect: Rect },
+}

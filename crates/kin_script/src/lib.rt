@@ -1,0 +1,20 @@
+//! The motion script: what a script is, and its reader.
+//!
+//! The grammar stands in `specs/`, as a function of whole lines: from bytes to the script that they
+//! are, or to the number of the first line outside. [`read::read`] goes over the bytes once and
+//! answers what the grammar says; every number of a script it gives is in its range.
+#![tactic(auto)]
+
+pub use command::Command;
+pub use read::ReadError;
+pub use refusal::Refusal;
+pub use script::{Commands, Keeps, Script};
+
+pub mod command;
+mod line;
+mod lines;
+mod number;
+pub mod read;
+pub mod refusal;
+pub mod script;
+mod words;

@@ -1,0 +1,207 @@
+//! What a line says: one function for each kind of line.
+
+ghost use Rattle.std.specs.Prelude.{◌≡◌, ℕ, ◌≤◌, IfSome, option_map};
+ghost use Rattle.kin_script.specs.declared.command.Command.TheVariants.{AtRoot};
+ghost use Rattle.kin_script.specs.Commands.{insert_of, quadratic_at, root_of, at_of, order_of, extreme_of, box_of, command_of, size_of, direction_of, keep_of, journal_of, setting_of};
+ghost use Rattle.kin_script.specs.Ranges.{IsCommandInRange, IsRootInRange, IsKeepInRange, IsDirection, IsSettingInRange};
+
+use crate::command::Command;
+use crate::number::ratio;
+use crate::words::Words;
+use kin_motion::{Keep, Rect};
+
+/// A line of the header, behind the size line.
+pub enum Setting {
+    Keep(Keep),
+    Journal(bool),
+}
+
+#[tactic(auto, unfolding(crate::specs::Commands::insert_of))]
+fn insert(size: u32, words: &mut Words<'_>) -> Option<Command>
+    requires low { 1 ≤ size }
+    requires high { size ≤ 12 }
+    ensures value { result ≡ insert_of size words.old }
+    ensures range { IfSome result (IsCommandInRange size) }
+{
+    let no = words.natural(0, (1 << size) - 1)?;
+    let m = words.motion()?;
+    words.last(Command::Insert { no, m })
+}
+
+/// Three coefficients, of which the first is not 0.
+#[tactic(auto, unfolding(crate::specs::Commands::quadratic_at))]
+fn quadratic(words: &mut Words<'_>) -> Option<(i32, i32, i32)>
+    ensures value { option_map (λ q. (q, words.new)) result ≡ quadratic_at words.old }
+    ensures range { IfSome result (λ q. IsRootInRange q.0 q.1 q.2) }
+{
+    let a = words.integer(1 << 28)?;
+    let b = words.integer(1 << 29)?;
+    let c = words.integer(1 << 28)?;
+    if a == 0 {
+        return None;
+    }
+    Some((a, b, c))
+}
+
+#[tactic(auto, unfolding(crate::specs::Commands::root_of))]
+fn root(words: &mut Words<'_>) -> Option<Command>
+    ensures value { result ≡ root_of words.old }
+    ensures range { (size : ℕ) → IfSome result (IsCommandInRange size) }
+{
+    let (a, b, c) = quadratic(words)?;
+    let upper = words.side()?;
+    words.last(at_root(a, b, c, upper))
+}
+
+fn at_root(a: i32, b: i32, c: i32, upper: bool) -> Command
+    ensures { result ≡ AtRoot a b c upper }
+{
+    Command::AtRoot {
+        a: i64::from(a),
+        b: i64::from(b),
+        c: i64::from(c),
+        upper,
+    }
+}
+
+#[tactic(auto, unfolding(crate::specs::Commands::at_of))]
+fn at(words: &mut Words<'_>) -> Option<Command>
+    ensures value { result ≡ at_of words.old }
+    ensures range { (size : ℕ) → IfSome result (IsCommandInRange size) }
+{
+    let word = words.next()?;
+    if word == b"root".as_slice() {
+        return root(words);
+    }
+    let (n, d) = ratio(word)?;
+    words.last(Command::AtRatio {
+        n: i64::from(n),
+        d: i64::from(d),
+    })
+}
+
+#[tactic(auto, unfolding(crate::specs::Commands::order_of))]
+fn order(words: &mut Words<'_>) -> Option<Command>
+    ensures value { result ≡ order_of words.old }
+    ensures range { (size : ℕ) → IfSome result (IsCommandInRange size) }
+{
+    let s = words.natural(0, 31)?;
+    words.last(Command::Order { s })
+}
+
+#[tactic(auto, unfolding(crate::specs::Commands::extreme_of))]
+fn extreme(words: &mut Words<'_>) -> Option<Command>
+    ensures value { result ≡ extreme_of words.old }
+    ensures range { (size : ℕ) → IfSome result (IsCommandInRange size) }
+{
+    let s = words.natural(0, 31)?;
+    words.last(Command::Extreme { s })
+}
+
+#[tactic(auto, unfolding(crate::specs::Commands::box_of))]
+fn inside(words: &mut Words<'_>) -> Option<Command>
+    ensures value { result ≡ box_of words.old }
+    ensures range { (size : ℕ) → IfSome result (IsCommandInRange size) }
+{
+    let x1 = words.integer(1 << 24)?;
+    let x2 = words.integer(1 << 24)?;
+    let y1 = words.integer(1 << 24)?;
+    let y2 = words.integer(1 << 24)?;
+    let rect = Rect { x1, x2, y1, y2 };
+    words.last(Command::Inside { rect })
+}
+
+/// The command of a line.
+#[tactic(auto, unfolding(crate::specs::Commands::command_of))]
+pub fn command_of(size: u32, mut words: Words<'_>) -> Option<Command>
+    requires low { 1 ≤ size }
+    requires high { size ≤ 12 }
+    ensures value { result ≡ command_of size words.entry }
+    ensures range { IfSome result (IsCommandInRange size) }
+{
+    let name = words.next()?;
+    if name == b"insert".as_slice() {
+        insert(size, &mut words)
+    } else if name == b"at".as_slice() {
+        at(&mut words)
+    } else if name == b"order".as_slice() {
+        order(&mut words)
+    } else if name == b"extreme".as_slice() {
+        extreme(&mut words)
+    } else if name == b"box".as_slice() {
+        inside(&mut words)
+    } else if name == b"hull".as_slice() {
+        words.last(Command::Hull)
+    } else if name == b"closest".as_slice() {
+        words.last(Command::Closest)
+    } else {
+        None
+    }
+}
+
+/// The size of a size line.
+#[tactic(auto, unfolding(crate::specs::Commands::size_of))]
+pub fn size_of(mut words: Words<'_>) -> Option<u32>
+    ensures value { result ≡ size_of words.entry }
+    ensures range { IfSome result (λ k. (1 ≤ k) × (k ≤ 12)) }
+{
+    if words.next()? != b"size".as_slice() {
+        return None;
+    }
+    let size = words.natural(1, 12)?;
+    words.last(size)
+}
+
+/// A direction: two numbers, not both 0.
+#[tactic(auto, unfolding(crate::specs::Commands::direction_of))]
+fn direction(words: &mut Words<'_>) -> Option<(i32, i32)>
+    ensures value { result ≡ direction_of words.old }
+    ensures range { IfSome result (λ d. IsDirection d.0 d.1) }
+{
+    let dx = words.integer(16)?;
+    let dy = words.integer(16)?;
+    if dx == 0 && dy == 0 {
+        return None;
+    }
+    words.last((dx, dy))
+}
+
+/// What a keep line keeps.
+#[tactic(auto, unfolding(crate::specs::Commands::keep_of))]
+fn keep(words: &mut Words<'_>) -> Option<Keep>
+    ensures value { result ≡ keep_of words.old }
+    ensures range { IfSome result IsKeepInRange }
+{
+    if words.next()? != b"order".as_slice() {
+        return None;
+    }
+    let (dx, dy) = direction(words)?;
+    Some(Keep::Order { dx, dy })
+}
+
+/// Whether a journal line puts the journal on.
+#[tactic(auto, unfolding(crate::specs::Commands::journal_of))]
+fn journal(words: &mut Words<'_>) -> Option<bool>
+    ensures { result ≡ journal_of words.old }
+{
+    if words.next()? != b"off".as_slice() {
+        return None;
+    }
+    words.last(false)
+}
+
+/// What a line of the header says, behind the size line.
+#[tactic(auto, unfolding(crate::specs::Commands::setting_of))]
+pub fn setting_of(mut words: Words<'_>) -> Option<Setting>
+    ensures value { result ≡ setting_of words.entry }
+    ensures range { IfSome result IsSettingInRange }
+{
+    let name = words.next()?;
+    if name == b"keep".as_slice() {
+        Some(Setting::Keep(keep(&mut words)?))
+    } else if name == b"journal".as_slice() {
+        Some(Setting::Journal(journal(&mut words)?))
+    } else {
+        None
+    }
+}

@@ -1,0 +1,328 @@
+//! The reader.
+
+ghost use Rattle.std.specs.Prelude.{◌≡◌, ◌≤◌, ◌<◌, ◌^◌, ◌==◌, [], ◌∷◌, List, length, IfOk, OnOk, Some, None, MatchResult};
+ghost use Rattle.kin_script.specs.declared.read.ReadError.TheVariants.{NoMemory};
+ghost use Rattle.kin_script.specs.Left.{Numbered, with_words, after};
+ghost use Rattle.kin_script.specs.Grammar.{script_of, script_of_lines, behind_size, with_setting};
+ghost use Rattle.kin_script.specs.Gives.{Gives, IfBadLine};
+ghost use Rattle.kin_script.specs.Ranges.{IsInRange, IsWithin, IsSettingInRange};
+ghost use Rattle.kin_script.specs.Reading.{reads, header, finished, Continues, IsDraftInRange};
+
+use crate::line::{Setting, command_of, setting_of, size_of};
+use crate::lines::{Line, Lines};
+use crate::script::{Commands, Keeps, Script};
+use std::alloc::{AllocError, Global};
+
+/// Why there is no script.
+#[derive(Clone, Copy, Debug, PartialEq, Eq)]
+pub enum ReadError {
+    /// The first line outside the grammar, counted from 1.
+    BadLine(u32),
+    NoMemory,
+}
+
+impl From<AllocError> for ReadError {
+    ghost from_gives = { λ _ e. e ≡ NoMemory };
+
+    fn from(_error: AllocError) -> ReadError {
+        ReadError::NoMemory
+    }
+}
+
+/// The most structures that a script keeps.
+const KEEPS: usize = 16;
+
+/// What is read so far.
+#[derive(Drop)]
+struct Draft {
+    size: u32,
+    keeps: Keeps,
+    /// What the journal line says, if there was one.
+    journal: Option<bool>,
+    commands: Commands,
+}
+
+impl Draft {
+    fn new(alloc: Global, size: u32) -> Draft
+        requires low { 1 ≤ size }
+        requires high { size ≤ 12 }
+        ensures header { header result ≡ record { size = size; keeps = []; journal = None } }
+        ensures commands { result.commands ≡ [] }
+        ensures range { IsDraftInRange result }
+    {
+        Draft {
+            size,
+            keeps: Keeps::new(alloc),
+            journal: None,
+            commands: Commands::new(alloc),
+        }
+    }
+
+    /// Whether no command was read yet.
+    fn is_in_header(&self) -> bool
+        ensures { result ≡ (length self.now.commands == 0) }
+    {
+        self.commands.is_empty()
+    }
+
+    /// Takes a line of the header.
+    fn set(&mut self, number: u32, setting: Setting) -> Result<(), ReadError>
+        requires setting { IsSettingInRange setting }
+        requires range { IsDraftInRange self.old }
+        ensures ok { OnOk result (with_setting (header self.old) setting ≡ Some (header self.new)) }
+        ensures bad { IfBadLine result (λ n. (with_setting (header self.old) setting ≡ None) × (n ≡ number)) }
+        ensures commands { self.new.commands ≡ self.old.commands }
+        ensures range { IsDraftInRange self.new }
+    {
+        match setting {
+            Setting::Keep(keep) => {
+                if self.keeps.len() == KEEPS {
+                    return Err(ReadError::BadLine(number));
+                }
+                self.keeps.push(keep)?;
+            }
+            Setting::Journal(on) => {
+                if self.journal.is_some() {
+                    return Err(ReadError::BadLine(number));
+                }
+                self.journal = Some(on);
+            }
+        }
+        Ok(())
+    }
+
+    /// Takes a line behind the size line.
+    fn take(&mut self, line: Line<'_>) -> Result<(), ReadError>
+        requires range { IsDraftInRange self.old }
+        ensures line { (ls : List Numbered) → Continues result (reads self.old ((line.entry.number, line.entry.words) ∷ ls)) (reads self.new ls) }
+        ensures range { IsDraftInRange self.new }
+    {
+        if self.is_in_header() {
+            if let Some(setting) = setting_of(line.words.again()) {
+                return self.set(line.number, setting);
+            }
+        }
+        match command_of(self.size, line.words) {
+            Some(command) => {
+                self.commands.push(line.number, command)?;
+                Ok(())
+            }
+            None => Err(ReadError::BadLine(line.number)),
+        }
+    }
+
+    fn finish(self) -> Script
+        requires { IsDraftInRange self }
+        ensures value { result ≡ finished self [] }
+        ensures range { IsWithin result }
+    {
+        Script {
+            size: self.size,
+            keeps: self.keeps,
+            journal: self.journal.unwrap_or(false),
+            lines: self.commands,
+        }
+    }
+}
+
+/// The script of the lines behind the size line.
+fn read_behind_size(alloc: Global, size: u32, lines: &mut Lines<'_>) -> Result<Script, ReadError>
+    requires low { 1 ≤ size }
+    requires high { size ≤ 12 }
+    ensures value { Gives result (behind_size (record { size = size; keeps = []; journal = None }) (with_words lines.old)) }
+    ensures range { IfOk result IsWithin }
+{
+    let mut draft = Draft::new(alloc, size);
+    while let Some(line) = lines.next() {
+        draft.take(line)?;
+    }
+    Ok(draft.finish())
+}
+
+/// The script of all lines.
+#[tactic(auto, unfolding(crate::specs::Grammar::script_of_lines))]
+fn read_lines(alloc: Global, lines: &mut Lines<'_>) -> Result<Script, ReadError>
+    ensures value { Gives result (script_of_lines (after lines.old) (with_words lines.old)) }
+    ensures range { IfOk result IsWithin }
+{
+    let Some(line) = lines.next() else {
+        return Err(ReadError::BadLine(lines.number()));
+    };
+    match size_of(line.words) {
+        Some(size) => read_behind_size(alloc, size, lines),
+        None => Err(ReadError::BadLine(line.number)),
+    }
+}
+
+/// The script that the bytes are, or the first line outside the grammar.
+#[tactic(auto, unfolding(crate::specs::Grammar::script_of))]
+pub fn read(alloc: Global, bytes: &[u8]) -> Result<Script, ReadError>
+    requires { length bytes.now ≤ 2 ^ 20 }
+    ensures value { Gives result (script_of bytes.now) }
+    ensures range { IfOk result IsInRange }
+{
+    read_lines(alloc, &mut Lines::of(bytes))
+}
+
+#[cfg(test)]
+mod tests {
+    use super::*;
+    use crate::command::Command;
+    use kin_motion::{Keep, Motion, Rect};
+    use kin_num::NoMemory;
+    use std::test::Fail;
+
+    /// The first line outside the grammar, or 0 where there is none.
+    fn first_outside(alloc: Global, bytes: &[u8]) -> Result<u32, NoMemory> {
+        if bytes.len() > 1 << 20 {
+            return Ok(0);
+        }
+        match read(alloc, bytes) {
+            Ok(_) => Ok(0),
+            Err(ReadError::BadLine(line)) => Ok(line),
+            Err(ReadError::NoMemory) => Err(NoMemory),
+        }
+    }
+
+    #[test]
+    fn spelling_is_free_within_a_line(rt: HostRuntime) -> Result<(), Fail> {
+        let bytes =
+            b"size 01\r\n\tkeep order 1 -0 # east\r\n\r\ninsert 0 4096 -4096 -0 007\r\norder 0";
+        let script = read(rt.alloc(), bytes)?;
+        assert_eq!(rt; script.size, 1);
+        assert_eq!(rt;
+            script.keeps.as_slice(),
+            [Keep::Order { dx: 1, dy: 0 }].as_slice()
+        );
+        assert!(rt; !script.journal);
+        let m = Motion::new(4096, -4096, 0, 7);
+        let lines = [
+            (4, Command::Insert { no: 0, m }),
+            (5, Command::Order { s: 0 }),
+        ];
+        assert_eq!(rt; script.lines.as_slice(), lines.as_slice());
+        Ok(())
+    }
+
+    #[test]
+    fn each_line_is_read(rt: HostRuntime) -> Result<(), Fail> {
+        let bytes =
+            b"size 12\nkeep order 0 -16\njournal off\nat 7\nat 14/6\nextreme 31\nhull\nclosest\nbox -16777216 16777216 5 -0\n";
+        let script = read(rt.alloc(), bytes)?;
+        assert_eq!(rt; script.size, 12);
+        assert_eq!(rt;
+            script.keeps.as_slice(),
+            [Keep::Order { dx: 0, dy: -16 }].as_slice()
+        );
+        let rect = Rect {
+            x1: -16777216,
+            x2: 16777216,
+            y1: 5,
+            y2: 0,
+        };
+        let lines = [
+            (4, Command::AtRatio { n: 7, d: 1 }),
+            (5, Command::AtRatio { n: 14, d: 6 }),
+            (6, Command::Extreme { s: 31 }),
+            (7, Command::Hull),
+            (8, Command::Closest),
+            (9, Command::Inside { rect }),
+        ];
+        assert_eq!(rt; script.lines.as_slice(), lines.as_slice());
+        Ok(())
+    }
+
+    #[test]
+    fn ranges_end_where_they_should(rt: HostRuntime) -> Result<(), Fail> {
+        let table: [(&[u8], u32); 72] = [
+            (b"", 1),
+            (b"\n", 2),
+            (b"# only words in a comment\n\n", 3),
+            (b"size 1", 0),
+            (b"size 1\n", 0),
+            (b"size 0", 1),
+            (b"size 12", 0),
+            (b"size 13", 1),
+            (b"size 000000000000000000000000000000000000000000000001", 0),
+            (b"size 18446744073709551617", 1),
+            (b"size +1", 1),
+            (b"size -1", 1),
+            (b"size 1 1", 1),
+            (b"size", 1),
+            (b"Size 1", 1),
+            (b"size 1\r", 0),
+            (b"size 1\r\r", 1),
+            (b"size\x0b1", 1),
+            (b"size 1#", 0),
+            (b"size 1 # \xff\x00 and \r in a comment\n", 0),
+            (b"size 1\nsize 1", 2),
+            (b"keep order 1 0\nsize 1", 1),
+            (b"size 1\nkeep order 16 -16", 0),
+            (b"size 1\nkeep order 17 0", 2),
+            (b"size 1\nkeep order 0 -17", 2),
+            (b"size 1\nkeep order 0 -0", 2),
+            (b"size 1\nkeep order 1", 2),
+            (b"size 1\nkeep order 1 0 0", 2),
+            (b"size 1\nkeep extreme 1 0", 2),
+            (b"size 1\nkeep hull", 2),
+            (b"size 1\njournal on", 2),
+            (b"size 1\njournal off\nkeep order 1 0", 0),
+            (b"size 1\njournal off\n\njournal off", 4),
+            (b"size 1\nhull\nkeep order 1 0", 3),
+            (b"size 1\nhull\njournal off", 3),
+            (b"size 1\ninsert 1 0 0 0 0", 0),
+            (b"size 1\ninsert 2 0 0 0 0", 2),
+            (b"size 12\ninsert 4095 0 0 0 0", 0),
+            (b"size 12\ninsert 4096 0 0 0 0", 2),
+            (b"size 1\ninsert -0 0 0 0 0", 0),
+            (b"size 1\ninsert -1 0 0 0 0", 2),
+            (b"size 1\ninsert 0 4096 -4096 4096 -4096", 0),
+            (b"size 1\ninsert 0 0 0 0 4097", 2),
+            (b"size 1\ninsert 0 0 0 -4097 0", 2),
+            (b"size 1\ninsert 0 0 0 0", 2),
+            (b"size 1\nat 2147483647/2147483647", 0),
+            (b"size 1\nat 2147483648", 2),
+            (b"size 1\nat 1/2147483648", 2),
+            (b"size 1\nat 1/0", 2),
+            (b"size 1\nat 1/-0", 2),
+            (b"size 1\nat -0/7", 0),
+            (b"size 1\nat -1/7", 2),
+            (b"size 1\nat 1/ 2", 2),
+            (b"size 1\nat /2", 2),
+            (b"size 1\nat 1/2/3", 2),
+            (b"size 1\nat root 268435456 -536870912 268435456 lo", 0),
+            (b"size 1\nat root -1 0 2 hi", 0),
+            (b"size 1\nat root 0 1 2 hi", 2),
+            (b"size 1\nat root -0 1 2 hi", 2),
+            (b"size 1\nat root 268435457 0 0 lo", 2),
+            (b"size 1\nat root 1 536870913 0 lo", 2),
+            (b"size 1\nat root 1 0 -268435457 lo", 2),
+            (b"size 1\nat root 1 0 0", 2),
+            (b"size 1\nat root 1 0 0 up", 2),
+            (b"size 1\nat root 1 0 0 hi lo", 2),
+            (b"size 1\nat root", 2),
+            (b"size 1\norder 32", 2),
+            (b"size 1\nextreme 31\norder 31", 0),
+            (b"size 1\nhull 0", 2),
+            (b"size 1\nbox -16777217 0 0 0", 2),
+            (b"size 1\nbox 0 0 0 16777217", 2),
+            (b"size 1\nnext", 2),
+        ];
+        for (bytes, line) in table {
+            assert_eq!(rt; first_outside(rt.alloc(), bytes)?, line, "at {line}");
+        }
+        Ok(())
+    }
+
+    #[test]
+    fn sixteen_orders_are_kept_and_no_more(rt: HostRuntime) -> Result<(), Fail> {
+        let mut bytes = Vec::from_slice(rt.alloc(), b"size 1\n")?;
+        for _ in 0..16 {
+            bytes.extend_from_slice(b"keep order 1 1\n")?;
+        }
+        assert_eq!(rt; first_outside(rt.alloc(), &bytes)?, 0);
+        bytes.extend_from_slice(b"keep order 1 1\n")?;
+        assert_eq!(rt; first_outside(rt.alloc(), &bytes)?, 18);
+        Ok(())
+    }
+}
