@@ -1,5 +1,5 @@
 -- Doubts that spread upwards.
-use Rattle.std.proofs.Common.{◌≡◌, ◌≢◌, ◌⊎◌, inl, inr, refl, sym, ap, ◌∙◌, subst, arith, List, ℕ, zero, suc, ◌+◌, ◌*◌, ◌-◌, ◌/◌, ◌^◌, ◌<◌, ◌≤◌, length, Bool, true, false, cond, nat_eq, set, slice_index_or}
+use Rattle.std.proofs.Common.{◌≡◌, ◌≢◌, ◌⊎◌, inl, inr, refl, sym, ap, ◌∙◌, arith, List, ℕ, zero, suc, ◌+◌, ◌*◌, ◌/◌, ◌^◌, ◌<◌, ◌≤◌, length, Bool, true, false, cond, nat_eq, set, slice_index_or}
 use Rattle.std.proofs.lemmas.Bool.Decides.{nat_tests}
 use Rattle.std.proofs.lemmas.List.{get_or-set_same, get_or-set_other, get_or_past, get_or_default, length-set}
 use Rattle.std.proofs.lemmas.List.Sums.{sum_by-set, get_or-le-sum_by}
@@ -162,9 +162,10 @@ module _ (old now : List Doubt) (doubt : Doubt) (node at : ℕ) (n : doubt ≢ C
       few_next height (suc k, a, b) = (k, halved_below at k a, let c = count_raised now at doubt here clear n in omega arith)
 
 pub spreading_ends : (old now : List Doubt) (doubt : Doubt) (node at : ℕ) → IsSpreading old now doubt node at → doubt_in now at ≢ Clear → IsClosed now × IsSpread old now doubt node
-spreading_ends old now doubt node at h m =
-    (record { top = h.top; below = λ v big e. stop v e (h.below v big e) },
-      record { room = h.room; reached = ended h.reached; each = h.each; few = λ height low. enough height (h.few height low) })
+spreading_ends old now doubt node at h m = (
+  record { top = h.top; below = λ v big e. stop v e (h.below v big e) },
+  record { room = h.room; reached = ended h.reached; each = h.each; few = λ height low. enough height (h.few height low) },
+)
   where
     stop : (v : ℕ) → doubt_in now (v / 2) ≡ Clear → (doubt_in now v ≡ Clear) ⊎ (v / 2 ≡ at) → doubt_in now v ≡ Clear
     stop v e (inl z) = z
@@ -236,15 +237,16 @@ module _ (old now mid : List Doubt) (failed : List Placed) (i : ℕ) (d : Placed
       at (inr n) = here_next (slice_index_or failed k x).part (h.failed_here k x (omega arith))
 
   pub doubted_on : IsClosed (set mid part Here) × IsDoubted old (set mid part Here) failed (i + 1)
-  doubted_on =
-      (closed_raised mid part closed fits spread.reached,
-        record {
-          room = length-set mid part Here ∙ spread.room ∙ h.room;
-          failed_here = failed_next;
-          here_kept = λ v e. here_next v (h.here_kept v e);
-          kept = λ v e. h.kept v (kept_next v e);
-          few = λ height low. enough height low;
-        })
+  doubted_on = (
+    closed_raised mid part closed fits spread.reached,
+    record {
+      room = length-set mid part Here ∙ spread.room ∙ h.room;
+      failed_here = failed_next;
+      here_kept = λ v e. here_next v (h.here_kept v e);
+      kept = λ v e. h.kept v (kept_next v e);
+      few = λ height low. enough height low;
+    },
+  )
     where
       enough : (height : ℕ) → length old ≤ 2 ^ height → doubt_count (set mid part Here) ≤ doubt_count old + height * (i + 1)
       enough height low =

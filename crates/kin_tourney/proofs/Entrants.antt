@@ -1,18 +1,18 @@
 -- Right nodes, and what follows for winners.
-use Rattle.std.proofs.Common.{◌≡◌, ◌≢◌, ◌⊎◌, inl, inr, refl, sym, ap, ◌∙◌, subst, arith, List, ◌++◌, map, ℕ, zero, suc, ◌+◌, ◌*◌, ◌-◌, ◌/◌, ◌^◌, ◌<◌, ◌≤◌, length, Bool, true, false, cond, nat_lt}
+use Rattle.std.proofs.Common.{◌≡◌, ◌≢◌, ◌⊎◌, inl, inr, refl, sym, ap, ◌∙◌, subst, arith, List, map, ℕ, ◌+◌, ◌*◌, ◌-◌, ◌^◌, ◌<◌, ◌≤◌, length, Bool, true, false, cond, nat_lt}
 use Rattle.std.specs.Prelude.{Option, Some, None, Contains, slice_index_or}
 use Rattle.std.proofs.lemmas.Bool.Decides.{nat_tests}
 use Rattle.std.proofs.lemmas.List.{get_or-map, get_or-append_right, get_or_append_left, length-map, get_or_past}
 use Rattle.kin_algebra.specs.declared.sign.Sign.{Sign}
-use Rattle.kin_algebra.specs.declared.sign.Sign.TheVariants.{Minus, Zero, Plus}
+use Rattle.kin_algebra.specs.declared.sign.Sign.TheVariants.{Zero}
 use Rattle.kin_motion.specs.declared.form.Form.{Form}
 use Rattle.kin_motion.specs.declared.fact.Fact.{Fact}
 use Rattle.kin_motion.specs.declared.fact.Placed.{Placed}
 use Rattle.kin_motion.specs.Scene.{Scene, placed_at}
-use Rattle.kin_motion.specs.Tournaments.{Key, beats, item_in, is_under}
+use Rattle.kin_motion.specs.Tournaments.{Key, beats, item_in}
 use Rattle.kin_tourney.specs.declared.entry.Entry.{Entry}
 use Rattle.kin_tourney.specs.Locals.{HasNoFact, IsMatch, IsPlayed}
-use Rattle.kin_tourney.specs.Standings.{Standings, IsTree, IsRight, best_in, fact_in, named_at, entry_at, entry_in, entry_with, item_of, match_of, match_at, winners_of, placed_from, placed_facts}
+use Rattle.kin_tourney.specs.Standings.{Standings, IsTree, IsRight, best_in, fact_in, named_at, entry_at, entry_in, entry_with, item_of, match_of, winners_of, placed_facts}
 use Rattle.kin_tourney.proofs.Entries.{entry_in_slot}
 use Rattle.kin_tourney.proofs.Placements.{fact_of_placed, placed_of_fact, placed_facts_once}
 use Rattle.kin_tourney.proofs.AfterWrite.{same_or_not}
@@ -173,5 +173,5 @@ module _ {Item : Type 0} (s : Scene) (key : Key Item) (t : Standings Item) (tree
       at : (v : ℕ) → 0 < v → v < length t.items → IsMatch s key (placed_facts t) v (seen v) (seen (2 * v)) (seen (2 * v + 1))
       at v some inside =
           match_seen v (item_of (winning key s.sign (entry_at t (2 * v)) (entry_at t (2 * v + 1)))) (item_of (entry_at t (2 * v))) (item_of (entry_at t (2 * v + 1))) (seen v) (seen (2 * v)) (seen (2 * v + 1))
-            (winner_seen t tree v ∙ ap item_of (entry_right key s.sign t tree v inside (right v some inside))) (winner_seen t tree (2 * v)) (winner_seen t tree (2 * v + 1))
-            (is_match v (entry_at t (2 * v)) (entry_at t (2 * v + 1)) (ap (λ (p : Option ℕ × Option Fact). p.1) (right v some inside)))
+          (winner_seen t tree v ∙ ap item_of (entry_right key s.sign t tree v inside (right v some inside))) (winner_seen t tree (2 * v)) (winner_seen t tree (2 * v + 1))
+          (is_match v (entry_at t (2 * v)) (entry_at t (2 * v + 1)) (ap (λ (p : Option ℕ × Option Fact). p.1) (right v some inside)))

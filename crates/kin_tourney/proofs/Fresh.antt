@@ -1,21 +1,19 @@
 -- A tournament without items.
-use Rattle.std.proofs.Common.{◌≡◌, ◌≢◌, ◌⊎◌, inl, inr, refl, sym, ap, ◌∙◌, subst, arith, List, [], ℕ, zero, suc, ◌+◌, ◌*◌, ◌/◌, ◌^◌, ◌<◌, ◌≤◌, length, Bool, true, false, nat_lt, set, replicate, get_or}
-use Rattle.std.specs.Prelude.{Option, Some, None, Contains, IsTrue, slice_index_or}
+use Rattle.std.proofs.Common.{◌≡◌, ◌≢◌, ◌⊎◌, inl, inr, refl, sym, ap, ◌∙◌, subst, arith, List, [], ℕ, zero, suc, ◌+◌, ◌*◌, ◌^◌, ◌<◌, ◌≤◌, length, Bool, true, false, nat_lt, set, replicate, get_or}
+use Rattle.std.specs.Prelude.{Option, Some, None, Contains}
 use Rattle.std.proofs.lemmas.Bool.Decides.{nat_tests}
 use Rattle.std.proofs.lemmas.List.{length-set, length-replicate, get_or-set_same, get_or-set_other, get_or-replicate, get_or_past}
 use Rattle.std.proofs.Math.Pow.{pow_pos}
-use Rattle.kin_algebra.specs.declared.sign.Sign.{Sign}
 use Rattle.kin_algebra.specs.declared.sign.Sign.TheVariants.{Zero}
 use Rattle.kin_motion.specs.declared.fact.Fact.{Fact}
 use Rattle.kin_motion.specs.declared.fact.Placed.{Placed}
 use Rattle.kin_motion.specs.Scene.{Scene}
-use Rattle.kin_motion.specs.Tournaments.{Key, item_in, is_under, IsBest, IsNodeFact}
-use Rattle.kin_tourney.specs.declared.doubt.Doubt.{Doubt}
+use Rattle.kin_motion.specs.Tournaments.{Key, item_in}
 use Rattle.kin_tourney.specs.declared.doubt.Doubt.TheVariants.{Clear, Below, Here}
-use Rattle.kin_tourney.specs.Tournament.{Tournament, IsAtRest, IsReady, IsSettled, mark_in, winner_at}
-use Rattle.kin_tourney.specs.Standings.{Standings, IsTree, IsClosed, IsRight, best_in, fact_in, doubt_in, doubt_count, named_at, entry_at, entry_in, entry_with, item_of, match_of, placed_from, seen_as}
+use Rattle.kin_tourney.specs.Tournament.{IsAtRest, IsSettled}
+use Rattle.kin_tourney.specs.Standings.{Standings, IsTree, IsClosed, IsRight, fact_in, doubt_in, named_at, entry_at, entry_in, entry_with, item_of, match_of, placed_from, seen_as}
 use Rattle.kin_tourney.specs.Sound.{IsSound}
-use Rattle.kin_tourney.proofs.AfterWrite.{same_or_not, read_set}
+use Rattle.kin_tourney.proofs.AfterWrite.{same_or_not}
 use Rattle.kin_tourney.proofs.Marks.{count_of_top}
 use Rattle.kin_motion.specs.Contents.{IsWinner}
 use Rattle.kin_tourney.proofs.Placements.{fact_of_placed, placed_facts_once}

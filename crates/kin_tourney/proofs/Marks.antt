@@ -1,15 +1,15 @@
 -- Marked slots and the nodes above them.
-use Rattle.std.proofs.Common.{◌≡◌, ◌≢◌, ◌⊎◌, inl, inr, refl, sym, ap, ◌∙◌, subst, arith, List, [], ◌∷◌, ℕ, zero, suc, ◌+◌, ◌*◌, ◌-◌, ◌/◌, ◌^◌, ◌<◌, ◌≤◌, length, Bool, true, false, ◌&&◌, ◌||◌, cond, nat_eq, nat_lt, set}
+use Rattle.std.proofs.Common.{◌≡◌, ◌≢◌, ◌⊎◌, inl, inr, refl, sym, ap, ◌∙◌, subst, arith, List, [], ◌∷◌, ℕ, zero, suc, ◌+◌, ◌/◌, ◌^◌, ◌<◌, ◌≤◌, length, Bool, true, false, ◌&&◌, ◌||◌, cond, nat_eq, nat_lt, set}
 use Rattle.std.proofs.lemmas.Bool.Decides.{nat_tests}
 use Rattle.std.proofs.lemmas.List.{get_or-set_same, get_or-set_other, get_or_past}
 use Rattle.std.proofs.lemmas.List.Sums.{sum_by-set, sum_by-le}
 use Rattle.std.proofs.lemmas.List.Elements.{All-from_get_or}
 use Rattle.kin_motion.specs.Tournaments.{comes_to, is_under}
 use Rattle.kin_tourney.specs.declared.doubt.Doubt.{Doubt}
-use Rattle.kin_tourney.specs.declared.doubt.Doubt.TheVariants.{Clear, Below, Here}
+use Rattle.kin_tourney.specs.declared.doubt.Doubt.TheVariants.{Clear, Here}
 use Rattle.kin_tourney.specs.Tournament.{mark_in, mark_count, is_above_mark, is_above_mark_from}
-use Rattle.kin_tourney.specs.Standings.{IsClosed, doubt_in, doubt_count, is_doubt}
-use Rattle.kin_tourney.proofs.AfterWrite.{same_or_not, read_set}
+use Rattle.kin_tourney.specs.Standings.{IsClosed, doubt_in, doubt_count}
+use Rattle.kin_tourney.proofs.AfterWrite.{same_or_not}
 use Rattle.kin_tourney.specs.Under.{either_true, comes_to-le}
 use Rattle.kin_tourney.proofs.Doubts.{weight, doubt_cases, here_is_doubt, count_lowered, count_top}
 

@@ -1,14 +1,13 @@
 -- A repair, node by node.
-use Rattle.std.proofs.Common.{◌≡◌, ◌≢◌, ◌⊎◌, inl, inr, refl, sym, ap, ◌∙◌, subst, arith, List, ℕ, ◌+◌, ◌*◌, ◌-◌, ◌/◌, ◌<◌, ◌≤◌, length, Bool, true, false, cond, nat_lt, set, get_or}
-use Rattle.std.specs.Prelude.{Option, Some, None}
-use Rattle.std.proofs.lemmas.List.{length-set, get_or-set_other, get_or-set_same}
+use Rattle.std.proofs.Common.{◌≡◌, ◌≢◌, ◌⊎◌, inl, inr, refl, sym, ap, ◌∙◌, subst, arith, List, ℕ, ◌+◌, ◌*◌, ◌-◌, ◌/◌, ◌<◌, length, true, false, cond, nat_lt, set}
+use Rattle.std.specs.Prelude.{Option, Some}
+use Rattle.std.proofs.lemmas.List.{get_or-set_other}
 use Rattle.kin_algebra.specs.declared.sign.Sign.{Sign}
 use Rattle.kin_motion.specs.declared.form.Form.{Form}
 use Rattle.kin_motion.specs.declared.fact.Fact.{Fact}
 use Rattle.kin_motion.specs.Deltas.{Change}
 use Rattle.kin_motion.specs.Kinetics.{HasChanged}
 use Rattle.kin_motion.specs.Tournaments.{Key}
-use Rattle.kin_tourney.specs.declared.doubt.Doubt.{Doubt}
 use Rattle.kin_tourney.specs.declared.doubt.Doubt.TheVariants.{Clear, Here}
 use Rattle.kin_tourney.specs.Tournament.{mark_in}
 use Rattle.kin_tourney.specs.Standings.{Standings, IsTree, IsRight, best_in, fact_in, doubt_in, doubt_count, entry_in, entry_at, match_of, match_at, placed_facts}
@@ -250,14 +249,14 @@ module _ {Item : Type 0} (key : Key Item) (sign : Form → Sign) where
   }
   passed start t mid before middle after node some inside in_doubt halves h tree (inr (n, same, told)) =
       subst (λ (x : Standings Item). IsPassed start x node before after (doubt_count t.doubts) (length t.items)) (sym same)
-        (subst (λ (d : Change). IsPassed start t node before d (doubt_count t.doubts) (length t.items)) (sym told) (record {
-          mending = mending_passed start t before middle node h;
-          own = h.doubtful.right node some inside n;
-          doubted = in_doubt;
-          halves_clear = halves;
-          same_count = refl;
-          same_room = refl;
-        }))
+      (subst (λ (d : Change). IsPassed start t node before d (doubt_count t.doubts) (length t.items)) (sym told) (record {
+        mending = mending_passed start t before middle node h;
+        own = h.doubtful.right node some inside n;
+        doubted = in_doubt;
+        halves_clear = halves;
+        same_count = refl;
+        same_room = refl;
+      }))
 
   -- one turn of the loop that clears a node
   pub record IsStepped (start t next : Standings Item) (node : ℕ) (before after : Change) : Type 0 where

@@ -1,12 +1,12 @@
 -- The facts of the nodes xs a list, and what changes with one node.
-use Rattle.std.proofs.Common.{◌≡◌, ◌≢◌, ◌⊎◌, inl, inr, refl, sym, ap, ◌∙◌, subst, arith, List, [], ◌∷◌, ◌++◌, ℕ, zero, suc, ◌+◌, ◌-◌, ◌<◌, ◌≤◌, length, append_assoc, append-nil}
+use Rattle.std.proofs.Common.{◌≡◌, ◌≢◌, ◌⊎◌, inl, inr, refl, sym, ap, ◌∙◌, subst, arith, List, [], ◌∷◌, ◌++◌, ℕ, zero, suc, ◌+◌, length, append_assoc, append-nil}
 use Rattle.std.specs.Prelude.{Option, Some, None, Contains, slice_get, ◌↔◌}
-use Rattle.std.proofs.lemmas.List.Elements.{Contains-append_left, Contains-append_cases, Contains-push, Contains-push_cases}
+use Rattle.std.proofs.lemmas.List.Elements.{Contains-append_left, Contains-push, Contains-push_cases}
 use Rattle.std.proofs.lemmas.Option.{slice_get_within, get_or_from_slice_get}
 use Rattle.kin_motion.specs.declared.fact.Fact.{Fact}
 use Rattle.kin_motion.specs.declared.fact.Placed.{Placed}
 use Rattle.kin_motion.specs.Deltas.{Change}
-use Rattle.kin_motion.specs.Kinetics.{AreDistinct, ListsExactly, HasGained, HasChanged}
+use Rattle.kin_motion.specs.Kinetics.{AreDistinct, HasGained, HasChanged}
 use Rattle.kin_motion.proofs.BestLaws.{contains_cases, contains_tail}
 use Rattle.kin_tourney.specs.Standings.{fact_in, placed_of, placed_from}
 use Rattle.kin_tourney.specs.Repairs.{IsReported}
@@ -130,9 +130,10 @@ module _ (xs ys xs' ys' : List (Option Fact)) (node : ℕ)
     (same_as : (v : ℕ) → v ≢ node → fact_in xs' v ≡ fact_in xs v) (same_bs : (v : ℕ) → v ≢ node → fact_in ys' v ≡ fact_in ys v) where
   -- at another node the two differences agree
   elsewhere : (p : Placed) → p.part ≢ node → Differ xs' ys' p ↔ Differ xs ys p
-  elsewhere p n =
-      ((λ d. (placed_of_fact xs p (sym (same_as p.part n) ∙ fact_of_placed xs' p d.0), λ there. d.1 (placed_of_fact ys' p (same_bs p.part n ∙ fact_of_placed ys p there)))),
-        (λ d. (placed_of_fact xs' p (same_as p.part n ∙ fact_of_placed xs p d.0), λ there. d.1 (placed_of_fact ys p (sym (same_bs p.part n) ∙ fact_of_placed ys' p there)))))
+  elsewhere p n = (
+    (λ d. (placed_of_fact xs p (sym (same_as p.part n) ∙ fact_of_placed xs' p d.0), λ there. d.1 (placed_of_fact ys' p (same_bs p.part n ∙ fact_of_placed ys p there)))),
+    (λ d. (placed_of_fact xs' p (same_as p.part n ∙ fact_of_placed xs p d.0), λ there. d.1 (placed_of_fact ys p (sym (same_bs p.part n) ∙ fact_of_placed ys' p there)))),
+  )
 
   -- where both agree at the node, the old difference has nothing there
   nothing_old : fact_in xs node ≡ fact_in ys node → (p : Placed) → p.part ≡ node → Differ xs ys p → ⊥
@@ -143,9 +144,10 @@ module _ (xs ys xs' ys' : List (Option Fact)) (node : ℕ)
     where
       at : (p.part ≡ node) ⊎ (p.part ≢ node) → Differ xs' ys' p ↔ Differ xs ys p
       at (inr n) = elsewhere p n
-      at (inl e) =
-          ((λ d. absurd (d.1 (placed_of_fact ys' p (ap (fact_in ys') e ∙ sym agree' ∙ sym (ap (fact_in xs') e) ∙ fact_of_placed xs' p d.0)))),
-            (λ d. absurd (nothing_old agree p e d)))
+      at (inl e) = (
+        (λ d. absurd (d.1 (placed_of_fact ys' p (ap (fact_in ys') e ∙ sym agree' ∙ sym (ap (fact_in xs') e) ∙ fact_of_placed xs' p d.0)))),
+        (λ d. absurd (nothing_old agree p e d)),
+      )
 
   gained_node : (before after : List Placed) (u : Option Fact) → fact_in xs node ≡ fact_in ys node → fact_in xs' node ≡ u → u ≢ fact_in ys' node
       → HasGained before after (Differ xs ys) → HasGained before (after ++ placed_of node u) (Differ xs' ys')

@@ -6,12 +6,11 @@ use Rattle.std.specs.Prelude.{Option, Some, None, IsTrue, slice_index_or}
 use Rattle.kin_motion.specs.declared.fact.Placed.{Placed}
 use Rattle.kin_motion.specs.Deltas.{Change}
 use Rattle.kin_motion.specs.Kinetics.{ListsFailing, HasChanged}
-use Rattle.kin_motion.specs.declared.form.Form.{Form}
 use Rattle.kin_motion.specs.Scene.{Scene, IsReal}
 use Rattle.kin_motion.specs.Tournaments.{Key, beats, item_in, is_under}
 use Rattle.kin_tourney.specs.declared.doubt.Doubt.TheVariants.{Clear, Here}
 use Rattle.kin_tourney.specs.Names.{AreLive}
-use Rattle.kin_tourney.specs.Tournament.{Tournament, IsAtRest, IsReady, IsSettled, mark_in, mark_count, is_above_mark, winner_at}
+use Rattle.kin_tourney.specs.Tournament.{IsAtRest, IsReady, IsSettled, mark_in, mark_count, is_above_mark, winner_at}
 use Rattle.kin_tourney.specs.Ready.{fair_when_ready}
 use Rattle.kin_tourney.specs.Played.{settled_from_played}
 use Rattle.kin_tourney.specs.Standings.{Standings, IsTree, doubt_in, doubt_count, entry_at, item_of, placed_facts, seen_as}

@@ -1,6 +1,6 @@
 -- A tree of matches between repairs: marks, and the start and the end of a repair.
-use Rattle.std.proofs.Common.{◌≡◌, ◌≢◌, ◌⊎◌, inl, inr, refl, sym, ap, ◌∙◌, subst, arith, List, ℕ, zero, suc, ◌+◌, ◌*◌, ◌-◌, ◌/◌, ◌^◌, ◌<◌, ◌≤◌, length, Bool, true, false, cond, nat_lt, set}
-use Rattle.std.specs.Prelude.{Option, Some, None, Contains, IsFalse, IsTrue, slice_index_or, ◌↔◌}
+use Rattle.std.proofs.Common.{◌≡◌, ◌≢◌, ◌⊎◌, inl, inr, refl, sym, ap, ◌∙◌, subst, arith, List, ℕ, ◌+◌, ◌*◌, ◌-◌, ◌/◌, ◌<◌, ◌≤◌, length, Bool, true, false, cond, nat_lt, set}
+use Rattle.std.specs.Prelude.{Option, Some, None, Contains, IsFalse, slice_index_or}
 use Rattle.std.proofs.lemmas.Bool.Decides.{nat_tests}
 use Rattle.std.proofs.lemmas.List.{length-set, get_or-set_other, get_or_past, get_or_default}
 use Rattle.kin_algebra.specs.declared.sign.Sign.{Sign}
@@ -8,23 +8,22 @@ use Rattle.kin_algebra.specs.declared.sign.Sign.TheVariants.{Minus, Zero, Plus}
 use Rattle.kin_motion.specs.declared.form.Form.{Form}
 use Rattle.kin_motion.specs.declared.fact.Fact.{Fact}
 use Rattle.kin_motion.specs.declared.fact.Placed.{Placed}
-use Rattle.kin_motion.specs.Scene.{Scene, Holds}
+use Rattle.kin_motion.specs.Scene.{Scene}
 use Rattle.kin_motion.specs.Kinetics.{ListsFailing}
-use Rattle.kin_motion.specs.Tournaments.{Key, item_in, is_under}
+use Rattle.kin_motion.specs.Tournaments.{Key, is_under}
 use Rattle.kin_tourney.specs.declared.doubt.Doubt.{Doubt}
 use Rattle.kin_tourney.specs.declared.doubt.Doubt.TheVariants.{Clear, Below, Here}
 use Rattle.kin_tourney.specs.declared.entry.Entry.{Entry}
 use Rattle.kin_tourney.specs.Tournament.{mark_in, mark_count, is_above_mark}
-use Rattle.kin_tourney.specs.Standings.{Standings, IsTree, IsRight, best_in, fact_in, doubt_in, doubt_count, named_at, entry_at, entry_in, item_of, match_of, match_at, placed_facts}
+use Rattle.kin_tourney.specs.Standings.{Standings, IsTree, IsRight, best_in, fact_in, doubt_in, doubt_count, named_at, entry_at, entry_in, match_of, placed_facts}
 use Rattle.kin_tourney.specs.Repairs.{IsSpread, IsDoubted, IsDoubtful}
 use Rattle.kin_tourney.specs.Sound.{IsSound}
 use Rattle.kin_tourney.proofs.AfterWrite.{same_or_not, read_set}
-use Rattle.kin_tourney.proofs.Doubts.{doubt_cases, here_cases, here_is_doubt}
 use Rattle.kin_tourney.proofs.Marks.{leaf_doubt, mark_under, mark_more, mark_again, mark_none, count_of_top, clear_but_top}
-use Rattle.kin_tourney.specs.Under.{is_under-left, is_under-right, is_under-leaf, is_under-leaf_alone, is_under-cases}
-use Rattle.kin_tourney.proofs.Entries.{named_under, entry_in_slot}
+use Rattle.kin_tourney.specs.Under.{is_under-left, is_under-right}
+use Rattle.kin_tourney.proofs.Entries.{named_under}
 use Rattle.kin_tourney.proofs.Placements.{fact_of_placed, placed_of_fact}
-use Rattle.kin_tourney.proofs.Entrants.{entry_right, right_where_held, right_at_one, winning}
+use Rattle.kin_tourney.proofs.Entrants.{right_where_held, right_at_one}
 
 sign_cases : (a b : Sign) → (a ≡ b) ⊎ (a ≢ b)
 sign_cases Minus Minus = inl refl
@@ -129,9 +128,12 @@ module _ {Item : Type 0} (key : Key Item) where
         entry_as u other = ap (entry_in (set t.items slot item)) (named_as u) ∙ entry_elsewhere t.items slot item (named_at t u) other
 
         at : (sign : Sign) × IsRight key (λ f. sign) t v → (sign : Sign) × IsRight key (λ f. sign) new v
-        at (sign, right) = (sign, subst (λ (x : Standings Item). IsRight key (λ f. sign) x v) (sym same)
-            (right ∙ sym (ap (λ x. match_of key (λ f. sign) x (entry_in (set t.items slot item) (cond (nat_lt (2 * v + 1) (length (set t.items slot item))) (best_in t.best (2 * v + 1)) (Some (2 * v + 1 - length (set t.items slot item)))))) (entry_as (2 * v) apart_left)
-              ∙ ap (λ x. match_of key (λ f. sign) (entry_at t (2 * v)) x) (entry_as (2 * v + 1) apart_right))))
+        at (sign, right) = (
+          sign,
+          subst (λ (x : Standings Item). IsRight key (λ f. sign) x v) (sym same)
+              (right ∙ sym (ap (λ x. match_of key (λ f. sign) x (entry_in (set t.items slot item) (cond (nat_lt (2 * v + 1) (length (set t.items slot item))) (best_in t.best (2 * v + 1)) (Some (2 * v + 1 - length (set t.items slot item)))))) (entry_as (2 * v) apart_left)
+              ∙ ap (λ x. match_of key (λ f. sign) (entry_at t (2 * v)) x) (entry_as (2 * v + 1) apart_right))),
+        )
 
     pub sound_marked : IsSound key new
     sound_marked = record {
@@ -158,14 +160,14 @@ module _ {Item : Type 0} (key : Key Item) where
       at : (b : Bool) → mark_in t.marked slot ≡ b → IsSound key new
       at true e = sound_marked t new tree tree' sound slot inside item same (λ v. inl (ap (λ ds. doubt_in ds v) (again e))) (λ d. sound.leaves slot e (sym (ap (λ ds. doubt_in ds ((length t.items + slot) / 2)) (again e)) ∙ d))
           (let k = mark_again t.marked slot room e in let c : mark_count new.marked ≡ mark_count t.marked = marked_are ∙ k in
-            let d : doubt_count new.doubts ≡ doubt_count t.doubts = ap doubt_count (again e) in let f = sound.few in
-            subst (λ n. doubt_count new.doubts ≤ 1 + t.size * n) (sym c) (omega arith))
+          let d : doubt_count new.doubts ≡ doubt_count t.doubts = ap doubt_count (again e) in let f = sound.few in
+          subst (λ n. doubt_count new.doubts ≤ 1 + t.size * n) (sym c) (omega arith))
       at false e =
           let s = spread e in
           sound_marked t new tree tree' sound slot inside item same s.each s.reached
-            (let k = mark_more t.marked slot room e in let c : mark_count new.marked ≡ mark_count t.marked + 1 = marked_are ∙ k in
-              let r = tree.items_room in let d = s.few t.size (omega arith) in let f = sound.few in
-              subst (λ n. doubt_count new.doubts ≤ 1 + t.size * n) (sym c) (enough (doubt_count new.doubts) (doubt_count t.doubts) t.size (mark_count t.marked) d f))
+          (let k = mark_more t.marked slot room e in let c : mark_count new.marked ≡ mark_count t.marked + 1 = marked_are ∙ k in
+          let r = tree.items_room in let d = s.few t.size (omega arith) in let f = sound.few in
+          subst (λ n. doubt_count new.doubts ≤ 1 + t.size * n) (sym c) (enough (doubt_count new.doubts) (doubt_count t.doubts) t.size (mark_count t.marked) d f))
         where
           enough : (new old size marks : ℕ) → new ≤ old + size → old ≤ 1 + size * marks → new ≤ 1 + size * (marks + 1)
           enough new old size marks p q = let m : size * (marks + 1) ≡ size * marks + size = omega arith in omega arith

@@ -1,16 +1,16 @@
 -- Trees of matches under writes.
-use Rattle.std.proofs.Common.{◌≡◌, ◌≢◌, ◌⊎◌, inl, inr, refl, sym, ap, ◌∙◌, subst, arith, List, ℕ, zero, suc, ◌+◌, ◌*◌, ◌-◌, ◌/◌, ◌^◌, ◌<◌, ◌≤◌, length, Bool, true, false, nat_eq, set, get_or}
+use Rattle.std.proofs.Common.{◌≡◌, ◌≢◌, ◌⊎◌, inl, inr, refl, sym, ap, ◌∙◌, subst, arith, List, ℕ, zero, suc, ◌+◌, ◌*◌, ◌/◌, ◌^◌, ◌<◌, ◌≤◌, length, Bool, true, set, get_or}
 use Rattle.std.specs.Prelude.{Option, Some, None, IfSome}
-use Rattle.std.proofs.lemmas.List.{length-set, get_or-set_other, get_or_past, get_or_read}
+use Rattle.std.proofs.lemmas.List.{length-set, get_or-set_other, get_or_read}
 use Rattle.std.proofs.lemmas.Nat.{pow-add}
 use Rattle.std.proofs.Math.Pow.{pow_mono}
 use Rattle.kin_motion.specs.declared.fact.Fact.{Fact}
 use Rattle.kin_motion.specs.Tournaments.{is_under}
 use Rattle.kin_tourney.specs.declared.doubt.Doubt.{Doubt}
-use Rattle.kin_tourney.specs.declared.doubt.Doubt.TheVariants.{Clear, Below, Here}
-use Rattle.kin_tourney.specs.Standings.{Standings, IsTree, IsClosed, best_in, fact_in, doubt_in}
+use Rattle.kin_tourney.specs.declared.doubt.Doubt.TheVariants.{Clear, Here}
+use Rattle.kin_tourney.specs.Standings.{Standings, IsTree, IsClosed, best_in, doubt_in}
 use Rattle.kin_tourney.proofs.AfterWrite.{same_or_not, read_set}
-use Rattle.kin_tourney.proofs.Doubts.{closed_raised, doubt_cases}
+use Rattle.kin_tourney.proofs.Doubts.{closed_raised}
 
 odd_power : (k v : ℕ) → 0 < v → 2 ^ k ≢ 2 * v + 1
 odd_power zero v some e = absurd (let p : 2 ^ 0 ≡ 1 = refl in omega arith)

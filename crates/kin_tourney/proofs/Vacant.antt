@@ -1,5 +1,5 @@
 -- A node without a winner has empty slots.
-use Rattle.std.proofs.Common.{◌≡◌, ◌≢◌, ◌⊎◌, inl, inr, refl, sym, ap, ◌∙◌, subst, arith, ℕ, zero, suc, ◌+◌, ◌*◌, ◌-◌, ◌^◌, ◌<◌, ◌≤◌, length, Bool, true, false, nat_lt}
+use Rattle.std.proofs.Common.{◌≡◌, ◌⊎◌, inl, inr, refl, sym, ap, ◌∙◌, subst, arith, ℕ, zero, suc, ◌+◌, ◌*◌, ◌-◌, ◌^◌, ◌<◌, ◌≤◌, length, Bool, true, false, nat_lt}
 use Rattle.std.specs.Prelude.{Option, Some, None, IsTrue}
 use Rattle.std.proofs.lemmas.Bool.Decides.{nat_tests}
 use Rattle.std.proofs.lemmas.List.{get_or_past}
@@ -7,7 +7,7 @@ use Rattle.kin_algebra.specs.declared.sign.Sign.{Sign}
 use Rattle.kin_motion.specs.Tournaments.{Key, item_in, is_under}
 use Rattle.kin_tourney.specs.declared.entry.Entry.{Entry}
 use Rattle.kin_tourney.specs.Under.{is_under-leaf, is_under-leaf_alone, is_under-left, is_under-right, is_under-cases}
-use Rattle.kin_tourney.specs.Standings.{Standings, IsTree, IsRight, entry_at, entry_in, item_of}
+use Rattle.kin_tourney.specs.Standings.{Standings, IsTree, IsRight, entry_at, item_of}
 use Rattle.kin_tourney.proofs.Entrants.{entry_right, entry_leaf, winning}
 
 module _ {Item : Type 0} (key : Key Item) (t : Standings Item) (tree : IsTree t)
@@ -45,13 +45,14 @@ module _ {Item : Type 0} (key : Key Item) (t : Standings Item) (tree : IsTree t)
       room = let r = tree.items_room in omega arith
 
       at : (sign : Sign) × IsRight key (λ f. sign) t v → Vacant v
-      at (sign, fits) =
-          ((λ none. let both = no_winner sign (entry_at t (2 * v)) (entry_at t (2 * v + 1)) (sym (entry_right key (λ f. sign) t tree v inside fits) ∙ gone (entry_at t v) none) in
-              empty (left.0 (ap item_of both.0)) (right.0 (ap item_of both.1))),
-            (λ none. ap item_of (entry_right key (λ f. sign) t tree v inside fits
-                ∙ no_entrants sign (entry_at t (2 * v)) (entry_at t (2 * v + 1))
-                  (gone (entry_at t (2 * v)) (left.1 (λ i h. part none i (low_or_none i) (λ l. is_under-left t.size v i some room l h))))
-                  (gone (entry_at t (2 * v + 1)) (right.1 (λ i h. part none i (low_or_none i) (λ l. is_under-right t.size v i some room l h)))))))
+      at (sign, fits) = (
+        (λ none. let both = no_winner sign (entry_at t (2 * v)) (entry_at t (2 * v + 1)) (sym (entry_right key (λ f. sign) t tree v inside fits) ∙ gone (entry_at t v) none) in
+            empty (left.0 (ap item_of both.0)) (right.0 (ap item_of both.1))),
+        (λ none. ap item_of (entry_right key (λ f. sign) t tree v inside fits
+            ∙ no_entrants sign (entry_at t (2 * v)) (entry_at t (2 * v + 1))
+            (gone (entry_at t (2 * v)) (left.1 (λ i h. part none i (low_or_none i) (λ l. is_under-left t.size v i some room l h))))
+            (gone (entry_at t (2 * v + 1)) (right.1 (λ i h. part none i (low_or_none i) (λ l. is_under-right t.size v i some room l h)))))),
+      )
         where
           part : AreEmpty v → (i : ℕ) → (i < 2 ^ t.size) ⊎ (item_in t.items i ≡ None) → (i < 2 ^ t.size → is_under t.size v i ≡ true) → item_in t.items i ≡ None
           part none i (inl l) up = none i (up l)

@@ -4,7 +4,7 @@ use Rattle.kin_motion.specs.Scene.{Scene, IsReal}
 use Rattle.kin_motion.specs.Kinetics.{HaveSameLive, AllHold}
 use Rattle.kin_motion.specs.Tournaments.{Key, beats}
 use Rattle.kin_tourney.specs.Names.{AreLive}
-use Rattle.kin_tourney.specs.Tournament.{Tournament, IsReady, IsSettled, winner_at}
+use Rattle.kin_tourney.specs.Tournament.{Tournament, IsSettled, winner_at}
 use Rattle.kin_tourney.specs.Ready.{fair_when_ready, ready_elsewhere}
 use Rattle.kin_tourney.specs.Played.{settled_from_played, played_from_settled, played_elsewhere}
 

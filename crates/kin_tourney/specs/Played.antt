@@ -1,6 +1,6 @@
 -- Node by node, and by definition over the slots: the same.
-use Rattle.std.proofs.Common.{◌≡◌, ◌≢◌, ◌⊎◌, inl, inr, refl, sym, ap, ◌∙◌, subst, arith, List, ℕ, zero, suc, ◌+◌, ◌*◌, ◌-◌, ◌^◌, ◌<◌, ◌≤◌, length, Bool, true, false, cond, not, nat_eq, nat_lt, IsTrue, get_or}
-use Rattle.std.specs.Prelude.{Option, Some, None, Contains, MatchOption}
+use Rattle.std.proofs.Common.{◌≡◌, ◌⊎◌, inl, inr, refl, sym, ap, ◌∙◌, subst, arith, List, ℕ, zero, suc, ◌+◌, ◌*◌, ◌-◌, ◌^◌, ◌<◌, ◌≤◌, length, Bool, true, false, cond, nat_eq, nat_lt, IsTrue}
+use Rattle.std.specs.Prelude.{Option, Some, None, Contains}
 use Rattle.std.proofs.lemmas.Bool.Decides.{nat_tests}
 use Rattle.std.proofs.lemmas.List.{get_or_past}
 use Rattle.std.proofs.lemmas.Nat.{pow-add}
@@ -9,13 +9,13 @@ use Rattle.std.proofs.lemmas.List.Elements.{All-contains}
 use Rattle.kin_algebra.specs.declared.sign.Sign.{Sign}
 use Rattle.kin_motion.specs.declared.fact.Placed.{Placed}
 use Rattle.kin_motion.specs.Scene.{Scene, Holds, placed_at}
-use Rattle.kin_motion.specs.Kinetics.{ListsExactly, AllHold}
+use Rattle.kin_motion.specs.Kinetics.{AllHold}
 use Rattle.kin_motion.specs.Tournaments.{Key, beats, IsBest, IsNodeFact, item_in, is_under}
 use Rattle.kin_motion.specs.Contents.{IsWinner, IsSettledTournament}
 use Rattle.kin_tourney.specs.Fair.{IsFair}
 use Rattle.kin_tourney.specs.Locals.{HasNoFact, IsMatch, IsPlayed}
 use Rattle.kin_tourney.specs.Under.{is_under-leaf, is_under-leaf_alone, is_under-none, is_under-le, is_under-left, is_under-right, is_under-cases}
-use Rattle.kin_tourney.specs.Bests.{same_item, other_false, one_best, best_of_left, joined, joined_same}
+use Rattle.kin_tourney.specs.Bests.{other_false, one_best, best_of_left, joined, joined_same}
 
 none_some : {A : Type 0} {a : A} {o : Option A} → o ≡ None → o ≡ Some a → ⊥
 none_some {A} {a} {o} e f = let k : None ≡ Some a = sym e ∙ f in cc
@@ -30,7 +30,6 @@ module _ {Item : Type 0} (s : Scene) (key : Key Item) (size : ℕ) (slots : List
       at false f =
           let past : 2 ^ size ≤ i = grind (arith, nat_tests, f) in
           absurd (none_some (get_or_past slots i None (omega arith)) e)
-
 
   -- the winner of an inner node from those of its halves
   module _ (v : ℕ) (some : 0 < v) (inside : v < 2 ^ size) where
@@ -162,8 +161,10 @@ module _ {Item : Type 0} (s : Scene) (key : Key Item) (size : ℕ) (slots : List
       winners = λ v some inside. wins v some (omega (arith, pow-add 2 size 1));
       exact = record {
         once = played.once;
-        each = λ p. ((λ there. let k = played.inner p there in node_of_fact p there k.0 k.1 (winner (2 * p.part)) (winner (2 * p.part + 1)) (winner p.part) (wins (2 * p.part) (omega arith) (omega arith)) (wins (2 * p.part + 1) (omega arith) (omega arith)) (played.matches p.part k.0 k.1)),
-          (λ f. let k = inner_part p f in fact_of_node p f (winner (2 * p.part)) (winner (2 * p.part + 1)) (winner p.part) (wins (2 * p.part) (omega arith) (omega arith)) (wins (2 * p.part + 1) (omega arith) (omega arith)) (played.matches p.part k.0 k.1)));
+        each = λ p. (
+          (λ there. let k = played.inner p there in node_of_fact p there k.0 k.1 (winner (2 * p.part)) (winner (2 * p.part + 1)) (winner p.part) (wins (2 * p.part) (omega arith) (omega arith)) (wins (2 * p.part + 1) (omega arith) (omega arith)) (played.matches p.part k.0 k.1)),
+          (λ f. let k = inner_part p f in fact_of_node p f (winner (2 * p.part)) (winner (2 * p.part + 1)) (winner p.part) (wins (2 * p.part) (omega arith) (omega arith)) (wins (2 * p.part + 1) (omega arith) (omega arith)) (played.matches p.part k.0 k.1)),
+        );
       };
     }
 
@@ -188,9 +189,10 @@ module _ {Item : Type 0} (s : Scene) (key : Key Item) (size : ℕ) (slots : List
         (one_winner v w (Some a) h (best_of_left s key slots fair (is_under size (2 * v)) (is_under size (2 * v + 1)) (is_under size v) (apart v some inside) (up_left v some inside) a hl hr), no_fact v (λ x y p q. none_some (hr q.slot q.among) q.held))
     node_won v some inside None (Some b) w hl hr h =
         (one_winner v w (Some b) h (best_of_left s key slots fair (is_under size (2 * v + 1)) (is_under size (2 * v)) (is_under size v) (turned v some inside) (up_right v some inside) b hr hl), no_fact v (λ x y p q. none_some (hl p.slot p.among) p.held))
-    node_won v some inside (Some a) (Some b) w hl hr h =
-        (one_winner v w (Some (cond (beats s key a b) a b)) h (of_both v some inside a b hl hr),
-          (settled.exact.each (placed_at s v (key.form a b))).1 (record { left = a; right = b; left_best = hl; right_best = hr; fact = refl }))
+    node_won v some inside (Some a) (Some b) w hl hr h = (
+      one_winner v w (Some (cond (beats s key a b) a b)) h (of_both v some inside a b hl hr),
+      (settled.exact.each (placed_at s v (key.form a b))).1 (record { left = a; right = b; left_best = hl; right_best = hr; fact = refl }),
+    )
 
     one_there : (p q : Placed) → IsNodeFact s key size slots p → IsNodeFact s key size slots q → p.part ≡ q.part → p ≡ q
     one_there p q f g e =

@@ -1,5 +1,3 @@
-use Rattle.std.proofs.Common.{arith}
-use Rattle.std.specs.Prelude.{slice_index_or}
 use Rattle.kin_tourney.proofs.Doubts.{doubted_none, doubted_on}
 use Rattle.kin_tourney.proofs.doubt.doubt_failed.Goals as goal
 

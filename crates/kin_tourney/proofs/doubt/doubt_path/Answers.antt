@@ -1,6 +1,4 @@
-use Rattle.std.proofs.Common.{◌≡◌, ◌≢◌, sym, ◌∙◌, arith, true, false}
-use Rattle.kin_tourney.specs.declared.doubt.Doubt.TheVariants.{Clear}
-use Rattle.kin_tourney.specs.Standings.{doubt_in}
+use Rattle.std.proofs.Common.{◌≡◌, sym, ◌∙◌, arith, true, false}
 use Rattle.kin_tourney.proofs.Doubts.{not_top, spreading_starts, spreading_on, spreading_ends}
 use Rattle.kin_tourney.proofs.doubt.doubt_path.Goals as goal
 

@@ -1,4 +1,4 @@
-use Rattle.std.proofs.Common.{◌≡◌, ◌≤◌, sym, ap, subst, ◌^◌, true, []}
+use Rattle.std.proofs.Common.{◌≡◌, sym, subst, ◌^◌, true, []}
 use Rattle.kin_tourney.specs.Sound.{IsSound}
 use Rattle.kin_tourney.specs.Standings.{Standings, IsTree, placed_from, seen_as}
 use Rattle.kin_tourney.specs.Tournament.{IsSettled}
@@ -8,9 +8,10 @@ use Rattle.kin_tourney.proofs.tourney.Tourney.new.Goals as goal
 pub invariant_of-result : goal.invariant_of-result
 invariant_of-result g c =
     let item = g.row.K-Item.Denot in
-    let is : c.in_ok-tree.tree ≡ fresh item c.args.size = c.in_ok-tree.ensures in
-    (subst (λ (t : Standings item). IsTree t) (sym is) (fresh_tree item c.args.size c.requires.high),
-      λ w. subst (λ (t : Standings item). IsSound (g.K.Keyed.key c.args.key) t) (sym is) (fresh_sound item c.args.size c.requires.low (g.K.Keyed.key c.args.key)))
+    let is : c.in_ok-tree.tree ≡ fresh item c.args.size = c.in_ok-tree.ensures in (
+      subst (λ (t : Standings item). IsTree t) (sym is) (fresh_tree item c.args.size c.requires.high),
+      λ w. subst (λ (t : Standings item). IsSound (g.K.Keyed.key c.args.key) t) (sym is) (fresh_sound item c.args.size c.requires.low (g.K.Keyed.key c.args.key)),
+    )
 
 pub returns-clause-facts : goal.returns-clause-facts
 returns-clause-facts g c =

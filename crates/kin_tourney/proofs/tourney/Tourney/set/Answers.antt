@@ -1,5 +1,5 @@
 use Rattle.std.proofs.Common.{sym, subst, ◌<◌, ◌^◌}
-use Rattle.std.specs.Prelude.{None, Some}
+use Rattle.std.specs.Prelude.{Some}
 use Rattle.kin_tourney.specs.Tournament.{Tournament}
 use Rattle.kin_tourney.proofs.Settled.{kept_put}
 use Rattle.kin_tourney.proofs.tourney.Tourney.set.Goals as goal

@@ -13,7 +13,7 @@ returns-in_err-entry-clause-none g c =
     let high = subst (λ (t : Tournament g.row.K.Denot g.row.K-Item.Denot). c.args.node < 2 ^ (t.size + 1)) (sym c.self.view_is) c.requires.high in
     let is : item_of (entry_at c.self.inside.tree c.args.node) ≡ c.from_residual.result = ap item_of (sym c.entry.ensures ∙ c.in_err-entry.was) ∙ sym c.from_residual.ensures in
     subst (λ (t : Tournament g.row.K.Denot g.row.K-Item.Denot). (c.from_residual.result ≡ None → (i : ℕ) → IsTrue (is_under t.size c.args.node i) → item_in t.slots i ≡ None) × (((i : ℕ) → IsTrue (is_under t.size c.args.node i) → item_in t.slots i ≡ None) → c.from_residual.result ≡ None)) c.self.view_is
-      (winner_none c.self.inside.key key c.self.inside.tree c.self.inside.whole c.self.invariant rest c.args.node c.requires.low high (c.from_residual.result) is)
+    (winner_none c.self.inside.key key c.self.inside.tree c.self.inside.whole c.self.invariant rest c.args.node c.requires.low high (c.from_residual.result) is)
 
 pub returns-clause-none : goal.returns-clause-none
 returns-clause-none g c =
@@ -22,4 +22,4 @@ returns-clause-none g c =
     let high = subst (λ (t : Tournament g.row.K.Denot g.row.K-Item.Denot). c.args.node < 2 ^ (t.size + 1)) (sym c.self.view_is) c.requires.high in
     let is : item_of (entry_at c.self.inside.tree c.args.node) ≡ Some c.in_ok-entry.entry.item = ap item_of (sym c.entry.ensures ∙ c.in_ok-entry.was) in
     subst (λ (t : Tournament g.row.K.Denot g.row.K-Item.Denot). (Some c.in_ok-entry.entry.item ≡ None → (i : ℕ) → IsTrue (is_under t.size c.args.node i) → item_in t.slots i ≡ None) × (((i : ℕ) → IsTrue (is_under t.size c.args.node i) → item_in t.slots i ≡ None) → Some c.in_ok-entry.entry.item ≡ None)) c.self.view_is
-      (winner_none c.self.inside.key key c.self.inside.tree c.self.inside.whole c.self.invariant rest c.args.node c.requires.low high (Some c.in_ok-entry.entry.item) is)
+    (winner_none c.self.inside.key key c.self.inside.tree c.self.inside.whole c.self.invariant rest c.args.node c.requires.low high (Some c.in_ok-entry.entry.item) is)

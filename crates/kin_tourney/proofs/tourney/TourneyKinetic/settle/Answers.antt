@@ -27,7 +27,7 @@ invariant_of-self-2 g c =
     let ready = subst (λ (t : Tournament g.row.K.Denot g.row.K-Item.Denot). IsReady g.K.Keyed.names t s) view c.requires.ready in
     let failing = subst (λ (t : Tournament g.row.K.Denot g.row.K-Item.Denot). ListsFailing t.facts (λ p. is_above_mark t.size t.marked p.part) s c.args.failed.now) view c.requires.failing in
     kept_last c.self.inside.key g.K.Keyed.names (g.K.Keyed.key c.self.inside.key) c.self.inside.tree c.doubt_failed.new.self c.self.inside.whole s c.args.failed.now c.self.invariant ready failing c.doubt_failed.ensures.tree c.doubt_failed.ensures.same c.doubt_failed.ensures.doubted
-      (g.met.K.Keyed.total c.self.inside.key) (g.met.K.Keyed.transitive c.self.inside.key) c.requires.real c.repair.new.self c.in_ok-repair.ensures.same_size c.in_ok-repair.ensures.same_items c.in_ok-repair.ensures.known c.in_ok-repair.ensures.clear
+    (g.met.K.Keyed.total c.self.inside.key) (g.met.K.Keyed.transitive c.self.inside.key) c.requires.real c.repair.new.self c.in_ok-repair.ensures.same_size c.in_ok-repair.ensures.same_items c.in_ok-repair.ensures.known c.in_ok-repair.ensures.clear
 
 pub returns-clause-rest : goal.returns-clause-rest
 returns-clause-rest g c =
@@ -36,7 +36,7 @@ returns-clause-rest g c =
     let ready = subst (λ (t : Tournament g.row.K.Denot g.row.K-Item.Denot). IsReady g.K.Keyed.names t s) view c.requires.ready in
     let failing = subst (λ (t : Tournament g.row.K.Denot g.row.K-Item.Denot). ListsFailing t.facts (λ p. is_above_mark t.size t.marked p.part) s c.args.failed.now) view c.requires.failing in
     rest_last c.self.inside.key g.K.Keyed.names (g.K.Keyed.key c.self.inside.key) c.self.inside.tree c.doubt_failed.new.self c.self.inside.whole s c.args.failed.now c.self.invariant ready failing c.doubt_failed.ensures.tree c.doubt_failed.ensures.same c.doubt_failed.ensures.doubted
-      (g.met.K.Keyed.total c.self.inside.key) (g.met.K.Keyed.transitive c.self.inside.key) c.requires.real c.repair.new.self c.in_ok-repair.ensures.same_size c.in_ok-repair.ensures.same_items c.in_ok-repair.ensures.known c.in_ok-repair.ensures.clear
+    (g.met.K.Keyed.total c.self.inside.key) (g.met.K.Keyed.transitive c.self.inside.key) c.requires.real c.repair.new.self c.in_ok-repair.ensures.same_size c.in_ok-repair.ensures.same_items c.in_ok-repair.ensures.known c.in_ok-repair.ensures.clear
 
 pub returns-clause-settled : goal.returns-clause-settled
 returns-clause-settled g c =
@@ -45,4 +45,4 @@ returns-clause-settled g c =
     let ready = subst (λ (t : Tournament g.row.K.Denot g.row.K-Item.Denot). IsReady g.K.Keyed.names t s) view c.requires.ready in
     let failing = subst (λ (t : Tournament g.row.K.Denot g.row.K-Item.Denot). ListsFailing t.facts (λ p. is_above_mark t.size t.marked p.part) s c.args.failed.now) view c.requires.failing in
     settled_last c.self.inside.key g.K.Keyed.names (g.K.Keyed.key c.self.inside.key) c.self.inside.tree c.doubt_failed.new.self c.self.inside.whole s c.args.failed.now c.self.invariant ready failing c.doubt_failed.ensures.tree c.doubt_failed.ensures.same c.doubt_failed.ensures.doubted
-      (g.met.K.Keyed.total c.self.inside.key) (g.met.K.Keyed.transitive c.self.inside.key) c.requires.real c.repair.new.self c.in_ok-repair.ensures.same_size c.in_ok-repair.ensures.same_items c.in_ok-repair.ensures.known c.in_ok-repair.ensures.clear
+    (g.met.K.Keyed.total c.self.inside.key) (g.met.K.Keyed.transitive c.self.inside.key) c.requires.real c.repair.new.self c.in_ok-repair.ensures.same_size c.in_ok-repair.ensures.same_items c.in_ok-repair.ensures.known c.in_ok-repair.ensures.clear

@@ -12,5 +12,5 @@ sign-sign-requires g c =
     record {
       askable = subst (IsAskable (g.O.Signs.scene c.args.now.now).live) (sym c.form-form.ensures)
           (g.met.K.Keyed.askable c.args.key.now (g.O.Signs.scene c.args.now.now).live c.in-Some-Some.left.item c.in-Some-Some.right.item
-            (c.requires.live c.in-Some-Some.left.slot c.in-Some-Some.left.item left.1) (c.requires.live c.in-Some-Some.right.slot c.in-Some-Some.right.item right.1));
+          (c.requires.live c.in-Some-Some.left.slot c.in-Some-Some.left.item left.1) (c.requires.live c.in-Some-Some.right.slot c.in-Some-Some.right.item right.1));
     }

@@ -28,7 +28,7 @@ loop-node-init g c = record {
 pub settle_node-requires-clause-halves : goal.settle_node-requires-clause-halves
 settle_node-requires-clause-halves g c =
     (passed (g.K.Keyed.key c.args.key.now) (g.O.Signs.scene c.args.now.now).sign c.args.self.now c.loop-node.self c.renew.new.self c.args.out.now c.loop-node.out c.renew.new.out c.loop-node.node c.loop-node-test.true
-      (c.loop-node.invariant.place c.loop-node-test.true).0 (c.loop-node.invariant.place c.loop-node-test.true).1 c.in_default.ensures c.loop-node.invariant.mending c.renew.ensures.tree c.in_ok-renew.ensures.renewed).halves_clear
+    (c.loop-node.invariant.place c.loop-node-test.true).0 (c.loop-node.invariant.place c.loop-node-test.true).1 c.in_default.ensures c.loop-node.invariant.mending c.renew.ensures.tree c.in_ok-renew.ensures.renewed).halves_clear
 
 pub loop-node-smaller : goal.loop-node-smaller
 loop-node-smaller g c =

@@ -1,4 +1,4 @@
-use Rattle.std.proofs.Common.{sym, ◌∙◌, subst, ap, set, arith, length}
+use Rattle.std.proofs.Common.{sym, ◌∙◌, subst, ap, set, length}
 use Rattle.kin_tourney.specs.declared.doubt.Doubt.TheVariants.{Clear}
 use Rattle.kin_tourney.specs.Standings.{Standings, IsTree}
 use Rattle.kin_tourney.proofs.Trees.{odd_room, tree_cleared}
