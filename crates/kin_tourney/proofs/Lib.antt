@@ -1,0 +1,12 @@
+pub mod AfterWrite
+pub mod Doubts
+pub mod Entries
+pub mod Placements
+pub mod Trees
+pub mod Mending
+pub mod Marks
+pub mod Entrants
+pub mod Soundness
+pub mod Fresh
+pub mod Vacant
+pub mod Settled

@@ -1,0 +1,101 @@
+-- Trees of matches under writes.
+use Rattle.std.proofs.Common.{◌≡◌, ◌≢◌, ◌⊎◌, inl, inr, refl, sym, ap, ◌∙◌, subst, arith, List, ℕ, zero, suc, ◌+◌, ◌*◌, ◌/◌, ◌^◌, ◌<◌, ◌≤◌, length, Bool, true, set, get_or}
+use Rattle.std.specs.Prelude.{Option, Some, None, IfSome}
+use Rattle.std.proofs.lemmas.List.{length-set, get_or-set_other, get_or_read}
+use Rattle.std.proofs.lemmas.Nat.{pow-add}
+use Rattle.std.proofs.Math.Pow.{pow_mono}
+use Rattle.kin_motion.specs.declared.fact.Fact.{Fact}
+use Rattle.kin_motion.specs.Tournaments.{is_under}
+use Rattle.kin_tourney.specs.declared.doubt.Doubt.{Doubt}
+use Rattle.kin_tourney.specs.declared.doubt.Doubt.TheVariants.{Clear, Here}
+use Rattle.kin_tourney.specs.Standings.{Standings, IsTree, IsClosed, best_in, doubt_in}
+use Rattle.kin_tourney.proofs.AfterWrite.{same_or_not, read_set}
+use Rattle.kin_tourney.proofs.Doubts.{closed_raised}
+
+odd_power : (k v : ℕ) → 0 < v → 2 ^ k ≢ 2 * v + 1
+odd_power zero v some e = absurd (let p : 2 ^ 0 ≡ 1 = refl in omega arith)
+odd_power (suc k) v some e = absurd (let p = pow-add 2 k 1 in let q : 2 ^ suc k ≡ 2 ^ (k + 1) = ap (λ (j : ℕ). 2 ^ j) (let r : suc k ≡ k + 1 = omega arith in r) in omega arith)
+
+-- the number of slots is even
+pub odd_room : {Item : Type 0} (t : Standings Item) → IsTree t → (v : ℕ) → 0 < v → length t.items ≢ 2 * v + 1
+odd_room {Item} t h v some e = odd_power t.size v some (sym h.items_room ∙ e)
+
+pub right_inside : {Item : Type 0} (t : Standings Item) → IsTree t → (v : ℕ) → 0 < v → 2 * v < length t.items → 2 * v + 1 < length t.items
+right_inside {Item} t h v some inside = at (same_or_not (length t.items) (2 * v + 1))
+  where
+    at : (length t.items ≡ 2 * v + 1) ⊎ (length t.items ≢ 2 * v + 1) → 2 * v + 1 < length t.items
+    at (inl e) = absurd (odd_room t h v some e)
+    at (inr n) = omega arith
+
+-- the node above one in doubt is in doubt
+pub above_in_doubt : (ds : List Doubt) → IsClosed ds → (v : ℕ) → 0 < v → doubt_in ds v ≢ Clear → doubt_in ds (v / 2) ≢ Clear
+above_in_doubt ds h v some n e = n (h.below v some e)
+
+-- a node got another best slot and fact, and the node above it has to be played again
+pub tree_replayed : {Item : Type 0} (t : Standings Item) → IsTree t → (node : ℕ) → 0 < node → node < length t.items → doubt_in t.doubts node ≢ Clear
+    → (best : Option ℕ) (fact : Option Fact) → ((i : ℕ) → best ≡ Some i → (i < length t.items) × (is_under t.size node i ≡ true))
+    → IsTree (record t { best = set t.best node best; facts = set t.facts node fact; doubts = set t.doubts (node / 2) Here })
+tree_replayed {Item} t h node some inside doubted best fact under = record {
+  small = h.small;
+  items_room = h.items_room;
+  marked_room = h.marked_room;
+  best_room = length-set t.best node best ∙ h.best_room;
+  facts_room = length-set t.facts node fact ∙ h.facts_room;
+  doubts_room = length-set t.doubts (node / 2) Here ∙ h.doubts_room;
+  best_low = λ v i e. (at v i e (read_set t.best node v best None (let r = h.best_room in omega arith))).0;
+  best_under = λ v i e. (at v i e (read_set t.best node v best None (let r = h.best_room in omega arith))).1;
+  closed = closed_raised t.doubts (node / 2) h.closed (let r = h.doubts_room in omega arith) (above_in_doubt t.doubts h.closed node some doubted);
+}
+  where
+    at : (v i : ℕ) → best_in (set t.best node best) v ≡ Some i → ((v ≡ node) × (best_in (set t.best node best) v ≡ best)) ⊎ ((v ≢ node) × (best_in (set t.best node best) v ≡ best_in t.best v)) → (i < length t.items) × (is_under t.size v i ≡ true)
+    at v i e (inl k) = let u = under i (sym k.1 ∙ e) in (u.0, subst (λ w. is_under t.size w i ≡ true) (sym k.0) u.1)
+    at v i e (inr k) = (h.best_low v i (sym k.1 ∙ e), h.best_under v i (sym k.1 ∙ e))
+
+-- a node whose halves are clear was cleared
+pub tree_cleared : {Item : Type 0} (t : Standings Item) → IsTree t → (node : ℕ) → 0 < node → node < length t.items → ((v : ℕ) → 0 < v → v / 2 ≡ node → doubt_in t.doubts v ≡ Clear)
+    → (marked : List Bool) → length marked ≡ length t.marked → IsTree (record t { marked = marked; doubts = set t.doubts node Clear })
+tree_cleared {Item} t h node some inside halves marked room = record {
+  small = h.small;
+  items_room = h.items_room;
+  marked_room = room ∙ h.marked_room;
+  best_room = h.best_room;
+  facts_room = h.facts_room;
+  doubts_room = length-set t.doubts node Clear ∙ h.doubts_room;
+  best_low = h.best_low;
+  best_under = h.best_under;
+  closed = record { top = get_or-set_other t.doubts node 0 Clear Clear (omega arith) ∙ h.closed.top; below = λ v big e. below v big e (read_set t.doubts node (v / 2) Clear Clear fits) (read_set t.doubts node v Clear Clear fits) };
+}
+  where
+    fits : node < length t.doubts
+    fits = let r = h.doubts_room in omega arith
+
+    below : (v : ℕ) → 0 < v → doubt_in (set t.doubts node Clear) (v / 2) ≡ Clear
+        → ((v / 2 ≡ node) × (doubt_in (set t.doubts node Clear) (v / 2) ≡ Clear)) ⊎ ((v / 2 ≢ node) × (doubt_in (set t.doubts node Clear) (v / 2) ≡ doubt_in t.doubts (v / 2)))
+        → ((v ≡ node) × (doubt_in (set t.doubts node Clear) v ≡ Clear)) ⊎ ((v ≢ node) × (doubt_in (set t.doubts node Clear) v ≡ doubt_in t.doubts v))
+        → doubt_in (set t.doubts node Clear) v ≡ Clear
+    below v big e up (inl k) = k.1
+    below v big e (inl j) (inr k) = k.1 ∙ halves v big j.0
+    below v big e (inr j) (inr k) = k.1 ∙ h.closed.below v big (sym j.1 ∙ e)
+
+pub named_low : {Item : Type 0} (t : Standings Item) → IsTree t → (v : ℕ) (o : Option ℕ) → v < length t.items → o ≡ get_or t.best v o → IfSome o (λ i. i < length t.items)
+named_low {Item} t h v o inside e = at o (get_or_read t.best v o (let r = h.best_room in omega arith) e None)
+  where
+    at : (o : Option ℕ) → o ≡ get_or t.best v None → IfSome o (λ i. i < length t.items)
+    at None e = tt
+    at (Some i) e = h.best_low v i (sym e)
+
+-- where the root is clear all is
+pub all_clear : (ds : List Doubt) → IsClosed ds → doubt_in ds 1 ≡ Clear → (v : ℕ) → 0 < v → doubt_in ds v ≡ Clear
+all_clear ds h root v some = from v v some (omega arith)
+  where
+    from : (far v : ℕ) → 0 < v → v ≤ far → doubt_in ds v ≡ Clear
+    from zero v some near = absurd (omega arith)
+    from (suc far) v some near = at (same_or_not v 1) (from far (v / 2))
+      where
+        at : (v ≡ 1) ⊎ (v ≢ 1) → (0 < v / 2 → v / 2 ≤ far → doubt_in ds (v / 2) ≡ Clear) → doubt_in ds v ≡ Clear
+        at (inl e) rest = ap (doubt_in ds) e ∙ root
+        at (inr n) rest = h.below v some (rest (omega arith) (omega arith))
+
+-- there is an inner node
+pub some_inner : {Item : Type 0} (t : Standings Item) → IsTree t → 1 ≤ t.size → 1 < length t.items
+some_inner {Item} t h some = let p : 2 ^ 1 ≤ 2 ^ t.size = pow_mono some in let r = h.items_room in let q : 2 ^ 1 ≡ 2 = refl in omega arith

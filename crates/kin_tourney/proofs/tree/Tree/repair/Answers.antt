@@ -1,0 +1,55 @@
+use Rattle.std.proofs.Common.{◌≡◌, ◌≢◌, ◌⊎◌, ◌<◌, ℕ, List, inl, inr, arith, sym, ◌∙◌, ap, length}
+use Rattle.kin_tourney.specs.declared.doubt.Doubt.{Doubt}
+use Rattle.kin_tourney.specs.declared.doubt.Doubt.TheVariants.{Clear}
+use Rattle.kin_tourney.specs.Standings.{doubt_in}
+use Rattle.kin_tourney.proofs.Trees.{all_clear, some_inner}
+use Rattle.kin_tourney.proofs.Mending.{mending_starts, passed, stepped}
+use Rattle.kin_tourney.proofs.tree.Tree.repair.Goals as goal
+
+place_first : (ds : List Doubt) (n node : ℕ) → 1 < n → (node ≡ 0) × (doubt_in ds 1 ≡ Clear) ⊎ (node ≡ 1) × (doubt_in ds 1 ≢ Clear) → 0 < node → (node < n) × (doubt_in ds node ≢ Clear)
+place_first ds n node many (inl k) some = absurd (omega arith)
+place_first ds n node many (inr k) some = (omega arith, λ e. k.1 (sym (ap (doubt_in ds) k.0) ∙ e))
+
+ended_first : (ds : List Doubt) (node : ℕ) → (node ≡ 0) × (doubt_in ds 1 ≡ Clear) ⊎ (node ≡ 1) × (doubt_in ds 1 ≢ Clear) → node ≡ 0 → doubt_in ds 1 ≡ Clear
+ended_first ds node (inl k) none = k.1
+ended_first ds node (inr k) none = absurd (omega arith)
+
+pub doubted_root-node-requires-clause-some : goal.doubted_root-node-requires-clause-some
+doubted_root-node-requires-clause-some g c = some_inner c.args.self.now c.requires.doubtful.tree c.requires.some
+
+pub loop-node-init : goal.loop-node-init
+loop-node-init g c = record {
+  mending = mending_starts (g.K.Keyed.key c.args.key.now) (g.O.Signs.scene c.args.now.now).sign c.args.self.now c.args.out.now c.requires.doubtful;
+  place = place_first c.args.self.now.doubts (length c.args.self.now.items) c.doubted_root-node.result (some_inner c.args.self.now c.requires.doubtful.tree c.requires.some) c.doubted_root-node.ensures;
+  ended = ended_first c.args.self.now.doubts c.doubted_root-node.result c.doubted_root-node.ensures;
+  cost = omega arith;
+}
+
+pub settle_node-requires-clause-halves : goal.settle_node-requires-clause-halves
+settle_node-requires-clause-halves g c =
+    (passed (g.K.Keyed.key c.args.key.now) (g.O.Signs.scene c.args.now.now).sign c.args.self.now c.loop-node.self c.renew.new.self c.args.out.now c.loop-node.out c.renew.new.out c.loop-node.node c.loop-node-test.true
+    (c.loop-node.invariant.place c.loop-node-test.true).0 (c.loop-node.invariant.place c.loop-node-test.true).1 c.in_default.ensures c.loop-node.invariant.mending c.renew.ensures.tree c.in_ok-renew.ensures.renewed).halves_clear
+
+pub loop-node-smaller : goal.loop-node-smaller
+loop-node-smaller g c =
+    let sign = (g.O.Signs.scene c.args.now.now).sign in
+    let key = g.K.Keyed.key c.args.key.now in
+    let at = c.loop-node.invariant.place c.loop-node-test.true in
+    let p = passed key sign c.args.self.now c.loop-node.self c.renew.new.self c.args.out.now c.loop-node.out c.renew.new.out c.loop-node.node c.loop-node-test.true at.0 at.1 c.in_default.ensures c.loop-node.invariant.mending c.renew.ensures.tree c.in_ok-renew.ensures.renewed in
+    let q = stepped key sign c.args.self.now c.loop-node.self c.renew.new.self c.settle_node.new.self c.args.out.now c.renew.new.out c.loop-node.node c.loop-node-test.true at.0 p c.settle_node.ensures.tree c.settle_node.ensures.cleared in
+    q.smaller
+
+pub loop-node-preserved : goal.loop-node-preserved
+loop-node-preserved g c =
+    let sign = (g.O.Signs.scene c.args.now.now).sign in
+    let key = g.K.Keyed.key c.args.key.now in
+    let at = c.loop-node.invariant.place c.loop-node-test.true in
+    let p = passed key sign c.args.self.now c.loop-node.self c.renew.new.self c.args.out.now c.loop-node.out c.renew.new.out c.loop-node.node c.loop-node-test.true at.0 at.1 c.in_default.ensures c.loop-node.invariant.mending c.renew.ensures.tree c.in_ok-renew.ensures.renewed in
+    let q = stepped key sign c.args.self.now c.loop-node.self c.renew.new.self c.settle_node.new.self c.args.out.now c.renew.new.out c.loop-node.node c.loop-node-test.true at.0 p c.settle_node.ensures.tree c.settle_node.ensures.cleared in
+    let less = q.count in
+    let was = c.loop-node.invariant.cost in
+    let more = c.in_ok-renew.ensures.cost in
+    record { mending = q.mending; place = q.place; ended = q.ended; cost = omega arith }
+
+pub returns-clause-clear : goal.returns-clause-clear
+returns-clause-clear g c = all_clear c.loop-node.self.doubts c.loop-node.invariant.mending.doubtful.tree.closed (c.loop-node.invariant.ended (omega arith))

@@ -1,0 +1,67 @@
+-- What the steps of a repair do to a tree of matches.
+use Rattle.std.specs.Prelude.{◌≡◌, ◌≢◌, ◌⊎◌, ℕ, ◌+◌, ◌*◌, ◌/◌, ◌^◌, ◌≤◌, ◌<◌, true, false, List, ◌++◌, length, Option, None, slice_set, slice_index_or}
+use Rattle.kin_motion.specs.declared.form.Form.{Form}
+use Rattle.kin_algebra.specs.declared.sign.Sign.{Sign}
+use Rattle.kin_motion.specs.declared.fact.Fact.{Fact}
+use Rattle.kin_motion.specs.declared.fact.Placed.{Placed}
+use Rattle.kin_motion.specs.Deltas.{Change}
+use Rattle.kin_motion.specs.Tournaments.{Key}
+use Rattle.kin_tourney.specs.declared.doubt.Doubt.{Doubt}
+use Rattle.kin_tourney.specs.declared.doubt.Doubt.TheVariants.{Clear, Here}
+use Rattle.kin_tourney.specs.Tournament.{mark_in}
+use Rattle.kin_tourney.specs.Standings.{Standings, IsTree, doubt_in, doubt_count, best_in, fact_in, match_at, IsRight, placed_of}
+
+-- only the doubts differ
+abbrev pub SameButDoubts : {Item : Type 0} → Standings Item → Standings Item → Type 0
+SameButDoubts old new = new ≡ record old { doubts = new.doubts }
+
+-- a node and those above it came into a doubt where they were clear
+pub record IsSpread (old new : List Doubt) (doubt : Doubt) (node : ℕ) : Type 0 where
+  pub room : length new ≡ length old
+  pub reached : doubt_in new node ≢ Clear
+  pub each : (v : ℕ) → (doubt_in new v ≡ doubt_in old v) ⊎ ((doubt_in old v ≡ Clear) × (doubt_in new v ≡ doubt))
+  pub few : (height : ℕ) → node < 2 ^ height → doubt_count new ≤ doubt_count old + height
+
+-- the parts of these facts came into doubt, and what was in doubt still is
+pub record IsDoubted (old new : List Doubt) (failed : List Placed) (count : ℕ) : Type 0 where
+  pub room : length new ≡ length old
+  pub failed_here : (k : ℕ) (d : Placed) → k < count → doubt_in new (slice_index_or failed k d).part ≡ Here
+  pub here_kept : (v : ℕ) → doubt_in old v ≡ Here → doubt_in new v ≡ Here
+  pub kept : (v : ℕ) → doubt_in new v ≡ Clear → doubt_in old v ≡ Clear
+  pub few : (height : ℕ) → length old ≤ 2 ^ height → doubt_count new ≤ doubt_count old + height * count
+
+-- that one fact of a node took the place of another was reported
+abbrev pub IsReported : ℕ → Option Fact → Option Fact → Change → Change → Type 0
+IsReported v old new before after =
+    ((old ≡ new) × (after ≡ before))
+    ⊎ ((old ≢ new) × (after ≡ record { dropped = before.dropped ++ placed_of v old; born = before.born ++ placed_of v new }))
+
+-- what is known while nodes are in doubt: a node that need not be played again is right
+pub record IsDoubtful {Item : Type 0} (key : Key Item) (sign : Form → Sign) (t : Standings Item) : Type 0 where
+  pub tree : IsTree t
+  pub leaves : (i : ℕ) → mark_in t.marked i ≡ true → doubt_in t.doubts ((length t.items + i) / 2) ≢ Clear
+  pub right : (v : ℕ) → 0 < v → v < length t.items → doubt_in t.doubts v ≢ Here → IsRight key sign t v
+  pub no_root : fact_in t.facts 0 ≡ None
+
+-- a node was played again; where its winner changed, the node above has to be
+pub record IsReplayed {Item : Type 0} (key : Key Item) (sign : Form → Sign) (node : ℕ) (old new : Standings Item) (before after : Change) : Type 0 where
+  pub same_size : new.size ≡ old.size
+  pub same_items : new.items ≡ old.items
+  pub same_marked : new.marked ≡ old.marked
+  pub other_best : (v : ℕ) → v ≢ node → best_in new.best v ≡ best_in old.best v
+  pub other_facts : (v : ℕ) → v ≢ node → fact_in new.facts v ≡ fact_in old.facts v
+  pub played : (best_in new.best node, fact_in new.facts node) ≡ match_at key sign old node
+  pub reported : IsReported node (fact_in old.facts node) (fact_in new.facts node) before after
+  pub doubts : ((best_in new.best node ≡ best_in old.best node) × (new.doubts ≡ old.doubts)) ⊎ (new.doubts ≡ slice_set old.doubts (node / 2) Here)
+
+-- a node was played again where it was in doubt itself
+abbrev pub IsRenewed : {Item : Type 0} → Key Item → (Form → Sign) → ℕ → Standings Item → Standings Item → Change → Change → Type 0
+IsRenewed key sign node old new before after =
+    ((doubt_in old.doubts node ≡ Here) × IsReplayed key sign node old new before after)
+    ⊎ ((doubt_in old.doubts node ≢ Here) × (new ≡ old) × (after ≡ before))
+
+-- a node is clear now, and slots right below it are unmarked
+pub record IsCleared {Item : Type 0} (node : ℕ) (old new : Standings Item) : Type 0 where
+  pub same : new ≡ record old { marked = new.marked; doubts = slice_set old.doubts node Clear }
+  pub unmarked : (i : ℕ) → (length old.items + i) / 2 ≡ node → mark_in new.marked i ≡ false
+  pub marks_kept : (i : ℕ) → (length old.items + i) / 2 ≢ node → mark_in new.marked i ≡ mark_in old.marked i

@@ -1,0 +1,40 @@
+//! What a tournament compares.
+
+ghost use Rattle.std.specs.Prelude.{◌≡◌, ◌≢◌, ℕ, true, not, List};
+ghost use Rattle.kin_motion.specs.Forms.{IsAskable};
+ghost use Rattle.kin_motion.specs.Scene.{Scene, IsReal};
+ghost use Rattle.kin_motion.specs.Tournaments.{Key, beats};
+ghost use Rattle.kin_tourney.specs.Names.{AreLive};
+
+use kin_motion::form::Form;
+use kin_num::Sign;
+
+/// How two items are compared: by which form, and which of them wins at its sign. Item a beats
+/// item b where the left one wins with a as the left one and b as the right one.
+pub trait Keyed: Drop {
+    type Item: Copy;
+
+    /// The numbers that an item names.
+    ghost names: { Self.Item → List ℕ };
+
+    /// How two items are compared.
+    ghost key: { Self → Key Self.Item };
+
+    /// The form that is asked for two items.
+    fn form(&self, left: &Self::Item, right: &Self::Item) -> Form
+        ensures { result ≡ (key self.now).form left.now right.now };
+
+    /// Whether the left item wins where their form has this sign.
+    fn left_wins(&self, sign: Sign, left: &Self::Item, right: &Self::Item) -> bool
+        ensures { result ≡ (key self.now).left_wins sign left.now right.now };
+
+    /// The form names the items' numbers alone, and keeps the bounds.
+    ghost askable: { (k : Self) (live : List ℕ) (x y : Self.Item) → AreLive live (names x) → AreLive live (names y) → IsAskable live ((key k).form x y) };
+
+    /// Of two different items that name live numbers exactly one beats the other.
+    ghost total: { (k : Self) (s : Scene) (x y : Self.Item) → IsReal s → AreLive s.live (names x) → AreLive s.live (names y) → x ≢ y → beats s (key k) y x ≡ not (beats s (key k) x y) };
+
+    /// Over items that name live numbers, "beats" is transitive.
+    ghost transitive: { (k : Self) (s : Scene) (x y z : Self.Item) → IsReal s → AreLive s.live (names x) → AreLive s.live (names y) → AreLive s.live (names z) →
+        beats s (key k) x y ≡ true → beats s (key k) y z ≡ true → beats s (key k) x z ≡ true };
+}
