@@ -1,7 +1,7 @@
 -- First failures by the next root.
-use Rattle.std.proofs.Common.{◌≡◌, ◌≢◌, ◌⊎◌, inl, inr, Option, Some, None, MatchOption, IfSome, refl, ap, ap₂, sym, ◌∙◌, subst, ℤ, pos}
+use Rattle.std.proofs.Common.{◌≡◌, ◌≢◌, inl, inr, Some, None, refl, ap, ap₂, sym, ◌∙◌, ℤ, pos}
 use Rattle.kin_algebra.specs.declared.sign.Sign.{Sign}
-use Rattle.kin_algebra.specs.declared.sign.Sign.TheVariants.{Minus, Zero, Plus}
+use Rattle.kin_algebra.specs.declared.sign.Sign.TheVariants.{Zero}
 use Rattle.kin_algebra.specs.Signs.{first_of}
 use Rattle.kin_num.specs.declared.instant.Shape.{Shape}
 use Rattle.kin_num.specs.declared.instant.Phase.{Phase}
@@ -19,7 +19,6 @@ use Rattle.kin_instant.proofs.RootsOf.{constant_sign}
 use Rattle.kin_instant.proofs.SignTable.{at_at, at_after}
 use Rattle.kin_instant.proofs.Kept.{zero_after}
 use Rattle.kin_motion.specs.declared.fact.Fact.{Fact}
-use Rattle.kin_motion.specs.Moments.{FailsFirst, IsFromUntil}
 use Rattle.kin_cert.specs.Failures.{seen_by, IsFailure}
 
 -- the polynomial 0 has the sign 0 at every moment

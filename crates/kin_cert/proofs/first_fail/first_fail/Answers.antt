@@ -1,6 +1,3 @@
-use Rattle.std.proofs.Common.{◌≡◌, Option, None, Some, sym, subst}
-use Rattle.kin_num.specs.declared.instant.Shape.{Shape}
-use Rattle.kin_instant.specs.Places.{KeepsSign}
 use Rattle.kin_cert.proofs.Failing.{fails_at_root, never_fails}
 use Rattle.kin_cert.proofs.first_fail.first_fail.Goals as goal
 
