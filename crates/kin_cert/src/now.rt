@@ -12,6 +12,7 @@ use kin_num::{Moment, Sign, Steps};
 use std::sync::ledger::Ledger;
 
 /// Motions at one moment, which tell the signs of forms.
+#[derive(Drop)]
 pub struct Now<'a> {
     pub motions: &'a Motions,
     pub moment: &'a Moment,
