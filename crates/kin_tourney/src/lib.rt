@@ -16,3 +16,5 @@ mod entry;
 pub mod keyed;
 pub mod tourney;
 mod tree;
+#[cfg(test)]
+mod watch;
