@@ -7,7 +7,7 @@ use Rattle.kin_motion.specs.declared.fact.Fact.{Fact}
 use Rattle.kin_motion.specs.declared.fact.Placed.{Placed}
 use Rattle.kin_motion.specs.Deltas.{Change}
 use Rattle.kin_motion.specs.Kinetics.{AreDistinct, HasGained, HasChanged}
-use Rattle.kin_motion.proofs.BestLaws.{contains_cases, contains_tail}
+use Rattle.kin_motion.proofs.SetLaws.{contains_cases, contains_tail}
 use Rattle.kin_tourney.specs.Standings.{fact_in, placed_of, placed_from}
 use Rattle.kin_tourney.specs.Repairs.{IsReported}
 use Rattle.kin_tourney.proofs.AfterWrite.{same_or_not}
