@@ -41,7 +41,7 @@ sum_sign_of Minus Plus n = opposite_of n
 abbrev pub norm_of : ℤ → ℤ → ℤ → ℤ
 norm_of u v d = u *ℤ u -ℤ v *ℤ v *ℤ d
 
--- the sign of u + v * sqrt(d), where v counts as 0 if d is 0
+-- the sign of u + v * sqrt(d), for d at least 0; where d is 0, v counts as 0
 abbrev pub pair_sign_of : ℤ → ℤ → ℤ → Sign
 pair_sign_of u v (pos zero) = sign_of u
 pair_sign_of u v (pos (suc d)) = sum_sign_of (sign_of u) (sign_of v) (sign_of (norm_of u v (pos (suc d))))

@@ -4,6 +4,9 @@
 //! What it does before it calls `run` is in no contract. It writes nothing to standard error.
 #![tactic(auto)]
 
+ghost use Rattle.std.specs.Prelude.{◌≡◌};
+ghost use Rattle.kin_cmd.specs.Exits.{exit_status_of};
+
 use kin_io::standard::{StdSink, StdSource};
 use kin_run::run::run;
 use kin_run::status::Status;
@@ -37,7 +40,9 @@ fn words_of<R: Env + AllocGlobal>(rt: &R) -> Result<Vec<String>, WordsFault> {
 }
 
 /// The exit status of a run.
-fn exit_of(status: Status) -> u8 {
+fn exit_of(status: Status) -> u8
+    ensures { result ≡ exit_status_of status }
+{
     match status {
         Status::Done => 0,
         Status::Fault(_) => 1,
@@ -64,7 +69,8 @@ fn main(rt: HostRuntime) -> ExitCode {
 #[cfg(test)]
 mod tests {
     use super::*;
-    use kin_run::status::{Refusal, Side};
+    use kin_run::Refusal;
+    use kin_run::status::Side;
 
     #[test]
     fn each_status_has_its_exit(rt: HostRuntime) {

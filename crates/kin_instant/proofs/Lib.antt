@@ -5,3 +5,6 @@ pub mod Zeros
 pub mod RootsOf
 pub mod Places
 pub mod Nexts
+pub mod Factors
+pub mod SignTable
+pub mod Kept

@@ -1,13 +1,12 @@
 -- The next root, from the roots.
-use Rattle.std.proofs.Common.{◌≡◌, ◌≢◌, ◌⊎◌, ◌↔◌, inl, inr, Some, None, refl, ap, ap₂, sym, ◌∙◌, subst, pos}
+use Rattle.std.proofs.Common.{◌≡◌, ◌≢◌, ◌⊎◌, inl, inr, Some, None, refl, ap, ap₂, sym, ◌∙◌, subst}
 use Rattle.kin_algebra.specs.declared.sign.Sign.{Sign}
 use Rattle.kin_algebra.specs.declared.sign.Sign.TheVariants.{Minus, Zero, Plus}
 use Rattle.kin_algebra.specs.Signs.{sign_of}
 use Rattle.kin_algebra.proofs.IntegerSigns.{zero_of}
 use Rattle.kin_num.specs.declared.instant.Shape.{Shape}
 use Rattle.kin_num.specs.Quadratic.{Quadratic}
-use Rattle.kin_num.specs.Canonical.{IsCanonicalForm, discriminant}
-use Rattle.kin_num.specs.Instants.{sign_at_instant}
+use Rattle.kin_num.specs.Canonical.{discriminant}
 use Rattle.kin_num.specs.Order.{IsLess}
 use Rattle.kin_num.proofs.LowerFractions.{not_less_itself, less_asym}
 use Rattle.kin_instant.specs.declared.roots.Roots.TheVariants.{Nowhere, One, Two, All}

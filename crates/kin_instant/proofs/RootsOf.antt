@@ -1,5 +1,5 @@
 -- What `roots` answers, case by case.
-use Rattle.std.proofs.Common.{◌≡◌, ◌≢◌, ◌⊎◌, ◌↔◌, inl, inr, Some, refl, ap, ap₂, sym, ◌∙◌, subst, Bool, true, false, ℕ, zero, suc, [], ◌∷◌, arith, ℤ, pos, negsuc, ◌+ℤ◌, ◌-ℤ◌, ◌*ℤ◌, unsigned_abs, ◌^◌, ◌*◌, ◌<◌, ◌≤◌}
+use Rattle.std.proofs.Common.{◌≡◌, ◌≢◌, ◌⊎◌, ◌↔◌, inl, inr, Some, refl, ap, ap₂, sym, ◌∙◌, subst, true, false, ℕ, [], ◌∷◌, arith, ℤ, pos, negsuc, ◌+ℤ◌, ◌-ℤ◌, ◌*ℤ◌, ◌*◌, ◌<◌}
 use Rattle.std.specs.Prelude.{◌<ℤ◌}
 use Rattle.std.proofs.lemmas.Int.{ints}
 use lib.IntN.{neg_ℤ}
@@ -12,14 +12,13 @@ use Rattle.kin_algebra.proofs.IntegerSigns.{sign_in, sign_out, sign_of-times, si
 use Rattle.kin_num.specs.declared.instant.Shape.{Shape}
 use Rattle.kin_num.specs.declared.instant.Shape.TheVariants.{Ratio, Root}
 use Rattle.kin_num.specs.Quadratic.{Quadratic}
-use Rattle.kin_num.specs.Canonical.{IsCanonical, IsCanonicalForm, IsLowest, IsIrreducible, HaveNoCommonDivisor, discriminant}
-use Rattle.kin_num.specs.Instants.{number_of, sign_at_instant, line}
+use Rattle.kin_num.specs.Canonical.{IsCanonical, IsCanonicalForm, IsIrreducible, HaveNoCommonDivisor, discriminant}
+use Rattle.kin_num.specs.Instants.{sign_at_instant, line}
 use Rattle.kin_num.specs.Order.{IsLess}
 use Rattle.kin_num.proofs.Values.{negated}
 use Rattle.kin_num.proofs.SignLaws.{sign_at_instant-neg}
-use Rattle.kin_instant.specs.declared.roots.Roots.{Roots}
 use Rattle.kin_instant.specs.declared.roots.Roots.TheVariants.{Nowhere, One, Two, All}
-use Rattle.kin_instant.specs.Roots.{IsFraction, Lists, AreCanonical, IsRising, count_of, count_by, root_count, quadratic, AreRootsOf}
+use Rattle.kin_instant.specs.Roots.{IsFraction, count_by, root_count, quadratic, AreRootsOf}
 use Rattle.kin_instant.proofs.Values.{sign-scaled, pair_sign-positive, pair_sign-scaled}
 use Rattle.kin_instant.proofs.Zeros.{line-zero, line-zero_at, quadratic-zero, root-zero_at, instant-negative, instant-split, instant-scaled}
 
@@ -42,7 +41,7 @@ one_root p n d h r f k same count = record {
 }
 
 -- ---- lines
-line_as : (b c : ℤ) → line (neg_ℤ c) b ≡ quadratic (pos 0) b c
+pub line_as : (b c : ℤ) → line (neg_ℤ c) b ≡ quadratic (pos 0) b c
 line_as b c = ap (quadratic (pos 0) b) (twice c)
   where
     twice : (c : ℤ) → neg_ℤ (neg_ℤ c) ≡ c

@@ -5,10 +5,10 @@ use Rattle.std.proofs.lemmas.Int.{ints}
 use lib.IntN.{neg_ℤ}
 use Rattle.kin_algebra.specs.declared.sign.Sign.{Sign}
 use Rattle.kin_algebra.specs.declared.sign.Sign.TheVariants.{Minus, Zero, Plus}
-use Rattle.kin_algebra.specs.Signs.{sign_of, opposite_of, product_of, first_of, sum_sign_of, norm_of, pair_sign_of}
+use Rattle.kin_algebra.specs.Signs.{sign_of, product_of, first_of, sum_sign_of, norm_of, pair_sign_of}
 use Rattle.kin_algebra.proofs.Ring.{by_ring, quotes}
 use Rattle.kin_algebra.proofs.Signs.{code}
-use Rattle.kin_algebra.proofs.IntegerSigns.{sign_of-times, sign_in, sign_of-negative}
+use Rattle.kin_algebra.proofs.IntegerSigns.{sign_of-times, sign_in}
 use Rattle.kin_num.specs.declared.instant.Shape.{Shape}
 use Rattle.kin_num.specs.declared.instant.Shape.TheVariants.{Ratio, Root}
 use Rattle.kin_num.specs.Quadratic.{Quadratic}
@@ -16,7 +16,6 @@ use Rattle.kin_num.specs.Canonical.{IsCanonicalForm, discriminant}
 use Rattle.kin_num.specs.Instants.{sign_at_instant, sign_at_phase, sign_at, derivative, number_of}
 use Rattle.kin_num.specs.declared.instant.Phase.{Phase}
 use Rattle.kin_num.specs.declared.instant.Phase.TheVariants.{At, After}
-use Rattle.kin_num.specs.declared.instant.Moment.{Moment}
 use Rattle.kin_instant.specs.Remainders.{remainder_slope_of, remainder_start_of, side}
 
 -- ---- positive factors

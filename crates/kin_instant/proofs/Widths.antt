@@ -1,5 +1,5 @@
 -- Sums and differences of products that fit their width.
-use Rattle.std.proofs.Common.{◌≡◌, ℕ, ◌+◌, ◌*◌, ◌<◌, ◌≤◌, ◌^◌, ℤ, pos, negsuc, ◌+ℤ◌, ◌-ℤ◌, ◌*ℤ◌, unsigned_abs, FitsSigned, Bool, true, false, w64, to_z, of_z, refl, sym, ap, ap₂, ◌∙◌, subst, arith, mul-le-mul}
+use Rattle.std.proofs.Common.{◌≡◌, ℕ, ◌+◌, ◌*◌, ◌<◌, ◌≤◌, ◌^◌, ℤ, pos, ◌+ℤ◌, ◌-ℤ◌, ◌*ℤ◌, unsigned_abs, FitsSigned, true, false, w64, to_z, of_z, sym, ap, ap₂, ◌∙◌, subst, arith, mul-le-mul}
 use Rattle.std.proofs.lemmas.Int.{ints, to_z-of_z, fits_signed_from_abs, unsigned_abs-mul}
 use mir.Syntax.{Width}
 use mir.Val.{hbits}

@@ -1,28 +1,28 @@
 -- Where lines and quadratics are zero, and the sign of a quadratic by its discriminant.
-use Rattle.std.proofs.Common.{◌≡◌, ◌≢◌, ◌⊎◌, inl, inr, refl, ap, ap₂, sym, ◌∙◌, subst, Bool, true, false, ℕ, zero, suc, [], ◌∷◌, arith, ℤ, pos, negsuc, ◌+ℤ◌, ◌-ℤ◌, ◌*ℤ◌, unsigned_abs}
+use Rattle.std.proofs.Common.{◌≡◌, ◌≢◌, ◌⊎◌, inl, inr, refl, ap, ap₂, sym, ◌∙◌, Bool, true, false, zero, suc, [], ◌∷◌, arith, ℤ, pos, negsuc, ◌+ℤ◌, ◌-ℤ◌, ◌*ℤ◌}
 use Rattle.std.specs.Prelude.{◌<ℤ◌}
-use Rattle.std.proofs.lemmas.Int.{ints, unsigned_abs-mul}
+use Rattle.std.proofs.lemmas.Int.{ints}
 use lib.IntN.{neg_ℤ}
 use Rattle.kin_algebra.specs.declared.sign.Sign.{Sign}
 use Rattle.kin_algebra.specs.declared.sign.Sign.TheVariants.{Minus, Zero, Plus}
-use Rattle.kin_algebra.specs.Signs.{sign_of, product_of, norm_of, pair_sign_of}
+use Rattle.kin_algebra.specs.Signs.{sign_of, product_of, pair_sign_of}
 use Rattle.kin_algebra.proofs.Ring.{by_ring, quotes}
-use Rattle.kin_algebra.proofs.Signs.{code, AtLeast}
+use Rattle.kin_algebra.proofs.Signs.{code}
 use Rattle.kin_algebra.proofs.IntegerSigns.{sign_in, sign_out, zero_of, sign_of-times}
-use Rattle.kin_algebra.proofs.OrderedRings.{OrderedRing, scale, positive_sum, positive_cancel, sign_square}
+use Rattle.kin_algebra.proofs.OrderedRings.{scale, positive_sum, positive_cancel, sign_square}
 use Rattle.kin_algebra.proofs.Radicals.{Radical, pair_of_zero}
-use Rattle.kin_algebra.proofs.Pairs.{Pair, pair, pair_plus, pair_times, Sound, sign_over, sign_over-whole, sign_over-times, ordered}
+use Rattle.kin_algebra.proofs.Pairs.{pair, pair_plus, pair_times, Sound, sign_over, sign_over-whole, sign_over-times, ordered}
 use Rattle.kin_num.specs.declared.instant.Shape.{Shape}
 use Rattle.kin_num.specs.declared.instant.Shape.TheVariants.{Ratio, Root}
 use Rattle.kin_num.specs.Quadratic.{Quadratic}
 use Rattle.kin_num.specs.Canonical.{IsCanonicalForm, IsLowest, IsIrreducible, discriminant}
-use Rattle.kin_num.specs.Instants.{Number, number_of, sign_at_number, sign_at_instant, derivative, line}
+use Rattle.kin_num.specs.Instants.{Number, number_of, sign_at_number, sign_at_instant, line}
 use Rattle.kin_num.proofs.Values.{value, canonical-sound, irreducible-sound}
 use Rattle.kin_instant.specs.Roots.{quadratic}
 use Rattle.kin_num.proofs.Divisors.{cancel_factor, same_lowest}
 use Rattle.kin_num.proofs.RootZeros.{root_itself}
 
-positive_product : (a b : ℤ) → pos 0 <ℤ a → pos 0 <ℤ b → pos 0 <ℤ (a *ℤ b)
+pub positive_product : (a b : ℤ) → pos 0 <ℤ a → pos 0 <ℤ b → pos 0 <ℤ (a *ℤ b)
 positive_product a b h k = sign_out Plus (a *ℤ b) (sign_of-times a b ∙ ap₂ product_of (sign_in Plus a h) (sign_in Plus b k))
 
 -- ---- at any number whose radicand is sound and whose divisor is positive
@@ -147,6 +147,15 @@ zero_product a b e h = cancel_factor a b (pos 0) h (e ∙ nothing a)
     nothing : (a : ℤ) → pos 0 ≡ a *ℤ pos 0
     nothing a = omega (arith, ints)
 
+-- a square that is 0
+pub square_zero : (z : ℤ) → z *ℤ z ≡ pos 0 → z ≡ pos 0
+square_zero z e = zero_of z (root_sign (sign_of z) (sym (sign_of-times z z) ∙ ap sign_of e))
+  where
+    root_sign : (s : Sign) → product_of s s ≡ Zero → s ≡ Zero
+    root_sign Minus e = absurd (code e)
+    root_sign Zero e = refl
+    root_sign Plus e = absurd (code e)
+
 -- ---- lines
 -- a line through n/d is zero at the form of n/d in lowest terms
 pub ratio_on_line : (n d m e : ℤ) → pos 0 *ℤ (m *ℤ m +ℤ pos 0 *ℤ pos 0 *ℤ pos 0) +ℤ d *ℤ m *ℤ e +ℤ neg_ℤ n *ℤ e *ℤ e ≡ e *ℤ (m *ℤ d -ℤ n *ℤ e)
@@ -185,14 +194,20 @@ line_no_root a b d u D m h k real s some e =
     doubled : (z : ℤ) → pos 0 <ℤ z → pos 0 <ℤ (pos 2 *ℤ z)
     doubled z h = omega (arith, ints)
 
-pub line-zero : (w : Shape) → IsCanonicalForm w → (n d n' d' : ℤ) → pos 0 <ℤ d → IsLowest n' d' → n' *ℤ d ≡ n *ℤ d' → sign_at_instant (line n d) w ≡ Zero → w ≡ Ratio n' d'
+-- where a line is zero at a fraction, the fraction is its root
+pub on_line : (n d m e : ℤ) → pos 0 <ℤ e → sign_at_instant (line n d) (Ratio m e) ≡ Zero → m *ℤ d ≡ n *ℤ e
 unfolding sign_at_instant
-line-zero (Ratio m e) i n d n' d' h j q z =
-    let gone : m *ℤ d -ℤ n *ℤ e ≡ pos 0 = zero_product e (m *ℤ d -ℤ n *ℤ e) (sym (ratio_on_line n d m e) ∙ zero_of _ z) i.positive in
-    let same = same_lowest m e n' d' i j (chained n d m e n' d' h (no_difference (m *ℤ d) (n *ℤ e) gone) q) in
-    ap₂ Ratio same.0 same.1
-line-zero (Root a b c true) i n d n' d' h j q z = absurd (line_no_root a b d _ (discriminant a b c) (pos 1) i.positive h i.real (irreducible-sound a b c i) (λ e. absurd (omega (arith, ints, e))) z)
-line-zero (Root a b c false) i n d n' d' h j q z = absurd (line_no_root a b d _ (discriminant a b c) (negsuc 0) i.positive h i.real (irreducible-sound a b c i) (λ e. absurd (omega (arith, ints, e))) z)
+on_line n d m e h z = no_difference (m *ℤ d) (n *ℤ e) (zero_product e (m *ℤ d -ℤ n *ℤ e) (sym (ratio_on_line n d m e) ∙ zero_of _ z) h)
+
+-- no line is zero at an irrational root
+pub line-never : (a b c : ℤ) (upper : Bool) → IsIrreducible a b c → (n d : ℤ) → pos 0 <ℤ d → sign_at_instant (line n d) (Root a b c upper) ≢ Zero
+unfolding sign_at_instant
+line-never a b c true i n d h z = line_no_root a b d _ (discriminant a b c) (pos 1) i.positive h i.real (irreducible-sound a b c i) (λ e. absurd (omega (arith, ints, e))) z
+line-never a b c false i n d h z = line_no_root a b d _ (discriminant a b c) (negsuc 0) i.positive h i.real (irreducible-sound a b c i) (λ e. absurd (omega (arith, ints, e))) z
+
+pub line-zero : (w : Shape) → IsCanonicalForm w → (n d n' d' : ℤ) → pos 0 <ℤ d → IsLowest n' d' → n' *ℤ d ≡ n *ℤ d' → sign_at_instant (line n d) w ≡ Zero → w ≡ Ratio n' d'
+line-zero (Ratio m e) i n d n' d' h j q z = let same = same_lowest m e n' d' i j (chained n d m e n' d' h (on_line n d m e i.positive z) q) in ap₂ Ratio same.0 same.1
+line-zero (Root a b c upper) i n d n' d' h j q z = absurd (line-never a b c upper i n d h z)
 
 -- ---- irreducible quadratics
 on_itself : (a b c m : ℤ) → m *ℤ m ≡ pos 1 → a *ℤ (neg_ℤ b *ℤ neg_ℤ b +ℤ m *ℤ m *ℤ (b *ℤ b -ℤ pos 4 *ℤ a *ℤ c)) +ℤ b *ℤ neg_ℤ b *ℤ (pos 2 *ℤ a) +ℤ c *ℤ (pos 2 *ℤ a) *ℤ (pos 2 *ℤ a) ≡ pos 0

@@ -1,5 +1,5 @@
 -- Where an instant lies to a root, and what comes after it.
-use Rattle.std.specs.Prelude.{◌≡◌, ◌≢◌, Bool, true, false, ℤ, pos}
+use Rattle.std.specs.Prelude.{◌≡◌, ◌≢◌, Bool, true, false, Option, MatchOption, pos}
 use Rattle.std.specs.declared.cmp.Ordering.{Ordering}
 use Rattle.std.specs.declared.cmp.Ordering.TheVariants.{Less, Equal, Greater}
 use Rattle.kin_algebra.specs.declared.sign.Sign.{Sign}
@@ -7,8 +7,9 @@ use Rattle.kin_algebra.specs.declared.sign.Sign.TheVariants.{Minus, Zero, Plus}
 use Rattle.kin_num.specs.declared.instant.Shape.{Shape}
 use Rattle.kin_num.specs.Quadratic.{Quadratic}
 use Rattle.kin_num.specs.Canonical.{IsCanonical, IsCanonicalForm}
-use Rattle.kin_num.specs.Instants.{sign_at_instant}
-use Rattle.kin_num.specs.Order.{IsLess}
+use Rattle.kin_num.specs.declared.instant.Moment.{Moment}
+use Rattle.kin_num.specs.Instants.{sign_at_instant, sign_at}
+use Rattle.kin_num.specs.Order.{IsLess, IsEarlier}
 
 -- the place of an instant to a root, by the signs of the root's quadratic and of its slope there
 abbrev pub place_of : Sign → Sign → Bool → Ordering
@@ -39,3 +40,9 @@ pub record IsNextRoot (p : Quadratic) (w r : Shape) : Type 0 where
 -- no root is later than w
 abbrev pub HasNoRootAfter : Quadratic → Shape → Type 0
 HasNoRootAfter p w = (v : Shape) → IsCanonicalForm v → sign_at_instant p v ≡ Zero → ¬ (IsLess w v)
+
+-- from a moment at w on, where the polynomial isn't 0, its sign stays as it is before the instant, or for ever where none is told
+abbrev pub KeepsSign : Quadratic → Shape → Option Shape → Type 0
+KeepsSign p w until =
+    (m n : Moment) → m.at ≡ w → IsCanonicalForm m.at → IsCanonicalForm n.at → sign_at p m ≢ Zero → IsEarlier m n
+    → MatchOption until (Unit {0}) (IsLess n.at) → sign_at p n ≡ sign_at p m

@@ -48,8 +48,7 @@ fn fraction(n: i64, d: i64) -> Option<Instant> {
 
 fn root(a: i64, b: i64, c: i64, upper: bool) -> Option<Instant> {
     match roots(&poly(a, b, c)?) {
-        Roots::Two(_, greater) if upper => Some(greater),
-        Roots::Two(lesser, _) => Some(lesser),
+        Roots::Two(lesser, greater) => Some(if upper { greater } else { lesser }),
         _ => None,
     }
 }

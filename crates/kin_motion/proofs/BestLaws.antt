@@ -1,5 +1,5 @@
 -- The computed best item, and the computed extreme point.
-use Rattle.std.proofs.Common.{◌≡◌, ◌≢◌, ◌⊎◌, inl, inr, refl, sym, ap, ◌∙◌, subst, arith, List, [], ◌∷◌, ℕ, zero, suc, ◌<◌, Bool, true, false, cond, not, ◌||◌, nat_eq, nat_lt, ℤ, pos}
+use Rattle.std.proofs.Common.{◌≡◌, ◌≢◌, ◌⊎◌, inl, inr, refl, sym, ap, ◌∙◌, subst, arith, List, [], ◌∷◌, ℕ, zero, ◌<◌, Bool, true, false, cond, not, ◌||◌, nat_eq, nat_lt, ℤ, pos}
 use Rattle.std.specs.Prelude.{Option, Some, None, Contains, MatchOption}
 use Rattle.std.proofs.lemmas.Bool.Decides.{nat_tests}
 use Rattle.kin_algebra.specs.declared.sign.Sign.{Sign}
@@ -11,13 +11,7 @@ use Rattle.kin_motion.specs.Scene.{Scene}
 use Rattle.kin_motion.specs.Tournaments.{Key, beats, better_of, best_of}
 use Rattle.kin_motion.specs.Extremes.{IsExtreme, IsExtremePoint, left_is_farther, along_key, extreme_of}
 use Rattle.kin_motion.specs.Laws.{HasLineLaws}
-
-pub contains_cases : {A : Type 0} (x z : A) (xs : List A) → Contains (x ∷ xs) z → (x ≡ z) ⊎ Contains xs z
-contains_cases {A} x z xs (zero, l, e) = inl e
-contains_cases {A} x z xs (suc k, l, e) = inr (k, omega arith, e)
-
-pub contains_tail : {A : Type 0} (x z : A) (xs : List A) → Contains xs z → Contains (x ∷ xs) z
-contains_tail {A} x z xs (k, l, e) = (suc k, omega arith, e)
+use Rattle.kin_motion.proofs.SetLaws.{contains_cases, contains_tail}
 
 same_item : {A : Type 0} {a b : A} → Some a ≡ Some b → a ≡ b
 same_item {A} {a} {b} e = cc

@@ -1,5 +1,5 @@
 -- Two upper chains have one list of breakpoints, and it is the computed one.
-use Rattle.std.proofs.Common.{◌≡◌, ◌⊎◌, inl, inr, refl, sym, ap, ap₂, ◌∙◌, subst, arith, List, [], ◌∷◌, ℕ, zero, suc, Bool, true, false, cond, ◌&&◌}
+use Rattle.std.proofs.Common.{◌≡◌, ◌⊎◌, inl, inr, refl, sym, ap, ap₂, ◌∙◌, subst, List, [], ◌∷◌, ℕ, Bool, true, false, cond, ◌&&◌}
 use Rattle.std.specs.Prelude.{filter, Contains}
 use Rattle.kin_algebra.specs.declared.sign.Sign.{Sign}
 use Rattle.kin_algebra.specs.declared.sign.Sign.TheVariants.{Minus, Zero, Plus}
@@ -10,9 +10,8 @@ use Rattle.kin_motion.specs.Scene.{Scene, x_sign}
 use Rattle.kin_motion.specs.Chains.{is_plus, is_left, IsUpperChain}
 use Rattle.kin_motion.specs.Merges.{Half.{A, B}, Half, Breakpoint, is_of, breakpoints_of, slope_form, goes_first, is_placed_before, IsBreakpointList, put_before, merged, breakpoint_list}
 use Rattle.kin_motion.specs.Laws.{HasSlopeLaws, HasTurnLaws}
-use Rattle.kin_motion.proofs.SetLaws.{contains_none, contains_head, contains_tail, contains_cases, distinct_cons, distinct_none}
+use Rattle.kin_motion.proofs.SetLaws.{contains_none, contains_head, contains_tail, contains_cases, distinct_cons, distinct_none, filter-sound, filter-complete}
 use Rattle.kin_motion.proofs.AgreementLaws.{halves}
-use Rattle.kin_motion.proofs.LiveFactLaws.{filter-sound, filter-complete}
 use Rattle.kin_motion.proofs.JournalLaws.{first_of_chain, same_list}
 use Rattle.kin_motion.proofs.MergeLaws.{Falls, upper_falls}
 
@@ -151,11 +150,14 @@ module _ (s : Scene) (slopes : HasSlopeLaws s) where
       where
         at : (h : Half) → f.half ≡ h → (f.half ≡ B) × (is_placed_before s f e ≡ true)
         at A q = absurd (let k : true ≡ false = sym (first q) ∙ n in cc)
-        at B q = (q, (
-          ap₂ (λ x y. goes_first (s.sign (slope_form f e)) x y) q of_a
-          ∙ ap (λ t. goes_first t B A) (slopes.opposite e.left e.right f.left f.right)
-          ∙ other_way (s.sign (slope_form e f)) (sym (ap₂ (λ x y. goes_first (s.sign (slope_form e f)) x y) of_a q) ∙ n)
-        ))
+        at B q = (
+          q,
+          (
+              ap₂ (λ x y. goes_first (s.sign (slope_form f e)) x y) q of_a
+              ∙ ap (λ t. goes_first t B A) (slopes.opposite e.left e.right f.left f.right)
+              ∙ other_way (s.sign (slope_form e f)) (sym (ap₂ (λ x y. goes_first (s.sign (slope_form e f)) x y) of_a q) ∙ n)
+              ),
+        )
 
     put_chain : (l : List Breakpoint) → IsFirst l → IsChain (is_placed_before s) l → IsChain (is_placed_before s) (put_before s e l)
     put_chain [] first c = tt
@@ -216,12 +218,12 @@ module _ (s : Scene) (slopes : HasSlopeLaws s) where
   unfolding own
   breakpoints_agree turns left right a b ua ub =
       let m = merged_right (breakpoints_of A a) (breakpoints_of B b) (own_half A a) (own_half B b)
-          (breakpoints_come A a ua.rising (upper_falls s turns left a ua))
-          (weaker_chain comes (is_placed_before s) (λ e f c. (right_signs e f c).2) (breakpoints_of B b) (breakpoints_come B b ub.rising (upper_falls s turns right b ub))) in
+      (breakpoints_come A a ua.rising (upper_falls s turns left a ua))
+      (weaker_chain comes (is_placed_before s) (λ e f c. (right_signs e f c).2) (breakpoints_of B b) (breakpoints_come B b ub.rising (upper_falls s turns right b ub))) in
       record { of_a = m.1; of_b = m.2; falling = m.0 }
 
   -- ---- uniqueness
-  members_of : (a b : List ℕ) (es : List Breakpoint) → IsBreakpointList s a b es → (e : Breakpoint) → Contains es e → Contains (breakpoints_of A a) e ⊎ Contains (breakpoints_of B b) e
+  pub members_of : (a b : List ℕ) (es : List Breakpoint) → IsBreakpointList s a b es → (e : Breakpoint) → Contains es e → Contains (breakpoints_of A a) e ⊎ Contains (breakpoints_of B b) e
   unfolding own
   members_of a b es l e c = at e.half refl
     where
@@ -237,9 +239,10 @@ module _ (s : Scene) (slopes : HasSlopeLaws s) where
   list_comes : (es : List Breakpoint) → ((e : Breakpoint) → Contains es e → goes_right e ≡ true) → IsChain (is_placed_before s) es → IsChain comes es
   list_comes [] all c = tt
   list_comes (e ∷ []) all c = tt
-  list_comes (e ∷ f ∷ es) all c =
-      (both_true (goes_right e && goes_right f) (is_placed_before s e f) (both_true (goes_right e) (goes_right f) (all e (contains_head e (f ∷ es))) (all f (contains_tail e f (f ∷ es) (contains_head f es)))) c.0,
-       list_comes (f ∷ es) (λ g k. all g (contains_tail e g (f ∷ es) k)) c.1)
+  list_comes (e ∷ f ∷ es) all c = (
+    both_true (goes_right e && goes_right f) (is_placed_before s e f) (both_true (goes_right e) (goes_right f) (all e (contains_head e (f ∷ es))) (all f (contains_tail e f (f ∷ es) (contains_head f es)))) c.0,
+    list_comes (f ∷ es) (λ g k. all g (contains_tail e g (f ∷ es) k)) c.1,
+  )
 
   pub chain_of_list : (a b : List ℕ) (es : List Breakpoint) → IsChain (is_left s) a → IsChain (is_left s) b → IsBreakpointList s a b es → IsChain comes es
   chain_of_list a b es ca cb l = list_comes es (λ e c. right e (members_of a b es l e c)) l.falling

@@ -14,7 +14,8 @@ use Rattle.kin_motion.specs.Octants.{Near, is_less_pair, left_is_nearer, distanc
 use Rattle.kin_motion.specs.Laws.{HasDistanceLaws}
 use Rattle.kin_motion.specs.Agreements.{ClosestAgrees}
 use Rattle.kin_motion.proofs.LiveLaws.{not_below}
-use Rattle.kin_motion.proofs.BestLaws.{contains_cases, contains_tail, none_there, best_is_top, IsTop}
+use Rattle.kin_motion.proofs.SetLaws.{contains_cases, contains_tail}
+use Rattle.kin_motion.proofs.BestLaws.{none_there, best_is_top, IsTop}
 use Rattle.kin_motion.proofs.DistanceLaws.{LessPair, less_from, less_to, not_both, three_ways, same_or_less, nearer_transitive, real_distance_laws}
 
 -- each number is less than all behind it

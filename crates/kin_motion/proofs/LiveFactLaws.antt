@@ -13,18 +13,19 @@ use Rattle.kin_motion.specs.Scene.{Scene, IsReal}
 use Rattle.kin_motion.specs.Orders.{IsOrderFact, order_facts}
 use Rattle.kin_motion.specs.Live.{Certificate, IsKeepFact, IsLiveFact, ListsLive, keep_facts, owned_by, live_facts_from, live_facts}
 use Rattle.kin_motion.specs.Journal.{Setting, Failure, IsFailure, failures_at, seen_in, has_failed, is_listed_before, same_sign}
-use Rattle.kin_motion.specs.Agreements.{KeepsNoHull, LiveFactsAgree, FailuresAgree}
-use Rattle.kin_motion.proofs.SetLaws.{contains_none, contains_head, contains_tail, contains_cases, contains_mapped, contains_map, exactly_none, exactly_both, exactly_in_words, exactly_mapped}
+use Rattle.kin_motion.specs.Agreements.{FitsSize, LiveFactsAgree, FailuresAgree}
+use Rattle.kin_motion.proofs.SetLaws.{contains_head, contains_tail, contains_cases, contains_mapped, contains_map, exactly_none, exactly_both, exactly_in_words, exactly_mapped, filter-sound, filter-complete}
+use Rattle.kin_motion.proofs.HullFactLaws.{hull_facts_agree}
 use Rattle.kin_motion.proofs.ExtremeFactLaws.{extreme_facts_agree}
 use Rattle.kin_motion.proofs.ClosestFactLaws.{order_facts_agree, part_of_order, closest_facts_agree}
 
-module _ (size : ℕ) (s : Scene) (real : IsReal s) where
-  keep_exact : (keep : Keep) → keep ≢ Hull → ListsExactly (keep_facts size s keep) (IsKeepFact size s keep)
-  keep_exact (Order dx dy) n = order_facts_agree s dx dy 0 real
-  keep_exact (Extreme dx dy) n = extreme_facts_agree size s dx dy real
-  keep_exact Hull n = absurd (n refl)
-  keep_exact Closest n = closest_facts_agree size s real
-  keep_exact Range n =
+module _ (size : ℕ) (s : Scene) (real : IsReal s) (fits : FitsSize size s) where
+  keep_exact : (keep : Keep) → ListsExactly (keep_facts size s keep) (IsKeepFact size s keep)
+  keep_exact (Order dx dy) = order_facts_agree s dx dy 0 real
+  keep_exact (Extreme dx dy) = extreme_facts_agree size s dx dy real
+  keep_exact Hull = hull_facts_agree size s real fits
+  keep_exact Closest = closest_facts_agree size s real
+  keep_exact Range =
       exactly_both (order_facts s (pos 1) (pos 0) 0) (order_facts s (pos 0) (pos 1) 1) (IsOrderFact s (pos 1) (pos 0) 0) (IsOrderFact s (pos 0) (pos 1) 1)
       (order_facts_agree s (pos 1) (pos 0) 0 real) (order_facts_agree s (pos 0) (pos 1) 1 real)
       (λ p f g. let e = part_of_order s (pos 1) (pos 0) 0 p f in let h = part_of_order s (pos 0) (pos 1) 1 p g in omega (arith, e, h))
@@ -39,13 +40,13 @@ module _ (size : ℕ) (s : Scene) (real : IsReal s) where
   owned_one : (n : ℕ) (p q : Placed) → owned_by n p ≡ owned_by n q → p ≡ q
   owned_one n p q e = ap (λ (c : Certificate). c.placed) e
 
-  keeps_exact : (n : ℕ) (keeps : List Keep) → KeepsNoHull keeps → ListsExactly (live_facts_from n size keeps s) (IsFactOf n keeps)
-  keeps_exact n [] none = exactly_none _ (λ c w. absurd (let e = w.2 in cc))
-  keeps_exact n (keep ∷ keeps) none =
+  keeps_exact : (n : ℕ) (keeps : List Keep) → ListsExactly (live_facts_from n size keeps s) (IsFactOf n keeps)
+  keeps_exact n [] = exactly_none _ (λ c w. absurd (let e = w.2 in cc))
+  keeps_exact n (keep ∷ keeps) =
       exactly_in_words (map (owned_by n) (keep_facts size s keep) ++ live_facts_from (n + 1) size keeps s) _ _ (λ c. (to c, from c))
       (exactly_both (map (owned_by n) (keep_facts size s keep)) (live_facts_from (n + 1) size keeps s) (Owns n keep) (IsFactOf (n + 1) keeps)
-      (exactly_mapped (owned_by n) (keep_facts size s keep) (IsKeepFact size s keep) (owned_one n) (keep_exact keep (λ e. none (subst (λ (x : Keep). Contains (keep ∷ keeps) x) e (contains_head keep keeps)))))
-      (keeps_exact (n + 1) keeps (λ h. none (contains_tail keep Hull keeps h)))
+      (exactly_mapped (owned_by n) (keep_facts size s keep) (IsKeepFact size s keep) (owned_one n) (keep_exact keep))
+      (keeps_exact (n + 1) keeps)
       (λ c f g. let e : c.structure ≡ n = ap (λ (x : Certificate). x.structure) f.2 in let h : c.structure ≡ n + 1 + g.0 = g.3 in omega (arith, e, h)))
     where
       to : (c : Certificate) → Owns n keep c ⊎ IsFactOf (n + 1) keeps c → IsFactOf n (keep ∷ keeps) c
@@ -63,15 +64,15 @@ module _ (size : ℕ) (s : Scene) (real : IsReal s) where
       from c (suc k, kept, e, h, f) = inr (k, kept, e, omega (arith, h), f)
 
 pub live_facts_agree : LiveFactsAgree
-live_facts_agree size keeps s real none = exactly_in_words (live_facts size keeps s) _ _ (λ c. (to c, from c)) (keeps_exact size s real 0 keeps none)
+live_facts_agree size keeps s real fits = exactly_in_words (live_facts size keeps s) _ _ (λ c. (to c, from c)) (keeps_exact size s real fits 0 keeps)
   where
-    to : (c : Certificate) → IsFactOf size s real 0 keeps c → IsLiveFact size keeps s c
+    to : (c : Certificate) → IsFactOf size s real fits 0 keeps c → IsLiveFact size keeps s c
     to c (k, keep, e, h, f) = let g : k ≡ c.structure = omega (arith, h) in record { keep = keep; kept = sym (ap (slice_get keeps) g) ∙ e; fact = f }
 
-    from : (c : Certificate) → IsLiveFact size keeps s c → IsFactOf size s real 0 keeps c
+    from : (c : Certificate) → IsLiveFact size keeps s c → IsFactOf size s real fits 0 keeps c
     from c w = (c.structure, w.keep, w.kept, omega arith, w.fact)
 
--- ---- sorting and filtering keep what is there
+-- ---- sorting keeps what is there
 module _ {A : Type 0} (lt : A → A → Bool) where
   put-has : (x : A) (xs : List A) (z : A) → Contains (put_in lt x xs) z ↔ Contains (x ∷ xs) z
   put-has x [] z = ((λ h. h), (λ h. h))
@@ -112,29 +113,6 @@ module _ {A : Type 0} (lt : A → A → Bool) where
       back r (inl e) = subst (λ (v : A). Contains (x ∷ sorted_by lt xs) v) e (contains_head x (sorted_by lt xs))
       back r (inr h) = contains_tail x z (sorted_by lt xs) (r.1 h)
 
-module _ {A : Type 0} (test : A → Bool) where
-  pub filter-sound : (xs : List A) (z : A) → Contains (filter test xs) z → Contains xs z × (test z ≡ true)
-  filter-sound [] z h = absurd (contains_none z h)
-  filter-sound (x ∷ xs) z h = at (test x) refl h (filter-sound xs z)
-    where
-      at : (b : Bool) → test x ≡ b → Contains (cond b (x ∷ filter test xs) (filter test xs)) z → (Contains (filter test xs) z → Contains xs z × (test z ≡ true)) → Contains (x ∷ xs) z × (test z ≡ true)
-      at false e h r = let w = r h in (contains_tail x z xs w.0, w.1)
-      at true e h r = first (contains_cases x z (filter test xs) h)
-        where
-          first : (x ≡ z) ⊎ Contains (filter test xs) z → Contains (x ∷ xs) z × (test z ≡ true)
-          first (inl f) = (subst (λ (v : A). Contains (x ∷ xs) v) f (contains_head x xs), sym (ap test f) ∙ e)
-          first (inr k) = let w = r k in (contains_tail x z xs w.0, w.1)
-
-  pub filter-complete : (xs : List A) (z : A) → Contains xs z → test z ≡ true → Contains (filter test xs) z
-  filter-complete [] z h e = absurd (contains_none z h)
-  filter-complete (x ∷ xs) z h e = at (test x) refl (contains_cases x z xs h) (λ k. filter-complete xs z k e)
-    where
-      at : (b : Bool) → test x ≡ b → (x ≡ z) ⊎ Contains xs z → (Contains xs z → Contains (filter test xs) z) → Contains (cond b (x ∷ filter test xs) (filter test xs)) z
-      at true f (inl g) r = subst (λ (v : A). Contains (x ∷ filter test xs) v) g (contains_head x (filter test xs))
-      at true f (inr k) r = contains_tail x z (filter test xs) (r k)
-      at false f (inl g) r = absurd (let clash : false ≡ true = sym f ∙ ap test g ∙ e in cc)
-      at false f (inr k) r = r k
-
 -- ---- failures
 same_signs : (a b : Sign) → same_sign a b ≡ true → a ≡ b
 same_signs Minus Minus e = refl
@@ -166,10 +144,10 @@ abbrev seen_all : Setting → Moment → Moment → List Failure
 seen_all t now m = map (seen_in (t.scene m)) (live_facts t.size t.keeps (t.scene now))
 
 pub failures_agree : FailuresAgree
-failures_agree t now m real none f = (to, from)
+failures_agree t now m real fits f = (to, from)
   where
     listed : ListsLive t.size t.keeps (t.scene now) (live_facts t.size t.keeps (t.scene now))
-    listed = live_facts_agree t.size t.keeps (t.scene now) real none
+    listed = live_facts_agree t.size t.keeps (t.scene now) real fits
 
     to : Contains (failures_at t now m) f → IsFailure t now m f
     to h =

@@ -1,41 +1,35 @@
 -- No form of a merge stands twice, and the computed forms are those of the merge.
-use Rattle.std.proofs.Common.{◌≡◌, ◌≢◌, ◌⊎◌, inl, inr, refl, sym, ap, ap₂, ◌∙◌, subst, arith, List, [], ◌∷◌, ◌++◌, ℕ, zero, suc, Bool, true, false, cond, ◌||◌, ◌&&◌, nat_eq, map, ℤ, pos}
-use Rattle.std.specs.Prelude.{filter, Contains}
+use Rattle.std.proofs.Common.{◌≡◌, ◌⊎◌, inl, inr, refl, sym, ap, ◌∙◌, subst, arith, List, [], ◌∷◌, ◌++◌, ℕ, Bool, true, false, cond, ◌||◌, nat_eq, map, ℤ, pos}
+use Rattle.std.specs.Prelude.{Contains}
 use Rattle.std.proofs.lemmas.Bool.Decides.{nat_tests}
-use Rattle.std.proofs.lemmas.List.Elements.{Contains-append_left, Contains-append_right, Contains-append_cases}
+use Rattle.std.proofs.lemmas.List.Elements.{Contains-append_cases}
 use Rattle.kin_motion.specs.declared.form.Form.{Form}
 use Rattle.kin_motion.specs.declared.form.Form.TheVariants.{Line, Turn, Slope, Dist}
-use Rattle.kin_motion.specs.Numbers.{is_in, IsOnce, IsChain}
-use Rattle.kin_motion.specs.Sets.{AreDistinct, ListsExactly}
-use Rattle.kin_motion.specs.Scene.{Scene, IsReal, x_sign}
-use Rattle.kin_motion.specs.Chains.{is_zero, is_left, IsUpperChain, upper_chain_of}
-use Rattle.kin_motion.specs.Merges.{Half.{A, B}, Half, Breakpoint, is_of, breakpoints_of, slope_form, IsBreakpointList, breakpoint_list, current_after, other_current, turns_from, slope_between, slopes_from, end_forms, last_of, forms_of_ends, forms_of_merge, IsMergeForm, merge_forms}
-use Rattle.kin_motion.proofs.SetLaws.{contains_none, contains_head, contains_tail, contains_cases, contains_mapped, contains_map, distinct_none, distinct_cons, distinct_head, distinct_tail, distinct_append}
-use Rattle.kin_motion.proofs.RealLaws.{real_line_laws, real_turn_laws}
-use Rattle.kin_motion.proofs.SlopeLaws.{real_slope_laws}
-use Rattle.kin_motion.proofs.ChainLaws.{one_upper_chain}
-use Rattle.kin_motion.proofs.Sorting.{sorted-once}
-use Rattle.kin_motion.proofs.AgreementLaws.{chain_agrees, kept-members, kept-once, halves}
-use Rattle.kin_motion.proofs.BreakpointLaws.{breakpoints_agree, one_breakpoint_list, chain_of_list, list_distinct}
+use Rattle.kin_motion.specs.Numbers.{is_in, IsOnce}
+use Rattle.kin_motion.specs.Sets.{AreDistinct}
+use Rattle.kin_motion.specs.Scene.{Scene, x_sign}
+use Rattle.kin_motion.specs.Chains.{is_zero}
+use Rattle.kin_motion.specs.Merges.{Half.{A, B}, Breakpoint, is_of, slope_form, current_after, other_current, turns_from, slope_between, slopes_from, end_forms, last_of, forms_of_ends}
+use Rattle.kin_motion.proofs.SetLaws.{contains_none, contains_head, contains_tail, contains_cases, distinct_none, distinct_cons, distinct_head, distinct_tail, distinct_append}
 
 -- ---- the left points of a list of breakpoints
-lefts : List Breakpoint → List ℕ
+unfoldable pub lefts : List Breakpoint → List ℕ
 lefts es = map (λ (e : Breakpoint). e.left) es
 
 -- the number that a turn or a slope names first
-first_number : Form → ℕ
+pub first_number : Form → ℕ
 first_number (Line dx dy off i j) = 0
 first_number (Turn i j k) = i
 first_number (Slope i j k l) = i
 first_number (Dist i j k l) = 0
 
-kind : Form → ℕ
+pub kind : Form → ℕ
 kind (Line dx dy off i j) = 0
 kind (Turn i j k) = 1
 kind (Slope i j k l) = 2
 kind (Dist i j k l) = 3
 
-turn_first : (a b : ℕ) (es : List Breakpoint) (f : Form) → Contains (turns_from a b es) f → Contains (lefts es) (first_number f) × (kind f ≡ 1)
+pub turn_first : (a b : ℕ) (es : List Breakpoint) (f : Form) → Contains (turns_from a b es) f → Contains (lefts es) (first_number f) × (kind f ≡ 1)
 unfolding lefts first_number kind
 turn_first a b [] f c = absurd (contains_none f c)
 turn_first a b (e ∷ es) f c = at (contains_cases (Turn e.left e.right (other_current e.half a b)) f (turns_from (current_after A e a) (current_after B e b) es) c) (turn_first (current_after A e a) (current_after B e b) es f)
@@ -45,7 +39,7 @@ turn_first a b (e ∷ es) f c = at (contains_cases (Turn e.left e.right (other_c
     at (inl q) rest = (subst (λ n. Contains (lefts (e ∷ es)) n) (ap first_number q) (contains_head e.left (lefts es)), sym (ap kind q))
     at (inr k) rest = let r = rest k in (contains_tail e.left (first_number f) (lefts es) r.0, r.1)
 
-turns_distinct : (a b : ℕ) (es : List Breakpoint) → AreDistinct (lefts es) → AreDistinct (turns_from a b es)
+pub turns_distinct : (a b : ℕ) (es : List Breakpoint) → AreDistinct (lefts es) → AreDistinct (turns_from a b es)
 unfolding lefts first_number
 turns_distinct a b [] d = distinct_none
 turns_distinct a b (e ∷ es) d =
@@ -72,7 +66,7 @@ between_distinct e f = at (is_of e.half f.half)
     at true = distinct_none
     at false = distinct_cons (slope_form e f) [] (contains_none (slope_form e f)) distinct_none
 
-slope_first : (es : List Breakpoint) (g : Form) → Contains (slopes_from es) g → Contains (lefts es) (first_number g) × (kind g ≡ 2)
+pub slope_first : (es : List Breakpoint) (g : Form) → Contains (slopes_from es) g → Contains (lefts es) (first_number g) × (kind g ≡ 2)
 unfolding lefts
 slope_first [] g c = absurd (contains_none g c)
 slope_first (e ∷ []) g c = absurd (contains_none g c)
@@ -82,7 +76,7 @@ slope_first (e ∷ f ∷ es) g c = at (Contains-append_cases (slope_between e f)
     at (inl k) rest = let r = between_first e f g k in (subst (λ n. Contains (lefts (e ∷ f ∷ es)) n) (sym r.0) (contains_head e.left (lefts (f ∷ es))), r.1)
     at (inr k) rest = let r = rest k in (contains_tail e.left (first_number g) (lefts (f ∷ es)) r.0, r.1)
 
-slopes_distinct : (es : List Breakpoint) → AreDistinct (lefts es) → AreDistinct (slopes_from es)
+pub slopes_distinct : (es : List Breakpoint) → AreDistinct (lefts es) → AreDistinct (slopes_from es)
 unfolding lefts
 slopes_distinct [] d = distinct_none
 slopes_distinct (e ∷ []) d = distinct_none
@@ -176,13 +170,13 @@ module _ (s : Scene) where
   last_other : (p q : ℕ) (ps : List ℕ) → IsOnce (p ∷ q ∷ ps) → p ≡ last_of q ps → ⊥
   last_other p q ps o e = let f : is_in p (q ∷ ps) ≡ true = ap (λ n. is_in n (q ∷ ps)) e ∙ last_in q ps in let g : true ≡ false = sym f ∙ o.0 in absurd cc
 
-  ends_distinct : (a : ℕ) (as' : List ℕ) (b : ℕ) (bs : List ℕ) → IsOnce (a ∷ as') → IsOnce (b ∷ bs) → AreDistinct (forms_of_ends s a as' b bs)
+  pub ends_distinct : (a : ℕ) (as' : List ℕ) (b : ℕ) (bs : List ℕ) → IsOnce (a ∷ as') → IsOnce (b ∷ bs) → AreDistinct (forms_of_ends s a as' b bs)
   ends_distinct a [] b [] oa ob = end_distinct a b
   ends_distinct a [] b (q ∷ bs) oa ob = two_ends a b a (last_of q bs) (λ e f. last_other b q bs ob f)
   ends_distinct a (p ∷ as') b [] oa ob = two_ends a b (last_of p as') b (λ e f. last_other a p as' oa e)
   ends_distinct a (p ∷ as') b (q ∷ bs) oa ob = two_ends a b (last_of p as') (last_of q bs) (λ e f. last_other a p as' oa e)
 
-  ends_kind : (a : ℕ) (as' : List ℕ) (b : ℕ) (bs : List ℕ) (f : Form) → Contains (forms_of_ends s a as' b bs) f → kind f ≡ 0
+  pub ends_kind : (a : ℕ) (as' : List ℕ) (b : ℕ) (bs : List ℕ) (f : Form) → Contains (forms_of_ends s a as' b bs) f → kind f ≡ 0
   ends_kind a [] b [] f c = (end_names a b f c).2
   ends_kind a [] b (q ∷ bs) f c = two (Contains-append_cases (end_forms s a b) (end_forms s a (last_of q bs)) f c)
     where

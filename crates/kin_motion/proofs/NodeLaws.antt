@@ -15,7 +15,7 @@ either_true : (a b : Bool) → a || b ≡ true → (a ≡ true) ⊎ (b ≡ true)
 either_true true b h = inl refl
 either_true false b h = inr h
 
-not_above : (h u v : ℕ) → comes_to h u v ≡ true → v ≤ u
+pub not_above : (h u v : ℕ) → comes_to h u v ≡ true → v ≤ u
 not_above zero u v e = let f : u ≡ v = grind (arith, nat_tests, e) in omega (arith, f)
 not_above (suc h) u v e = at (either_true (nat_eq u v) (comes_to h (u / 2) v) e) (not_above h (u / 2) v)
   where

@@ -1,6 +1,6 @@
 -- Lists that have exactly what is asked, each once: joined, mapped, and sorted into one list.
-use Rattle.std.proofs.Common.{◌≡◌, ◌⊎◌, inl, inr, refl, sym, ap, ◌∙◌, subst, arith, List, [], ◌∷◌, ◌++◌, ℕ, zero, suc, ◌+◌, ◌<◌, ◌≤◌, map}
-use Rattle.std.specs.Prelude.{Some, slice_get, Contains, ◌↔◌, flat_map}
+use Rattle.std.proofs.Common.{◌≡◌, ◌⊎◌, inl, inr, refl, sym, ap, ◌∙◌, subst, arith, List, [], ◌∷◌, ◌++◌, ℕ, zero, suc, ◌+◌, ◌<◌, ◌≤◌, map, true, false, cond, Bool}
+use Rattle.std.specs.Prelude.{Some, slice_get, Contains, ◌↔◌, flat_map, filter}
 use Rattle.std.proofs.lemmas.List.Elements.{Contains-append_left, Contains-append_right, Contains-append_cases}
 use Rattle.kin_motion.specs.Numbers.{numbers_from}
 use Rattle.kin_motion.specs.Sets.{AreDistinct, ListsExactly}
@@ -155,3 +155,35 @@ exactly_in_turn {A} f p each apart a (suc k) =
 
     words : (z : A) → (p a z ⊎ ((n : ℕ) × (a + 1 ≤ n) × (n < a + 1 + k) × p n z)) ↔ ((n : ℕ) × (a ≤ n) × (n < a + suc k) × p n z)
     words z = (to z, from z)
+
+-- ---- what a filter keeps
+module _ {A : Type 0} (test : A → Bool) where
+  pub filter-sound : (xs : List A) (z : A) → Contains (filter test xs) z → Contains xs z × (test z ≡ true)
+  filter-sound [] z h = absurd (contains_none z h)
+  filter-sound (x ∷ xs) z h = at (test x) refl h (filter-sound xs z)
+    where
+      at : (b : Bool) → test x ≡ b → Contains (cond b (x ∷ filter test xs) (filter test xs)) z → (Contains (filter test xs) z → Contains xs z × (test z ≡ true)) → Contains (x ∷ xs) z × (test z ≡ true)
+      at false e h r = let w = r h in (contains_tail x z xs w.0, w.1)
+      at true e h r = first (contains_cases x z (filter test xs) h)
+        where
+          first : (x ≡ z) ⊎ Contains (filter test xs) z → Contains (x ∷ xs) z × (test z ≡ true)
+          first (inl f) = (subst (λ (v : A). Contains (x ∷ xs) v) f (contains_head x xs), sym (ap test f) ∙ e)
+          first (inr k) = let w = r k in (contains_tail x z xs w.0, w.1)
+
+  pub filter-complete : (xs : List A) (z : A) → Contains xs z → test z ≡ true → Contains (filter test xs) z
+  filter-complete [] z h e = absurd (contains_none z h)
+  filter-complete (x ∷ xs) z h e = at (test x) refl (contains_cases x z xs h) (λ k. filter-complete xs z k e)
+    where
+      at : (b : Bool) → test x ≡ b → (x ≡ z) ⊎ Contains xs z → (Contains xs z → Contains (filter test xs) z) → Contains (cond b (x ∷ filter test xs) (filter test xs)) z
+      at true f (inl g) r = subst (λ (v : A). Contains (x ∷ filter test xs) v) g (contains_head x (filter test xs))
+      at true f (inr k) r = contains_tail x z (filter test xs) (r k)
+      at false f (inl g) r = absurd (let clash : false ≡ true = sym f ∙ ap test g ∙ e in cc)
+      at false f (inr k) r = r k
+
+-- a list mapped by a function that tells its items apart
+pub distinct_mapped_on : {A B : Type 0} (f : A → B) (xs : List A) → ((x y : A) → Contains xs x → Contains xs y → f x ≡ f y → x ≡ y) → AreDistinct xs → AreDistinct (map f xs)
+distinct_mapped_on {A} {B} f [] one d = distinct_none
+distinct_mapped_on {A} {B} f (x ∷ xs) one d =
+    distinct_cons (f x) (map f xs)
+    (λ h. let r = contains_mapped f xs (f x) h in distinct_head x xs d (subst (λ (y : A). Contains xs y) (sym (one x r.0 (contains_head x xs) (contains_tail x r.0 xs r.1) r.2)) r.1))
+    (distinct_mapped_on f xs (λ y z h k e. one y z (contains_tail x y xs h) (contains_tail x z xs k) e) (distinct_tail x xs d))

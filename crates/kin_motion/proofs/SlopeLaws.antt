@@ -82,8 +82,8 @@ module _ {R : Type 0} (o : OrderedRing R) where
   through x y u v p q e f g =
       subst (λ (t : Sign). SumMayBe t (o.sign (cross u v p q)) (o.sign (cross x y p q))) (by_plus (cross x y u v) p g)
       (subst (λ (t : Sign). SumMayBe (o.sign (o.ring.times (cross x y u v) p)) t (o.sign (cross x y p q))) (by_plus (cross u v p q) x e)
-       (subst (λ (t : Sign). SumMayBe (o.sign (o.ring.times (cross x y u v) p)) (o.sign (o.ring.times (cross u v p q) x)) t) (sym (ap o.sign (three x y u v p q)) ∙ by_plus (cross x y p q) u f)
-        (sum_may_be o (o.ring.times (cross x y u v) p) (o.ring.times (cross u v p q) x))))
+      (subst (λ (t : Sign). SumMayBe (o.sign (o.ring.times (cross x y u v) p)) (o.sign (o.ring.times (cross u v p q) x)) t) (sym (ap o.sign (three x y u v p q)) ∙ by_plus (cross x y p q) u f)
+      (sum_may_be o (o.ring.times (cross x y u v) p) (o.ring.times (cross u v p q) x))))
 
 -- ---- at a number
 module _ (x : Number) (sound : Sound x.radicand) (positive : sign_of x.divisor ≡ Plus) where

@@ -66,6 +66,14 @@ impl Delta {
         }
     }
 
+    /// Takes all reports out. The memory stays.
+    pub fn clear(&mut self)
+        ensures { self.new ≡ record { dropped = []; born = [] } }
+    {
+        self.dropped.clear();
+        self.born.clear();
+    }
+
     /// Reports a fact as dropped.
     pub fn report_dropped(&mut self, fact: Placed) -> Result<(), NoMemory>
         ensures { OnOk result (self.new ≡ record { dropped = self.old.dropped ++ fact ∷ []; born = self.old.born }) }

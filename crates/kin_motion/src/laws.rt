@@ -1,6 +1,6 @@
 //! What holds of the definitions. Each function's contract is one law; none of them does anything.
 
-ghost use Rattle.kin_motion.specs.Agreements.{CandidateAgrees, ChainAgrees, ClosestAgrees, ClosestFactsAgree, CycleAgrees, ExtremeAgrees, ExtremeFactsAgree, FailuresAgree, LiveFactsAgree, OrderAgrees, OrderFactsAgree};
+ghost use Rattle.kin_motion.specs.Agreements.{CandidateAgrees, ChainAgrees, ClosestAgrees, ClosestFactsAgree, CycleAgrees, ExtremeAgrees, ExtremeFactsAgree, FailuresAgree, HullFactsAgree, LiveFactsAgree, OrderAgrees, OrderFactsAgree};
 ghost use Rattle.kin_motion.specs.Theorems.{OneCandidate, OneClosest, OneExtreme, OneFirstFailure, OneHullCycle, OneJournal, OneNextBlock, OneOctant, OneOrder, OneUpperChain, OrderIsDetermined, RealScenesHaveLaws, TurnedIsMirrored, TurnedIsReal};
 
 /// In the scene of any motions at any canonical moment, signs of lines, turns, squared distances and
@@ -74,12 +74,13 @@ pub fn computed_answers_agree()
     ensures candidate { CandidateAgrees }
 {}
 
-/// The functions that compute facts and failures list exactly those of the definitions. Live facts
-/// and failures are computed so where no hull is kept.
+/// The functions that compute facts and failures list exactly those of the definitions, where the
+/// live numbers have slots.
 pub fn computed_facts_agree()
     ensures order { OrderFactsAgree }
     ensures extreme { ExtremeFactsAgree }
     ensures closest { ClosestFactsAgree }
+    ensures hull { HullFactsAgree }
     ensures live { LiveFactsAgree }
     ensures failures { FailuresAgree }
 {}

@@ -7,7 +7,7 @@ use Rattle.kin_algebra.specs.declared.sign.Sign.{Sign}
 use Rattle.kin_algebra.specs.declared.sign.Sign.TheVariants.{Minus, Zero, Plus}
 use Rattle.kin_algebra.specs.Signs.{sign_of, opposite_of, product_of}
 use Rattle.kin_algebra.proofs.Ring.{by_ring, quotes}
-use Rattle.kin_algebra.proofs.Signs.{AtLeast, is_plus, product-Plus}
+use Rattle.kin_algebra.proofs.Signs.{AtLeast, product-Plus}
 use Rattle.kin_algebra.proofs.OrderedRings.{positive_cancel, positive_product}
 use Rattle.kin_algebra.proofs.IntegerSigns.{sign_of-negative, sign_of-times, sign_in}
 use Rattle.kin_algebra.proofs.Pairs.{pair, pair_plus, pair_times, ordered, sign_over, sign_over-whole}
@@ -76,14 +76,6 @@ less_trans u v w fv fw p q = (
 
 pub less_asym : (v w : Shape) → IsCanonicalForm v → IsCanonicalForm w → IsLess v w → ¬ (IsLess w v)
 less_asym v w fv fw p q = not_less_itself v (less_trans v w v fw fv p q)
-
--- what is less than w is less than v, or v is less than w
-pub less_either : (u v w : Shape) → IsLess u w → IsLess u v ⊎ IsLess v w
-less_either u v w p = at (is_plus (sign_at_instant (line p.0 p.1) v))
-  where
-    at : (sign_at_instant (line p.0 p.1) v ≡ Plus) ⊎ (sign_at_instant (line p.0 p.1) v ≢ Plus) → IsLess u v ⊎ IsLess v w
-    at (inl e) = inl (p.0, p.1, record { proper = p.2.proper; first = p.2.first; second = e })
-    at (inr n) = inr (p.0, p.1, record { proper = p.2.proper; first = n; second = p.2.second })
 
 -- ---- the least fraction of one denominator that isn't before v
 at_least_of : (k : ℤ) → pos 0 ≤ℤ k → AtLeast (sign_of k)

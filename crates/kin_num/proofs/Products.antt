@@ -2,7 +2,7 @@
 use Rattle.std.proofs.Common.{◌≡◌, ℕ, [], ◌∷◌, refl, sym, ap, ap₂, ◌∙◌, ◌+◌, ◌*◌, ◌≤◌, ◌<◌, arith}
 use Rattle.std.specs.Prelude.{ℤ, pos, ◌+ℤ◌, ◌*ℤ◌}
 use Rattle.kin_algebra.specs.declared.sign.Sign.TheVariants.{Plus}
-use Rattle.kin_algebra.specs.Signs.{sign_of, product_of, first_of}
+use Rattle.kin_algebra.specs.Signs.{sign_of, product_of}
 use Rattle.kin_algebra.proofs.Ring.{by_ring, quotes}
 use Rattle.kin_algebra.proofs.OrderedRings.{scale, positive_product}
 use Rattle.kin_algebra.proofs.IntegerSigns.{ordered_integers, sign_of-pos}
@@ -13,7 +13,7 @@ use Rattle.kin_num.specs.declared.instant.Phase.TheVariants.{At, After}
 use Rattle.kin_num.specs.declared.instant.Moment.{Moment}
 use Rattle.kin_num.specs.Quadratic.{Quadratic, linear, linear_product}
 use Rattle.kin_num.specs.Canonical.{IsCanonicalForm}
-use Rattle.kin_num.specs.Instants.{Number, number_of, sign_at_number, sign_at_instant, derivative, sign_at_phase, sign_at, later_by}
+use Rattle.kin_num.specs.Instants.{Number, number_of, sign_at_number, sign_at_instant, sign_at_phase, sign_at, later_by}
 use Rattle.kin_num.proofs.Values.{value, canonical-sound}
 use Rattle.kin_num.proofs.NumberRing.{flat}
 use Rattle.kin_num.proofs.Near.{IsFine}

@@ -47,9 +47,6 @@ module _ (x : Number) (m t h : ℕ) (size : HasSize x m) (some : 0 < h) (fine : 
   abbrev value_here : Quadratic → Pair
   value_here p = value_in o (flat p.a) (flat p.b) (flat p.c) (flat x.divisor) Z
 
-  abbrev value_later : Quadratic → Pair
-  value_later p = value_after o (flat p.a) (flat p.b) (flat p.c) (flat x.divisor) (flat (pos m)) (flat (pos m)) (flat (pos t)) Z
-
   later-in : (p : Quadratic) (t : ℤ) → value p (later_by t x) ≡ value_after o (flat p.a) (flat p.b) (flat p.c) (flat x.divisor) (flat (pos m)) (flat (pos m)) (flat t) Z
   later-in p t =
       ap₂ pair

@@ -24,11 +24,14 @@ number_of (Ratio n d) = record { whole = n; root = pos 0; radicand = pos 0; divi
 number_of (Root a b c true) = record { whole = neg_ℤ b; root = pos 1; radicand = discriminant a b c; divisor = pos 2 *ℤ a }
 number_of (Root a b c false) = record { whole = neg_ℤ b; root = negsuc 0; radicand = discriminant a b c; divisor = pos 2 *ℤ a }
 
--- the value of a polynomial at a number, times the square of the divisor, is whole_part + root_part * sqrt(radicand)
+-- The value of a polynomial at a number, times the square of the divisor, is whole_part + root_part * sqrt(radicand).
+
+-- the part without the root
 abbrev pub whole_part : Quadratic → Number → ℤ
 whole_part p x =
     p.a *ℤ (x.whole *ℤ x.whole +ℤ x.root *ℤ x.root *ℤ x.radicand) +ℤ p.b *ℤ x.whole *ℤ x.divisor +ℤ p.c *ℤ x.divisor *ℤ x.divisor
 
+-- the part with the root
 abbrev pub root_part : Quadratic → Number → ℤ
 root_part p x = pos 2 *ℤ p.a *ℤ x.whole *ℤ x.root +ℤ p.b *ℤ x.root *ℤ x.divisor
 
@@ -40,6 +43,7 @@ sign_at_number p x = pair_sign_of (whole_part p x) (root_part p x) x.radicand
 unfoldable pub sign_at_instant : Quadratic → Shape → Sign
 sign_at_instant p w = sign_at_number p (number_of w)
 
+-- the derivative 2*a*t + b
 abbrev pub derivative : Quadratic → Quadratic
 derivative p = record { a = pos 0; b = pos 2 *ℤ p.a; c = p.b }
 
@@ -56,10 +60,11 @@ sign_at p m = sign_at_phase p m.at m.phase
 abbrev pub line : ℤ → ℤ → Quadratic
 line n d = record { a = pos 0; b = d; c = neg_ℤ n }
 
--- the number at which each polynomial has its sign at a moment: the instant's own, or a little more just after it
+-- the number 1/t later
 abbrev pub later_by : ℤ → Number → Number
 later_by t x = record { whole = x.whole *ℤ t +ℤ x.divisor; root = x.root *ℤ t; radicand = x.radicand; divisor = x.divisor *ℤ t }
 
+-- the seat of a moment: a number at which each polynomial has the sign that it has at the moment
 abbrev pub seat_of : Shape → Phase → Number
 seat_of w At = number_of w
 seat_of w After = later_by (pos (2 ^ 200)) (number_of w)

@@ -16,8 +16,7 @@ pub fn pair_signs_are_ordered()
 /// The signs at one moment go with negatives, sums and products.
 pub fn signs_add_and_multiply()
     ensures { (m : Time) → IsCanonicalForm m.at → SignsAddAndMultiply m }
-{
-}
+{}
 
 /// The signs at one moment are those of values in one ordered ring, which has products of any degree.
 pub fn signs_are_ordered()

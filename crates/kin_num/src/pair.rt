@@ -1,7 +1,7 @@
 //! The sign of `u + v*sqrt(d)`.
 
 ghost use Rattle.std.specs.Prelude.{◌≡◌, ◌≤◌, ◌<◌, ◌^◌, pos, unsigned_abs, ◌+◌, ◌*◌, ◌-ℤ◌, ◌*ℤ◌};
-ghost use Rattle.kin_algebra.specs.Signs.{pair_sign_of, sum_sign_of, norm_of};
+ghost use Rattle.kin_algebra.specs.Signs.{pair_sign_of, norm_of};
 
 use kin_algebra::sign::Sign;
 
@@ -33,19 +33,6 @@ fn norm(u: i128, v: i128, d: i128) -> i128
     difference(product(u, u), product(product(v, v), d))
 }
 
-/// The sign of a sum of numbers of the signs `first` and `second`, where the first one's square less the second one's
-/// has the sign `norm`.
-fn sum_sign(first: Sign, second: Sign, norm: Sign) -> Sign
-    ensures { result ≡ sum_sign_of first second norm }
-{
-    match (first, second) {
-        (Sign::Zero, _) => second,
-        (Sign::Plus, Sign::Minus) => norm,
-        (Sign::Minus, Sign::Plus) => norm.opposite(),
-        _ => first,
-    }
-}
-
 /// The sign of `u + v*sqrt(d)`. No root is taken: where `u` and `v` have opposite signs, `u*u` is compared with `v*v*d`.
 pub fn pair_sign(u: i64, v: i64, d: u64) -> Sign
     requires u_small { unsigned_abs u ≤ 2 ^ 62 }
@@ -55,9 +42,13 @@ pub fn pair_sign(u: i64, v: i64, d: u64) -> Sign
 {
     let (u, v, d) = (i128::from(u), i128::from(v), i128::from(d));
     if d == 0 {
-        Sign::of(u)
-    } else {
-        sum_sign(Sign::of(u), Sign::of(v), Sign::of(norm(u, v, d)))
+        return Sign::of(u);
+    }
+    match (Sign::of(u), Sign::of(v)) {
+        (Sign::Zero, second) => second,
+        (Sign::Plus, Sign::Minus) => Sign::of(norm(u, v, d)),
+        (Sign::Minus, Sign::Plus) => Sign::of(norm(u, v, d)).opposite(),
+        (first, _) => first,
     }
 }
 

@@ -1,2 +1,13 @@
+pub mod Settings
+pub mod Orders
+pub mod Triangle
+pub mod Touching
+pub mod Twins
+pub mod Square
+pub mod Boxes
+pub mod Passing
+pub mod Extremes
+pub mod Carriageways
+pub mod Changes
 pub mod Pairs
 pub mod PairLaws

@@ -6,3 +6,6 @@ pub mod ReadingLaws
 pub mod NumberedLaws
 pub mod RangeLaws
 pub mod Rows
+pub mod WrittenLaws
+pub mod FirstBadLaws
+pub mod Theorems

@@ -7,3 +7,6 @@ pub mod Ranges
 pub mod Gives
 pub mod Reading
 pub mod Printed
+pub mod Written
+pub mod Replay
+pub mod Text

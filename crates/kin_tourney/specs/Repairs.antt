@@ -11,10 +11,6 @@ use Rattle.kin_tourney.specs.declared.doubt.Doubt.TheVariants.{Clear, Here}
 use Rattle.kin_tourney.specs.Tournament.{mark_in}
 use Rattle.kin_tourney.specs.Standings.{Standings, IsTree, doubt_in, doubt_count, best_in, fact_in, match_at, IsRight, placed_of}
 
--- only the doubts differ
-abbrev pub SameButDoubts : {Item : Type 0} → Standings Item → Standings Item → Type 0
-SameButDoubts old new = new ≡ record old { doubts = new.doubts }
-
 -- a node and those above it came into a doubt where they were clear
 pub record IsSpread (old new : List Doubt) (doubt : Doubt) (node : ℕ) : Type 0 where
   pub room : length new ≡ length old

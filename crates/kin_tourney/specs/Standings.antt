@@ -20,19 +20,24 @@ pub record Standings (Item : Type 0) : Type 0 where
   pub facts : List (Option Fact)
   pub doubts : List Doubt
 
+-- the best slot of an inner node
 abbrev pub best_in : List (Option ℕ) → ℕ → Option ℕ
 best_in best v = slice_index_or best v None
 
+-- the fact of an inner node
 abbrev pub fact_in : List (Option Fact) → ℕ → Option Fact
 fact_in facts v = slice_index_or facts v None
 
+-- the doubt of an inner node
 abbrev pub doubt_in : List Doubt → ℕ → Doubt
 doubt_in doubts v = slice_index_or doubts v Clear
 
+-- a slot with what it holds
 abbrev pub entry_with : {Item : Type 0} → ℕ → Option Item → Option (Entry Item)
 entry_with i None = None
 entry_with i (Some a) = Some (record { slot = i; item = a })
 
+-- the entry at a slot, where it holds an item
 abbrev pub entry_in : {Item : Type 0} → List (Option Item) → Option ℕ → Option (Entry Item)
 entry_in items None = None
 entry_in items (Some i) = entry_with i (item_in items i)
@@ -45,6 +50,7 @@ named_at t v = cond (nat_lt v (length t.items)) (best_in t.best v) (Some (v - le
 abbrev pub entry_at : {Item : Type 0} → Standings Item → ℕ → Option (Entry Item)
 entry_at t v = entry_in t.items (named_at t v)
 
+-- the item of an entry
 abbrev pub item_of : {Item : Type 0} → Option (Entry Item) → Option Item
 item_of None = None
 item_of (Some e) = Some e.item
@@ -57,6 +63,7 @@ match_of key sign None (Some r) = (Some r.slot, None)
 match_of key sign (Some l) (Some r) =
     (Some (cond (key.left_wins (sign (key.form l.item r.item)) l.item r.item) l.slot r.slot), Some (record { form = key.form l.item r.item; sign = sign (key.form l.item r.item) }))
 
+-- the match of the halves of a node
 abbrev pub match_at : {Item : Type 0} → Key Item → (Form → Sign) → Standings Item → ℕ → Option ℕ × Option Fact
 match_at key sign t v = match_of key sign (entry_at t (2 * v)) (entry_at t (2 * v + 1))
 
@@ -75,9 +82,11 @@ placed_from v [] = []
 placed_from v (None ∷ fs) = placed_from (v + 1) fs
 placed_from v (Some f ∷ fs) = record { part = v; fact = f } ∷ placed_from (v + 1) fs
 
+-- the facts of the tree
 abbrev pub placed_facts : {Item : Type 0} → Standings Item → List Placed
 placed_facts t = placed_from 0 t.facts
 
+-- whether a node is not clear
 abbrev pub is_doubt : Doubt → Bool
 is_doubt Clear = false
 is_doubt Below = true

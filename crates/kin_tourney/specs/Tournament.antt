@@ -17,6 +17,7 @@ pub record Tournament (K Item : Type 0) : Type 0 where
   pub facts : List Placed
   pub whole : Bool
 
+-- the winner of a node
 abbrev pub winner_at : {K Item : Type 0} → Tournament K Item → ℕ → Option Item
 winner_at t v = slice_index_or t.winners v None
 

@@ -10,10 +10,15 @@
 //! slot or a failed fact costs at most one sign test a level.
 #![tactic(auto)]
 
+pub use along::Along;
+pub use keyed::Keyed;
+pub use tourney::Tourney;
+
 pub mod along;
 mod doubt;
 mod entry;
 pub mod keyed;
+mod report;
 pub mod tourney;
 mod tree;
 #[cfg(test)]

@@ -8,11 +8,12 @@ ghost use Rattle.kin_tourney.specs.Names.{AreLive};
 ghost use Rattle.kin_motion.specs.Kinetics.{HasChanged};
 ghost use Rattle.kin_tourney.specs.Standings.{Standings, IsTree, named_at, entry_at, match_at, doubt_in, doubt_count, placed_facts};
 ghost use Rattle.kin_tourney.specs.Tournament.{mark_in};
-ghost use Rattle.kin_tourney.specs.Repairs.{IsSpread, IsDoubted, IsReported, IsReplayed, IsRenewed, IsCleared, IsDoubtful};
+ghost use Rattle.kin_tourney.specs.Repairs.{IsSpread, IsDoubted, IsReplayed, IsRenewed, IsCleared, IsDoubtful};
 
 use crate::doubt::{Doubt, doubt_failed, doubt_path};
 use crate::entry::Entry;
 use crate::keyed::Keyed;
+use crate::report::report;
 use kin_motion::fact::{Delta, Fact, Placed};
 use kin_motion::signs::Signs;
 use kin_num::memory::NoMemory;
@@ -323,30 +324,4 @@ fn unmark_below(marked: &mut Vec<bool>, node: usize)
         marked[slot] = false;
         marked[slot + 1] = false;
     }
-}
-
-fn is_same(old: Option<Fact>, new: Option<Fact>) -> bool
-    ensures { IsTrue result ↔ (old ≡ new) }
-{
-    match (old, new) {
-        (None, None) => true,
-        (Some(old), Some(new)) => old.is(new),
-        _ => false,
-    }
-}
-
-/// Reports that one fact of a node took the place of another.
-fn report(node: u32, old: Option<Fact>, new: Option<Fact>, out: &mut Delta) -> Result<(), NoMemory>
-    ensures { OnOk result (IsReported node old new out.old out.new) }
-{
-    if is_same(old, new) {
-        return Ok(());
-    }
-    if let Some(fact) = old {
-        out.report_dropped(Placed { part: node, fact })?;
-    }
-    if let Some(fact) = new {
-        out.report_born(Placed { part: node, fact })?;
-    }
-    Ok(())
 }

@@ -1,0 +1,128 @@
+-- Facts given out one by one.
+use Rattle.std.proofs.Common.{◌≡◌, ◌≢◌, ℕ, suc, ◌+◌, ◌<◌, Bool, true, false, ℤ, List, [], ◌∷◌, ◌++◌, length, get_or, Option, Some, IsTrue, refl, sym, ap, subst, ◌∙◌, ◌⊎◌, inl, inr, ◌↔◌, arith}
+use Rattle.std.specs.List.{Contains, AllPairs}
+use Rattle.std.proofs.lemmas.List.Quantifiers.{all_pairs_push}
+use Rattle.slab.proofs.SlabLemmas.{Contains-cons, Contains-cons_cases}
+use Rattle.kin_num.specs.declared.instant.Moment.{Moment}
+use Rattle.kin_motion.specs.declared.form.Form.{Form}
+use Rattle.kin_motion.specs.Live.{Certificate}
+use Rattle.kin_cert.specs.declared.owned.Owned.{Owned}
+use Rattle.kin_cert.specs.Facts.{LiveFact, IsOnce, IsAt, certificate_of}
+use Rattle.kin_cert.specs.Taken.{NoneWaits}
+use Rattle.kin_cert.specs.Layout.{IsDue, IsDueAt, HasGiven, IsGivenUpTo, owned_rank, is_rank}
+use Rattle.kin_cert.proofs.Changes.{once-same}
+use Rattle.kin_cert.proofs.Elements.{contained}
+use Rattle.kin_cert.proofs.Ranks.{rank_names, rank_same, rank_itself}
+use Rattle.kin_cert.specs.Rank.{rank_of}
+use Rattle.kin_cert.proofs.Slots.{Contains-head, Contains-nothing}
+
+pub Contains-push : {X : Type 0} (xs : List X) (x y : X) → Contains (xs ++ x ∷ []) y → Contains xs y ⊎ (x ≡ y)
+Contains-push [] x y h =
+    elim (Contains-cons_cases x y [] h) [
+      | inl e ↦ inr e
+      | inr none ↦ absurd (Contains-nothing y none)
+    ]
+Contains-push (z ∷ xs) x y h =
+    elim (Contains-cons_cases z y (xs ++ x ∷ []) h) [
+      | inl e ↦ inl (subst (λ w. Contains (z ∷ xs) w) e (Contains-head z xs))
+      | inr rest ↦ elim (Contains-push xs x y rest) [
+        | inl c ↦ inl (Contains-cons z y xs c)
+        | inr e ↦ inr e
+      ]
+    ]
+
+pub Contains-pushed : {X : Type 0} (xs : List X) (x y : X) → Contains xs y → Contains (xs ++ x ∷ []) y
+Contains-pushed [] x y h = absurd (Contains-nothing y h)
+Contains-pushed (z ∷ xs) x y h =
+    elim (Contains-cons_cases z y xs h) [
+      | inl e ↦ subst (λ w. Contains (z ∷ xs ++ x ∷ []) w) e (Contains-head z (xs ++ x ∷ []))
+      | inr rest ↦ Contains-cons z y (xs ++ x ∷ []) (Contains-pushed xs x y rest)
+    ]
+
+pub Contains-last : {X : Type 0} (xs : List X) (x : X) → Contains (xs ++ x ∷ []) x
+Contains-last [] x = Contains-head x []
+Contains-last (z ∷ xs) x = Contains-cons z x (xs ++ x ∷ []) (Contains-last xs x)
+
+contradicts : (b : Bool) → b ≡ false → IsTrue b → ⊥
+contradicts b f t = let both : false ≡ true = sym f ∙ t in absurd cc
+
+pub given-none : (m : Moment) (old : List LiveFact) (taken : List Owned) → taken ≡ [] → NoneWaits old → IsDue old m → IsGivenUpTo m old old taken
+given-none m old taken empty none due =
+    record {
+      given = λ o c. absurd (Contains-nothing o (subst (λ (xs : List Owned). Contains xs o) empty c));
+      each = λ l c w. absurd (contradicts l.waits (none l c) w);
+      once = subst (λ (xs : List Owned). AllPairs (λ o p. owned_rank o ≢ owned_rank p) xs) (sym empty) (λ i j d lt in_. absurd (omega (arith, in_)));
+      at_moment = λ l c w. absurd (contradicts l.waits (none l c) w);
+      stays = λ l c. (l, c, refl, refl);
+      only = λ l c. (l, c, refl, refl);
+      least = λ l n c d. due.least l n c d;
+    }
+
+named : (o : Owned) (l : LiveFact) → l.certificate ≡ certificate_of o → IsAt o.structure o.part o.fact.form l
+named o l e =
+    record {
+      structure_is = ap (λ (c : Certificate). c.structure) e;
+      part_is = ap (λ (c : Certificate). c.placed.part) e;
+      form_is = ap (λ (c : Certificate). c.placed.fact.form) e;
+    }
+
+-- the same name in another's words
+renamed : (o p : Owned) (l : LiveFact) → owned_rank o ≡ owned_rank p → IsAt p.structure p.part p.fact.form l → IsAt o.structure o.part o.fact.form l
+renamed o p l r at =
+    let n = rank_names o.structure o.part o.fact.form p.structure p.part p.fact.form r in
+    record { structure_is = at.structure_is ∙ sym n.structure; part_is = at.part_is ∙ sym n.part; form_is = at.form_is ∙ sym n.form }
+
+abbrev live_rank : LiveFact → List ℤ
+live_rank l = rank_of l.certificate.structure l.certificate.placed.part l.certificate.placed.fact.form
+
+-- two live facts are one or they are two
+same_or_not : (live : List LiveFact) → IsOnce live → (k l : LiveFact) → Contains live k → Contains live l → (k ≡ l) ⊎ ¬ (k ≡ l)
+same_or_not live once k l a b =
+    elim (is_rank (live_rank k) (live_rank l)) as (λ t. is_rank (live_rank k) (live_rank l) ≡ t → (k ≡ l) ⊎ ¬ (k ≡ l)) [
+      | true ↦ λ t.
+          let n = rank_names k.certificate.structure k.certificate.placed.part k.certificate.placed.fact.form l.certificate.structure l.certificate.placed.part l.certificate.placed.fact.form (rank_same (live_rank k) (live_rank l) t) in
+          inl (once-same live once l.certificate.structure l.certificate.placed.part l.certificate.placed.fact.form k l a b
+          (record { structure_is = n.structure; part_is = n.part; form_is = n.form })
+          (record { structure_is = refl; part_is = refl; form_is = refl }))
+      | false ↦ λ t. inr (λ e. let both : true ≡ false = sym (ap (λ (x : LiveFact). is_rank (live_rank k) (live_rank x)) (sym e) ∙ rank_itself (live_rank k)) ∙ t in absurd cc)
+    ] refl
+
+pub given-more : (m : Moment) (old cur new : List LiveFact) (taken : List Owned) (o : Owned) (l : LiveFact) → IsGivenUpTo m old cur taken → IsOnce cur → HasGiven cur new l m → l.certificate ≡ certificate_of o → IsGivenUpTo m old new (taken ++ o ∷ [])
+given-more m old cur new taken o l h once g l_is =
+    let marked : LiveFact = record l { waits = true } in
+    let there : Contains new marked = (g.exactly marked).1 (inr refl) in
+    let stays : (k : LiveFact) → Contains cur k → ¬ (k ≡ l) → Contains new k = λ k c n. (g.exactly k).1 (inl (c, n)) in
+    let waits_stays : (k : LiveFact) → Contains cur k → IsTrue k.waits → Contains new k = λ k c w. stays k c (λ e. contradicts k.waits (ap (λ (x : LiveFact). x.waits) e ∙ g.due.waits_not) w) in
+    record {
+      given = λ p c. elim (Contains-push taken o p c) [
+        | inl c' ↦ let k = h.given p c' in (k.0, waits_stays k.0 k.1 k.2, k.2, k.3)
+        | inr e ↦ (marked, there, refl, l_is ∙ ap certificate_of e)
+      ];
+      each = λ k c w. elim ((g.exactly k).0 c) [
+        | inl (c', n) ↦ let p = h.each k c' w in (p.0, Contains-pushed taken o p.0 p.1, p.2)
+        | inr e ↦ (o, Contains-last taken o, ap (λ (x : LiveFact). x.certificate) e ∙ l_is)
+      ];
+      once = all_pairs_push (λ p q. owned_rank p ≢ owned_rank q) taken o h.once (λ i d lt r.
+          let p = get_or taken i d in
+          let k = h.given p (contained taken i d lt) in
+          let same_fact : k.0 ≡ l = once-same cur once p.structure p.part p.fact.form k.0 l k.1 g.there (named p k.0 k.3) (renamed p o l r (named o l l_is)) in
+          contradicts k.0.waits (ap (λ (x : LiveFact). x.waits) same_fact ∙ g.due.waits_not) k.2);
+      at_moment = λ k c w. elim ((g.exactly k).0 c) [
+        | inl (c', n) ↦ h.at_moment k c' w
+        | inr e ↦ ap (λ (x : LiveFact). x.fails) e ∙ g.due.fails
+      ];
+      stays = λ k c.
+          let s = h.stays k c in
+          elim (same_or_not cur once s.0 l s.1 g.there) [
+            | inl e ↦ (marked, there, ap (λ (x : LiveFact). x.certificate) (sym e) ∙ s.2, ap (λ (x : LiveFact). x.fails) (sym e) ∙ s.3)
+            | inr n ↦ (s.0, stays s.0 s.1 n, s.2, s.3)
+          ];
+      only = λ k c. elim ((g.exactly k).0 c) [
+        | inl (c', n) ↦ h.only k c'
+        | inr e ↦ let s = h.only l g.there in (s.0, s.1, ap (λ (x : LiveFact). x.certificate) e ∙ s.2, ap (λ (x : LiveFact). x.fails) e ∙ s.3)
+      ];
+      least = λ k n c d. elim ((g.exactly k).0 c) [
+        | inl (c', n') ↦ h.least k n c' d
+        | inr e ↦ absurd (contradicts k.waits d.waits_not (ap (λ (x : LiveFact). x.waits) e))
+      ];
+    }

@@ -1,0 +1,11 @@
+pub mod Changes
+pub mod Dues
+pub mod Elements
+pub mod Failing
+pub mod Giving
+pub mod Ranks
+pub mod Seen
+pub mod Slots
+pub mod Sorted
+pub mod Tables
+pub mod Taking

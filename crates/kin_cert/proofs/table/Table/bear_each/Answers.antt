@@ -1,0 +1,43 @@
+use Rattle.std.proofs.Common.{◌≡◌, ◌∙◌, List, refl, sym, ap, subst, arith}
+use Rattle.kin_motion.specs.declared.fact.Placed.{Placed}
+use Rattle.kin_motion.specs.Scene.{scene_at}
+use Rattle.kin_cert.specs.Facts.{Facts, LiveFact}
+use Rattle.kin_cert.specs.Layout.{AreBorn, live_in}
+use Rattle.kin_cert.proofs.Changes.{born-none, born-free, born-more, born-all, born-only}
+use Rattle.kin_cert.proofs.table.Table.bear_each.Goals as goal
+
+pub loop-placed-init : goal.loop-placed-init
+loop-placed-init g c =
+    record {
+      born = born-none c.args.structure (scene_at c.args.motions.now) c.args.now.now c.args.born.now 0 c.args.self.now.live c.args.self.now.live;
+      made = refl;
+    }
+
+pub bear_one-requires-clause-free : goal.bear_one-requires-clause-free
+bear_one-requires-clause-free g c =
+    born-free c.args.structure (scene_at c.args.motions.now) c.args.now.now c.args.born.now c.loop-placed.placed-index c.args.self.now.live c.loop-placed.self.live _ c.loop-placed-test.true c.loop-placed.invariant.born c.requires.free c.requires.once
+
+pub loop-placed-preserved : goal.loop-placed-preserved
+loop-placed-preserved g c =
+    record {
+      born = born-more c.args.structure (scene_at c.args.motions.now) c.args.now.now c.args.born.now c.loop-placed.placed-index c.args.self.now.live c.loop-placed.self.live c.bear_one.new.self.live _ c.loop-placed-test.true c.loop-placed.invariant.born c.in_ok-bear_one.ensures.gained c.in_ok-bear_one.ensures.count;
+      made = c.in_ok-bear_one.ensures.made ∙ c.loop-placed.invariant.made;
+    }
+
+pub returns-clause-kept : goal.returns-clause-kept
+returns-clause-kept g c =
+    let seen : c.loop-placed.self.live ≡ live_in c.self.inside.entries.slots = sym (ap (λ (t : Facts). t.live) c.self.view_is) in
+    let born = subst (λ (ls : List LiveFact). AreBorn c.args.structure (scene_at c.args.motions.now) c.args.now.now c.args.born.now c.loop-placed.placed-index c.args.self.now.live ls) seen c.loop-placed.invariant.born in
+    born.kept
+
+pub returns-clause-born : goal.returns-clause-born
+returns-clause-born g c =
+    let seen : c.loop-placed.self.live ≡ live_in c.self.inside.entries.slots = sym (ap (λ (t : Facts). t.live) c.self.view_is) in
+    let born = subst (λ (ls : List LiveFact). AreBorn c.args.structure (scene_at c.args.motions.now) c.args.now.now c.args.born.now c.loop-placed.placed-index c.args.self.now.live ls) seen c.loop-placed.invariant.born in
+    born-all c.args.structure (scene_at c.args.motions.now) c.args.now.now c.args.born.now c.loop-placed.placed-index c.args.self.now.live (live_in c.self.inside.entries.slots) born c.loop-placed-test.false
+
+pub returns-clause-only : goal.returns-clause-only
+returns-clause-only g c =
+    let seen : c.loop-placed.self.live ≡ live_in c.self.inside.entries.slots = sym (ap (λ (t : Facts). t.live) c.self.view_is) in
+    let born = subst (λ (ls : List LiveFact). AreBorn c.args.structure (scene_at c.args.motions.now) c.args.now.now c.args.born.now c.loop-placed.placed-index c.args.self.now.live ls) seen c.loop-placed.invariant.born in
+    born-only c.args.structure (scene_at c.args.motions.now) c.args.now.now c.args.born.now c.loop-placed.placed-index c.args.self.now.live (live_in c.self.inside.entries.slots) born (omega arith)

@@ -1,0 +1,10 @@
+use Rattle.std.proofs.Common.{◌≡◌}
+use Rattle.kin_motion.specs.Scene.{scene_at}
+use Rattle.kin_cert.specs.Layout.{AreBorn}
+use Rattle.kin_cert.proofs.table.Table.bear_each.Given as goal
+
+abbrev pub invariant-loop-placed : goal.invariant-loop-placed
+invariant-loop-placed g l = record {
+  born : AreBorn l.structure (scene_at l.motions) l.now l.born l.placed-index l.fn.self.live l.self.live;
+  made : l.self.made ≡ l.fn.self.made;
+}

@@ -1,0 +1,19 @@
+use Rattle.std.proofs.Common.{◌≡◌, ◌∙◌, refl, sym, ap, subst, arith}
+use Rattle.std.specs.List.{Contains}
+use Rattle.kin_num.specs.declared.instant.Moment.{Moment}
+use Rattle.kin_cert.specs.Facts.{LiveFact}
+use Rattle.kin_cert.specs.Layout.{IsDueAt}
+use Rattle.kin_cert.proofs.Dues.{due-least}
+use Rattle.kin_cert.proofs.Taking.{has-taken}
+use Rattle.kin_cert.proofs.table.Table.take_failing.Goals as goal
+
+pub unreachable-requires : goal.unreachable-requires
+unreachable-requires g c =
+    let m = c.requires.failing.0 in
+    let l = c.requires.failing.1.some in
+    c.in_default.ensures l.0 m l.1 (record { fails = l.2; waits_not = c.requires.none_waits l.0 l.1 })
+
+pub returns-clause-taken : goal.returns-clause-taken
+returns-clause-taken g c =
+    has-taken c.in-Some.moment c.args.self.now.live c.give_all.new.self.live c.give_all.new.taken.items c.put_in_order.new.taken.items
+    (due-least c.args.self.now.live c.in-Some.moment c.requires.none_waits c.in-Some.ensures) c.in_ok-give_all.ensures.given c.in_ok-give_all.ensures.all c.put_in_order.ensures.same c.put_in_order.ensures.sorted c.give_all.ensures.count

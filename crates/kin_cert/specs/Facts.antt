@@ -1,0 +1,37 @@
+-- What a table means: the live facts, each with its owner and its failure moment.
+use Rattle.std.specs.Prelude.{◌≡◌, ℕ, Bool, List, Option, Some, length}
+use Rattle.std.specs.List.{AllPairs}
+use Rattle.kin_num.specs.declared.instant.Moment.{Moment}
+use Rattle.kin_motion.specs.declared.form.Form.{Form}
+use Rattle.kin_motion.specs.declared.fact.Placed.{Placed}
+use Rattle.kin_motion.specs.Live.{Certificate}
+use Rattle.kin_cert.specs.declared.owned.Owned.{Owned}
+
+-- a live fact: whose it is, when it fails first, and whether it was given out and waits to be dropped
+pub record LiveFact : Type 0 where
+  pub certificate : Certificate
+  pub fails : Option Moment
+  pub waits : Bool
+
+-- the live facts, and how many failure moments were made
+pub record Facts : Type 0 where
+  pub live : List LiveFact
+  pub made : ℕ
+
+-- the fact has this owner and this form
+pub record IsAt (structure part : ℕ) (form : Form) (l : LiveFact) : Type 0 where
+  pub structure_is : l.certificate.structure ≡ structure
+  pub part_is : l.certificate.placed.part ≡ part
+  pub form_is : l.certificate.placed.fact.form ≡ form
+
+-- the two facts have one owner and one form
+abbrev pub AreAlike : LiveFact → LiveFact → Type 0
+AreAlike k l = IsAt l.certificate.structure l.certificate.placed.part l.certificate.placed.fact.form k
+
+-- no owner has a form twice
+abbrev pub IsOnce : List LiveFact → Type 0
+IsOnce = AllPairs (λ k l. ¬ (AreAlike k l))
+
+-- a fact with its owner, as the definition of the live facts has it
+abbrev pub certificate_of : Owned → Certificate
+certificate_of o = record { structure = o.structure; placed = record { part = o.part; fact = o.fact } }

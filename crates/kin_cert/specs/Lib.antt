@@ -1,0 +1,6 @@
+pub mod Rank
+pub mod Failures
+pub mod Facts
+pub mod Applied
+pub mod Taken
+pub mod Layout

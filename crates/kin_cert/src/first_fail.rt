@@ -1,0 +1,62 @@
+//! The first failure of a fact.
+
+ghost use Rattle.std.specs.Prelude.{◌≡◌, ◌+◌, ◌↔◌, IsTrue};
+ghost use Rattle.kin_num.specs.Instants.{sign_at};
+ghost use Rattle.kin_motion.specs.declared.fact.Fact.{Fact as Known};
+ghost use Rattle.kin_instant.specs.Places.{IsZeroPolynomial};
+ghost use Rattle.kin_cert.specs.Failures.{IsFailure, seen_by};
+
+use kin_instant::next::next_root;
+use kin_motion::fact::Fact;
+use kin_num::{Moment, Phase, Poly, Sign, Steps};
+use std::sync::ledger::Ledger;
+
+/// The first moment after now at which the fact doesn't hold, or `None` exactly where it holds at
+/// every later moment. `p` is the polynomial of its form, and the fact holds now.
+///
+/// A sign + or - fails at the next root. A sign 0 fails just after the present instant, since no
+/// polynomial but 0 has the sign 0 there.
+pub fn first_fail<L: Ledger>(
+    fact: &Fact,
+    p: &Poly,
+    now: &Moment,
+    steps: &mut Steps<L>,
+) -> Option<Moment>
+    requires holds { sign_at p.now now.now ≡ fact.now.sign }
+    ensures failure { IsFailure (seen_by p.now) now.now fact.now result }
+    ensures count { steps.new ≡ steps.old + 1 }
+{
+    steps.tick();
+    let _ = now.at.shape();
+    if let Sign::Zero = fact.sign {
+        return left_zero(p, now);
+    }
+    let Some(at) = next_root(p, &now.at) else {
+        return None;
+    };
+    Some(Moment {
+        at,
+        phase: Phase::At,
+    })
+}
+
+// When a polynomial leaves the sign 0.
+fn left_zero(p: &Poly, now: &Moment) -> Option<Moment>
+    requires { sign_at p.now now.now ≡ Sign.Zero }
+    ensures { (f : Known) → f.sign ≡ Sign.Zero → IsFailure (seen_by p.now) now.now f result }
+{
+    let _ = now.at.shape();
+    if is_zero(p) {
+        return None;
+    }
+    Some(Moment {
+        at: now.at,
+        phase: Phase::After,
+    })
+}
+
+fn is_zero(p: &Poly) -> bool
+    ensures { IsTrue result ↔ IsZeroPolynomial p.now }
+{
+    p.a() == 0 && p.b() == 0 && p.c() == 0
+}

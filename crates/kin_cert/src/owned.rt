@@ -1,0 +1,30 @@
+//! Facts with their owners, failures, and blocks of failures.
+
+use kin_motion::fact::Fact;
+use kin_motion::form::Form;
+use kin_num::{Moment, Sign};
+
+/// A fact with its owner.
+#[derive(Clone, Copy, Debug, PartialEq, Eq)]
+pub struct Owned {
+    pub structure: u32,
+    pub part: u32,
+    pub fact: Fact,
+}
+
+/// A form of an owner whose sign changed.
+#[derive(Clone, Copy, Debug, PartialEq, Eq)]
+pub struct Failure {
+    pub structure: u32,
+    pub part: u32,
+    pub form: Form,
+    pub before: Sign,
+    pub after: Sign,
+}
+
+/// The failures at one moment.
+#[derive(Drop)]
+pub struct Block {
+    pub moment: Moment,
+    pub failures: Vec<Failure>,
+}

@@ -1,0 +1,87 @@
+-- The facts of links by number.
+use Rattle.std.proofs.Common.{◌≡◌, refl, sym, ap, ◌∙◌, arith, List, [], ◌∷◌, ℕ, zero, suc, ◌+◌, ◌<◌, length, Some, None, Option, ℤ, pos, false, cond, nat_eq}
+use Rattle.std.specs.Prelude.{slice_get, slice_index_or, Contains}
+use Rattle.std.proofs.lemmas.Option.{same_Some, none-some}
+use Rattle.kin_algebra.specs.declared.sign.Sign.{Sign}
+use Rattle.kin_motion.specs.declared.form.Form.TheVariants.{Line}
+use Rattle.kin_motion.specs.declared.fact.Placed.{Placed}
+use Rattle.kin_motion.specs.Kinetics.{AreDistinct}
+use Rattle.kin_motion.specs.Numbers.{is_in}
+use Rattle.kin_list.specs.declared.link.Link.{Link}
+use Rattle.kin_list.specs.Links.{linked, link_for, fact_of, facts_from}
+use Rattle.kin_list.specs.Rows.{AreApart}
+use Rattle.kin_list.proofs.TestLaws.{eq_true, eq_false, neither}
+
+-- what stands in a list, by the place where it is found
+pub contains_from_get : {A : Type 0} (xs : List A) (k : ℕ) (x : A) → slice_get xs k ≡ Some x → Contains xs x
+contains_from_get [] k x h = absurd cc
+contains_from_get (y ∷ ys) zero x h = (zero, omega arith, same_Some y x h)
+contains_from_get (y ∷ ys) (suc k) x h = let r = contains_from_get ys k x h in (suc r.0, (let l = r.1 in omega arith), r.2)
+
+pub get_from_contains : {A : Type 0} (xs : List A) (x : A) → Contains xs x → (k : ℕ) × (slice_get xs k ≡ Some x)
+get_from_contains xs x (k, l, e) = (k, found xs k x l e)
+  where
+    found : {A : Type 0} (xs : List A) (k : ℕ) (x : A) → k < length xs → slice_index_or xs k x ≡ x → slice_get xs k ≡ Some x
+    found [] k x l e = absurd (omega arith)
+    found (y ∷ ys) zero x l e = ap (λ z. Some z) e
+    found (y ∷ ys) (suc k) x l e = found ys k x (omega arith) e
+
+module _ (dx dy : ℤ) where
+  pub same_facts : (i j : ℕ) (l m : Link) → fact_of dx dy i l ≡ fact_of dx dy j m → (i ≡ j) × (l ≡ m)
+  same_facts i j l m e =
+      let forms : Line dx dy (pos 0) i l.right ≡ Line dx dy (pos 0) j m.right = ap (λ (p : Placed). p.fact.form) e in
+      let lefts : i ≡ j = cc in
+      let rights : l.right ≡ m.right = cc in
+      let signs : l.sign ≡ m.sign = ap (λ (p : Placed). p.fact.sign) e in
+      (lefts, λ t. record { right = rights t; sign = signs t })
+
+  -- a fact is that of a link
+  pub link_of_fact : (n : ℕ) (ls : List (Option Link)) (k : ℕ) (p : Placed) → slice_get (facts_from dx dy n ls) k ≡ Some p → (i : ℕ) × (l : Link) × (slice_get ls i ≡ Some (Some l)) × (p ≡ fact_of dx dy (n + i) l)
+  link_of_fact n [] k p h = absurd cc
+  link_of_fact n (None ∷ ls) k p h = let r = link_of_fact (n + 1) ls k p h in (suc r.0, r.1, r.2, r.3 ∙ ap (λ m. fact_of dx dy m r.1) (let e : n + 1 + r.0 ≡ n + suc r.0 = omega arith in e))
+  link_of_fact n (Some l ∷ ls) zero p h = (zero, l, refl, sym (same_Some (fact_of dx dy n l) p h) ∙ ap (λ m. fact_of dx dy m l) (let e : n ≡ n + zero = omega arith in e))
+  link_of_fact n (Some l ∷ ls) (suc k) p h = let r = link_of_fact (n + 1) ls k p h in (suc r.0, r.1, r.2, r.3 ∙ ap (λ m. fact_of dx dy m r.1) (let e : n + 1 + r.0 ≡ n + suc r.0 = omega arith in e))
+
+  pub fact_of_link : (n : ℕ) (ls : List (Option Link)) (i : ℕ) (l : Link) → slice_get ls i ≡ Some (Some l) → (k : ℕ) × (slice_get (facts_from dx dy n ls) k ≡ Some (fact_of dx dy (n + i) l))
+  fact_of_link n [] i l h = absurd cc
+  fact_of_link n (None ∷ ls) zero l h = absurd (none-some l (same_Some None (Some l) h))
+  fact_of_link n (Some m ∷ ls) zero l h = (zero, ap (λ (q : Link). Some (fact_of dx dy n q)) (same_Some m l (same_Some (Some m) (Some l) h)) ∙ ap (λ q. Some (fact_of dx dy q l)) (let e : n ≡ n + zero = omega arith in e))
+  fact_of_link n (None ∷ ls) (suc i) l h = let r = fact_of_link (n + 1) ls i l h in (r.0, r.1 ∙ ap (λ q. Some (fact_of dx dy q l)) (let e : n + 1 + i ≡ n + suc i = omega arith in e))
+  fact_of_link n (Some m ∷ ls) (suc i) l h = let r = fact_of_link (n + 1) ls i l h in (suc r.0, r.1 ∙ ap (λ q. Some (fact_of dx dy q l)) (let e : n + 1 + i ≡ n + suc i = omega arith in e))
+
+  pub has_fact : (ls : List (Option Link)) (i : ℕ) (l : Link) → slice_get ls i ≡ Some (Some l) → Contains (facts_from dx dy 0 ls) (fact_of dx dy i l)
+  has_fact ls i l h = let r = fact_of_link 0 ls i l h in contains_from_get (facts_from dx dy 0 ls) r.0 (fact_of dx dy i l) (r.1 ∙ ap (λ q. Some (fact_of dx dy q l)) (let e : 0 + i ≡ i = omega arith in e))
+
+  pub has_link : (ls : List (Option Link)) (p : Placed) → Contains (facts_from dx dy 0 ls) p → (i : ℕ) × (l : Link) × (slice_get ls i ≡ Some (Some l)) × (p ≡ fact_of dx dy i l)
+  has_link ls p c =
+      let g = get_from_contains (facts_from dx dy 0 ls) p c in
+      let r = link_of_fact 0 ls g.0 p g.1 in
+      (r.0, r.1, r.2, r.3 ∙ ap (λ q. fact_of dx dy q r.1) (let e : 0 + r.0 ≡ r.0 = omega arith in e))
+
+  above : (n : ℕ) (ls : List (Option Link)) (k i : ℕ) (l : Link) → i < n → slice_get (facts_from dx dy n ls) k ≡ Some (fact_of dx dy i l) → ⊥
+  above n ls k i l less h =
+      let r = link_of_fact n ls k (fact_of dx dy i l) h in
+      let e = (same_facts i (n + r.0) l r.1 r.3).0 in
+      absurd (omega arith)
+
+  pub facts-distinct : (n : ℕ) (ls : List (Option Link)) → AreDistinct (facts_from dx dy n ls)
+  facts-distinct n [] i j p a b = absurd cc
+  facts-distinct n (None ∷ ls) i j p a b = facts-distinct (n + 1) ls i j p a b
+  facts-distinct n (Some l ∷ ls) zero zero p a b = refl
+  facts-distinct n (Some l ∷ ls) zero (suc j) p a b = absurd (above (n + 1) ls j n l (omega arith) (b ∙ sym a))
+  facts-distinct n (Some l ∷ ls) (suc i) zero p a b = absurd (above (n + 1) ls i n l (omega arith) (a ∙ sym b))
+  facts-distinct n (Some l ∷ ls) (suc i) (suc j) p a b = ap suc (facts-distinct (n + 1) ls i j p a b)
+
+-- the link of a number by its place
+pub link_for-at : (xs : List ℕ) (signs : List Sign) (p i : ℕ) → AreApart xs → slice_get xs p ≡ Some i → link_for xs signs i ≡ linked (slice_get xs (suc p)) (slice_get signs i)
+link_for-at [] signs p i apart h = absurd cc
+link_for-at (x ∷ xs) signs zero i apart h = ap (λ b. cond b (linked (slice_get xs 0) (slice_get signs i)) (link_for xs signs i)) (eq_true i x (sym (same_Some x i h)))
+link_for-at (x ∷ xs) signs (suc p) i apart h =
+    ap (λ b. cond b (linked (slice_get xs 0) (slice_get signs i)) (link_for xs signs i)) (eq_false i x (λ e. absurd (let f = apart zero (suc p) i (ap (λ (m : ℕ). Some m) (sym e)) h in omega arith)))
+    ∙ link_for-at xs signs p i (λ q r y a b. let e = apart (suc q) (suc r) y a b in omega arith) h
+
+pub link_for-absent : (xs : List ℕ) (signs : List Sign) (i : ℕ) → is_in i xs ≡ false → link_for xs signs i ≡ None
+link_for-absent [] signs i out = refl
+link_for-absent (x ∷ xs) signs i out =
+    let n = neither (nat_eq i x) (is_in i xs) out in
+    ap (λ b. cond b (linked (slice_get xs 0) (slice_get signs i)) (link_for xs signs i)) n.0 ∙ link_for-absent xs signs i n.1

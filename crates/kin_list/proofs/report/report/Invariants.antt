@@ -1,0 +1,15 @@
+use Rattle.std.proofs.Common.{◌≡◌, ℕ, ◌<◌, Some, false, length}
+use Rattle.std.specs.Prelude.{slice_get, ◌⊎◌}
+use Rattle.kin_motion.specs.Kinetics.{HasChanged}
+use Rattle.kin_motion.specs.Numbers.{is_in}
+use Rattle.kin_list.specs.Links.{link_for, facts_from}
+use Rattle.kin_list.proofs.report.report.Given as goal
+
+abbrev pub invariant-loop-no : goal.invariant-loop-no
+invariant-loop-no l = record {
+  same_length : length l.links.items ≡ length l.initial.links.items;
+  each : (i : ℕ) → (slice_get l.links.items i ≡ slice_get l.initial.links.items i) ⊎ (slice_get l.links.items i ≡ Some (link_for l.lineup.row.items l.lineup.signs.items i));
+  done : (k i : ℕ) → k < l.no-index → slice_get l.lineup.touched.items k ≡ Some i → i < length l.initial.links.items → slice_get l.links.items i ≡ Some (link_for l.lineup.row.items l.lineup.signs.items i);
+  others : (i : ℕ) → is_in i l.lineup.touched.items ≡ false → slice_get l.links.items i ≡ slice_get l.initial.links.items i;
+  changed : HasChanged (facts_from l.along.dx l.along.dy 0 l.initial.links.items) (facts_from l.along.dx l.along.dy 0 l.links.items) l.initial.out l.out;
+}

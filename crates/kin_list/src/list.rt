@@ -1,0 +1,186 @@
+//! The kinetic sorted list.
+
+ghost use Rattle.std.specs.Prelude.{◌≡◌, ◌<◌, ◌≤◌, ◌^◌, ◌↔◌, unsigned_abs, [], Some, true, false, length, slice_get, IfOk, OnOk, OnErr, IfSome, IsNone};
+ghost use Rattle.kin_motion.specs.Changes.{moved_pairs};
+ghost use Rattle.kin_motion.specs.Kinetics.{ListsFailing, HasChanged};
+ghost use Rattle.kin_motion.specs.Numbers.{is_in};
+ghost use Rattle.kin_motion.specs.Scene.{IsReal};
+ghost use Rattle.kin_list.specs.declared.mark.Mark.TheVariants.{Rest, Enters, Leaves};
+ghost use Rattle.kin_list.specs.Listing.{IsAtRest, IsReadyListing, IsSettledListing, AreFewTests, names_leaving, staying, lasting};
+ghost use Rattle.kin_list.specs.Rows.{exchanged};
+
+use crate::direction::Direction;
+use crate::lineup::Lineup;
+use crate::link::{Link, no_links};
+use crate::mark::Mark;
+use crate::report::report;
+use kin_motion::fact::{Delta, Placed};
+use kin_motion::kinetic::Kinetic;
+use kin_motion::signs::Signs;
+use kin_num::memory::NoMemory;
+use kin_num::steps::Steps;
+use std::alloc::Global;
+use std::marker::Model;
+use std::sync::ledger::Ledger;
+
+/// Moving points in their order along a direction.
+#[derive(Drop)]
+pub struct KinList {
+    along: Direction,
+    lineup: Lineup,
+    /// By number: the live fact whose left number it is.
+    links: Vec<Option<Link>>,
+    mark: Mark,
+}
+
+impl Model for KinList {
+    ghost use Rattle.kin_list.specs.Links.{facts_from};
+    ghost use Rattle.kin_list.specs.Listing.{Listing};
+    ghost use Rattle.kin_list.specs.Sound.{IsSound};
+
+    ghost Value = { Listing };
+
+    ghost view = { λ k. record { dx = k.along.dx; dy = k.along.dy; room = k.lineup.row.room; items = k.lineup.row.items; facts = facts_from k.along.dx k.along.dy 0 k.links.items; swaps = k.lineup.swaps.items; mark = k.mark } };
+
+    ghost invariant = { λ k. IsSound k.mark k.lineup.row k.lineup.signs.items k.links.items };
+}
+
+/// How many numbers have this size.
+fn room_for(size: u32) -> usize
+    requires { size ≤ 12 }
+    ensures value { result ≡ 2 ^ size }
+    ensures small { result ≤ 2 ^ 15 }
+{
+    1 << size
+}
+
+impl KinList {
+    /// An empty list along a direction, for the numbers below `2^size`.
+    pub fn new(alloc: Global, dx: i32, dy: i32, size: u32) -> Result<KinList, NoMemory>
+        requires dx { unsigned_abs dx ≤ 16 }
+        requires dy { unsigned_abs dy ≤ 16 }
+        requires low { 1 ≤ size }
+        requires high { size ≤ 12 }
+        ensures { IfOk result (λ k. k ≡ record { dx = dx; dy = dy; room = 2 ^ size; items = []; facts = []; swaps = []; mark = Rest }) }
+    {
+        let along = Direction::new(dx, dy);
+        let room = room_for(size);
+        let lineup = Lineup::new(alloc, room)?;
+        let links = no_links(alloc, room)?;
+        Ok(KinList {
+            along,
+            lineup,
+            links,
+            mark: Mark::Rest,
+        })
+    }
+
+    /// Marks a number as entering.
+    pub fn insert(&mut self, no: u32) -> Result<(), NoMemory>
+        requires rest { self.old.mark ≡ Rest }
+        requires within { no < self.old.room }
+        requires new { is_in no self.old.items ≡ false }
+        ensures ok { OnOk result (self.new ≡ record self.old { mark = Enters no }) }
+        ensures err { OnErr result (self.new ≡ self.old) }
+    {
+        self.lineup.row.reserve()?;
+        self.mark = Mark::Enters(no);
+        Ok(())
+    }
+
+    /// Marks a number as leaving.
+    pub fn remove(&mut self, no: u32)
+        requires rest { self.old.mark ≡ Rest }
+        requires member { is_in no self.old.items ≡ true }
+        ensures { self.new ≡ record self.old { mark = Leaves no } }
+    {
+        self.mark = Mark::Leaves(no);
+    }
+
+    /// The places of the exchanges of the last `settle`, in their order.
+    pub fn swaps(&self) -> &[u32]
+        ensures { result.now ≡ self.now.swaps }
+    {
+        &self.lineup.swaps
+    }
+
+    /// The place of a number.
+    pub fn place_of(&self, no: u32) -> Option<u32>
+        ensures some { IfSome result (λ p. slice_get self.now.items p ≡ Some no) }
+        ensures none { IsNone result ↔ (is_in no self.now.items ≡ false) }
+    {
+        self.lineup.row.place_of(no)
+    }
+
+    /// The members in their order.
+    pub fn items(&self) -> &[u32]
+        ensures { result.now ≡ self.now.items }
+    {
+        self.lineup.row.items()
+    }
+}
+
+impl Kinetic for KinList {
+    ghost use Rattle.kin_list.specs.Listing.{IsAtRest, IsReadyListing, IsSettledListing, names_leaving};
+    ghost use Rattle.kin_list.specs.ListingLaws.{determined_lem};
+
+    ghost facts = { λ k. k.facts };
+
+    ghost is_spared = { λ k p. names_leaving k.mark p };
+
+    ghost ready = { IsReadyListing };
+
+    ghost at_rest = { IsAtRest };
+
+    ghost settled = { IsSettledListing };
+
+    ghost grounded = { λ k w. Unit {0} };
+
+    ghost determined = { determined_lem };
+
+    fn settle<O: Signs, L: Ledger>(
+        &mut self,
+        now: &O,
+        failed: &[Placed],
+        out: &mut Delta,
+        steps: &mut Steps<L>,
+    ) -> Result<(), NoMemory>
+        requires real { IsReal (O.scene now.now) }
+        requires ready { IsReadyListing self.old (O.scene now.now) }
+        requires failing { ListsFailing self.old.facts (names_leaving self.old.mark) (O.scene now.now) failed.now }
+        ensures rest { OnOk result (IsAtRest self.new) }
+        ensures settled { OnOk result (IsSettledListing self.new (O.scene now.now)) }
+        ensures delta { OnOk result (HasChanged self.old.facts self.new.facts out.old out.new) }
+
+        // The exchanges lead from the old order to the new one, one for each moved pair.
+        ensures exchanges { OnOk result (exchanged self.new.swaps (staying self.old.mark self.old.items) ≡ lasting self.old.mark self.new.items) }
+        ensures moved { OnOk result (length self.new.swaps ≡ moved_pairs self.old.items self.new.items) }
+
+        // The tests, and what stays.
+        ensures tests { OnOk result (AreFewTests self.old.mark self.old.items self.new.items out.old out.new steps.old steps.new) }
+        ensures same { OnOk result ((self.new.dx ≡ self.old.dx) × (self.new.dy ≡ self.old.dy) × (self.new.room ≡ self.old.room)) }
+    {
+        let mark = self.mark;
+        self.mark = Mark::Broken;
+        self.lineup.arrange(mark, self.along, failed, now, steps)?;
+        report(&self.lineup, self.along, &mut self.links, out)?;
+        self.mark = Mark::Rest;
+        Ok(())
+    }
+}
+
+#[cfg(test)]
+mod tests {
+    use super::*;
+    use std::test::Fail;
+
+    #[test]
+    fn a_mark_waits_for_the_next_settle(rt: HostRuntime) -> Result<(), Fail> {
+        let mut list = KinList::new(rt.alloc(), 1, 0, 2)?;
+        list.insert(3)?;
+        assert_eq!(rt; list.items(), [].as_slice());
+        assert_eq!(rt; list.swaps(), [].as_slice());
+        assert_eq!(rt; list.place_of(3), None);
+        Ok(())
+    }
+}

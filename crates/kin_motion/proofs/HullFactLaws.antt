@@ -1,0 +1,236 @@
+-- The computed facts of the hull are its facts.
+use Rattle.std.proofs.Common.{◌≡◌, ◌⊎◌, inl, inr, refl, sym, ap, ◌∙◌, subst, arith, List, [], ◌∷◌, ◌++◌, ℕ, zero, suc, ◌+◌, ◌*◌, ◌-◌, ◌/◌, ◌^◌, ◌<◌, ◌≤◌, Bool, true, false, ◌||◌, nat_eq, map}
+use Rattle.std.specs.Prelude.{Contains, filter}
+use Rattle.std.proofs.lemmas.List.Elements.{Contains-append_cases}
+use Rattle.std.proofs.lemmas.Bool.Decides.{nat_tests}
+use Rattle.kin_motion.specs.declared.form.Form.{Form}
+use Rattle.kin_motion.specs.declared.fact.Placed.{Placed}
+use Rattle.kin_motion.specs.Numbers.{is_in, IsOnce, IsChain}
+use Rattle.kin_motion.specs.Sets.{AreDistinct, ListsExactly}
+use Rattle.kin_motion.specs.Scene.{Scene, IsReal, placed_at, turned}
+use Rattle.kin_motion.specs.Tournaments.{comes_to, is_under}
+use Rattle.kin_motion.specs.Chains.{is_left, is_bare, IsUpperChain, upper_chain_of}
+use Rattle.kin_motion.specs.Merges.{Half.{A, B}, Half, Breakpoint, breakpoints_of, IsBreakpointList, breakpoint_list, turns_from, slopes_from, forms_of_ends, forms_of_merge, IsMergeForm, merge_forms, points_under, IsNodeForm, node_forms, IsHullFact, hull_facts_of_node, hull_facts}
+use Rattle.kin_motion.specs.Agreements.{FitsSize, HullFactsAgree}
+use Rattle.kin_motion.proofs.SetLaws.{contains_none, contains_cases, distinct_none, distinct_append, distinct_mapped_on, exactly_both, exactly_in_words, exactly_mapped, exactly_in_turn}
+use Rattle.kin_motion.proofs.RealLaws.{real_line_laws, real_turn_laws}
+use Rattle.kin_motion.proofs.SlopeLaws.{real_slope_laws}
+use Rattle.kin_motion.proofs.TurnedLaws.{turned-real}
+use Rattle.kin_motion.proofs.ChainLaws.{one_upper_chain}
+use Rattle.kin_motion.proofs.Sorting.{sorted-once}
+use Rattle.kin_motion.proofs.AgreementLaws.{chain_agrees, kept-members, kept-once, halves}
+use Rattle.kin_motion.proofs.NodeLaws.{node_with_slot, not_above}
+use Rattle.kin_motion.proofs.BreakpointLaws.{members_of, breakpoints_agree, one_breakpoint_list, chain_of_list, list_distinct}
+use Rattle.kin_motion.proofs.MergeFormLaws.{lefts, kind, turn_first, turns_distinct, slope_first, slopes_distinct, ends_distinct, ends_kind}
+use Rattle.kin_motion.proofs.Proved.{live-once}
+
+-- ---- left points
+left_in : (h : Half) (a : List ℕ) (e : Breakpoint) → Contains (breakpoints_of h a) e → is_in e.left a ≡ true
+left_in h [] e c = absurd (contains_none e c)
+left_in h (i ∷ []) e c = absurd (contains_none e c)
+left_in h (i ∷ j ∷ ps) e c = at (contains_cases (record { half = h; left = i; right = j }) e (breakpoints_of h (j ∷ ps)) c) (left_in h (j ∷ ps) e)
+  where
+    in_front : (n : ℕ) → i ≡ n → nat_eq n i || is_in n (j ∷ ps) ≡ true
+    in_front n q = let same : nat_eq n i ≡ true = grind (arith, nat_tests, q) in ap (λ t. t || is_in n (j ∷ ps)) same
+
+    behind : (t : Bool) (b : Bool) → b ≡ true → t || b ≡ true
+    behind true b q = refl
+    behind false b q = q
+
+    at : (record { half = h; left = i; right = j } ≡ e) ⊎ Contains (breakpoints_of h (j ∷ ps)) e → (Contains (breakpoints_of h (j ∷ ps)) e → is_in e.left (j ∷ ps) ≡ true) → is_in e.left (i ∷ j ∷ ps) ≡ true
+    at (inl q) rest = in_front e.left (ap (λ (x : Breakpoint). x.left) q)
+    at (inr k) rest = behind (nat_eq e.left i) (is_in e.left (j ∷ ps)) (rest k)
+
+same_left : (h : Half) (a : List ℕ) → IsOnce a → (e f : Breakpoint) → Contains (breakpoints_of h a) e → Contains (breakpoints_of h a) f → e.left ≡ f.left → e ≡ f
+same_left h [] o e f c k q = absurd (contains_none e c)
+same_left h (i ∷ []) o e f c k q = absurd (contains_none e c)
+same_left h (i ∷ j ∷ ps) o e f c k q =
+    at (contains_cases (record { half = h; left = i; right = j }) e (breakpoints_of h (j ∷ ps)) c) (contains_cases (record { half = h; left = i; right = j }) f (breakpoints_of h (j ∷ ps)) k)
+    (λ l m. same_left h (j ∷ ps) o.1 e f l m q)
+  where
+    clash : (x y : Breakpoint) → record { half = h; left = i; right = j } ≡ x → Contains (breakpoints_of h (j ∷ ps)) y → x.left ≡ y.left → ⊥
+    clash x y p l r =
+        let there : is_in i (j ∷ ps) ≡ true = ap (λ n. is_in n (j ∷ ps)) (ap (λ (z : Breakpoint). z.left) p ∙ r) ∙ left_in h (j ∷ ps) y l in
+        let g : true ≡ false = sym there ∙ o.0 in cc
+
+    at : (record { half = h; left = i; right = j } ≡ e) ⊎ Contains (breakpoints_of h (j ∷ ps)) e → (record { half = h; left = i; right = j } ≡ f) ⊎ Contains (breakpoints_of h (j ∷ ps)) f
+        → (Contains (breakpoints_of h (j ∷ ps)) e → Contains (breakpoints_of h (j ∷ ps)) f → e ≡ f) → e ≡ f
+    at (inl p) (inl r) rest = sym p ∙ r
+    at (inl p) (inr l) rest = absurd (clash e f p l q)
+    at (inr l) (inl p) rest = absurd (clash f e p l (sym q))
+    at (inr l) (inr m) rest = rest l m
+
+unfoldable pub AreApart : List ℕ → List ℕ → Type 0
+AreApart a b = (i : ℕ) → is_in i a ≡ true → is_in i b ≡ true → ⊥
+
+-- ---- one merge
+module _ (s : Scene) (real : IsReal s) where
+  lefts_distinct : (a b : List ℕ) (es : List Breakpoint) → IsOnce a → IsOnce b → AreApart a b → IsChain (is_left s) a → IsChain (is_left s) b → IsBreakpointList s a b es → AreDistinct (lefts es)
+  unfolding lefts AreApart
+  lefts_distinct a b es oa ob apart ca cb l =
+      let slopes = real_slope_laws s real in
+      distinct_mapped_on (λ (e : Breakpoint). e.left) es
+      (λ e f c k q. at e f q (members_of s slopes a b es l e c) (members_of s slopes a b es l f k))
+      (list_distinct s slopes es (chain_of_list s slopes a b es ca cb l))
+    where
+      at : (e f : Breakpoint) → e.left ≡ f.left → Contains (breakpoints_of A a) e ⊎ Contains (breakpoints_of B b) e → Contains (breakpoints_of A a) f ⊎ Contains (breakpoints_of B b) f → e ≡ f
+      at e f q (inl c) (inl k) = same_left A a oa e f c k q
+      at e f q (inr c) (inr k) = same_left B b ob e f c k q
+      at e f q (inl c) (inr k) = absurd (apart f.left (ap (λ n. is_in n a) (sym q) ∙ left_in A a e c) (left_in B b f k))
+      at e f q (inr c) (inl k) = absurd (apart e.left (ap (λ n. is_in n a) q ∙ left_in A a f k) (left_in B b e c))
+
+  forms_distinct : (a b : List ℕ) (es : List Breakpoint) → IsOnce a → IsOnce b → AreDistinct (lefts es) → AreDistinct (forms_of_merge s a b es)
+  forms_distinct [] b es oa ob d = distinct_none
+  forms_distinct (a ∷ as') [] es oa ob d = distinct_none
+  forms_distinct (a ∷ as') (b ∷ bs) es oa ob d =
+      distinct_append (turns_from a b es ++ slopes_from es) (forms_of_ends s a as' b bs)
+      (distinct_append (turns_from a b es) (slopes_from es) (turns_distinct a b es d) (slopes_distinct es d)
+      (λ f c k. let p = (turn_first a b es f c).1 in let q = (slope_first es f k).1 in let g : 1 ≡ 2 = sym p ∙ q in omega (arith, g)))
+      (ends_distinct s a as' b bs oa ob)
+      (λ f c k. not_a_line f (ends_kind s a as' b bs f k) (Contains-append_cases (turns_from a b es) (slopes_from es) f c))
+    where
+      not_a_line : (f : Form) → kind f ≡ 0 → Contains (turns_from a b es) f ⊎ Contains (slopes_from es) f → ⊥
+      not_a_line f z (inl c) = let g : 0 ≡ 1 = sym z ∙ (turn_first a b es f c).1 in omega (arith, g)
+      not_a_line f z (inr c) = let g : 0 ≡ 2 = sym z ∙ (slope_first es f c).1 in omega (arith, g)
+
+  chain_once : (set : List ℕ) → IsOnce set → IsOnce (upper_chain_of s set)
+  chain_once set o = sorted-once (is_left s) (filter (is_bare s set) set) (kept-once (is_bare s set) set o)
+
+  chain_part : (set xs : List ℕ) → IsUpperChain s set xs → (i : ℕ) → is_in i xs ≡ true → is_in i set ≡ true
+  chain_part set xs u i h = (halves (is_in i set) (is_bare s set i) (sym (u.members i) ∙ h)).0
+
+  pub merge_exact : (left right : List ℕ) → IsOnce left → IsOnce right → AreApart left right → ListsExactly (merge_forms s left right) (IsMergeForm s left right)
+  unfolding AreApart
+  merge_exact left right ol or apart = record { once = once; each = λ f. (to f, from f) }
+    where
+      left_chain : IsUpperChain s left (upper_chain_of s left)
+      left_chain = chain_agrees s (real_line_laws s real) left ol
+
+      right_chain : IsUpperChain s right (upper_chain_of s right)
+      right_chain = chain_agrees s (real_line_laws s real) right or
+
+      list : IsBreakpointList s (upper_chain_of s left) (upper_chain_of s right) (breakpoint_list s (upper_chain_of s left) (upper_chain_of s right))
+      list = breakpoints_agree s (real_slope_laws s real) (real_turn_laws s real) left right (upper_chain_of s left) (upper_chain_of s right) left_chain right_chain
+
+      once : AreDistinct (merge_forms s left right)
+      once =
+          forms_distinct (upper_chain_of s left) (upper_chain_of s right) (breakpoint_list s (upper_chain_of s left) (upper_chain_of s right)) (chain_once left ol) (chain_once right or)
+          (lefts_distinct (upper_chain_of s left) (upper_chain_of s right) (breakpoint_list s (upper_chain_of s left) (upper_chain_of s right)) (chain_once left ol) (chain_once right or)
+          (λ i h k. apart i (chain_part left (upper_chain_of s left) left_chain i h) (chain_part right (upper_chain_of s right) right_chain i k))
+          left_chain.rising right_chain.rising list)
+
+      to : (f : Form) → Contains (merge_forms s left right) f → IsMergeForm s left right f
+      to f c = record {
+        a = upper_chain_of s left;
+        b = upper_chain_of s right;
+        breakpoints = breakpoint_list s (upper_chain_of s left) (upper_chain_of s right);
+        a_chain = left_chain;
+        b_chain = right_chain;
+        sorted = list;
+        listed = c;
+      }
+
+      from : (f : Form) → IsMergeForm s left right f → Contains (merge_forms s left right) f
+      from f m =
+          let ea : m.a ≡ upper_chain_of s left = one_upper_chain s (real_line_laws s real) left m.a (upper_chain_of s left) m.a_chain left_chain in
+          let eb : m.b ≡ upper_chain_of s right = one_upper_chain s (real_line_laws s real) right m.b (upper_chain_of s right) m.b_chain right_chain in
+          let sorted = subst (λ (xs : List ℕ). IsBreakpointList s xs (upper_chain_of s right) m.breakpoints) ea (subst (λ (ys : List ℕ). IsBreakpointList s m.a ys m.breakpoints) eb m.sorted) in
+          let ee : m.breakpoints ≡ breakpoint_list s (upper_chain_of s left) (upper_chain_of s right) =
+          one_breakpoint_list s (real_slope_laws s real) (upper_chain_of s left) (upper_chain_of s right) m.breakpoints (breakpoint_list s (upper_chain_of s left) (upper_chain_of s right)) left_chain.rising right_chain.rising sorted list in
+          subst (λ (es : List Breakpoint). Contains (forms_of_merge s (upper_chain_of s left) (upper_chain_of s right) es) f) ee
+          (subst (λ (xs : List ℕ). Contains (forms_of_merge s xs (upper_chain_of s right) m.breakpoints) f) ea (subst (λ (ys : List ℕ). Contains (forms_of_merge s m.a ys m.breakpoints) f) eb m.listed))
+
+-- ---- nodes
+either_true : (a b : Bool) → a || b ≡ true → (a ≡ true) ⊎ (b ≡ true)
+either_true true b h = inl refl
+either_true false b h = inr h
+
+-- no node comes to both halves of another
+not_both : (h u v : ℕ) → 0 < v → comes_to h u (2 * v) ≡ true → comes_to h u (2 * v + 1) ≡ true → ⊥
+not_both zero u v some p q = let e : u ≡ 2 * v = grind (arith, nat_tests, p) in let f : u ≡ 2 * v + 1 = grind (arith, nat_tests, q) in omega (arith, e, f)
+not_both (suc h) u v some p q = at (either_true (nat_eq u (2 * v)) (comes_to h (u / 2) (2 * v)) p) (either_true (nat_eq u (2 * v + 1)) (comes_to h (u / 2) (2 * v + 1)) q) (not_both h (u / 2) v some)
+  where
+    at : (nat_eq u (2 * v) ≡ true) ⊎ (comes_to h (u / 2) (2 * v) ≡ true) → (nat_eq u (2 * v + 1) ≡ true) ⊎ (comes_to h (u / 2) (2 * v + 1) ≡ true)
+        → (comes_to h (u / 2) (2 * v) ≡ true → comes_to h (u / 2) (2 * v + 1) ≡ true → ⊥) → ⊥
+    at (inl e) (inl f) rest = let g : u ≡ 2 * v = grind (arith, nat_tests, e) in let k : u ≡ 2 * v + 1 = grind (arith, nat_tests, f) in omega (arith, g, k)
+    at (inl e) (inr f) rest = let g : u ≡ 2 * v = grind (arith, nat_tests, e) in let k = not_above h (u / 2) (2 * v + 1) f in omega (arith, g, k, some)
+    at (inr e) (inl f) rest = let g : u ≡ 2 * v + 1 = grind (arith, nat_tests, f) in let k = not_above h (u / 2) (2 * v) e in omega (arith, g, k, some)
+    at (inr e) (inr f) rest = rest e f
+
+module _ (size : ℕ) (s : Scene) (real : IsReal s) (fits : FitsSize size s) where
+  live_under : (v i : ℕ) → is_in i (points_under size s v) ≡ true → (is_in i s.live ≡ true) × (is_under size v i ≡ true)
+  live_under v i h = halves (is_in i s.live) (is_under size v i) (sym (kept-members (is_under size v) s.live i) ∙ h)
+
+  under_once : (v : ℕ) → IsOnce (points_under size s v)
+  under_once v = kept-once (is_under size v) s.live (live-once s real)
+
+  under_apart : (v : ℕ) → AreApart (points_under size s (2 * v)) (points_under size s (2 * v + 1))
+  unfolding AreApart
+  under_apart v i h k =
+      let p = live_under (2 * v) i h in
+      let q = live_under (2 * v + 1) i k in
+      let some = (node_with_slot size v i (fits i p.0) p.1).0 in
+      not_both size (2 ^ size + i) v (omega (arith, some)) p.1 q.1
+
+  node_exact : (v : ℕ) → ListsExactly (node_forms size s v) (IsNodeForm size s v)
+  node_exact v = merge_exact s real (points_under size s (2 * v)) (points_under size s (2 * v + 1)) (under_once (2 * v)) (under_once (2 * v + 1)) (under_apart v)
+
+  -- a node with a form is an inner node
+  node_is_inner : (v : ℕ) (f : Form) → IsNodeForm size s v f → (1 ≤ v) × (v < 2 ^ size)
+  node_is_inner v f m = at m.a (λ i h. (halves (is_in i (points_under size s (2 * v))) (is_bare s (points_under size s (2 * v)) i) (sym (m.a_chain.members i) ∙ h)).0) m.listed
+    where
+      at : (a : List ℕ) → ((i : ℕ) → is_in i a ≡ true → is_in i (points_under size s (2 * v)) ≡ true) → Contains (forms_of_merge s a m.b m.breakpoints) f → (1 ≤ v) × (v < 2 ^ size)
+      at [] part c = absurd (contains_none f c)
+      at (i ∷ is) part c =
+          let p = live_under (2 * v) i (part i (front i is)) in
+          node_with_slot size v i (fits i p.0) p.1
+        where
+          front : (i : ℕ) (is : List ℕ) → is_in i (i ∷ is) ≡ true
+          front i is = let same : nat_eq i i ≡ true = grind (arith, nat_tests) in ap (λ t. t || is_in i is) same
+
+-- ---- both trees
+one_form : (s : Scene) (part : ℕ) (f g : Form) → placed_at s part f ≡ placed_at s part g → f ≡ g
+one_form s part f g e = ap (λ (p : Placed). p.fact.form) e
+
+abbrev IsUpperOf : ℕ → Scene → ℕ → Placed → Type 0
+IsUpperOf size s v p = (f : Form) × IsNodeForm size s v f × (p ≡ placed_at s (2 * v) f)
+
+abbrev IsLowerOf : ℕ → Scene → ℕ → Placed → Type 0
+IsLowerOf size s v p = (f : Form) × IsNodeForm size (turned s) v f × (p ≡ placed_at s (2 * v + 1) f)
+
+part_of : (s : Scene) (part : ℕ) (f : Form) (p : Placed) → p ≡ placed_at s part f → p.part ≡ part
+part_of s part f p e = ap (λ (q : Placed). q.part) e
+
+both_exact : (size : ℕ) (s : Scene) → IsReal s → FitsSize size s → (v : ℕ) → ListsExactly (hull_facts_of_node size s v) (λ p. IsUpperOf size s v p ⊎ IsLowerOf size s v p)
+both_exact size s real fits v =
+    exactly_both (map (placed_at s (2 * v)) (node_forms size s v)) (map (placed_at s (2 * v + 1)) (node_forms size (turned s) v)) (IsUpperOf size s v) (IsLowerOf size s v)
+    (exactly_mapped (placed_at s (2 * v)) (node_forms size s v) (IsNodeForm size s v) (one_form s (2 * v)) (node_exact size s real fits v))
+    (exactly_mapped (placed_at s (2 * v + 1)) (node_forms size (turned s) v) (IsNodeForm size (turned s) v) (one_form s (2 * v + 1)) (node_exact size (turned s) (turned-real s real) fits v))
+    (λ p w x. let e = part_of s (2 * v) w.0 p w.2 in let g = part_of s (2 * v + 1) x.0 p x.2 in omega (arith, e, g))
+
+-- the node by the part
+node_of : (size : ℕ) (s : Scene) (v : ℕ) (p : Placed) → IsUpperOf size s v p ⊎ IsLowerOf size s v p → p.part / 2 ≡ v
+node_of size s v p (inl w) = let e = part_of s (2 * v) w.0 p w.2 in omega (arith, e)
+node_of size s v p (inr w) = let e = part_of s (2 * v + 1) w.0 p w.2 in omega (arith, e)
+
+pub hull_facts_agree : HullFactsAgree
+hull_facts_agree size s real fits =
+    exactly_in_words (hull_facts size s) _ _ (λ p. (to p, from p))
+    (exactly_in_turn (hull_facts_of_node size s) (λ v p. IsUpperOf size s v p ⊎ IsLowerOf size s v p) (both_exact size s real fits)
+    (λ m n p w x. sym (node_of size s m p w) ∙ node_of size s n p x) 1 (2 ^ size - 1))
+  where
+    to : (p : Placed) → (n : ℕ) × (1 ≤ n) × (n < 1 + (2 ^ size - 1)) × (IsUpperOf size s n p ⊎ IsLowerOf size s n p) → IsHullFact size s p
+    to p (v, h, g, inl w) = inl (record { node = v; form = w.0; merge = w.1; fact = w.2 })
+    to p (v, h, g, inr w) = inr (record { node = v; form = w.0; merge = w.1; fact = w.2 })
+
+    from : (p : Placed) → IsHullFact size s p → (n : ℕ) × (1 ≤ n) × (n < 1 + (2 ^ size - 1)) × (IsUpperOf size s n p ⊎ IsLowerOf size s n p)
+    from p (inl w) =
+        let r = node_is_inner size s real fits w.node w.form w.merge in
+        let h : 1 ≤ w.node = r.0 in
+        let g : w.node < 2 ^ size = r.1 in
+        (w.node, h, omega (arith, g), inl (w.form, w.merge, w.fact))
+    from p (inr w) =
+        let r = node_is_inner size (turned s) (turned-real s real) fits w.node w.form w.merge in
+        let h : 1 ≤ w.node = r.0 in
+        let g : w.node < 2 ^ size = r.1 in
+        (w.node, h, omega (arith, g), inr (w.form, w.merge, w.fact))

@@ -1,0 +1,94 @@
+-- A command is refused for one cause, and one that is not refused prints one text and leads to one state.
+use Rattle.std.proofs.Common.{true, ◌≡◌, ℕ, List, ◌∙◌, sym, ap, refl}
+use Rattle.kin_num.specs.declared.instant.Shape.{Shape}
+use Rattle.kin_num.specs.Canonical.{IsCanonical}
+use Rattle.kin_script.specs.declared.command.Command.{Command}
+use Rattle.kin_script.specs.declared.command.Command.TheVariants.{Insert, AtRatio, AtRoot, Order, Extreme, Hull, Closest, Inside}
+use Rattle.kin_script.specs.declared.refusal.Refusal.{Refusal}
+use Rattle.kin_script.specs.declared.refusal.Refusal.TheVariants.{Taken, NotKept, NoRoot, Past}
+use Rattle.kin_script.specs.Replay.{State, at, Refuses, LeadsTo}
+use Rattle.kin_script.specs.Text.{Step, Prints}
+use Rattle.kin_run.proofs.NamedRoots.{one_named_root, named_root_of, has_root}
+use Rattle.kin_run.proofs.Lines.{one_line}
+
+-- at most one cause
+pub one_refusal : (s : State) (c : Command) (r q : Refusal) → Refuses s c r → Refuses s c q → r ≡ q
+one_refusal s c Taken Taken x y = refl
+one_refusal s c NotKept NotKept x y = refl
+one_refusal s c NoRoot NoRoot x y = refl
+one_refusal s c Past Past x y = refl
+one_refusal s (Insert n m) Taken NotKept x y = absurd y
+one_refusal s (Insert n m) Taken NoRoot x y = absurd y
+one_refusal s (Insert n m) Taken Past x y = absurd y.1
+one_refusal s (Insert n m) NotKept q x y = absurd x
+one_refusal s (Insert n m) NoRoot q x y = absurd x
+one_refusal s (Insert n m) Past q x y = absurd x.1
+one_refusal s (AtRatio n d) Taken q x y = absurd x
+one_refusal s (AtRatio n d) NotKept q x y = absurd x
+one_refusal s (AtRatio n d) NoRoot q x y = absurd x
+one_refusal s (AtRatio n d) Past Taken x y = absurd y
+one_refusal s (AtRatio n d) Past NotKept x y = absurd y
+one_refusal s (AtRatio n d) Past NoRoot x y = absurd y
+one_refusal s (AtRoot a b c upper) Taken q x y = absurd x
+one_refusal s (AtRoot a b c upper) NotKept q x y = absurd x
+one_refusal s (AtRoot a b c upper) NoRoot Taken x y = absurd y
+one_refusal s (AtRoot a b c upper) NoRoot NotKept x y = absurd y
+one_refusal s (AtRoot a b c upper) NoRoot Past x y = absurd (has_root a b c y.0 (named_root_of upper _ y.0 y.1) x)
+one_refusal s (AtRoot a b c upper) Past Taken x y = absurd y
+one_refusal s (AtRoot a b c upper) Past NotKept x y = absurd y
+one_refusal s (AtRoot a b c upper) Past NoRoot x y = absurd (has_root a b c x.0 (named_root_of upper _ x.0 x.1) y)
+one_refusal s (Order k) Taken q x y = absurd x
+one_refusal s (Order k) NotKept Taken x y = absurd y
+one_refusal s (Order k) NotKept NoRoot x y = absurd y
+one_refusal s (Order k) NotKept Past x y = absurd y.1
+one_refusal s (Order k) NoRoot q x y = absurd x
+one_refusal s (Order k) Past q x y = absurd x.1
+one_refusal s (Extreme k) Taken q x y = absurd x
+one_refusal s (Extreme k) NotKept Taken x y = absurd y
+one_refusal s (Extreme k) NotKept NoRoot x y = absurd y
+one_refusal s (Extreme k) NotKept Past x y = absurd y.1
+one_refusal s (Extreme k) NoRoot q x y = absurd x
+one_refusal s (Extreme k) Past q x y = absurd x.1
+one_refusal s Hull Taken q x y = absurd x
+one_refusal s Hull NotKept Taken x y = absurd y
+one_refusal s Hull NotKept NoRoot x y = absurd y
+one_refusal s Hull NotKept Past x y = absurd y.1
+one_refusal s Hull NoRoot q x y = absurd x
+one_refusal s Hull Past q x y = absurd x.1
+one_refusal s Closest Taken q x y = absurd x
+one_refusal s Closest NotKept Taken x y = absurd y
+one_refusal s Closest NotKept NoRoot x y = absurd y
+one_refusal s Closest NotKept Past x y = absurd y.1
+one_refusal s Closest NoRoot q x y = absurd x
+one_refusal s Closest Past q x y = absurd x.1
+one_refusal s (Inside r) Taken q x y = absurd x
+one_refusal s (Inside r) NotKept Taken x y = absurd y
+one_refusal s (Inside r) NotKept NoRoot x y = absurd y
+one_refusal s (Inside r) NotKept Past x y = absurd y.1
+one_refusal s (Inside r) NoRoot q x y = absurd x
+one_refusal s (Inside r) Past q x y = absurd x.1
+
+-- one text
+one_print : (s : State) (c : Command) (x y : List ℕ) → IsCanonical s.moment.at → Prints s c x → Prints s c y → x ≡ y
+one_print s (Insert n m) x y canonical p q = p ∙ sym q
+one_print s (AtRatio n d) x y canonical p q = p ∙ sym q
+one_print s (AtRoot a b c upper) x y canonical p q = p ∙ sym q
+one_print s (Order k) x y canonical p q = one_line s k x y canonical p q
+one_print s (Extreme k) x y canonical p q = absurd p
+one_print s Hull x y canonical p q = absurd p
+one_print s Closest x y canonical p q = absurd p
+one_print s (Inside r) x y canonical p q = absurd p
+
+-- one state
+one_state : (s : State) (c : Command) (t u : State) → LeadsTo s c t → LeadsTo s c u → t ≡ u
+one_state s (Insert n m) t u p q = p ∙ sym q
+one_state s (AtRatio n d) t u p q = p.2 ∙ ap (λ (w : Shape). record s { moment = at w }) (one_named_root true _ p.0 q.0 p.1 q.1) ∙ sym q.2
+one_state s (AtRoot a b c upper) t u p q = p.2 ∙ ap (λ (w : Shape). record s { moment = at w }) (one_named_root upper _ p.0 q.0 p.1 q.1) ∙ sym q.2
+one_state s (Order k) t u p q = p ∙ sym q
+one_state s (Extreme k) t u p q = p ∙ sym q
+one_state s Hull t u p q = p ∙ sym q
+one_state s Closest t u p q = p ∙ sym q
+one_state s (Inside r) t u p q = p ∙ sym q
+
+pub one_step : (s : State) (c : Command) (x y : List ℕ) (t u : State) → IsCanonical s.moment.at → Step s c x t → Step s c y u → (x ≡ y) × (t ≡ u)
+one_step s c x y t u canonical p q = (one_print s c x y canonical p.prints q.prints, one_state s c t u p.leads q.leads)

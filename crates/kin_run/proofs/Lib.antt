@@ -1,0 +1,10 @@
+pub mod Fronts
+pub mod Gathering
+pub mod Live
+pub mod NamedRoots
+pub mod Commands
+pub mod Lines
+pub mod Determined
+pub mod Playing
+pub mod Stepping
+pub mod OneText

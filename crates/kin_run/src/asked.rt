@@ -1,0 +1,33 @@
+//! The root that an `at root` line names.
+
+ghost use Rattle.std.specs.Prelude.{◌≡◌, ◌≤◌, ◌<◌, ◌<ℤ◌, ◌^◌, MatchOption, if◌then◌else◌, pos, unsigned_abs};
+ghost use Rattle.kin_num.specs.Canonical.{discriminant};
+ghost use Rattle.kin_script.specs.Replay.{IsNamedRoot};
+
+use kin_instant::roots::Roots;
+use kin_instant::solve::roots;
+use kin_num::instant::Instant;
+use kin_num::poly::Poly;
+
+/// The one of two roots that the word names.
+fn named(lesser: Instant, greater: Instant, upper: bool) -> Instant
+    ensures { result ≡ (if upper then greater else lesser) }
+{
+    if upper { greater } else { lesser }
+}
+
+/// The greater root or the lesser one; with one root both name it. `None` exactly where there is
+/// no real root.
+pub fn named_root(a: i64, b: i64, c: i64, upper: bool) -> Option<Instant>
+    requires a_not_zero { 0 < unsigned_abs a }
+    requires a_small { unsigned_abs a ≤ 2 ^ 28 }
+    requires b_small { unsigned_abs b ≤ 2 ^ 29 }
+    requires c_small { unsigned_abs c ≤ 2 ^ 28 }
+    ensures { MatchOption result (discriminant a b c <ℤ pos 0) (IsNamedRoot upper (record { a = a; b = b; c = c })) }
+{
+    match roots(&Poly::new(a, b, c)) {
+        Roots::Nowhere | Roots::All => None,
+        Roots::One(root) => Some(root),
+        Roots::Two(lesser, greater) => Some(named(lesser, greater, upper)),
+    }
+}

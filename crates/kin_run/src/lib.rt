@@ -1,0 +1,21 @@
+//! The top call: words, source and sink in, status out.
+//!
+//! A script of moving points is taken whole, held against the grammar, and replayed command by
+//! command; each question is answered at the moment now, by signs that are exact at rational and
+//! irrational instants. The contract of `run::run` says, for every input, which bytes are written
+//! and which status is answered: the text of the script as `kin_script` defines it, and no other.
+#![tactic(auto)]
+
+pub use kin_script::refusal::Refusal;
+
+mod asked;
+pub mod laws;
+mod order;
+mod perform;
+mod play;
+pub mod run;
+mod state;
+pub mod status;
+#[cfg(test)]
+mod tests;
+mod text;

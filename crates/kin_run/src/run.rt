@@ -1,0 +1,156 @@
+//! The top call.
+
+ghost use Rattle.std.specs.Prelude.{◌≡◌, ◌≤◌, ◌<◌, ◌^◌, ◌↔◌, ◌⊎◌, ℕ, List, Option, length, false, true, Ok, Err, Some, None};
+ghost use Rattle.kin_io.specs.Causes.{Rose};
+ghost use Rattle.kin_script.specs.declared.script.Script.{Script as ScriptOf};
+ghost use Rattle.kin_script.specs.Grammar.{script_of};
+ghost use Rattle.kin_script.specs.Ranges.{IsInRange};
+ghost use Rattle.kin_script.specs.declared.refusal.Refusal.{Refusal};
+ghost use Rattle.kin_run.specs.declared.status.Status.{Status as Answer};
+ghost use Rattle.kin_run.specs.Headline.{Writes, Answers, IsAnswer, IsTextOf, IsBrokenOff, status_of_stop};
+ghost use Rattle.kin_run.specs.Words.{is_written_form};
+ghost use Rattle.kin_run.specs.Written.{Wrote};
+
+use crate::play::{Stop, flush, play};
+use crate::state::State;
+use crate::status::{Side, Status};
+use crate::text::bad_text;
+use kin_io::sink::Sink;
+use kin_io::source::{Source, Taken, read_all};
+use kin_script::read::{ReadError, read};
+use kin_script::script::Script;
+use std::alloc::Global;
+
+/// The most bytes of a script.
+const LIMIT: u32 = 1 << 20;
+
+/// The status of a run that was broken off.
+fn status_of(stop: Stop) -> Status
+    ensures { result ≡ status_of_stop stop }
+{
+    match stop {
+        Stop::Fault => Status::Fault(Side::Write),
+        Stop::NoMemory => Status::NoMemory,
+    }
+}
+
+/// Whether the words are a written form.
+fn is_form(words: &[String]) -> bool
+    ensures { result ≡ is_written_form words.now }
+{
+    match words {
+        [word] => word.as_str() == "run",
+        _ => false,
+    }
+}
+
+/// Runs the commands of a script.
+fn run_script<K: Sink>(alloc: Global, input: &[u8], script: Script, sink: &mut K) -> Status
+    requires ranges { IsInRange script }
+    requires reads { script_of input.now ≡ Ok script }
+    ensures writes { Wrote (K.held sink.old) (K.held sink.new) (Writes input.now result) }
+    ensures later { K.faults sink.old ≤ K.faults sink.new }
+    ensures cause { result ≡ Status.Fault Side.Write → Rose (K.faults sink.old) (K.faults sink.new) }
+{
+    let Script {
+        size,
+        keeps,
+        lines,
+        ..
+    } = script;
+    let Ok(mut state) = State::start(alloc, size, keeps) else {
+        return Status::NoMemory;
+    };
+    match play(alloc, &mut state, lines.as_slice(), sink) {
+        Ok(None) => Status::Done,
+        Ok(Some((line, refusal))) => Status::Command(line, refusal),
+        Err(stop) => status_of(stop),
+    }
+}
+
+/// Writes the line that names the first line outside the grammar.
+fn refuse_script<K: Sink>(alloc: Global, input: &[u8], line: u32, sink: &mut K) -> Status
+    requires { script_of input.now ≡ Err line }
+    ensures writes { Wrote (K.held sink.old) (K.held sink.new) (Writes input.now result) }
+    ensures later { K.faults sink.old ≤ K.faults sink.new }
+    ensures cause { result ≡ Status.Fault Side.Write → Rose (K.faults sink.old) (K.faults sink.new) }
+{
+    let Ok(mut out) = bad_text(alloc, line) else {
+        return Status::NoMemory;
+    };
+    match flush(&mut out, sink) {
+        Ok(()) => Status::Script(line),
+        Err(stop) => status_of(stop),
+    }
+}
+
+/// Holds a whole input against the grammar, and runs it.
+fn answer<K: Sink>(alloc: Global, input: &[u8], sink: &mut K) -> Status
+    requires { length input.now ≤ 2 ^ 20 }
+    ensures writes { Wrote (K.held sink.old) (K.held sink.new) (Writes input.now result) }
+    ensures later { K.faults sink.old ≤ K.faults sink.new }
+    ensures cause { result ≡ Status.Fault Side.Write → Rose (K.faults sink.old) (K.faults sink.new) }
+{
+    match read(alloc, input) {
+        Ok(script) => run_script(alloc, input, script, sink),
+        Err(ReadError::BadLine(line)) => refuse_script(alloc, input, line, sink),
+        Err(ReadError::NoMemory) => Status::NoMemory,
+    }
+}
+
+/// Takes the whole input, holds it against the grammar and runs it.
+fn run_input<S: Source, K: Sink>(alloc: Global, source: &mut S, sink: &mut K) -> Status
+    ensures headline { Answers (S.left source.old) (S.left source.new) (S.ended source.new) (K.held sink.old) (K.held sink.new) result }
+    ensures read_fault { result ≡ Status.Fault Side.Read → Rose (S.faults source.old) (S.faults source.new) }
+    ensures write_fault { result ≡ Status.Fault Side.Write → Rose (K.faults sink.old) (K.faults sink.new) }
+{
+    match read_all(alloc, source, LIMIT) {
+        Ok(input) => answer(alloc, &input, sink),
+        Err(Taken::Fault) => Status::Fault(Side::Read),
+        Err(Taken::TooLong) => Status::TooLong,
+        Err(Taken::NoMemory) => Status::NoMemory,
+    }
+}
+
+/// Reads the words, takes the whole input, holds it against the grammar and runs its commands up
+/// to the first that is refused. Nothing is written before the whole input is known to be in the
+/// grammar or not; then the bytes are written in pieces of some 64 KiB, each command's text behind
+/// that of the one before.
+pub fn run<S: Source, K: Sink>(
+    alloc: Global,
+    words: &[String],
+    source: &mut S,
+    sink: &mut K,
+) -> Status
+    // The words alone decide whether there is a run.
+    ensures words { (result ≡ Status.Words) ↔ (is_written_form words.now ≡ false) }
+    ensures untouched { result ≡ Status.Words → (source.new ≡ source.old) × (sink.new ≡ sink.old) }
+
+    // The headline: the bytes written are the text of the bytes taken, by the status.
+    ensures headline { is_written_form words.now ≡ true →
+        Answers (S.left source.old) (S.left source.new) (S.ended source.new) (K.held sink.old) (K.held sink.new) result }
+
+    // A known input has its own status: of the end, of the first refused line, or of the first
+    // refused command. Only a run that is broken off has another.
+    ensures done { is_written_form words.now ≡ true → (input text : List ℕ) →
+        S.left source.old ≡ Some input → length input ≤ 2 ^ 20 → IsTextOf input text None →
+        (result ≡ Status.Done) ⊎ IsBrokenOff result }
+    ensures command { is_written_form words.now ≡ true → (input text : List ℕ) (line : ℕ) (refusal : Refusal) →
+        S.left source.old ≡ Some input → length input ≤ 2 ^ 20 → IsTextOf input text (Some (line, refusal)) →
+        (result ≡ Status.Command line refusal) ⊎ IsBrokenOff result }
+    ensures script { is_written_form words.now ≡ true → (input : List ℕ) (line : ℕ) →
+        S.left source.old ≡ Some input → length input ≤ 2 ^ 20 → script_of input ≡ Err line →
+        (result ≡ Status.Script line) ⊎ IsBrokenOff result }
+    ensures too_long { is_written_form words.now ≡ true → (input : List ℕ) →
+        S.left source.old ≡ Some input → 2 ^ 20 < length input →
+        (result ≡ Status.TooLong) ⊎ IsBrokenOff result }
+
+    // A fault comes only from the outside.
+    ensures read_fault { result ≡ Status.Fault Side.Read → Rose (S.faults source.old) (S.faults source.new) }
+    ensures write_fault { result ≡ Status.Fault Side.Write → Rose (K.faults sink.old) (K.faults sink.new) }
+{
+    if !is_form(words) {
+        return Status::Words;
+    }
+    run_input(alloc, source, sink)
+}

@@ -1,0 +1,185 @@
+//! Runs over sources and sinks in memory.
+
+ghost use Rattle.std.specs.Prelude.{◌<◌};
+
+use crate::run::run;
+use crate::status::{Side, Status};
+use kin_io::memory::{MemSink, MemSource};
+use kin_script::refusal::Refusal;
+use std::alloc::Global;
+use std::test::Fail;
+
+const CROSSING: &str =
+    "size 1\nkeep order 1 0\ninsert 0 0 0 1 0\ninsert 1 10 0 -1 0\nat 4\norder 0\nat 5\norder 0\nat 6\norder 0\n";
+
+/// Scripts with their texts and statuses.
+const WORKED: [(&str, &str, Status); 18] = [
+    (CROSSING, "0 1\n0 1\n1 0\n", Status::Done),
+    // The numbers exchanged: the order changes at 5 itself.
+    (
+        "size 1\nkeep order 1 0\ninsert 0 10 0 -1 0\ninsert 1 0 0 1 0\nat 4\norder 0\nat 5\norder 0\nat 6\norder 0\n",
+        "1 0\n0 1\n0 1\n",
+        Status::Done,
+    ),
+    (
+        "size 1\nkeep order 1 0\ninsert 0 0 0 2 0\ninsert 1 1 0 0 0\nat 1/4\norder 0\nat 2/4\norder 0\nat 3/4\norder 0\n",
+        "0 1\n0 1\n1 0\n",
+        Status::Done,
+    ),
+    (
+        "size 1\nkeep order 1 0\ninsert 0 0 0 1 0\ninsert 1 3 0 -1 0\nat root 1 0 -2 hi\norder 0\nat 3/2\norder 0\nat root 1 0 -3 hi\norder 0\n",
+        "0 1\n0 1\n1 0\n",
+        Status::Done,
+    ),
+    // Two roots that differ by some parts in 10^18.
+    (
+        "size 1\nat root 134217727 134217729 -268435455 hi\nat root 134217728 134217728 -268435455 hi\nat root 134217727 134217729 -268435455 hi\n",
+        "refused 4 Past\n",
+        Status::Command(4, Refusal::Past),
+    ),
+    (
+        "size 1\nat 2147483645/1073741824\nat root 268435456 -536870912 1 hi\nat 2147483647/1073741824\nat root 268435456 -536870912 1 hi\n",
+        "refused 5 Past\n",
+        Status::Command(5, Refusal::Past),
+    ),
+    (
+        "size 01\r\n\tkeep order 1 -0 # east\r\n\r\ninsert 0 4096 -4096 -0 007\r\norder 0",
+        "0\n",
+        Status::Done,
+    ),
+    (
+        "size 01\r\n\tkeep order 1 -0 # east\r\n\r\ninsert 0 4097 -4096 -0 007\r\norder 0",
+        "bad 4\n",
+        Status::Script(4),
+    ),
+    (
+        "size 1\nkeep order 1 0\ninsert 0 0 0 0 0\ninsert 0 1 1 0 0\n",
+        "refused 4 Taken\n",
+        Status::Command(4, Refusal::Taken),
+    ),
+    (
+        "size 1\nkeep order 1 0\ninsert 0 0 0 0 0\nat 2\nat 1\n",
+        "refused 5 Past\n",
+        Status::Command(5, Refusal::Past),
+    ),
+    (
+        "size 1\ninsert 0 0 0 0 0\ninsert 0 1 1 0 0\n",
+        "refused 3 Taken\n",
+        Status::Command(3, Refusal::Taken),
+    ),
+    (
+        "size 1\nhull\n",
+        "refused 2 NotKept\n",
+        Status::Command(2, Refusal::NotKept),
+    ),
+    (
+        "size 1\nat root 1 0 1 hi\n",
+        "refused 2 NoRoot\n",
+        Status::Command(2, Refusal::NoRoot),
+    ),
+    (
+        "size 1\nat root 1 0 -2 lo\n",
+        "refused 2 Past\n",
+        Status::Command(2, Refusal::Past),
+    ),
+    ("size 1\ninsert 2 0 0 0 0\n", "bad 2\n", Status::Script(2)),
+    ("", "bad 1\n", Status::Script(1)),
+    // A moment that is now may be asked for again.
+    (
+        "size 1\nkeep order 0 1\nat 3\nat 6/2\norder 0\n",
+        "none\n",
+        Status::Done,
+    ),
+    // What was printed before a refused command stays.
+    (
+        "size 1\nkeep order 0 1\norder 0\norder 1\norder 0\n",
+        "none\nrefused 4 NotKept\n",
+        Status::Command(4, Refusal::NotKept),
+    ),
+];
+
+/// The word of a run.
+fn word(rt: &HostRuntime) -> Result<Vec<String>, Fail> {
+    let run = String::from_str(rt.alloc(), "run")?;
+    Ok(vec![in rt.alloc(); run]?)
+}
+
+/// A source of the bytes of a text.
+fn source_of(alloc: Global, text: &str, piece: usize, failing: Vec<u64>) -> Result<MemSource, Fail>
+    requires { 0 < piece }
+{
+    let bytes = Vec::from_slice(alloc, text.as_bytes())?;
+    Ok(MemSource::new(bytes, piece, failing))
+}
+
+#[test]
+fn gives_the_worked_texts(rt: HostRuntime) -> Result<(), Fail> {
+    let words = word(&rt)?;
+    for (script, text, status) in WORKED {
+        let mut source = source_of(rt.alloc(), script, 3, Vec::new(rt.alloc()))?;
+        let mut sink = MemSink::new(rt.alloc(), 100, Vec::new(rt.alloc()))?;
+        let found = run(rt.alloc(), &words, &mut source, &mut sink);
+        assert!(rt; found == status, "status of {script}");
+        assert!(rt; sink.held() == text.as_bytes(), "text of {script}");
+    }
+    Ok(())
+}
+
+#[test]
+fn a_read_that_fails_leaves_nothing_written(rt: HostRuntime) -> Result<(), Fail> {
+    let words = word(&rt)?;
+    // The script has 97 bytes: 33 pieces, and then the end.
+    for call in 0..34 {
+        let failing = vec![in rt.alloc(); call]?;
+        let mut source = source_of(rt.alloc(), CROSSING, 3, failing)?;
+        let mut sink = MemSink::new(rt.alloc(), 100, Vec::new(rt.alloc()))?;
+        let found = run(rt.alloc(), &words, &mut source, &mut sink);
+        assert!(rt; found == Status::Fault(Side::Read), "call {call}");
+        assert!(rt; sink.held().is_empty(), "call {call}");
+    }
+    Ok(())
+}
+
+#[test]
+fn a_sink_without_room_holds_a_front(rt: HostRuntime) -> Result<(), Fail> {
+    let words = word(&rt)?;
+    let text = b"0 1\n0 1\n1 0\n".as_slice();
+    for room in 0..12 {
+        let mut source = source_of(rt.alloc(), CROSSING, 64, Vec::new(rt.alloc()))?;
+        let mut sink = MemSink::new(rt.alloc(), room, Vec::new(rt.alloc()))?;
+        let found = run(rt.alloc(), &words, &mut source, &mut sink);
+        assert!(rt; found == Status::Fault(Side::Write), "room {room}");
+        assert!(rt; sink.held().len() as u64 == room, "room {room}");
+        assert!(rt; text.starts_with(sink.held()), "room {room}");
+    }
+    Ok(())
+}
+
+#[test]
+fn a_write_that_fails_is_told(rt: HostRuntime) -> Result<(), Fail> {
+    let words = word(&rt)?;
+    for script in [CROSSING, "bad\n", "size 1\nhull\n"] {
+        let mut source = source_of(rt.alloc(), script, 64, Vec::new(rt.alloc()))?;
+        let failing = vec![in rt.alloc(); 0]?;
+        let mut sink = MemSink::new(rt.alloc(), 100, failing)?;
+        let found = run(rt.alloc(), &words, &mut source, &mut sink);
+        assert!(rt; found == Status::Fault(Side::Write), "status of {script}");
+        assert!(rt; sink.held().is_empty(), "text of {script}");
+    }
+    Ok(())
+}
+
+#[test]
+fn other_words_touch_nothing(rt: HostRuntime) -> Result<(), Fail> {
+    let other = String::from_str(rt.alloc(), "Run")?;
+    let mut words = word(&rt)?;
+    words.push(other)?;
+    for form in [&words[..0], &words[1..], &words[..]] {
+        let mut source = source_of(rt.alloc(), CROSSING, 64, Vec::new(rt.alloc()))?;
+        let mut sink = MemSink::new(rt.alloc(), 100, Vec::new(rt.alloc()))?;
+        let found = run(rt.alloc(), form, &mut source, &mut sink);
+        assert!(rt; found == Status::Words);
+        assert!(rt; sink.held().is_empty());
+    }
+    Ok(())
+}

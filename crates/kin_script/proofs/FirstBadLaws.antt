@@ -1,0 +1,183 @@
+-- The first line outside is the first that may not stand where it stands.
+use Rattle.std.proofs.Common.{◌≡◌, inl, inr, ℕ, false, List, [], ◌∷◌, ◌++◌, Option, Some, None, Result, Ok, Err, refl, sym, ap, ◌∙◌}
+use Rattle.std.specs.Prelude.{◌⊎◌, unwrap_or}
+use Rattle.kin_script.specs.declared.command.Command.{Command}
+use Rattle.kin_script.specs.declared.script.Script.{Script}
+use Rattle.kin_script.specs.declared.line.Setting.{Setting}
+use Rattle.kin_script.specs.Left.{Numbered}
+use Rattle.kin_script.specs.Commands.{command_of, size_of, setting_of}
+use Rattle.kin_script.specs.Grammar.{◌>>◌, at_line, by_setting, Header, commands_of, with_commands, with_setting, behind_size, script_of_lines}
+use Rattle.kin_script.specs.Written.{IsWritten, IsFirstBad}
+use Rattle.kin_script.proofs.WrittenLaws.{whole, first_header, is_written, written_is}
+
+abbrev Commands : Type 0
+Commands = List (ℕ × Command)
+
+abbrev none_read : ℕ → Result Commands ℕ
+none_read n = Err n
+
+-- reading stops at a line, however the lines go on behind it, and not before it
+pub record Stops {A : Type 0} (read : List Numbered → Result A ℕ) (ls : List Numbered) (n : ℕ) : Type 0 where
+  pub before : List Numbered
+  pub bad : Numbered
+  pub behind : List Numbered
+  pub parts : ls ≡ before ++ bad ∷ behind
+  pub number : bad.0 ≡ n
+  pub good : (x : A) × (read before ≡ Ok x)
+  pub outside : (more : List Numbered) → read (before ++ bad ∷ more) ≡ Err n
+
+-- ---- commands
+
+refused : (size n : ℕ) (l : Numbered) (ls : List Numbered) → command_of size l.1 ≡ None → l.0 ≡ n → Stops (commands_of size) (l ∷ ls) n
+unfolding commands_of
+refused size n l ls none same = record {
+  before = [];
+  bad = l;
+  behind = ls;
+  parts = refl;
+  number = same;
+  good = ([], refl);
+  outside = λ more. rw (none, same) refl;
+}
+
+later : (size n : ℕ) (l : Numbered) (ls : List Numbered) (c : Command) → command_of size l.1 ≡ Some c → Stops (commands_of size) ls n → Stops (commands_of size) (l ∷ ls) n
+unfolding commands_of
+later size n l ls c some p = record {
+  before = l ∷ p.before;
+  bad = p.bad;
+  behind = p.behind;
+  parts = ap (λ (xs : List Numbered). l ∷ xs) p.parts;
+  number = p.number;
+  good = ((l.0, c) ∷ p.good.0, rw (some, p.good.1) refl);
+  outside = λ more. rw (some, p.outside more) refl;
+}
+
+stops_at_command : (size n : ℕ) (ls : List Numbered) → commands_of size ls ≡ Err n → Stops (commands_of size) ls n
+unfolding commands_of
+stops_at_command size n [] e = absurd cc
+stops_at_command size n (l ∷ ls) e = at (command_of size l.1) refl e (stops_at_command size n ls)
+  where
+    behind : (c : Command) (read : Result Commands ℕ) → command_of size l.1 ≡ Some c → commands_of size ls ≡ read → (read >> λ cs. Ok ((l.0, c) ∷ cs)) ≡ Err n
+        → (commands_of size ls ≡ Err n → Stops (commands_of size) ls n) → Stops (commands_of size) (l ∷ ls) n
+    behind c (Ok cs) is q e rest = absurd cc
+    behind c (Err m) is q e rest = let same : m ≡ n = cc in later size n l ls c is (rest (q ∙ ap (λ (k : ℕ). none_read k) same))
+
+    at : (o : Option Command) → command_of size l.1 ≡ o → (at_line l.0 o >> λ c. commands_of size ls >> λ cs. Ok ((l.0, c) ∷ cs)) ≡ Err n
+        → (commands_of size ls ≡ Err n → Stops (commands_of size) ls n) → Stops (commands_of size) (l ∷ ls) n
+    at None is e rest = refused size n l ls is (cc)
+    at (Some c) is e rest = behind c (commands_of size ls) is refl e rest
+
+-- ---- the header
+
+begins : (before behind more : List Numbered) (bad l : Numbered) (ls : List Numbered) → l ∷ ls ≡ before ++ bad ∷ behind → (tail : List Numbered) × (before ++ bad ∷ more ≡ l ∷ tail)
+begins [] behind more bad l ls e = (more, cc)
+begins (b ∷ bs) behind more bad l ls e = (bs ++ bad ∷ more, cc)
+
+no_setting : (h : Header) (l : Numbered) (ls all : List Numbered) → setting_of l.1 ≡ None → all ≡ l ∷ ls → behind_size h all ≡ with_commands h all
+unfolding behind_size
+no_setting h l ls all none e = rw (e, none) refl
+
+before_no_setting : (h : Header) (l : Numbered) (ls before behind : List Numbered) (bad : Numbered) → setting_of l.1 ≡ None → l ∷ ls ≡ before ++ bad ∷ behind → behind_size h before ≡ with_commands h before
+unfolding behind_size
+before_no_setting h l ls [] behind bad none e = refl
+before_no_setting h l ls (b ∷ bs) behind bad none e =
+    let same : l ≡ b = cc in
+    no_setting h l bs (b ∷ bs) none (ap (λ (k : Numbered). k ∷ bs) (sym same))
+
+among_commands : (h : Header) (n : ℕ) (l : Numbered) (ls : List Numbered) → setting_of l.1 ≡ None → Stops (commands_of h.size) (l ∷ ls) n → Stops (behind_size h) (l ∷ ls) n
+among_commands h n l ls none p = record {
+  before = p.before;
+  bad = p.bad;
+  behind = p.behind;
+  parts = p.parts;
+  number = p.number;
+  good = (
+    record { size = h.size; keeps = h.keeps; journal = unwrap_or h.journal false; lines = p.good.0 },
+    before_no_setting h l ls p.before p.behind p.bad none p.parts ∙ rw p.good.1 refl,
+  );
+  outside = λ more.
+      let b = begins p.before p.behind more p.bad l ls p.parts in
+      no_setting h l b.0 (p.before ++ p.bad ∷ more) none b.1 ∙ rw (p.outside more) refl;
+}
+
+no_room : (h : Header) (n : ℕ) (l : Numbered) (ls : List Numbered) (x : Setting) → setting_of l.1 ≡ Some x → with_setting h x ≡ None → l.0 ≡ n → Stops (behind_size h) (l ∷ ls) n
+unfolding behind_size commands_of
+no_room h n l ls x is none same = record {
+  before = [];
+  bad = l;
+  behind = ls;
+  parts = refl;
+  number = same;
+  good = (record { size = h.size; keeps = h.keeps; journal = unwrap_or h.journal false; lines = [] }, refl);
+  outside = λ more. rw (is, none, same) refl;
+}
+
+in_header : (h g : Header) (n : ℕ) (l : Numbered) (ls : List Numbered) (x : Setting) → setting_of l.1 ≡ Some x → with_setting h x ≡ Some g → Stops (behind_size g) ls n → Stops (behind_size h) (l ∷ ls) n
+unfolding behind_size
+in_header h g n l ls x is some p = record {
+  before = l ∷ p.before;
+  bad = p.bad;
+  behind = p.behind;
+  parts = ap (λ (xs : List Numbered). l ∷ xs) p.parts;
+  number = p.number;
+  good = (p.good.0, rw (is, some) p.good.1);
+  outside = λ more. rw (is, some) (p.outside more);
+}
+
+stops_behind_size : (h : Header) (n : ℕ) (ls : List Numbered) → behind_size h ls ≡ Err n → Stops (behind_size h) ls n
+unfolding behind_size commands_of
+stops_behind_size h n [] e = absurd cc
+stops_behind_size h n (l ∷ ls) e = at (setting_of l.1) refl e (λ g. stops_behind_size g n ls)
+  where
+    sets : (x : Setting) (o : Option Header) → setting_of l.1 ≡ Some x → with_setting h x ≡ o → (at_line l.0 o >> λ g. behind_size g ls) ≡ Err n
+        → ((g : Header) → behind_size g ls ≡ Err n → Stops (behind_size g) ls n) → Stops (behind_size h) (l ∷ ls) n
+    sets x None is q e rest = no_room h n l ls x is q (cc)
+    sets x (Some g) is q e rest = in_header h g n l ls x is q (rest g e)
+
+    commands : (read : Result Commands ℕ) → setting_of l.1 ≡ None → commands_of h.size (l ∷ ls) ≡ read
+        → (read >> λ cs. whole (record { size = h.size; keeps = h.keeps; journal = unwrap_or h.journal false; lines = cs })) ≡ Err n → Stops (behind_size h) (l ∷ ls) n
+    commands (Ok cs) is q e = absurd cc
+    commands (Err m) is q e = let same : m ≡ n = cc in among_commands h n l ls is (stops_at_command h.size n (l ∷ ls) (q ∙ ap (λ (k : ℕ). none_read k) same))
+
+    at : (o : Option Setting) → setting_of l.1 ≡ o → by_setting o (λ x. at_line l.0 (with_setting h x) >> λ g. behind_size g ls) (with_commands h (l ∷ ls)) ≡ Err n
+        → ((g : Header) → behind_size g ls ≡ Err n → Stops (behind_size g) ls n) → Stops (behind_size h) (l ∷ ls) n
+    at None is e rest = commands (commands_of h.size (l ∷ ls)) is refl e
+    at (Some x) is e rest = sets x (with_setting h x) is refl e rest
+
+-- ---- the whole script
+
+no_script : (after n : ℕ) (ls : List Numbered) → script_of_lines after ls ≡ Err n → (s : Script) → ¬ (IsWritten ls s)
+no_script after n ls e s w = let this = written_is after ls s w in absurd cc
+
+first_is_bad : (after n : ℕ) (l : Numbered) (ls : List Numbered) → size_of l.1 ≡ None → l.0 ≡ n → IsFirstBad (l ∷ ls) n
+unfolding script_of_lines
+first_is_bad after n l ls none same = record {
+  before = [];
+  bad = l;
+  behind = ls;
+  parts = refl;
+  number = same;
+  good = inl refl;
+  outside = λ more. no_script after l.0 (l ∷ more) (rw none refl);
+}
+
+later_is_bad : (after n size : ℕ) (l : Numbered) (ls : List Numbered) → size_of l.1 ≡ Some size → Stops (behind_size (first_header size)) ls n → IsFirstBad (l ∷ ls) n
+unfolding script_of_lines
+later_is_bad after n size l ls some p = record {
+  before = l ∷ p.before;
+  bad = p.bad;
+  behind = p.behind;
+  parts = ap (λ (xs : List Numbered). l ∷ xs) p.parts;
+  number = p.number;
+  good = inr (p.good.0, is_written after (l ∷ p.before) p.good.0 (rw some p.good.1));
+  outside = λ more. no_script after n (l ∷ (p.before ++ p.bad ∷ more)) (rw some (p.outside more));
+}
+
+pub first_outside : (after n : ℕ) (ls : List Numbered) → script_of_lines after ls ≡ Err n → ((ls ≡ []) × (n ≡ after)) ⊎ IsFirstBad ls n
+unfolding script_of_lines
+first_outside after n [] e = inl (refl, cc)
+first_outside after n (l ∷ ls) e = inr (at (size_of l.1) refl e)
+  where
+    at : (o : Option ℕ) → size_of l.1 ≡ o → (at_line l.0 o >> λ size. behind_size (first_header size) ls) ≡ Err n → IsFirstBad (l ∷ ls) n
+    at None is e = first_is_bad after n l ls is (cc)
+    at (Some size) is e = later_is_bad after n size l ls is (stops_behind_size (first_header size) n ls e)

@@ -1,0 +1,15 @@
+//! What holds of the grammar. Each function's contract is one law; none of them does anything.
+
+ghost use Rattle.kin_script.specs.Written.{ScriptsAreWritten, FirstOutsideIsFirst};
+
+/// Bytes are a script exactly where their lines write it: the size line first, then the lines of
+/// the header in any order, then the commands.
+pub fn scripts_are_written()
+    ensures { ScriptsAreWritten }
+{}
+
+/// The first line outside the grammar is the first that may not stand where it stands: the lines
+/// before it write a script, and with it they write none, however they go on.
+pub fn first_outside_is_first()
+    ensures { FirstOutsideIsFirst }
+{}
