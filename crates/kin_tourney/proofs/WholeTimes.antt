@@ -52,3 +52,9 @@ both_live ms first second room (suc zero) a e = subst (λ k. IsIn k (live_of bot
     both : List (Option Course)
     both = set (set ms 0 (Some first)) 1 (Some second)
 both_live ms first second room (suc (suc i)) a e = absurd cc
+
+-- two slots that were set and cleared hold nothing
+pub none_held : (i a : ℕ) → item_in (set (set (set (set (replicate (2 ^ 1) None) 0 (Some 0)) 1 (Some 1)) 0 None) 1 None) i ≡ Some a → ⊥
+none_held zero a e = absurd cc
+none_held (suc zero) a e = absurd cc
+none_held (suc (suc i)) a e = absurd cc

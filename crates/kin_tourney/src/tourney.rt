@@ -152,7 +152,11 @@ mod tests {
     use std::test::Fail;
 
     /// The winner of both points at this time, and how often a sign was asked.
-    fn race<L: Ledger>(alloc: Global, time: i64, steps: &mut Steps<L>) -> Result<(Option<u32>, u64), NoMemory>
+    fn race<L: Ledger>(
+        alloc: Global,
+        time: i64,
+        steps: &mut Steps<L>,
+    ) -> Result<(Option<u32>, u64), NoMemory>
         requires { unsigned_abs time ≤ 2 ^ 4 }
     {
         let mut motions = Motions::new(alloc, 1)?;
@@ -172,8 +176,30 @@ mod tests {
         Ok((tourney.winner(1), calls.get()))
     }
 
-    /// The same at three times.
-    fn races<L: Ledger>(alloc: Global, blank: Blank) -> Result<[(Option<u32>, u64); 3], NoMemory>
+    /// The winner after both slots were set and cleared again, before one settle.
+    fn cleared<L: Ledger>(
+        alloc: Global,
+        steps: &mut Steps<L>,
+    ) -> Result<(Option<u32>, u64), NoMemory> {
+        let motions = Motions::new(alloc, 1)?;
+        let mut tourney = Tourney::new(alloc, Along { dx: 1, dy: 0 }, 1)?;
+        tourney.set(0, 0);
+        tourney.set(1, 1);
+        tourney.clear(0);
+        tourney.clear(1);
+        let calls: Cell<u64> = Cell::new(0);
+        let mut out = Delta::new(alloc);
+        let now = Watch {
+            motions: &motions,
+            time: 4,
+            calls: &calls,
+        };
+        settle_first(&mut tourney, &now, &mut out, steps)?;
+        Ok((tourney.winner(1), calls.get()))
+    }
+
+    /// Before, at and after the meeting, and with both slots cleared.
+    fn races<L: Ledger>(alloc: Global, blank: Blank) -> Result<[(Option<u32>, u64); 4], NoMemory>
         requires name { blank.name ≡ L.name }
         requires parts { blank.parts ≡ L.parts }
         requires some { 0 < L.parts }
@@ -182,13 +208,17 @@ mod tests {
         let before = race(alloc, 4, &mut steps)?;
         let meeting = race(alloc, 5, &mut steps)?;
         let after = race(alloc, 6, &mut steps)?;
-        Ok([before, meeting, after])
+        let none = cleared(alloc, &mut steps)?;
+        Ok([before, meeting, after, none])
     }
 
     #[test]
-    fn at_a_tie_the_lesser_number_wins(rt: HostRuntime) -> Result<(), Fail> {
+    fn two_points_that_meet(rt: HostRuntime) -> Result<(), Fail> {
         let winners = races::<Brand>(rt.alloc(), Blank::new(1))?;
-        assert_eq!(rt; winners, [(Some(1), 1), (Some(0), 1), (Some(0), 1)]);
+        assert_eq!(rt;
+            winners,
+            [(Some(1), 1), (Some(0), 1), (Some(0), 1), (None, 0)]
+        );
         Ok(())
     }
 }
