@@ -1,13 +1,13 @@
 -- Facts dropped one by one, and born one by one.
-use Rattle.std.proofs.Common.{◌≡◌, ◌≢◌, ℕ, ◌+◌, ◌<◌, ◌≤◌, List, [], ◌∷◌, length, get_or, Some, slice_get, refl, sym, ap, subst, ◌∙◌, ◌⊎◌, inl, inr, ◌↔◌, arith}
+use Rattle.std.proofs.Common.{◌≡◌, ℕ, ◌+◌, ◌<◌, ◌≤◌, List, [], ◌∷◌, length, get_or, Some, refl, sym, ap, subst, ◌∙◌, ◌⊎◌, inl, inr, ◌↔◌, arith}
 use Rattle.std.specs.List.{Contains, All, AllPairs}
-use Rattle.std.proofs.lemmas.Bool.{cases_lt, cases_eq}
+use Rattle.std.proofs.lemmas.Bool.{cases_lt}
 use Rattle.std.proofs.lemmas.List.Elements.{All-get_or}
 use Rattle.kin_num.specs.declared.instant.Moment.{Moment}
 use Rattle.kin_motion.specs.declared.fact.Placed.{Placed}
 use Rattle.kin_motion.specs.declared.form.Form.{Form}
 use Rattle.kin_motion.specs.Kinetics.{AreDistinct}
-use Rattle.kin_motion.specs.Live.{Certificate, owned_by}
+use Rattle.kin_motion.specs.Live.{Certificate}
 use Rattle.kin_motion.specs.Deltas.{Change}
 use Rattle.kin_motion.specs.Scene.{Scene}
 use Rattle.kin_cert.specs.Facts.{LiveFact, IsAt, AreAlike, IsOnce}

@@ -1,5 +1,5 @@
 -- The facts that are due, and the one that is given out.
-use Rattle.std.proofs.Common.{◌≡◌, ◌≢◌, ℕ, Bool, true, false, cond, IfSome, MatchOption, ℤ, List, Option, Some, None, refl, sym, ap, ap₂, subst, ◌∙◌, ◌⊎◌, inl, inr, ◌↔◌, arith}
+use Rattle.std.proofs.Common.{◌≡◌, ◌≢◌, ℕ, Bool, true, false, cond, IfSome, MatchOption, ℤ, List, Option, Some, None, refl, sym, ap, subst, ◌∙◌, ◌⊎◌, inl, inr, ◌↔◌}
 use Rattle.std.specs.List.{Contains}
 use Rattle.std.specs.Ordering.{nat_cmp}
 use Rattle.std.specs.FinMap as map
@@ -9,15 +9,14 @@ use Rattle.std.proofs.lemmas.Bool.{cases_eq}
 use Rattle.slab.specs.Slab.{Slab, get, Updates}
 use Rattle.indexmap.specs.IndexMap.{IndexMap, get as look_up}
 use Rattle.kin_num.specs.declared.instant.Moment.{Moment}
-use Rattle.kin_num.specs.Order.{IsEarlier}
-use Rattle.kin_queue.specs.Agenda.{IsNext, IsLeast}
-use Rattle.kin_queue.proofs.Entries.{same, differ, same_itself}
+use Rattle.kin_queue.specs.Agenda.{IsLeast}
+use Rattle.kin_queue.proofs.Entries.{same}
 use Rattle.kin_cert.specs.declared.entry.Entry.{Entry}
 use Rattle.kin_cert.specs.Facts.{LiveFact}
 use Rattle.kin_cert.specs.Rank.{rank_of}
 use Rattle.kin_cert.specs.Taken.{NoneWaits, NoneFails, IsLeastFailure}
 use Rattle.kin_cert.specs.Layout.{IsTable, live_fact, live_in, entry_rank, queued_at, is_rank, IsDue, IsDueAt, NoneDue, HasGiven}
-use Rattle.kin_cert.proofs.Slots.{live-there, live-from, IsEntryOf, waiting}
+use Rattle.kin_cert.proofs.Slots.{live-there, live-from, waiting}
 use Rattle.kin_cert.proofs.Tables.{same_some, some_none, here, elsewhere, one_slot}
 
 -- what a queued entry says

@@ -1,7 +1,7 @@
 -- First failures by the next root.
-use Rattle.std.proofs.Common.{◌≡◌, ◌≢◌, ◌⊎◌, inl, inr, Option, Some, None, MatchOption, IfSome, refl, ap, ap₂, sym, ◌∙◌, subst, ℤ, pos}
+use Rattle.std.proofs.Common.{◌≡◌, ◌≢◌, inl, inr, Some, None, refl, ap, ap₂, sym, ◌∙◌, ℤ, pos}
 use Rattle.kin_algebra.specs.declared.sign.Sign.{Sign}
-use Rattle.kin_algebra.specs.declared.sign.Sign.TheVariants.{Minus, Zero, Plus}
+use Rattle.kin_algebra.specs.declared.sign.Sign.TheVariants.{Zero}
 use Rattle.kin_algebra.specs.Signs.{first_of}
 use Rattle.kin_num.specs.declared.instant.Shape.{Shape}
 use Rattle.kin_num.specs.declared.instant.Phase.{Phase}
@@ -19,8 +19,7 @@ use Rattle.kin_instant.proofs.RootsOf.{constant_sign}
 use Rattle.kin_instant.proofs.SignTable.{at_at, at_after}
 use Rattle.kin_instant.proofs.Kept.{zero_after}
 use Rattle.kin_motion.specs.declared.fact.Fact.{Fact}
-use Rattle.kin_motion.specs.Moments.{FailsFirst, IsFromUntil}
-use Rattle.kin_cert.specs.Failures.{seen_by, NeverFails, IsFirstFailure, IsFailure}
+use Rattle.kin_cert.specs.Failures.{seen_by, IsFailure}
 
 -- the polynomial 0 has the sign 0 at every moment
 zero_at : (w : Shape) (f : Phase) → IsCanonical w → sign_at (quadratic (pos 0) (pos 0) (pos 0)) (record { at = w; phase = f }) ≡ Zero
@@ -53,11 +52,9 @@ module _ (p : Quadratic) (now : Moment) (here : IsCanonical now.at) (f : Fact) (
   fails_at_root some r next kept =
       record {
         canonical = next.canonical;
-        fails_first = record {
-          later_is_later = inl next.later;
-          holds_until = λ m h. from_now m h.canonical h.from (λ later. kept now m refl here.form h.canonical.form (λ z. some (sym holds ∙ z)) later (at_less m r h.until));
-          fails = λ h. some (sym h ∙ at_at p r ∙ next.root);
-        };
+        later_is_later = inl next.later;
+        holds_until = λ m h. from_now m h.canonical h.from (λ later. kept now m refl here.form h.canonical.form (λ z. some (sym holds ∙ z)) later (at_less m r h.until));
+        fails = λ h. some (sym h ∙ at_at p r ∙ next.root);
       }
 
   pub never_fails : f.sign ≢ Zero → KeepsSign p now.at None → IsFailure (seen_by p) now f None
@@ -77,11 +74,9 @@ module _ (p : Quadratic) (now : Moment) (here : IsCanonical now.at) (holds : sig
       let phase_is : now.phase ≡ At = is_at n now.phase refl in
       record {
         canonical = here;
-        fails_first = record {
-          later_is_later = inr (same_level now.at now.at refl, phase_is, refl);
-          holds_until = λ m h. until m h.canonical h.from h.until;
-          fails = λ h. n (zero_after p now.at here.form (h ∙ zero));
-        };
+        later_is_later = inr (same_level now.at now.at refl, phase_is, refl);
+        holds_until = λ m h. until m h.canonical h.from h.until;
+        fails = λ h. n (zero_after p now.at here.form (h ∙ zero));
       }
     where
       until : (m : Moment) → IsCanonical m.at → ¬ (IsEarlier m now) → IsEarlier m (record { at = now.at; phase = After }) → sign_at p m ≡ f.sign

@@ -1,15 +1,14 @@
 -- Facts given out one by one.
-use Rattle.std.proofs.Common.{◌≡◌, ◌≢◌, ℕ, suc, ◌+◌, ◌<◌, Bool, true, false, ℤ, List, [], ◌∷◌, ◌++◌, length, get_or, Option, Some, IsTrue, refl, sym, ap, subst, ◌∙◌, ◌⊎◌, inl, inr, ◌↔◌, arith}
+use Rattle.std.proofs.Common.{◌≡◌, ◌≢◌, Bool, true, false, ℤ, List, [], ◌∷◌, ◌++◌, get_or, IsTrue, refl, sym, ap, subst, ◌∙◌, ◌⊎◌, inl, inr, arith}
 use Rattle.std.specs.List.{Contains, AllPairs}
 use Rattle.std.proofs.lemmas.List.Quantifiers.{all_pairs_push}
 use Rattle.slab.proofs.SlabLemmas.{Contains-cons, Contains-cons_cases}
 use Rattle.kin_num.specs.declared.instant.Moment.{Moment}
-use Rattle.kin_motion.specs.declared.form.Form.{Form}
 use Rattle.kin_motion.specs.Live.{Certificate}
 use Rattle.kin_cert.specs.declared.owned.Owned.{Owned}
 use Rattle.kin_cert.specs.Facts.{LiveFact, IsOnce, IsAt, certificate_of}
 use Rattle.kin_cert.specs.Taken.{NoneWaits}
-use Rattle.kin_cert.specs.Layout.{IsDue, IsDueAt, HasGiven, IsGivenUpTo, owned_rank, is_rank}
+use Rattle.kin_cert.specs.Layout.{IsDue, HasGiven, IsGivenUpTo, owned_rank, is_rank}
 use Rattle.kin_cert.proofs.Changes.{once-same}
 use Rattle.kin_cert.proofs.Elements.{contained}
 use Rattle.kin_cert.proofs.Ranks.{rank_names, rank_same, rank_itself}

@@ -16,7 +16,4 @@ pub failure-seen : (ms : List (Option Course)) (f : Fact) (now : Moment) (o : Op
 unfolding sign_of_form
 failure-seen ms f now None h = h
 failure-seen ms f now (Some m) h =
-    record {
-      canonical = h.canonical;
-      fails_first = record { later_is_later = h.fails_first.later_is_later; holds_until = h.fails_first.holds_until; fails = h.fails_first.fails };
-    }
+    record { canonical = h.canonical; later_is_later = h.later_is_later; holds_until = h.holds_until; fails = h.fails }

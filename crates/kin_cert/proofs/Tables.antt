@@ -1,5 +1,5 @@
 -- What a table's layout says of its live facts, and what changes of it keep.
-use Rattle.std.proofs.Common.{◌≡◌, ◌≢◌, ℕ, Bool, true, false, cond, ℤ, List, Option, Some, None, refl, sym, ap, subst, ◌∙◌, ◌⊎◌, inl, inr, ◌↔◌, arith}
+use Rattle.std.proofs.Common.{◌≡◌, ◌≢◌, ℕ, Bool, true, false, cond, ℤ, List, Option, Some, None, refl, sym, ap, subst, ◌∙◌, ◌⊎◌, inl, inr, ◌↔◌}
 use Rattle.std.proofs.Common.{[], get_or}
 use Rattle.std.specs.Map.{lookup}
 use Rattle.std.specs.List.{Contains}
@@ -9,15 +9,15 @@ use Rattle.std.specs.FinMap.{FinMap, get-insert, get-remove, get-empty}
 use Rattle.std.proofs.lemmas.Cmp.{nat_cmp_total}
 use Rattle.std.proofs.lemmas.Bool.{cases_eq}
 use Rattle.slab.specs.Slab.{Slab, get, Updates}
-use Rattle.indexmap.specs.IndexMap.{IndexMap, get as look_up, Updates as Changes}
+use Rattle.indexmap.specs.IndexMap.{IndexMap, get as look_up}
 use Rattle.kin_num.specs.declared.instant.Moment.{Moment}
 use Rattle.kin_motion.specs.declared.form.Form.{Form}
 use Rattle.kin_queue.proofs.Entries.{same, same_is, same_itself, differ}
 use Rattle.kin_cert.specs.declared.entry.Entry.{Entry}
-use Rattle.kin_cert.specs.Facts.{LiveFact, IsAt, AreAlike, IsOnce}
+use Rattle.kin_cert.specs.Facts.{LiveFact, IsAt, IsOnce}
 use Rattle.kin_cert.specs.Rank.{rank_of}
 use Rattle.kin_cert.specs.Layout.{IsTable, live_fact, live_in, entry_rank, queued_at, is_rank, with}
-use Rattle.kin_cert.proofs.Ranks.{rank_names, rank_same, rank_itself, rank_differs, AreSame}
+use Rattle.kin_cert.proofs.Ranks.{rank_names, rank_same, rank_itself, rank_differs}
 use Rattle.kin_cert.proofs.Slots.{live-there, live-from, live-once, IsEntryOf}
 
 pub same_some : {A : Type 0} (x y : A) → Some x ≡ Some y → x ≡ y

@@ -1,9 +1,8 @@
 -- What a table means: the live facts, each with its owner and its failure moment.
-use Rattle.std.specs.Prelude.{◌≡◌, ℕ, Bool, List, Option, Some, length}
+use Rattle.std.specs.Prelude.{◌≡◌, ℕ, Bool, List, Option}
 use Rattle.std.specs.List.{AllPairs}
 use Rattle.kin_num.specs.declared.instant.Moment.{Moment}
 use Rattle.kin_motion.specs.declared.form.Form.{Form}
-use Rattle.kin_motion.specs.declared.fact.Placed.{Placed}
 use Rattle.kin_motion.specs.Live.{Certificate}
 use Rattle.kin_cert.specs.declared.owned.Owned.{Owned}
 

@@ -17,12 +17,7 @@ seen_by p m = record { live = []; sign = λ f. sign_at p m }
 abbrev pub NeverFails : (Moment → Scene) → Moment → Fact → Type 0
 NeverFails scene now f = (m : Moment) → IsCanonical m.at → ¬ (IsEarlier m now) → HoldsAt scene m f
 
--- the fact fails first at a canonical moment
-pub record IsFirstFailure (scene : Moment → Scene) (now : Moment) (f : Fact) (later : Moment) : Type 0 where
-  pub canonical : IsCanonical later.at
-  pub fails_first : FailsFirst scene now later f
-
 -- the first failure seen from now, or none exactly where there is none
 abbrev pub IsFailure : (Moment → Scene) → Moment → Fact → Option Moment → Type 0
 IsFailure scene now f None = NeverFails scene now f
-IsFailure scene now f (Some later) = IsFirstFailure scene now f later
+IsFailure scene now f (Some later) = FailsFirst scene now later f

@@ -1,5 +1,5 @@
 -- What `failing` and `take_failing` answer.
-use Rattle.std.specs.Prelude.{◌≡◌, ℕ, Bool, true, false, ℤ, pos, List, ◌∷◌, Option, Some, Contains, ◌↔◌, length, IsTrue}
+use Rattle.std.specs.Prelude.{◌≡◌, Bool, false, ℤ, pos, List, ◌∷◌, Some, Contains, ◌↔◌, length, IsTrue}
 use Rattle.kin_num.specs.declared.instant.Moment.{Moment}
 use Rattle.kin_num.specs.Order.{IsEarlier}
 use Rattle.kin_motion.specs.Live.{Certificate}

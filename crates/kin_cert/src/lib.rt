@@ -1,9 +1,21 @@
-//! Certificates: first failures, and the table of live facts.
+//! Certificates: when a fact fails first, and the table of all live facts with their owners.
+//!
+//! A certificate of a kinetic data structure is a sign condition on a polynomial in time (Basch, Guibas and Hershberger,
+//! "Data Structures for Mobile Data", 1999). `first_fail` gives the moment at which one fails first. `Table` keeps the
+//! certificates of all structures: it takes over what a structure drops and bears, gives the least failure moment, and
+//! gives out all certificates that fail there, in the journal's order. A contract sees a table as a list of live facts,
+//! each with its owner and its failure moment (`specs/Facts`).
 #![tactic(auto)]
 
-pub mod entry;
+pub use now::Now;
+pub use owned::{Block, Failure, Owned};
+pub use table::Table;
+
+mod entry;
 pub mod first_fail;
 pub mod now;
 pub mod owned;
-pub mod rank;
+mod rank;
 pub mod table;
+#[cfg(test)]
+mod tests;

@@ -1,5 +1,4 @@
 use Rattle.std.proofs.Common.{◌≡◌, Bool, true, false, is_some, refl, cond, None, Option, Some, sym, ap, ◌∙◌, arith}
-use Rattle.std.specs.FinMap.{get}
 use Rattle.kin_num.specs.declared.instant.Moment.{Moment}
 use Rattle.kin_cert.proofs.Tables.{remove-absent}
 use Rattle.kin_cert.proofs.table.unqueue.Goals as goal

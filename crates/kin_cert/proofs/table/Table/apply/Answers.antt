@@ -1,10 +1,9 @@
-use Rattle.std.proofs.Common.{◌≡◌, ◌∙◌, ◌+◌, List, length, ◌⊎◌, Result, Ok, Err, OnOk, refl, sym, ap, subst, arith}
-use Rattle.std.specs.List.{Contains, All, AllPairs}
+use Rattle.std.proofs.Common.{◌≡◌, ◌∙◌, List, Result, Ok, Err, OnOk, sym, ap, subst}
+use Rattle.std.specs.List.{All}
 use Rattle.kin_motion.specs.declared.fact.Placed.{Placed}
 use Rattle.kin_motion.specs.Deltas.{Change}
 use Rattle.kin_motion.specs.Scene.{scene_at}
-use Rattle.kin_cert.specs.Facts.{LiveFact}
-use Rattle.kin_cert.specs.Applied.{IsLiveIn, IsAmong, IsBorn, HasApplied}
+use Rattle.kin_cert.specs.Applied.{IsLiveIn, IsAmong}
 use Rattle.kin_cert.proofs.Changes.{applied}
 use Rattle.kin_cert.proofs.table.Table.apply.Goals as goal
 

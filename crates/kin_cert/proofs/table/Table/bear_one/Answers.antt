@@ -1,6 +1,6 @@
-use Rattle.std.proofs.Common.{◌≡◌, ℕ, ◌+◌, ℤ, Bool, cond, false, List, length, Option, None, Some, refl, subst, sym, ap, ◌∙◌, ◌⊎◌, ◌↔◌, arith}
+use Rattle.std.proofs.Common.{◌≡◌, ℕ, ℤ, cond, false, List, length, None, Some, refl, subst, sym, ap, ◌∙◌, ◌⊎◌, ◌↔◌, arith}
 use Rattle.std.specs.List.{Contains}
-use Rattle.slab.specs.Slab.{Slab, get, Updates}
+use Rattle.slab.specs.Slab.{Slab, Updates}
 use Rattle.indexmap.specs.IndexMap.{get as look_up}
 use Rattle.kin_num.specs.Quadratic.{Quadratic}
 use Rattle.kin_num.specs.Instants.{sign_at}
@@ -8,8 +8,7 @@ use Rattle.kin_motion.specs.Scene.{scene_at}
 use Rattle.kin_cert.specs.declared.entry.Entry.{Entry}
 use Rattle.kin_cert.specs.Facts.{Facts, LiveFact}
 use Rattle.kin_cert.specs.Failures.{IsFailure, seen_by}
-use Rattle.kin_cert.specs.Applied.{IsOf}
-use Rattle.kin_cert.specs.Layout.{IsTable, HasGained, live_in, live_fact, is_rank, entry_rank, with}
+use Rattle.kin_cert.specs.Layout.{live_in, live_fact, is_rank, entry_rank, with}
 use Rattle.kin_cert.proofs.Seen.{holds-seen, failure-seen}
 use Rattle.kin_cert.proofs.Slots.{live-count}
 use Rattle.kin_cert.proofs.Tables.{unknown, gained-table, gained-exactly, same-table}

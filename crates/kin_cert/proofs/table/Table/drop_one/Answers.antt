@@ -1,11 +1,10 @@
-use Rattle.std.proofs.Common.{◌≡◌, ℕ, ◌+◌, ℤ, Bool, cond, List, length, Option, None, Some, IsSome, subst, sym, ap, ◌∙◌, ◌↔◌, refl, arith}
+use Rattle.std.proofs.Common.{◌≡◌, ℕ, ℤ, cond, List, length, Option, None, IsSome, subst, sym, ap, ◌∙◌, ◌↔◌, refl, arith}
 use Rattle.std.specs.List.{Contains}
-use Rattle.slab.specs.Slab.{get}
 use Rattle.indexmap.specs.IndexMap.{get as look_up}
 use Rattle.kin_motion.specs.declared.fact.Placed.{Placed}
-use Rattle.kin_motion.specs.Live.{Certificate, owned_by}
+use Rattle.kin_motion.specs.Live.{Certificate}
 use Rattle.kin_cert.specs.declared.entry.Entry.{Entry}
-use Rattle.kin_cert.specs.Facts.{Facts, LiveFact, IsAt}
+use Rattle.kin_cert.specs.Facts.{Facts, LiveFact}
 use Rattle.kin_cert.specs.Applied.{IsOf, Is}
 use Rattle.kin_cert.specs.Layout.{live_in, live_fact, is_rank, entry_rank}
 use Rattle.kin_cert.proofs.Slots.{live-count}

@@ -1,9 +1,3 @@
-use Rattle.std.proofs.Common.{◌≡◌, Option, None, Some, subst, sym, ap, ◌∙◌, ◌↔◌, IfSome, refl, MatchOption}
-use Rattle.std.specs.List.{Contains}
-use Rattle.kin_num.specs.declared.instant.Moment.{Moment}
-use Rattle.kin_cert.specs.Facts.{Facts, LiveFact}
-use Rattle.kin_cert.specs.Taken.{NoneWaits, NoneFails, IsLeastFailure}
-use Rattle.kin_cert.specs.Layout.{IsDue, NoneDue}
 use Rattle.kin_cert.proofs.Dues.{least-if, none-if}
 use Rattle.kin_cert.proofs.table.Table.failing.Goals as goal
 

@@ -1,13 +1,12 @@
-use Rattle.std.proofs.Common.{◌≡◌, ℕ, ◌+◌, List, length, set, true, Option, None, Some, is_some, refl, subst, sym, ap, ◌∙◌, arith}
+use Rattle.std.proofs.Common.{◌≡◌, ℕ, length, set, Option, None, Some, is_some, refl, subst, sym, ap, ◌∙◌}
 use Rattle.std.proofs.Common.{Ordering, Less, Equal, Greater}
-use Rattle.std.specs.List.{Contains}
-use Rattle.slab.specs.Slab.{Slab, get, with_value, Updates}
+use Rattle.slab.specs.Slab.{get, with_value}
 use Rattle.slab.proofs.SlabLemmas.{Updates-with_value}
 use Rattle.kin_num.specs.declared.instant.Moment.{Moment}
 use Rattle.kin_num.specs.Order.{IsEarlier}
-use Rattle.kin_queue.specs.Agenda.{IsLeast, IsNext, without}
-use Rattle.kin_cert.specs.Facts.{Facts, LiveFact, IsOnce}
-use Rattle.kin_cert.specs.Layout.{HasGiven, IsDue, IsDueAt, NoneDue, live_fact, live_in, due_count}
+use Rattle.kin_queue.specs.Agenda.{IsNext, without}
+use Rattle.kin_cert.specs.Facts.{Facts, IsOnce}
+use Rattle.kin_cert.specs.Layout.{HasGiven, IsDue, NoneDue, live_fact, live_in, due_count}
 use Rattle.kin_cert.proofs.Slots.{waiting, live-set-count, live-set-due}
 use Rattle.kin_cert.proofs.Tables.{table-once}
 use Rattle.kin_cert.proofs.Dues.{given-table, given-due, has-given, due-some, due-none}

@@ -1,4 +1,4 @@
-use Rattle.std.proofs.Common.{◌≡◌, length, subst, sym, ap, ◌∙◌}
+use Rattle.std.proofs.Common.{length, subst, sym, ap, ◌∙◌}
 use Rattle.kin_cert.specs.Facts.{Facts, IsOnce}
 use Rattle.kin_cert.proofs.Slots.{live-count}
 use Rattle.kin_cert.proofs.Tables.{table-once}

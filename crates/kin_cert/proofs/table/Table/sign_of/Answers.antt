@@ -1,8 +1,8 @@
-use Rattle.std.proofs.Common.{◌≡◌, ℕ, ℤ, List, Option, None, Some, refl, subst, sym, ap, ◌∙◌}
+use Rattle.std.proofs.Common.{◌≡◌, None, Some, refl, subst, sym, ap, ◌∙◌}
 use Rattle.std.specs.List.{Contains}
 use Rattle.slab.specs.Slab.{get}
 use Rattle.indexmap.specs.IndexMap.{get as look_up}
-use Rattle.kin_cert.specs.Facts.{Facts, LiveFact}
+use Rattle.kin_cert.specs.Facts.{Facts}
 use Rattle.kin_cert.specs.Rank.{rank_of}
 use Rattle.kin_cert.specs.Layout.{is_rank, live_fact, entry_rank}
 use Rattle.kin_cert.proofs.Slots.{live-there}

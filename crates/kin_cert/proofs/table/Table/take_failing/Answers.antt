@@ -1,8 +1,3 @@
-use Rattle.std.proofs.Common.{◌≡◌, ◌∙◌, refl, sym, ap, subst, arith}
-use Rattle.std.specs.List.{Contains}
-use Rattle.kin_num.specs.declared.instant.Moment.{Moment}
-use Rattle.kin_cert.specs.Facts.{LiveFact}
-use Rattle.kin_cert.specs.Layout.{IsDueAt}
 use Rattle.kin_cert.proofs.Dues.{due-least}
 use Rattle.kin_cert.proofs.Taking.{has-taken}
 use Rattle.kin_cert.proofs.table.Table.take_failing.Goals as goal
