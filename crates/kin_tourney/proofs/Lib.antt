@@ -10,3 +10,4 @@ pub mod Soundness
 pub mod Fresh
 pub mod Vacant
 pub mod Settled
+pub mod WholeTimes

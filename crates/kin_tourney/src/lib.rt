@@ -21,3 +21,5 @@ pub mod keyed;
 mod report;
 pub mod tourney;
 mod tree;
+#[cfg(test)]
+mod watch;
