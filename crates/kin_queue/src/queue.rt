@@ -159,6 +159,7 @@ mod tests {
         steps: &mut Steps<L>,
     ) -> Result<(), NoMemory>
         requires { queue.old.moments ≡ empty }
+        ensures { OnOk result (IsSome (get queue.new.moments 7)) }
     {
         queue.insert(7, three_halves(Phase::At), steps)?;
         let at_root = Moment {
@@ -169,13 +170,27 @@ mod tests {
         queue.insert(9, three_halves(Phase::After), steps)
     }
 
-    /// Whether the next entry has this id.
-    fn gives<L: Ledger>(queue: &mut Queue, id: usize, steps: &mut Steps<L>) -> bool {
-        let first = queue.first();
-        let popped = queue.pop(steps);
-        match (first, popped) {
-            (Some(first), Some(popped)) => first.0 == id && popped.0 == id,
-            _ => false,
+    /// Whether 4 comes first, and 7 next, which is taken out too.
+    #[tactic(auto, using(crate::proofs::Looks::looks))]
+    fn gives_two<L: Ledger>(queue: &mut Queue, steps: &mut Steps<L>) -> bool
+        requires { IsSome (get queue.old.moments 7) }
+    {
+        let is_first = comes_first(queue, 4);
+        let Some(popped) = queue.pop(steps) else {
+            return false;
+        };
+        if popped.0 != 4 {
+            return false;
+        }
+        let is_next = comes_first(queue, 7);
+        queue.remove(7, steps);
+        is_first && is_next
+    }
+
+    fn comes_first(queue: &Queue, id: usize) -> bool {
+        match queue.first() {
+            Some(first) => first.0 == id,
+            None => false,
         }
     }
 
@@ -186,10 +201,12 @@ mod tests {
     {
         let mut steps = Steps::<L>::open(blank);
         let mut queue = Queue::new(alloc);
-        fill(&mut queue, root, &mut steps).is_ok()
-            && gives(&mut queue, 4, &mut steps)
-            && gives(&mut queue, 7, &mut steps)
-            && gives(&mut queue, 9, &mut steps)
+        if fill(&mut queue, root, &mut steps).is_err() {
+            return false;
+        }
+        gives_two(&mut queue, &mut steps)
+            && comes_first(&queue, 9)
+            && matches!(queue.pop(&mut steps), Some(popped) if popped.0 == 9)
             && queue.first().is_none()
             && queue.pop(&mut steps).is_none()
     }
