@@ -65,7 +65,7 @@ module _ (p : Quadratic) (now : Moment) (here : IsCanonical now.at) (holds : sig
   pub zero_for_ever : IsZeroPolynomial p → IsFailure (seen_by p) now f None
   zero_for_ever z m i not_before = zero_everywhere p z m i ∙ sym zero
 
-  is_at : ¬ (IsZeroPolynomial p) → (q : Phase) → now.phase ≡ q → now.phase ≡ At
+  pub is_at : ¬ (IsZeroPolynomial p) → (q : Phase) → now.phase ≡ q → now.phase ≡ At
   is_at n At e = e
   is_at n After e = absurd (n (zero_after p now.at here.form (ap (λ (x : Phase). sign_at p (record { at = now.at; phase = x })) (sym e) ∙ holds)))
 

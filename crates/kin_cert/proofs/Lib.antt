@@ -9,3 +9,6 @@ pub mod Slots
 pub mod Sorted
 pub mod Tables
 pub mod Taking
+pub mod FailureRoots
+pub mod LeastFailure
+pub mod JournalExistence

@@ -13,6 +13,7 @@ pub use table::Table;
 
 mod entry;
 pub mod first_fail;
+pub mod laws;
 pub mod now;
 pub mod owned;
 mod rank;

@@ -3,6 +3,7 @@
 use kin_motion::fact::Fact;
 use kin_motion::form::Form;
 use kin_num::{Moment, Sign};
+use std::marker::Model;
 
 /// A fact with its owner.
 #[derive(Clone, Copy, Debug, PartialEq, Eq)]
@@ -27,4 +28,14 @@ pub struct Failure {
 pub struct Block {
     pub moment: Moment,
     pub failures: Vec<Failure>,
+}
+
+impl Model for Block {
+    ghost use Rattle.std.specs.Prelude.{map};
+    ghost use Rattle.kin_motion.specs.Journal.{Block as Listed};
+    ghost use Rattle.kin_cert.specs.Blocks.{failure_of};
+
+    ghost Value = { Listed };
+
+    ghost view = { λ b. record { moment = b.moment; failures = map failure_of b.failures.items } };
 }

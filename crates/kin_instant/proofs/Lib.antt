@@ -8,3 +8,7 @@ pub mod Nexts
 pub mod Factors
 pub mod SignTable
 pub mod Kept
+pub mod Divided
+pub mod Discriminants
+pub mod Existence
+pub mod NextExistence

@@ -1,11 +1,17 @@
 -- Division by a greatest common divisor.
-use Rattle.std.proofs.Common.{◌≡◌, ℕ, zero, suc, ◌*◌, ◌<◌, ℤ, pos, negsuc, ◌+ℤ◌, ◌-ℤ◌, ◌*ℤ◌, unsigned_abs, sym, refl, ap, ◌∙◌, subst, arith, [], ◌∷◌}
+use Rattle.std.proofs.Common.{◌≡◌, ℕ, zero, suc, ◌*◌, ◌/◌, ◌%◌, ◌<◌, ◌≤◌, ℤ, pos, negsuc, ◌+ℤ◌, ◌-ℤ◌, ◌*ℤ◌, unsigned_abs, sym, refl, ap, ◌∙◌, subst, arith, [], ◌∷◌}
 use Rattle.std.specs.Prelude.{◌<ℤ◌}
 use Rattle.std.specs.Int.{IsGcd, ◌∣◌}
 use Rattle.std.proofs.lemmas.Int.{ints, unsigned_abs-mul}
+use Rattle.std.proofs.lemmas.Nat.Gcd.{mod-eq-zero_of_dvd}
 use Rattle.std.proofs.Math.Nat.{dvd-mul_right, mul-dvd-mul_left, dvd_of_mul-dvd-mul_left}
 use lib.IntN.{neg_ℤ}
+use Rattle.kin_algebra.specs.declared.sign.Sign.TheVariants.{Plus}
+use Rattle.kin_algebra.specs.Signs.{sign_of}
 use Rattle.kin_algebra.proofs.Ring.{by_ring, quotes}
+use Rattle.kin_algebra.proofs.Signs.{same_from_product}
+use Rattle.kin_algebra.proofs.IntegerSigns.{sign_in, sign_out, sign_of-times}
+use Rattle.kin_num.specs.Canonical.{IsLowest}
 
 -- where x = x' * g and y = y' * g, and g is the greatest common divisor, x' and y' have none but 1
 pub lowest_after : (x y x' y' g : ℕ) → 0 < g → IsGcd x y g → x ≡ x' * g → y ≡ y' * g → IsGcd x' y' 1
@@ -57,3 +63,34 @@ no_remainder x g q r k h e d f l =
 
     same : (n m : ℤ) → unsigned_abs (n -ℤ m) ≡ 0 → n ≡ m
     same n m z = omega (arith, ints, z)
+
+pub quotient_of : (x : ℤ) (g : ℕ) → 0 < g → g ∣ unsigned_abs x → (q : ℤ) × (x ≡ q *ℤ pos g)
+quotient_of x g h d = multiple_of x (pos g) d (unsigned_abs x / g) (whole (unsigned_abs x) g (mod-eq-zero_of_dvd g d)) (some g h)
+  where
+    whole : (n m : ℕ) → n % m ≡ 0 → n ≡ m * (n / m)
+    whole n m e = omega (arith, e)
+
+    some : (g : ℕ) → 0 < g → pos 0 <ℤ pos g
+    some g h = omega (arith, ints)
+
+-- ---- the fraction n/d and what is left of it
+pub abs_of : (x q : ℤ) (g : ℕ) → x ≡ q *ℤ pos g → unsigned_abs x ≡ unsigned_abs q * g
+abs_of x q g e = ap unsigned_abs e ∙ unsigned_abs-mul q (pos g)
+
+pub not_more : (x q : ℤ) (g : ℕ) → 0 < g → x ≡ q *ℤ pos g → unsigned_abs q ≤ unsigned_abs x
+not_more x q g h e = at_least (unsigned_abs q) g (unsigned_abs x) h (abs_of x q g e)
+  where
+    at_least : (q g x : ℕ) → 0 < g → x ≡ q * g → q ≤ x
+    at_least q g x h e = grind (arith, e)
+
+pub lowest_of : (n d m e : ℤ) (g : ℕ) → 0 < g → IsGcd (unsigned_abs n) (unsigned_abs d) g → pos 0 <ℤ d → n ≡ m *ℤ pos g → d ≡ e *ℤ pos g → IsLowest m e
+lowest_of n d m e g some common h p q = record {
+  positive = sign_out Plus e ((same_from_product _ _ (sym (sign_of-times e (pos g)) ∙ ap sign_of (sym q) ∙ sign_in Plus d h)).0 ∙ sign_in Plus (pos g) (positive g some));
+  lowest = lowest_after (unsigned_abs n) (unsigned_abs d) (unsigned_abs m) (unsigned_abs e) g some common (abs_of n m g p) (abs_of d e g q);
+}
+  where
+    positive : (g : ℕ) → 0 < g → pos 0 <ℤ pos g
+    positive g h = omega (arith, ints)
+
+pub crossed : (n d m e g : ℤ) → n ≡ m *ℤ g → d ≡ e *ℤ g → m *ℤ d ≡ n *ℤ e
+crossed n d m e g p q = ap (λ (z : ℤ). m *ℤ z) q ∙ by_ring (m ∷ e ∷ g ∷ []) (m *ℤ (e *ℤ g)) ((m *ℤ g) *ℤ e) (search quotes depth 16) (search quotes depth 16) refl ∙ ap (λ (z : ℤ). z *ℤ e) (sym p)

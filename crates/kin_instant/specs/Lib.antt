@@ -1,3 +1,4 @@
 pub mod Remainders
 pub mod Roots
 pub mod Places
+pub mod Laws

@@ -53,7 +53,7 @@ module _ {A : Type 0} (f : ℕ → List A) (eight : (p : ℕ) → length (f p) �
 eight_times : (size : ℕ) → 2 ^ (size + 3) ≡ 8 * 2 ^ size
 eight_times size = let p = pow-add 2 size 3 in omega (arith, p)
 
-octant_at : (w : ℕ) → w < 8 → (o : Octant) × (slice_get octants w ≡ Some o)
+pub octant_at : (w : ℕ) → w < 8 → (o : Octant) × (slice_get octants w ≡ Some o)
 octant_at zero h = (_, refl)
 octant_at (suc zero) h = (_, refl)
 octant_at (suc (suc zero)) h = (_, refl)

@@ -7,22 +7,16 @@ use Rattle.kin_algebra.specs.Signs.{sign_of}
 use Rattle.kin_algebra.proofs.Pairs.{Sound}
 use Rattle.kin_algebra.proofs.IntegerSigns.{ordered_integers}
 use Rattle.kin_algebra.proofs.OrderedRings.{positive_product}
-use Rattle.kin_num.specs.declared.instant.Shape.{Shape}
-use Rattle.kin_num.specs.declared.instant.Shape.TheVariants.{Ratio, Root}
 use Rattle.kin_num.specs.declared.instant.Phase.{Phase}
 use Rattle.kin_num.specs.declared.instant.Phase.TheVariants.{At, After}
 use Rattle.kin_num.specs.declared.instant.Moment.{Moment}
 use Rattle.kin_num.specs.Quadratic.{Quadratic}
-use Rattle.kin_num.specs.Canonical.{IsCanonical, IsSmallShape, IsWideShape}
+use Rattle.kin_num.specs.Canonical.{IsCanonical}
 use Rattle.kin_num.specs.Instants.{Number, number_of, sign_at_number, sign_at_instant, derivative, sign_at_phase, sign_at, later_by}
 use Rattle.kin_num.proofs.Near.{HasHeight, HasSize}
-use Rattle.kin_num.proofs.Sizes.{wide_size}
+use Rattle.kin_num.proofs.Sizes.{small_is_wide, wide_size}
 use Rattle.kin_num.proofs.Seat.{seat_later}
 use Rattle.kin_motion.proofs.SetLaws.{contains_none, contains_cases}
-
-small_is_wide : (w : Shape) → IsSmallShape w → IsWideShape w
-small_is_wide (Ratio n d) s = record { n_most = omega (arith, s.n_small); d_most = omega (arith, s.d_small) }
-small_is_wide (Root a b c upper) s = record { a_most = omega (arith, s.a_small); b_most = omega (arith, s.b_small); c_most = omega (arith, s.c_small) }
 
 -- as high as the coefficients of a polynomial and of its derivative
 height_of : Quadratic → ℕ

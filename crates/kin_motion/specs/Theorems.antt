@@ -1,11 +1,14 @@
 -- What is proved of the definitions, as statements.
-use Rattle.std.specs.Prelude.{◌≡◌, ◌≢◌, ℕ, ℤ, List, Option, count_by, map}
+use Rattle.std.specs.Prelude.{◌≡◌, ◌≢◌, ℕ, ◌+◌, ◌%◌, ℤ, List, Option, Some, count_by, map, slice_get, All}
 use Rattle.kin_num.specs.declared.instant.Moment.{Moment}
+use Rattle.kin_num.specs.Quadratic.{IsSmall}
 use Rattle.kin_num.specs.Canonical.{IsCanonical}
 use Rattle.kin_motion.specs.declared.form.Form.{Form}
 use Rattle.kin_motion.specs.declared.fact.Fact.{Fact}
 use Rattle.kin_motion.specs.declared.fact.Placed.{Placed}
-use Rattle.kin_motion.specs.Course.{Course}
+use Rattle.kin_motion.specs.declared.keep.Keep.{Keep}
+use Rattle.kin_motion.specs.Course.{Course, AreSlow, live_of}
+use Rattle.kin_motion.specs.Forms.{IsAskable, polynomial_of}
 use Rattle.kin_motion.specs.Mirrored.{mirrored}
 use Rattle.kin_motion.specs.Sets.{ListsExactly}
 use Rattle.kin_motion.specs.Scene.{Scene, IsReal, scene_at, turned}
@@ -15,8 +18,17 @@ use Rattle.kin_motion.specs.Orders.{IsOrder, IsOrderFact}
 use Rattle.kin_motion.specs.Extremes.{IsExtremePoint}
 use Rattle.kin_motion.specs.Chains.{IsUpperChain, IsHullCycle}
 use Rattle.kin_motion.specs.Octants.{Octant, octants, is_in_octant, IsCandidate, IsClosest}
+use Rattle.kin_motion.specs.Live.{Certificate, IsLiveFact, IsSmallKeep}
 use Rattle.kin_motion.specs.Moments.{FailsFirst}
 use Rattle.kin_motion.specs.Journal.{Setting, Block, IsNextBlock, IsJournal}
+
+-- where motions are slow, the polynomial of each form that may be asked for is within the bounds
+abbrev pub PolynomialsAreSmall : Type 0
+PolynomialsAreSmall = (ms : List (Option Course)) (f : Form) → AreSlow ms → IsAskable (live_of ms) f → IsSmall (polynomial_of ms f)
+
+-- every live fact may be asked for, where the kept directions are small
+abbrev pub LiveFactsAreAskable : Type 0
+LiveFactsAreAskable = (size : ℕ) (keeps : List Keep) (s : Scene) (c : Certificate) → All IsSmallKeep keeps → IsLiveFact size keeps s c → IsAskable s.live c.placed.fact.form
 
 -- signs are those of an ordered ring, as far as orders, chains and distances need
 pub record HasSignLaws (s : Scene) : Type 0 where
@@ -56,6 +68,12 @@ OneCandidate = (s : Scene) (o : Octant) (p c d : ℕ) → IsReal s → IsCandida
 -- each other point is in exactly one octant of the apex p
 abbrev pub OneOctant : Type 0
 OneOctant = (s : Scene) (p q : ℕ) → IsReal s → p ≢ q → count_by (λ b. b) (map (λ o. is_in_octant s o p q) octants) ≡ 1
+
+-- q is in octant w of p exactly where p is in octant w + 4, counted round, of q
+abbrev pub OctantsAreOpposite : Type 0
+OctantsAreOpposite =
+    (s : Scene) (w : ℕ) (here there : Octant) (p q : ℕ) → slice_get octants w ≡ Some here → slice_get octants ((w + 4) % 8) ≡ Some there
+    → is_in_octant s here p q ≡ is_in_octant s there q p
 
 -- the turned scene shows the motions with every y and v negated
 abbrev pub TurnedIsMirrored : Type 0

@@ -1,7 +1,17 @@
 //! What holds of the definitions. Each function's contract is one law; none of them does anything.
 
 ghost use Rattle.kin_motion.specs.Agreements.{CandidateAgrees, ChainAgrees, ClosestAgrees, ClosestFactsAgree, CycleAgrees, ExtremeAgrees, ExtremeFactsAgree, FailuresAgree, HullFactsAgree, LiveFactsAgree, OrderAgrees, OrderFactsAgree};
-ghost use Rattle.kin_motion.specs.Theorems.{OneCandidate, OneClosest, OneExtreme, OneFirstFailure, OneHullCycle, OneJournal, OneNextBlock, OneOctant, OneOrder, OneUpperChain, OrderIsDetermined, RealScenesHaveLaws, TurnedIsMirrored, TurnedIsReal};
+ghost use Rattle.kin_motion.specs.Theorems.{LiveFactsAreAskable, OctantsAreOpposite, OneCandidate, OneClosest, OneExtreme, OneFirstFailure, OneHullCycle, OneJournal, OneNextBlock, OneOctant, OneOrder, OneUpperChain, OrderIsDetermined, PolynomialsAreSmall, RealScenesHaveLaws, TurnedIsMirrored, TurnedIsReal};
+
+/// Where motions are slow, the polynomial of each form that may be asked for is within the bounds.
+pub fn polynomials_are_small()
+    ensures { PolynomialsAreSmall }
+{}
+
+/// Every live fact may be asked for, where the kept directions are small.
+pub fn live_facts_are_askable()
+    ensures { LiveFactsAreAskable }
+{}
 
 /// In the scene of any motions at any canonical moment, signs of lines, turns, squared distances and
 /// slopes add up and change sides as those of numbers do.
@@ -48,6 +58,11 @@ pub fn one_candidate()
 /// Each other point is in exactly one octant of an apex, also one at the apex's place.
 pub fn one_octant()
     ensures { OneOctant }
+{}
+
+/// One point is in an octant of another exactly where that one is in the opposite octant of the first.
+pub fn octants_are_opposite()
+    ensures { OctantsAreOpposite }
 {}
 
 /// The facts of an order determine it, and themselves.

@@ -86,7 +86,7 @@ at_least_of (negsuc n) h = absurd (omega (arith, ints))
 same_denominator : (m n t : ℤ) → m *ℤ t -ℤ n *ℤ t ≡ (m -ℤ n) *ℤ t
 same_denominator m n t = by_ring (m ∷ n ∷ t ∷ []) _ _ (search quotes depth 20) (search quotes depth 20) refl
 
-lower_numerator : (w : Shape) → IsCanonicalForm w → (n m t : ℤ) → pos 0 <ℤ t → n ≤ℤ m → sign_at_instant (line m t) w ≡ Plus → sign_at_instant (line n t) w ≡ Plus
+pub lower_numerator : (w : Shape) → IsCanonicalForm w → (n m t : ℤ) → pos 0 <ℤ t → n ≤ℤ m → sign_at_instant (line m t) w ≡ Plus → sign_at_instant (line n t) w ≡ Plus
 lower_numerator w form n m t p h =
     lower_fraction w form n t m t p p
     (subst AtLeast (sym (ap sign_of (same_denominator m n t) ∙ sign_of-times (m -ℤ n) t ∙ ap (product_of (sign_of (m -ℤ n))) (sign_in Plus t p) ∙ product-Plus (sign_of (m -ℤ n)))) (at_least_of (m -ℤ n) (omega (arith, ints))))

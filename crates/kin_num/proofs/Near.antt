@@ -182,7 +182,7 @@ module _ (x : Number) (w t : ℕ) (size : HasSize x w) (some : 0 < t) where
       (by_ring (w ∷ t ∷ n ∷ m ∷ q ∷ d ∷ []) _ _ (search quotes depth 30 fits 40000) (search quotes depth 30 fits 40000) refl)
       (by_ring (w ∷ t ∷ n ∷ m ∷ q ∷ d ∷ []) _ _ (search quotes depth 30 fits 40000) (search quotes depth 30 fits 40000) refl)
 
-  start : sign_over x.radicand (past x (neg_ℤ (pos t *ℤ pos w +ℤ pos 1)) (pos t)) ≡ Plus
+  pub start : sign_over x.radicand (past x (neg_ℤ (pos t *ℤ pos w +ℤ pos 1)) (pos t)) ≡ Plus
   start =
       ap (sign_over x.radicand) (start-as (pos w) (pos t) x.whole x.root x.divisor x.radicand)
       ∙ far_left o T W (pair x.whole x.root) Q (flat (x.divisor -ℤ pos 1)) T_some W_some point_size Q_less_one Q_positive
@@ -195,7 +195,7 @@ module _ (x : Number) (w t : ℕ) (size : HasSize x w) (some : 0 < t) where
       (by_ring (w ∷ t ∷ n ∷ m ∷ q ∷ d ∷ []) _ _ (search quotes depth 30 fits 40000) (search quotes depth 30 fits 40000) refl)
       (by_ring (w ∷ t ∷ n ∷ m ∷ q ∷ d ∷ []) _ _ (search quotes depth 30 fits 40000) (search quotes depth 30 fits 40000) refl)
 
-  end : AtLeast (opposite_of (sign_over x.radicand (past x (pos t *ℤ pos w) (pos t))))
+  pub end : AtLeast (opposite_of (sign_over x.radicand (past x (pos t *ℤ pos w) (pos t))))
   end =
       subst AtLeast
       (sym (ap (sign_over x.radicand) (end-as (pos w) (pos t) x.whole x.root x.divisor x.radicand)) ∙ sign_over-negative x.radicand s (past x (pos t *ℤ pos w) (pos t)))

@@ -6,7 +6,7 @@ use lib.IntN.{neg_ℤ}
 use Rattle.kin_num.specs.declared.instant.Shape.{Shape}
 use Rattle.kin_num.specs.declared.instant.Shape.TheVariants.{Ratio, Root}
 use Rattle.kin_num.specs.Quadratic.{Quadratic}
-use Rattle.kin_num.specs.Canonical.{IsCanonicalForm, IsWideShape, discriminant}
+use Rattle.kin_num.specs.Canonical.{IsCanonicalForm, IsSmallShape, IsWideShape, discriminant}
 use Rattle.kin_num.specs.Instants.{number_of, line, derivative}
 use Rattle.kin_num.proofs.Values.{canonical-sound}
 use Rattle.kin_num.proofs.Near.{size_negative, size_double, HasHeight, HasSize, IsFine}
@@ -84,6 +84,10 @@ pub own_size : (w : Shape) → IsCanonicalForm w → HasSize (number_of w) (size
 own_size w form = size_by w form (unsigned_abs (number_of w).radicand) (size_of w) (below_square (number_of w).radicand) (omega arith) (omega arith)
 
 -- ---- under the wide bounds
+pub small_is_wide : (w : Shape) → IsSmallShape w → IsWideShape w
+small_is_wide (Ratio n d) s = record { n_most = omega (arith, s.n_small); d_most = omega (arith, s.d_small) }
+small_is_wide (Root a b c upper) s = record { a_most = omega (arith, s.a_small); b_most = omega (arith, s.b_small); c_most = omega (arith, s.c_small) }
+
 pub wide_height : (w : Shape) → IsWideShape w → HasShapeHeight w (2 ^ 31)
 wide_height (Ratio n d) k = line-height n d (2 ^ 31) k.n_most k.d_most
 wide_height (Root a b c upper) k = quadratic-height a b c (2 ^ 31) (omega (arith, k.a_most)) k.b_most (omega (arith, k.c_most))

@@ -4,3 +4,4 @@ pub mod Canonical
 pub mod Instants
 pub mod Order
 pub mod Laws
+pub mod Grains

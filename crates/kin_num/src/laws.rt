@@ -6,6 +6,7 @@
 ghost use Rattle.std.specs.Prelude.{ℤ};
 ghost use Rattle.kin_num.specs.declared.instant.Moment.{Moment as Time};
 ghost use Rattle.kin_num.specs.Canonical.{IsCanonicalForm, IsWideShape};
+ghost use Rattle.kin_num.specs.Grains.{MomentsRunOut};
 ghost use Rattle.kin_num.specs.Laws.{IsRadicand, PairSignsAreOrdered, SignsAddAndMultiply, SignsAreOrdered, InstantsAreOrdered, MomentsAreOrdered, InstantsLieApart};
 
 /// The signs of sums and products of pairs over one radicand are those of an ordered ring.
@@ -36,4 +37,9 @@ pub fn moments_are_ordered()
 /// Of two different instants one is less by a fraction of the denominator `2^200`.
 pub fn instants_lie_apart()
     ensures { InstantsLieApart }
+{}
+
+/// A natural number falls from each moment to each later one. So rising moments come to an end.
+pub fn moments_run_out()
+    ensures { MomentsRunOut }
 {}

@@ -47,11 +47,11 @@ module _ {X : Type 0} (f : X → List ℕ) where
   parts (x ∷ xs) (suc i) d lt =
       ap (λ (w : List ℕ). f x ++ w) (parts xs i d (omega arith)) ∙ sym (append_assoc (f x) (flat_map f (take i xs)) (f (get_or xs i d) ++ flat_map f (drop (suc i) xs)))
 
-  pub front_at : (before mid now : List ℕ) (xs : List X) (i : ℕ) (d : X) (tail : List ℕ) → i < length xs
-      → mid ≡ before ++ flat_map f (take i xs) → PutsFront mid now (f (get_or xs i d)) → PutsFront before now (flat_map f xs ++ tail)
-  front_at before mid now xs i d tail lt e p =
+  pub front_at : (before mid now : List ℕ) (xs : List X) (i : ℕ) (d : X) → i < length xs
+      → mid ≡ before ++ flat_map f (take i xs) → PutsFront mid now (f (get_or xs i d)) → PutsFront before now (flat_map f xs)
+  front_at before mid now xs i d lt e p =
       let here = front_behind before mid now (flat_map f (take i xs)) (f (get_or xs i d) ++ flat_map f (drop (suc i) xs)) e (front_first mid now (f (get_or xs i d)) (flat_map f (drop (suc i) xs)) p) in
-      front_first before now (flat_map f xs) tail (subst (λ (w : List ℕ). PutsFront before now w) (sym (parts xs i d lt)) here)
+      subst (λ (w : List ℕ). PutsFront before now w) (sym (parts xs i d lt)) here
 
   -- the loop ends between two items
   pub front_between : (before mid now : List ℕ) (xs : List X) (i : ℕ) → mid ≡ before ++ flat_map f (take i xs) → now ≡ mid → PutsFront before now (flat_map f xs)

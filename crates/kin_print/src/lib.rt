@@ -4,10 +4,14 @@
 //! memory runs out, a front of them.
 #![tactic(auto)]
 
+pub use failure::put_failure;
+pub use line::{put_count, put_one};
 pub use list::put_list;
 pub use moment::put_moment;
 pub use piece::{put_bytes, put_number, put_pieces};
 
+pub mod failure;
+pub mod line;
 pub mod list;
 pub mod moment;
 pub mod piece;

@@ -27,10 +27,19 @@ fn put_rest(out: &mut Vec<u8>, list: &[u32]) -> Result<(), NoMemory>
     ensures ok { OnOk result (out.new.items ≡ out.old.items ++ (flat_map spaced list.now ++ codes "\n")) }
     ensures err { OnErr result (PutsFront out.old.items out.new.items (flat_map spaced list.now ++ codes "\n")) }
 {
+    put_each(out, list)?;
+    put_bytes(out, b"\n")
+}
+
+/// Appends the numbers, each behind a space.
+pub(crate) fn put_each(out: &mut Vec<u8>, list: &[u32]) -> Result<(), NoMemory>
+    ensures ok { OnOk result (out.new.items ≡ out.old.items ++ flat_map spaced list.now) }
+    ensures err { OnErr result (PutsFront out.old.items out.new.items (flat_map spaced list.now)) }
+{
     for n in list {
         put_spaced(out, *n)?;
     }
-    put_bytes(out, b"\n")
+    Ok(())
 }
 
 /// Appends a space and a number.

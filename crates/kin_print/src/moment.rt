@@ -1,19 +1,11 @@
 //! Instants and moments.
 
 ghost use Rattle.std.specs.Prelude.{◌≡◌, ◌<ℤ◌, pos, ◌++◌, OnOk, OnErr};
-ghost use Rattle.std.specs.Fmt.{signed_decimal};
 ghost use Rattle.kin_script.specs.Printed.{ratio_text, root_text, side_text, instant_text, phase_text, moment_text, PutsFront};
 
-use crate::piece::{put_bytes, put_pieces};
+use crate::piece::{digits, put_bytes, put_pieces};
 use itoa::Buffer;
 use kin_num::{Instant, Moment, NoMemory, Phase, Shape};
-
-/// The decimal digits of a number, behind a minus where it is negative.
-fn digits(buffer: &mut Buffer, n: i64) -> &[u8]
-    ensures { result.now ≡ signed_decimal n }
-{
-    buffer.format(n).as_bytes()
-}
 
 /// Appends a fraction: `7/3`, or `5` for `5/1`.
 fn put_ratio(out: &mut Vec<u8>, n: i64, d: i64) -> Result<(), NoMemory>

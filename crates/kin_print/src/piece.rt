@@ -27,6 +27,13 @@ pub fn put_pieces(out: &mut Vec<u8>, pieces: &[&[u8]]) -> Result<(), NoMemory>
     Ok(())
 }
 
+/// The decimal digits of a number, behind a minus where it is negative.
+pub(crate) fn digits<I: Integer>(buffer: &mut Buffer, n: I) -> &[u8]
+    ensures { result.now ≡ I.text n }
+{
+    buffer.format(n).as_bytes()
+}
+
 /// Appends a number in decimal digits, or nothing.
 pub fn put_number<I: Integer>(out: &mut Vec<u8>, n: I) -> Result<(), NoMemory>
     ensures ok { OnOk result (out.new.items ≡ out.old.items ++ I.text n) }

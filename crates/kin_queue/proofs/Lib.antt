@@ -1,3 +1,13 @@
 pub mod Entries
-pub mod Rows
 pub mod Looks
+pub mod Order
+pub mod Moves
+pub mod Rising
+pub mod Sinking
+pub mod Filling
+pub mod Contents
+pub mod Begin
+pub mod Root
+pub mod Costs
+pub mod Whole
+pub mod Known

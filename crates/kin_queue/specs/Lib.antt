@@ -1,2 +1,4 @@
 pub mod Agenda
-pub mod Row
+pub mod Cost
+pub mod Heap
+pub mod Hole

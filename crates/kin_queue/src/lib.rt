@@ -8,4 +8,5 @@
 
 pub use queue::Queue;
 
+mod heap;
 pub mod queue;

@@ -1,27 +1,26 @@
 //! The event queue.
 
-ghost use Rattle.std.specs.Prelude.{◌≡◌, ◌≢◌, ℕ, ◌<◌, ◌≤◌, length, slice_get, slice_index_or, None, Some, OnOk, OnErr, OnSome, IsSome};
-ghost use Rattle.std.specs.FinMap.{get, insert, remove, empty};
-ghost use Rattle.kin_num.specs.Order.{IsEarlier};
-ghost use Rattle.std.specs.FinMap.{find};
-ghost use Rattle.std.specs.Ordering.{nat_cmp};
+ghost use Rattle.std.specs.Prelude.{◌≡◌, ◌<◌, length, None, OnOk, OnErr, IsSome};
+ghost use Rattle.std.specs.FinMap.{get, insert, remove, empty, len};
 ghost use Rattle.kin_queue.specs.Agenda.{IsNext, without};
-ghost use Rattle.kin_queue.specs.Row.{IsPlaceFor};
+ghost use Rattle.kin_queue.specs.Cost.{TakesSteps};
+ghost use Rattle.kin_queue.specs.Heap.{Extends};
 
-use kin_instant::order::compare_moments;
+use crate::heap::{put_in, take_out};
 use kin_num::{Moment, NoMemory, Steps};
 use std::alloc::Global;
-use std::cmp::Ordering;
 use std::marker::Model;
 use std::sync::ledger::Ledger;
 
 /// A finite map from ids to moments that gives an entry of least moment. Which one of several
-/// entries of the least moment comes next is free. Entries stand by rising moment: `first` takes
-/// no time, and each other call time in proportion to the number of entries.
+/// entries of the least moment comes next is free. `first` compares nothing, and each other call
+/// makes at most `2 log2(n + 1)` comparisons on `n` entries. The memory grows with the greatest id.
 #[derive(Drop)]
 pub struct Queue {
-    /// The entries by rising moment, each id once.
+    /// The entries, each id once. No entry is earlier than the one above it.
     entries: Vec<(usize, Moment)>,
+    /// Where the entry of each id stands. For an id that isn't there it means nothing.
+    places: Vec<usize>,
 }
 
 impl Model for Queue {
@@ -31,11 +30,11 @@ impl Model for Queue {
 
     ghost coded = { agenda_code };
 
-    ghost use Rattle.kin_queue.specs.Row.{agenda_of, IsRow};
+    ghost use Rattle.kin_queue.specs.Heap.{agenda_of, IsHeap};
 
     ghost view = { λ q. agenda_of q.entries.items };
 
-    ghost invariant = { λ q. IsRow q.entries.items };
+    ghost invariant = { λ q. IsHeap q.entries.items q.places.items };
 }
 
 impl Queue {
@@ -46,6 +45,7 @@ impl Queue {
     {
         Queue {
             entries: Vec::new(alloc),
+            places: Vec::new(alloc),
         }
     }
 
@@ -59,22 +59,23 @@ impl Queue {
         requires absent { get self.old.moments id ≡ None }
         ensures ok { OnOk result (self.new.moments ≡ insert self.old.moments id at) }
         ensures err { OnErr result (self.new ≡ self.old) }
+        ensures cost { TakesSteps (len self.old.moments) steps.old steps.new }
     {
         let _ = at.at.shape();
-        let place = place_for(&self.entries, &at, steps);
-        if self.entries.insert(place, (id, at)).is_err() {
-            return Err(NoMemory);
-        }
+        self.entries.reserve(1)?;
+        reach(&mut self.places, id)?;
+        put_in(&mut self.entries, &mut self.places, (id, at), steps);
         Ok(())
     }
 
     /// Takes an id out, which is there.
     pub fn remove<L: Ledger>(&mut self, id: usize, steps: &mut Steps<L>)
         requires present { IsSome (get self.old.moments id) }
-        ensures { self.new.moments ≡ remove self.old.moments id }
+        ensures moments { self.new.moments ≡ remove self.old.moments id }
+        ensures cost { TakesSteps (len self.old.moments) steps.old steps.new }
     {
-        let place = place_of(&self.entries, id);
-        self.entries.remove(place);
+        let place = self.places[id];
+        take_out(&mut self.entries, &mut self.places, place, steps);
     }
 
     /// The next entry, which is one of least moment, or `None` exactly where the queue is empty.
@@ -90,38 +91,27 @@ impl Queue {
         ensures value { result ≡ self.old.next }
         ensures least { IsNext self.old.moments self.old.next }
         ensures rest { self.new.moments ≡ without self.old.moments result }
+        ensures cost { TakesSteps (len self.old.moments) steps.old steps.new }
     {
-        if self.entries.is_empty() {
-            return None;
-        }
-        Some(self.entries.remove(0))
+        let first = self.first()?;
+        take_out(&mut self.entries, &mut self.places, 0, steps);
+        Some(first)
     }
 }
 
-// How many entries are not later.
-fn place_for<L: Ledger>(entries: &[(usize, Moment)], at: &Moment, steps: &mut Steps<L>) -> usize
-    ensures { IsPlaceFor entries.now at.now result }
+// Makes the places reach the id.
+fn reach(places: &mut Vec<usize>, id: usize) -> Result<(), NoMemory>
+    ensures reached { OnOk result (id < length places.new.items) }
+    ensures kept { Extends places.old.items places.new.items }
 {
-    for (place, entry) in entries.iter().enumerate() {
-        if let Ordering::Less = compare_moments(at, &entry.1, steps) {
-            return place;
-        }
+    if id < places.len() {
+        return Ok(());
     }
-    entries.len()
-}
-
-// Where the id stands.
-fn place_of(entries: &[(usize, Moment)], id: usize) -> usize
-    requires { IsSome (find nat_cmp id entries.now) }
-    ensures within { result < length entries.now }
-    ensures place { (d : ℕ × Moment) → (slice_index_or entries.now result d).0 ≡ id }
-{
-    for (place, entry) in entries.iter().enumerate() {
-        if entry.0 == id {
-            return place;
-        }
-    }
-    unreachable!()
+    let Some(count) = id.checked_add(1) else {
+        return Err(NoMemory);
+    };
+    places.resize(count, 0)?;
+    Ok(())
 }
 
 #[cfg(test)]
@@ -209,6 +199,70 @@ mod tests {
             && matches!(queue.pop(&mut steps), Some(popped) if popped.0 == 9)
             && queue.first().is_none()
             && queue.pop(&mut steps).is_none()
+    }
+
+    /// The time of an id below 16, and the id of a time: 7 * 7 is 1 more than a multiple of 16.
+    fn time_of(id: usize) -> usize
+        ensures { result < 16 }
+    {
+        id % 16 * 7 % 16
+    }
+
+    fn moment(time: usize) -> Moment
+        requires { time < 16 }
+    {
+        Moment {
+            at: ratio(time as i64, 1),
+            phase: Phase::At,
+        }
+    }
+
+    /// Puts the ids below 16 in, whose times jump up and down.
+    #[tactic(auto, using(crate::proofs::Looks::looks))]
+    fn fill_up<L: Ledger>(queue: &mut Queue, steps: &mut Steps<L>) -> Result<(), NoMemory>
+        requires { queue.old.moments ≡ empty }
+        ensures { OnOk result (IsSome (get queue.new.moments 3)) }
+    {
+        for id in 0..16 {
+            queue.insert(id, moment(time_of(id)), steps)?;
+        }
+        Ok(())
+    }
+
+    /// Whether each time but 5 comes with its id.
+    fn drain<L: Ledger>(queue: &mut Queue, steps: &mut Steps<L>) -> bool {
+        for time in 0..16 {
+            if time == 5 {
+                continue;
+            }
+            let Some(next) = queue.pop(steps) else {
+                return false;
+            };
+            if next.0 != time_of(time) || next.1 != moment(time) {
+                return false;
+            }
+        }
+        queue.first().is_none()
+    }
+
+    /// Whether a queue of many entries gives them by rising time, without the one at time 5.
+    fn rises<L: Ledger>(alloc: Global, blank: Blank) -> bool
+        requires name { blank.name ≡ L.name }
+        requires parts { blank.parts ≡ L.parts }
+        requires some { 0 < L.parts }
+    {
+        let mut steps = Steps::<L>::open(blank);
+        let mut queue = Queue::new(alloc);
+        if fill_up(&mut queue, &mut steps).is_err() {
+            return false;
+        }
+        queue.remove(3, &mut steps);
+        drain(&mut queue, &mut steps)
+    }
+
+    #[test]
+    fn many_entries_come_by_rising_moment(rt: HostRuntime) {
+        assert!(rt; rises::<Brand>(rt.alloc(), Blank::new(1)));
     }
 
     #[test]

@@ -1,8 +1,9 @@
 -- What was written, and what is gathered and still to be written.
-use Rattle.std.proofs.Common.{◌≡◌, ℕ, List, [], ◌++◌, take, Option, sym, ap, ◌∙◌, subst, append_assoc}
+use Rattle.std.proofs.Common.{◌≡◌, ℕ, ◌+◌, List, [], ◌∷◌, ◌++◌, length, take, suc, arith, Option, sym, ap, ◌∙◌, subst, append_assoc}
 use Rattle.std.proofs.lemmas.List.{append-nil}
 use Rattle.std.proofs.KnownBytes.{Appends-trans, Appends-nil}
 use Rattle.std.specs.Io.KnownBytes.{Appends}
+use Rattle.kin_io.specs.Ends.{AppendsPrefix}
 use Rattle.kin_run.specs.Written.{IsPrefix, Wrote, Gains}
 use Rattle.kin_run.proofs.Fronts.{prefix_take, prefix_front, prefix_behind}
 
@@ -42,3 +43,28 @@ pub gathers_gained : (a b c : Bytes) (pending still text : List ℕ) (P Q : List
 gathers_gained a b c pending still text P Q g m f =
     let joined : (g.0 ++ m.0) ++ still ≡ (g.0 ++ pending) ++ text = append_assoc g.0 m.0 still ∙ ap (λ (w : List ℕ). g.0 ++ w) m.2 ∙ sym (append_assoc g.0 pending text) in
     (g.0 ++ m.0, Appends-trans a b c g.0 m.0 g.1 m.1, subst Q (sym joined) (f (g.0 ++ pending) g.2))
+
+-- ---- what is gained
+
+pub gains_put : (a : Bytes) (pending now text : List ℕ) → now ≡ pending ++ text → Gains a pending a now text
+gains_put a pending now text e = ([], Appends-nil a, e)
+
+pub gains_through : (a b c : Bytes) (p q r s t : List ℕ) → Gains a p b q s → Gains b q c r t → Gains a p c r (s ++ t)
+gains_through a b c p q r s t g h = (
+  g.0 ++ h.0,
+  Appends-trans a b c g.0 h.0 g.1 h.1,
+  append_assoc g.0 h.0 r ∙ ap (λ (w : List ℕ). g.0 ++ w) h.2 ∙ sym (append_assoc g.0 q t) ∙ ap (λ (w : List ℕ). w ++ t) g.2 ∙ append_assoc p s t,
+)
+
+take_behind : (xs ys : List ℕ) (k : ℕ) → take (length xs + k) (xs ++ ys) ≡ xs ++ take k ys
+take_behind [] ys k = let e : 0 + k ≡ k = omega arith in ap (λ (n : ℕ). take n ys) e
+take_behind (x ∷ xs) ys k =
+    let e : suc (length xs) + k ≡ suc (length xs + k) = omega arith in
+    ap (λ (n : ℕ). take n (x ∷ (xs ++ ys))) e ∙ ap (λ (w : List ℕ). x ∷ w) (take_behind xs ys k)
+
+-- a front of what is pending now is written
+pub gains_front : (a b c : Bytes) (p q text : List ℕ) → Gains a p b q text → AppendsPrefix b c q → AppendsPrefix a c (p ++ text)
+gains_front a b c p q text g f = (
+  length g.0 + f.0,
+  subst (Appends a c) (sym (take_behind g.0 q f.0) ∙ ap (take (length g.0 + f.0)) g.2) (Appends-trans a b c g.0 (take f.0 q) g.1 f.1),
+)

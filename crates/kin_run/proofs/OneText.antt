@@ -6,13 +6,14 @@ use Rattle.std.specs.Io.KnownBytes.{Consumes, IsAtEnd}
 use Rattle.kin_num.specs.Canonical.{IsCanonical}
 use Rattle.kin_script.specs.declared.script.Script.{Script}
 use Rattle.kin_script.specs.declared.command.Command.{Command}
-use Rattle.kin_script.specs.declared.command.Command.TheVariants.{Insert, AtRatio, AtRoot, Order, Extreme, Hull, Closest, Inside}
+use Rattle.kin_script.specs.declared.command.Command.TheVariants.{Insert, AtRatio, AtRoot, Next, Order, Extreme, Hull, Closest, Inside, Live}
 use Rattle.kin_script.specs.declared.refusal.Refusal.{Refusal}
 use Rattle.kin_script.specs.Grammar.{script_of}
-use Rattle.kin_script.specs.Replay.{State, start, LeadsTo}
+use Rattle.kin_script.specs.Replay.{State, start, LeadsToNext, LeadsTo}
 use Rattle.kin_script.specs.Text.{Text, Ending, bad_line}
-use Rattle.kin_run.specs.declared.play.Stop.{Stop}
-use Rattle.kin_run.specs.declared.play.Stop.TheVariants.{Fault, NoMemory}
+use Rattle.kin_run.specs.declared.write.Stop.{Stop}
+use Rattle.kin_run.specs.declared.write.Stop.TheVariants.{Fault, NoMemory}
+use Rattle.kin_run.specs.Performed.{IsCutOfText}
 use Rattle.kin_run.specs.Written.{IsPrefix}
 use Rattle.kin_run.specs.declared.status.Status.{Status}
 use Rattle.kin_run.specs.declared.status.Status.TheVariants as status
@@ -22,16 +23,22 @@ use Rattle.kin_run.proofs.NamedRoots.{named_canonical}
 use Rattle.kin_run.proofs.Determined.{one_step}
 use Rattle.kin_run.proofs.Playing.{Line, allowed_goes_on, text_refused}
 
+next_canonical : (s t : State) → IsCanonical s.moment.at → LeadsToNext s t → IsCanonical t.moment.at
+next_canonical s t canonical (inl p) = subst (λ (u : State). IsCanonical u.moment.at) (sym p.2) p.1.canonical
+next_canonical s t canonical (inr p) = subst (λ (u : State). IsCanonical u.moment.at) (sym p.1) canonical
+
 -- every state of a run stands at a canonical instant
 stays_canonical : (s : State) (c : Command) (t : State) → IsCanonical s.moment.at → LeadsTo s c t → IsCanonical t.moment.at
 stays_canonical s (Insert n m) t canonical e = subst (λ (u : State). IsCanonical u.moment.at) (sym e) canonical
 stays_canonical s (AtRatio n d) t canonical e = subst (λ (u : State). IsCanonical u.moment.at) (sym e.2) (named_canonical true _ e.0 e.1)
 stays_canonical s (AtRoot a b c upper) t canonical e = subst (λ (u : State). IsCanonical u.moment.at) (sym e.2) (named_canonical upper _ e.0 e.1)
+stays_canonical s Next t canonical e = next_canonical s t canonical e
 stays_canonical s (Order k) t canonical e = subst (λ (u : State). IsCanonical u.moment.at) (sym e) canonical
 stays_canonical s (Extreme k) t canonical e = subst (λ (u : State). IsCanonical u.moment.at) (sym e) canonical
 stays_canonical s Hull t canonical e = subst (λ (u : State). IsCanonical u.moment.at) (sym e) canonical
 stays_canonical s Closest t canonical e = subst (λ (u : State). IsCanonical u.moment.at) (sym e) canonical
 stays_canonical s (Inside r) t canonical e = subst (λ (u : State). IsCanonical u.moment.at) (sym e) canonical
+stays_canonical s Live t canonical e = subst (λ (u : State). IsCanonical u.moment.at) (sym e) canonical
 
 pub one_text : (s : State) (cs : List Line) (x y : List ℕ) (e f : Ending) → IsCanonical s.moment.at → Text s cs x e → Text s cs y f → (x ≡ y) × (e ≡ f)
 one_text s [] x y e f canonical p q = (p.0 ∙ sym q.0, p.1 ∙ sym q.1)
@@ -51,7 +58,7 @@ same_script input v w p q = cc
 both_texts : (input x y : List ℕ) (e f : Ending) → IsTextOf input x e → IsTextOf input y f → (x ≡ y) × (e ≡ f)
 both_texts input x y e f p q =
     let same = same_script input p.script q.script p.reads q.reads in
-    one_text (start q.script.size q.script.keeps) q.script.lines x y e f start_canonical (subst (λ (s : Script). Text (start s.size s.keeps) s.lines x e) same p.replays) q.replays
+    one_text (start q.script.size q.script.keeps q.script.journal) q.script.lines x y e f start_canonical (subst (λ (s : Script). Text (start s.size s.keeps s.journal) s.lines x e) same p.replays) q.replays
 
 none_some : (x : ℕ × Refusal) → None ≡ Some x → ⊥
 none_some x e = cc
@@ -96,6 +103,18 @@ cut_of_bad input front line e f (status.Fault side) text p = absurd p
 cut_of_bad input front line e f status.TooLong text p = absurd p
 cut_of_bad input front line e f status.Words text p = absurd p
 cut_of_bad input front line e f status.NoMemory text p = absurd p
+
+-- a front of the text of a script is a front of the text of its input
+pub cut_of_script : (input front : List ℕ) (script : Script) → script_of input ≡ Ok script → IsCutOfText (start script.size script.keeps script.journal) script.lines front → IsCut input front
+cut_of_script input front script e cut status.Done text p =
+    cut text None (subst (λ (s : Script). Text (start s.size s.keeps s.journal) s.lines text None) (same_script input p.script script p.reads e) p.replays)
+cut_of_script input front script e cut (status.Command n r) text p =
+    cut text (Some (n, r)) (subst (λ (s : Script). Text (start s.size s.keeps s.journal) s.lines text (Some (n, r))) (same_script input p.script script p.reads e) p.replays)
+cut_of_script input front script e cut (status.Script n) text p = absurd (no_script input script n e p.0)
+cut_of_script input front script e cut (status.Fault side) text p = absurd p
+cut_of_script input front script e cut status.TooLong text p = absurd p
+cut_of_script input front script e cut status.Words text p = absurd p
+cut_of_script input front script e cut status.NoMemory text p = absurd p
 
 -- a run that was broken off writes a front
 pub broken_off : (input front : List ℕ) (stop : Stop) → IsCut input front → Writes input (status_of_stop stop) front

@@ -8,15 +8,15 @@ use Rattle.kin_script.specs.Replay.{start}
 use Rattle.kin_run.specs.declared.status.Status.{Status}
 use Rattle.kin_run.specs.declared.status.Status.TheVariants as status
 use Rattle.kin_run.specs.declared.status.Side.TheVariants.{Read, Write}
-use Rattle.kin_run.specs.declared.play.Stop.{Stop}
-use Rattle.kin_run.specs.declared.play.Stop.TheVariants as stop
+use Rattle.kin_run.specs.declared.write.Stop.{Stop}
+use Rattle.kin_run.specs.declared.write.Stop.TheVariants as stop
 use Rattle.kin_run.specs.Written.{IsPrefix}
 
 -- the input is a script, and this is its text, with its ending
 pub record IsTextOf (input text : List ℕ) (ending : Ending) : Type 0 where
   pub script : Script
   pub reads : script_of input ≡ Ok script
-  pub replays : Text (start script.size script.keeps) script.lines text ending
+  pub replays : Text (start script.size script.keeps script.journal) script.lines text ending
 
 -- the text of an input, with the status that it has where all of it is written
 abbrev pub IsAnswer : List ℕ → Status → List ℕ → Type 0
@@ -79,3 +79,7 @@ status_of_stop stop.NoMemory = status.NoMemory
 -- an input has one text, and one status with it
 abbrev pub OneAnswer : Type 0
 OneAnswer = (input x y : List ℕ) (a b : Status) → IsAnswer input a x → IsAnswer input b y → (a ≡ b) × (x ≡ y)
+
+-- every input has a text, and a status with it
+abbrev pub TextsExist : Type 0
+TextsExist = (input : List ℕ) → (answer : Status) × (text : List ℕ) × IsAnswer input answer text

@@ -1,5 +1,5 @@
 pub mod Written
+pub mod States
 pub mod Performed
 pub mod Headline
 pub mod Words
-pub mod Sound

@@ -1,13 +1,27 @@
-//! The root that an `at root` line names.
+//! The instant that an `at` line asks for.
 
-ghost use Rattle.std.specs.Prelude.{◌≡◌, ◌≤◌, ◌<◌, ◌<ℤ◌, ◌^◌, MatchOption, if◌then◌else◌, pos, unsigned_abs};
+ghost use Rattle.std.specs.Prelude.{◌≡◌, ◌≤◌, ◌<◌, ◌<ℤ◌, ◌^◌, ◌↔◌, IsTrue, MatchOption, if◌then◌else◌, pos, unsigned_abs};
 ghost use Rattle.kin_num.specs.Canonical.{discriminant};
-ghost use Rattle.kin_script.specs.Replay.{IsNamedRoot};
+ghost use Rattle.kin_num.specs.Order.{IsEarlier};
+ghost use Rattle.kin_script.specs.Replay.{IsNamedRoot, at};
 
+use kin_instant::order::compare;
 use kin_instant::roots::Roots;
 use kin_instant::solve::roots;
-use kin_num::instant::Instant;
 use kin_num::poly::Poly;
+use kin_num::{Instant, Moment, Phase};
+use std::cmp::Ordering;
+
+/// Whether the instant is before the moment.
+pub fn is_before(instant: &Instant, moment: &Moment) -> bool
+    ensures { IsTrue result ↔ IsEarlier (at instant.now) moment.now }
+{
+    match compare(instant, &moment.at) {
+        Ordering::Less => true,
+        Ordering::Equal => moment.phase == Phase::After,
+        Ordering::Greater => false,
+    }
+}
 
 /// The one of two roots that the word names.
 fn named(lesser: Instant, greater: Instant, upper: bool) -> Instant

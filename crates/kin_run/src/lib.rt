@@ -8,14 +8,15 @@
 
 pub use kin_script::refusal::Refusal;
 
+mod answer;
 mod asked;
 pub mod laws;
-mod order;
+mod pass;
 mod perform;
 mod play;
 pub mod run;
-mod state;
 pub mod status;
 #[cfg(test)]
 mod tests;
 mod text;
+mod write;

@@ -1,113 +1,147 @@
 //! One command: its refusals first, then what it does.
 
-ghost use Rattle.std.specs.Prelude.{◌≡◌, ◌<◌, ◌^◌, [], Some, slice_get};
-ghost use Rattle.kin_script.specs.declared.command.Command.TheVariants.{Insert as InsertOf, AtRatio as AtRatioOf, AtRoot as AtRootOf, Order as OrderOf};
+ghost use Rattle.std.specs.Prelude.{◌≡◌, ◌≢◌, ◌≤◌, ◌<◌, ◌^◌, ℕ, List, Bool, Option, OnOk, IfErr, IsErrOf};
+ghost use Rattle.kin_io.specs.Causes.{Rose};
+ghost use Rattle.kin_num.specs.Canonical.{IsCanonical};
+ghost use Rattle.kin_script.specs.declared.command.Command.{Command as CommandOf};
+ghost use Rattle.kin_script.specs.declared.command.Command.TheVariants.{Insert as InsertOf, Next as NextOf, Order as OrderOf, Extreme as ExtremeOf, Live as LiveOf};
 ghost use Rattle.kin_script.specs.Ranges.{IsCommandInRange};
 ghost use Rattle.kin_script.specs.Replay.{Asks};
-ghost use Rattle.kin_num.specs.Canonical.{IsCanonical};
-ghost use Rattle.kin_run.specs.declared.perform.Halt.TheVariants.{NoMemory as WantOfMemory};
-ghost use Rattle.kin_run.specs.Performed.{Performs, PutsLine};
-ghost use Rattle.kin_run.specs.Sound.{IsSound};
-ghost use Rattle.kin_motion.specs.declared.keep.Keep.TheVariants as keep;
-ghost use Rattle.kin_script.specs.Text.{IsOrderLine};
+ghost use Rattle.kin_world.specs.Worlds.{IsWhole};
+ghost use Rattle.kin_run.specs.declared.perform.Halt.TheVariants.{Broken as BrokenOff};
+ghost use Rattle.kin_run.specs.declared.write.Stop.TheVariants.{Fault as FaultOf, NoMemory as WantOfMemory};
+ghost use Rattle.kin_run.specs.Performed.{Performs};
+ghost use Rattle.kin_run.specs.States.{state_of};
 
-use crate::asked::named_root;
-use crate::state::State;
+use crate::answer::{put_extreme, put_live, put_next, put_order};
+use crate::asked::{is_before, named_root};
+use crate::pass::pass;
+use crate::write::Stop;
 use kin_instant::ratio::ratio;
-use kin_motion::keep::Keep;
-use kin_motion::motion::Motion;
-use kin_num::instant::Instant;
-use kin_num::memory::NoMemory;
-use kin_print::list::put_list;
+use kin_io::sink::Sink;
+use kin_motion::{Keep, Motion};
+use kin_num::{Instant, NoMemory, Steps};
 use kin_script::command::Command;
 use kin_script::refusal::Refusal;
-use std::alloc::Global;
+use kin_world::world::World;
+use std::sync::ledger::Ledger;
 
 /// Why a command was not carried out.
 #[derive(Clone, Copy, Debug, PartialEq, Eq)]
 pub enum Halt {
     Refused(Refusal),
-    NoMemory,
+    Broken(Stop),
 }
 
 impl From<NoMemory> for Halt {
-    ghost from_gives = { λ _ e. e ≡ WantOfMemory };
+    ghost from_gives = { λ _ e. e ≡ BrokenOff WantOfMemory };
 
     fn from(_error: NoMemory) -> Halt {
-        Halt::NoMemory
+        Halt::Broken(Stop::NoMemory)
+    }
+}
+
+impl From<Stop> for Halt {
+    ghost from_gives = { λ stop e. e ≡ BrokenOff stop };
+
+    fn from(stop: Stop) -> Halt {
+        Halt::Broken(stop)
     }
 }
 
 /// Gives a number that is not live its motion.
-fn insert(state: &mut State, no: u32, m: Motion) -> Result<(), Halt>
-    requires { no < 2 ^ state.old.size }
-    ensures performs { Performs state.old (InsertOf no m) result [] [] state.new }
-    ensures same_size { state.new.size ≡ state.old.size }
-    ensures sound { IsSound state.new }
+fn insert<L: Ledger>(
+    world: &mut World,
+    no: u32,
+    m: Motion,
+    steps: &mut Steps<L>,
+) -> Result<(), Halt>
+    requires whole { IsWhole world.old }
+    requires room { no < 2 ^ world.old.size }
+    ensures performs { (journal : Bool) (held : Option (List ℕ)) (out : List ℕ) → Performs (state_of journal world.old) (InsertOf no m) result held out held out (state_of journal world.new) }
+    ensures whole { OnOk result (IsWhole world.new) }
+    ensures no_fault { IfErr result (λ halt. halt ≢ BrokenOff FaultOf) }
 {
-    if state.is_live(no) {
+    if !world.can_insert(no) {
         return Err(Halt::Refused(Refusal::Taken));
     }
-    state.insert(no, m);
+    world.insert(no, m, steps)?;
     Ok(())
 }
 
-/// Moves to the fraction, which is not before now.
-fn move_to_ratio(state: &mut State, n: i64, d: i64) -> Result<(), Halt>
-    requires { IsCommandInRange state.old.size (AtRatioOf n d) }
-    ensures performs { Performs state.old (AtRatioOf n d) result [] [] state.new }
-    ensures same_size { state.new.size ≡ state.old.size }
-    ensures sound { IsSound state.new }
-{
-    let asked = ratio(n, d);
-    if state.is_past(&asked) {
-        return Err(Halt::Refused(Refusal::Past));
-    }
-    state.move_to(asked);
-    Ok(())
-}
-
-/// Moves to the named root, which is not before now.
-fn move_to_root(state: &mut State, a: i64, b: i64, c: i64, upper: bool) -> Result<(), Halt>
-    requires { IsCommandInRange state.old.size (AtRootOf a b c upper) }
-    ensures performs { Performs state.old (AtRootOf a b c upper) result [] [] state.new }
-    ensures same_size { state.new.size ≡ state.old.size }
-    ensures sound { IsSound state.old → IsSound state.new }
-{
-    let Some(asked) = named_root(a, b, c, upper) else {
-        return Err(Halt::Refused(Refusal::NoRoot));
-    };
-    if state.is_past(&asked) {
-        return Err(Halt::Refused(Refusal::Past));
-    }
-    state.move_to(asked);
-    Ok(())
-}
-
-/// Appends the line of the kept order `s`, whose direction this is.
-fn put_order(
-    alloc: Global,
-    state: &State,
-    s: u32,
-    dx: i32,
-    dy: i32,
+/// Moves to the asked instant, which is not before now.
+fn move_to<K: Sink, L: Ledger>(
+    world: &mut World,
+    journal: bool,
+    asked: Instant,
     out: &mut Vec<u8>,
-) -> Result<(), NoMemory>
-    requires kept { slice_get state.now.keeps s ≡ Some (keep.Order dx dy) }
-    requires sound { IsSound state.now }
-    ensures { PutsLine (IsOrderLine state.now s) result out.old.items out.new.items }
+    sink: &mut K,
+    steps: &mut Steps<L>,
+) -> Result<(), Halt>
+    requires whole { IsWhole world.old }
+    requires canonical { IsCanonical asked }
+    ensures performs { (c : CommandOf) → Asks c asked → Performs (state_of journal world.old) c result (K.held sink.old) out.old.items (K.held sink.new) out.new.items (state_of journal world.new) }
+    ensures whole { OnOk result (IsWhole world.new) }
+    ensures later { K.faults sink.old ≤ K.faults sink.new }
+    ensures cause { IsErrOf result (BrokenOff FaultOf) → Rose (K.faults sink.old) (K.faults sink.new) }
 {
-    let order = state.order(alloc, dx, dy)?;
-    put_list(out, &order)
+    if is_before(&asked, world.now()) {
+        return Err(Halt::Refused(Refusal::Past));
+    }
+    pass(world, journal, asked, out, sink, steps)?;
+    Ok(())
+}
+
+/// Moves to the next failures, and appends what `next` prints.
+fn move_to_next<L: Ledger>(
+    world: &mut World,
+    journal: bool,
+    out: &mut Vec<u8>,
+    steps: &mut Steps<L>,
+) -> Result<(), Halt>
+    requires whole { IsWhole world.old }
+    ensures performs { (held : Option (List ℕ)) → Performs (state_of journal world.old) NextOf result held out.old.items held out.new.items (state_of journal world.new) }
+    ensures whole { OnOk result (IsWhole world.new) }
+    ensures no_fault { IfErr result (λ halt. halt ≢ BrokenOff FaultOf) }
+{
+    put_next(world, journal, out, steps)?;
+    Ok(())
+}
+
+/// Appends the line with the number of live facts.
+fn answer_live(world: &World, out: &mut Vec<u8>) -> Result<(), Halt>
+    requires { IsWhole world.now }
+    ensures performs { (journal : Bool) (held : Option (List ℕ)) → Performs (state_of journal world.now) LiveOf result held out.old.items held out.new.items (state_of journal world.now) }
+    ensures no_fault { IfErr result (λ halt. halt ≢ BrokenOff FaultOf) }
+{
+    put_live(world, out)?;
+    Ok(())
 }
 
 /// Appends the line of a kept order.
-fn answer_order(alloc: Global, state: &State, s: u32, out: &mut Vec<u8>) -> Result<(), Halt>
-    ensures { Performs state.now (OrderOf s) result out.old.items out.new.items state.now }
+fn answer_order(world: &World, s: u32, out: &mut Vec<u8>) -> Result<(), Halt>
+    requires { IsWhole world.now }
+    ensures performs { (journal : Bool) (held : Option (List ℕ)) → Performs (state_of journal world.now) (OrderOf s) result held out.old.items held out.new.items (state_of journal world.now) }
+    ensures no_fault { IfErr result (λ halt. halt ≢ BrokenOff FaultOf) }
 {
-    match state.kept(s) {
-        Some(Keep::Order { dx, dy }) => {
-            put_order(alloc, state, s, dx, dy, out)?;
+    match world.keep(s) {
+        Some(Keep::Order { .. }) => {
+            put_order(world, s, out)?;
+            Ok(())
+        }
+        _ => Err(Halt::Refused(Refusal::NotKept)),
+    }
+}
+
+/// Appends the line of a kept extreme point.
+fn answer_extreme(world: &World, s: u32, out: &mut Vec<u8>) -> Result<(), Halt>
+    requires { IsWhole world.now }
+    ensures performs { (journal : Bool) (held : Option (List ℕ)) → Performs (state_of journal world.now) (ExtremeOf s) result held out.old.items held out.new.items (state_of journal world.now) }
+    ensures no_fault { IfErr result (λ halt. halt ≢ BrokenOff FaultOf) }
+{
+    match world.keep(s) {
+        Some(Keep::Extreme { .. }) => {
+            put_extreme(world, s, out)?;
             Ok(())
         }
         _ => Err(Halt::Refused(Refusal::NotKept)),
@@ -115,24 +149,33 @@ fn answer_order(alloc: Global, state: &State, s: u32, out: &mut Vec<u8>) -> Resu
 }
 
 /// Carries out a command, and appends what it prints. A refused one changes nothing.
-pub fn perform(
-    alloc: Global,
-    state: &mut State,
+pub fn perform<K: Sink, L: Ledger>(
+    world: &mut World,
+    journal: bool,
     command: &Command,
     out: &mut Vec<u8>,
+    sink: &mut K,
+    steps: &mut Steps<L>,
 ) -> Result<(), Halt>
-    requires sound { IsSound state.old }
-    requires range { IsCommandInRange state.old.size command.now }
-    ensures performs { Performs state.old command.now result out.old.items out.new.items state.new }
-    ensures same_size { state.new.size ≡ state.old.size }
-    ensures sound { IsSound state.new }
+    requires whole { IsWhole world.old }
+    requires range { IsCommandInRange world.old.size command.now }
+    ensures performs { Performs (state_of journal world.old) command.now result (K.held sink.old) out.old.items (K.held sink.new) out.new.items (state_of journal world.new) }
+    ensures whole { OnOk result (IsWhole world.new) }
+    ensures later { K.faults sink.old ≤ K.faults sink.new }
+    ensures cause { IsErrOf result (BrokenOff FaultOf) → Rose (K.faults sink.old) (K.faults sink.new) }
 {
     match *command {
-        Command::Insert { no, m } => insert(state, no, m),
-        Command::AtRatio { n, d } => move_to_ratio(state, n, d),
-        Command::AtRoot { a, b, c, upper } => move_to_root(state, a, b, c, upper),
-        Command::Order { s } => answer_order(alloc, state, s, out),
-        Command::Extreme { .. } | Command::Hull | Command::Closest | Command::Inside { .. } => {
+        Command::Insert { no, m } => insert(world, no, m, steps),
+        Command::AtRatio { n, d } => move_to(world, journal, ratio(n, d), out, sink, steps),
+        Command::AtRoot { a, b, c, upper } => match named_root(a, b, c, upper) {
+            Some(asked) => move_to(world, journal, asked, out, sink, steps),
+            None => Err(Halt::Refused(Refusal::NoRoot)),
+        },
+        Command::Next => move_to_next(world, journal, out, steps),
+        Command::Live => answer_live(world, out),
+        Command::Order { s } => answer_order(world, s, out),
+        Command::Extreme { s } => answer_extreme(world, s, out),
+        Command::Hull | Command::Closest | Command::Inside { .. } => {
             Err(Halt::Refused(Refusal::NotKept))
         }
     }

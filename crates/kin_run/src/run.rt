@@ -11,15 +11,19 @@ ghost use Rattle.kin_run.specs.Headline.{Writes, Answers, IsAnswer, IsTextOf, Is
 ghost use Rattle.kin_run.specs.Words.{is_written_form};
 ghost use Rattle.kin_run.specs.Written.{Wrote};
 
-use crate::play::{Stop, flush, play};
-use crate::state::State;
+use crate::play::play;
 use crate::status::{Side, Status};
 use crate::text::bad_text;
+use crate::write::{Stop, flush};
 use kin_io::sink::Sink;
 use kin_io::source::{Source, Taken, read_all};
+use kin_num::Steps;
 use kin_script::read::{ReadError, read};
 use kin_script::script::Script;
+use kin_world::world::World;
 use std::alloc::Global;
+use std::marker::Brand;
+use std::sync::ledger::{Blank, Ledger};
 
 /// The most bytes of a script.
 const LIMIT: u32 = 1 << 20;
@@ -44,8 +48,17 @@ fn is_form(words: &[String]) -> bool
     }
 }
 
-/// Runs the commands of a script.
-fn run_script<K: Sink>(alloc: Global, input: &[u8], script: Script, sink: &mut K) -> Status
+/// Runs the commands of a script. The steps that its world counts are in no contract here.
+fn run_script<K: Sink, L: Ledger>(
+    alloc: Global,
+    input: &[u8],
+    script: Script,
+    sink: &mut K,
+    blank: Blank,
+) -> Status
+    requires name { blank.name ≡ L.name }
+    requires parts { blank.parts ≡ L.parts }
+    requires some { 0 < L.parts }
     requires ranges { IsInRange script }
     requires reads { script_of input.now ≡ Ok script }
     ensures writes { Wrote (K.held sink.old) (K.held sink.new) (Writes input.now result) }
@@ -55,13 +68,21 @@ fn run_script<K: Sink>(alloc: Global, input: &[u8], script: Script, sink: &mut K
     let Script {
         size,
         keeps,
+        journal,
         lines,
-        ..
     } = script;
-    let Ok(mut state) = State::start(alloc, size, keeps) else {
+    let mut steps = Steps::<L>::open(blank);
+    let Ok(mut world) = World::new(alloc, size, keeps.as_slice()) else {
         return Status::NoMemory;
     };
-    match play(alloc, &mut state, lines.as_slice(), sink) {
+    match play(
+        alloc,
+        &mut world,
+        journal,
+        lines.as_slice(),
+        sink,
+        &mut steps,
+    ) {
         Ok(None) => Status::Done,
         Ok(Some((line, refusal))) => Status::Command(line, refusal),
         Err(stop) => status_of(stop),
@@ -80,7 +101,7 @@ fn refuse_script<K: Sink>(alloc: Global, input: &[u8], line: u32, sink: &mut K) 
     };
     match flush(&mut out, sink) {
         Ok(()) => Status::Script(line),
-        Err(stop) => status_of(stop),
+        Err(_) => Status::Fault(Side::Write),
     }
 }
 
@@ -92,7 +113,7 @@ fn answer<K: Sink>(alloc: Global, input: &[u8], sink: &mut K) -> Status
     ensures cause { result ≡ Status.Fault Side.Write → Rose (K.faults sink.old) (K.faults sink.new) }
 {
     match read(alloc, input) {
-        Ok(script) => run_script(alloc, input, script, sink),
+        Ok(script) => run_script::<K, Brand>(alloc, input, script, sink, Blank::new(1)),
         Err(ReadError::BadLine(line)) => refuse_script(alloc, input, line, sink),
         Err(ReadError::NoMemory) => Status::NoMemory,
     }

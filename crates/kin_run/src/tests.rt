@@ -12,9 +12,57 @@ use std::test::Fail;
 const CROSSING: &str =
     "size 1\nkeep order 1 0\ninsert 0 0 0 1 0\ninsert 1 10 0 -1 0\nat 4\norder 0\nat 5\norder 0\nat 6\norder 0\n";
 
+/// Three points meet at 5.
+const THREE: &str =
+    "size 2\nkeep order 1 0\njournal on\ninsert 0 0 0 1 0\ninsert 1 5 0 0 0\ninsert 2 10 0 -1 0\nat 5\norder 0\nat 6\norder 0\n";
+
+const THREE_TEXT: &str =
+    "! 5 0/0 line(1,0) 0 1 + 0\n! 5 0/0 line(1,0) 1 2 + 0\n0 1 2\n! 5+ 0/0 line(1,0) 0 1 0 -\n! 5+ 0/0 line(1,0) 1 2 0 -\n2 1 0\n";
+
 /// Scripts with their texts and statuses.
-const WORKED: [(&str, &str, Status); 18] = [
+const WORKED: [(&str, &str, Status); 26] = [
     (CROSSING, "0 1\n0 1\n1 0\n", Status::Done),
+    // The same with the journal.
+    (
+        "size 1\nkeep order 1 0\njournal on\ninsert 0 0 0 1 0\ninsert 1 10 0 -1 0\nat 4\norder 0\nat 5\norder 0\nat 6\norder 0\n",
+        "0 1\n! 5 0/0 line(1,0) 0 1 + 0\n0 1\n! 5+ 0/0 line(1,0) 0 1 0 -\n1 0\n",
+        Status::Done,
+    ),
+    (
+        "size 1\nkeep order 1 0\njournal on\ninsert 0 10 0 -1 0\ninsert 1 0 0 1 0\nat 4\norder 0\nat 5\norder 0\nat 6\norder 0\n",
+        "1 0\n! 5 0/0 line(1,0) 1 0 + 0\n0 1\n! 5+ 0/0 line(1,0) 0 1 0 +\n0 1\n",
+        Status::Done,
+    ),
+    (THREE, THREE_TEXT, Status::Done),
+    // An extreme point with a tie.
+    (
+        "size 1\nkeep extreme 1 0\njournal on\ninsert 0 0 0 1 0\ninsert 1 10 0 -1 0\nat 4\nextreme 0\nat 5\nextreme 0\nat 6\nextreme 0\n",
+        "1\n! 5 0/1 line(1,0) 0 1 + 0\n0\n! 5+ 0/1 line(1,0) 0 1 0 -\n0\n",
+        Status::Done,
+    ),
+    // No way back behind the moment of `next`.
+    (
+        "size 1\nkeep order 1 0\ninsert 0 0 0 1 0\ninsert 1 10 0 -1 0\nnext\norder 0\nnext\norder 0\nat 5\n",
+        "now 5\n0 1\nnow 5+\n1 0\nrefused 9 Past\n",
+        Status::Command(9, Refusal::Past),
+    ),
+    (
+        "size 1\nkeep order 1 0\ninsert 0 0 0 1 0\ninsert 1 10 0 -1 0\nnext\norder 0\nnext\norder 0\nat 4\n",
+        "now 5\n0 1\nnow 5+\n1 0\nrefused 9 Past\n",
+        Status::Command(9, Refusal::Past),
+    ),
+    // Nothing, then one point.
+    (
+        "size 3\nkeep order 1 0\nkeep extreme 0 1\norder 0\nextreme 1\nlive\nnext\ninsert 5 1 2 0 0\norder 0\nextreme 1\nlive\nnext\n",
+        "none\nnone\n0\nnone\n5\n5\n0\nnone\n",
+        Status::Done,
+    ),
+    // A structure of another kind.
+    (
+        "size 1\nkeep order 1 0\nkeep extreme 1 0\nlive\nextreme 0\n",
+        "0\nrefused 5 NotKept\n",
+        Status::Command(5, Refusal::NotKept),
+    ),
     // The numbers exchanged: the order changes at 5 itself.
     (
         "size 1\nkeep order 1 0\ninsert 0 10 0 -1 0\ninsert 1 0 0 1 0\nat 4\norder 0\nat 5\norder 0\nat 6\norder 0\n",
@@ -117,7 +165,7 @@ fn gives_the_worked_texts(rt: HostRuntime) -> Result<(), Fail> {
     let words = word(&rt)?;
     for (script, text, status) in WORKED {
         let mut source = source_of(rt.alloc(), script, 3, Vec::new(rt.alloc()))?;
-        let mut sink = MemSink::new(rt.alloc(), 100, Vec::new(rt.alloc()))?;
+        let mut sink = MemSink::new(rt.alloc(), 200, Vec::new(rt.alloc()))?;
         let found = run(rt.alloc(), &words, &mut source, &mut sink);
         assert!(rt; found == status, "status of {script}");
         assert!(rt; sink.held() == text.as_bytes(), "text of {script}");
@@ -143,14 +191,15 @@ fn a_read_that_fails_leaves_nothing_written(rt: HostRuntime) -> Result<(), Fail>
 #[test]
 fn a_sink_without_room_holds_a_front(rt: HostRuntime) -> Result<(), Fail> {
     let words = word(&rt)?;
-    let text = b"0 1\n0 1\n1 0\n".as_slice();
-    for room in 0..12 {
-        let mut source = source_of(rt.alloc(), CROSSING, 64, Vec::new(rt.alloc()))?;
-        let mut sink = MemSink::new(rt.alloc(), room, Vec::new(rt.alloc()))?;
-        let found = run(rt.alloc(), &words, &mut source, &mut sink);
-        assert!(rt; found == Status::Fault(Side::Write), "room {room}");
-        assert!(rt; sink.held().len() as u64 == room, "room {room}");
-        assert!(rt; text.starts_with(sink.held()), "room {room}");
+    for (script, text) in [(CROSSING, "0 1\n0 1\n1 0\n"), (THREE, THREE_TEXT)] {
+        for room in 0..text.len() as u64 {
+            let mut source = source_of(rt.alloc(), script, 64, Vec::new(rt.alloc()))?;
+            let mut sink = MemSink::new(rt.alloc(), room, Vec::new(rt.alloc()))?;
+            let found = run(rt.alloc(), &words, &mut source, &mut sink);
+            assert!(rt; found == Status::Fault(Side::Write), "room {room}");
+            assert!(rt; sink.held().len() as u64 == room, "room {room}");
+            assert!(rt; text.as_bytes().starts_with(sink.held()), "room {room}");
+        }
     }
     Ok(())
 }

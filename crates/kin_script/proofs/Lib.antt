@@ -6,6 +6,9 @@ pub mod ReadingLaws
 pub mod NumberedLaws
 pub mod RangeLaws
 pub mod Rows
+pub mod PrintedRows
 pub mod WrittenLaws
 pub mod FirstBadLaws
 pub mod Theorems
+pub mod EachGiven
+pub mod ScriptRanges

@@ -3,7 +3,7 @@ use Rattle.std.proofs.Common.{refl, [], ◌∷◌, pos, true, false}
 use Rattle.std.specs.Prelude.{codes}
 use lib.IntN.{neg_ℤ}
 use Rattle.kin_motion.specs.declared.keep.Keep.TheVariants as keep
-use Rattle.kin_script.specs.declared.command.Command.TheVariants.{Insert, AtRatio, AtRoot, Order}
+use Rattle.kin_script.specs.declared.command.Command.TheVariants.{Insert, AtRatio, AtRoot, Next, Order, Extreme, Live}
 use Rattle.kin_script.specs.Lines.{lines_of, words_of, pieces_of}
 use Rattle.kin_script.specs.Left.{numbered}
 use Rattle.kin_script.specs.Numbers.{digits_after, numeral_of, natural_of, integer_of, ratio_of}
@@ -35,6 +35,22 @@ fraction = refl
 root : IsScript (codes "size 1\nat root 2 -0 -4 hi\n") (record { size = 1; keeps = []; journal = false; lines = (2, AtRoot (pos 2) (pos 0) (neg_ℤ (pos 4)) true) ∷ [] })
 unfolding script_of lines_of words_of pieces_of numbered commands_of behind_size script_of_lines command_of insert_of side_at quadratic_at root_of at_of order_of extreme_of box_of motion_at natural_at integer_at size_of direction_of keep_of journal_of setting_of digits_after numeral_of natural_of integer_of ratio_of
 root = refl
+
+-- the journal is on, and an order and an extreme point are kept
+journal_on : IsScript
+    (codes "size 1\njournal on\nkeep order 1 0\nkeep extreme 0 -1\nlive\nnext\nextreme 1\n")
+    (record {
+      size = 1;
+      keeps = keep.Order (pos 1) (pos 0) ∷ keep.Extreme (pos 0) (neg_ℤ (pos 1)) ∷ [];
+      journal = true;
+      lines = (5, Live) ∷ (6, Next) ∷ (7, Extreme 1) ∷ [];
+    })
+unfolding script_of lines_of words_of pieces_of numbered commands_of behind_size script_of_lines command_of insert_of side_at quadratic_at root_of at_of order_of extreme_of box_of motion_at natural_at integer_at size_of direction_of keep_of journal_of setting_of digits_after numeral_of natural_of integer_of ratio_of
+journal_on = refl
+
+second_journal_line : IsFirstOutside (codes "size 1\njournal on\njournal off\nlive\n") 3
+unfolding script_of lines_of words_of pieces_of numbered commands_of behind_size script_of_lines command_of insert_of side_at quadratic_at root_of at_of order_of extreme_of box_of motion_at natural_at integer_at size_of direction_of keep_of journal_of setting_of digits_after numeral_of natural_of integer_of ratio_of
+second_journal_line = refl
 
 empty_input : IsFirstOutside [] 1
 unfolding script_of lines_of numbered script_of_lines

@@ -5,7 +5,7 @@ use Rattle.kin_motion.specs.declared.keep.Keep.{Keep}
 use Rattle.kin_motion.specs.declared.keep.Keep.TheVariants as keep
 use Rattle.kin_motion.specs.Course.{Course}
 use Rattle.kin_script.specs.declared.command.Command.{Command}
-use Rattle.kin_script.specs.declared.command.Command.TheVariants.{Insert, AtRatio, AtRoot, Order, Extreme, Hull, Closest, Inside}
+use Rattle.kin_script.specs.declared.command.Command.TheVariants.{Insert, AtRatio, AtRoot, Next, Order, Extreme, Hull, Closest, Inside, Live}
 use Rattle.kin_script.specs.declared.line.Setting.{Setting}
 use Rattle.kin_script.specs.declared.line.Setting.TheVariants as setting
 use Rattle.kin_script.specs.Lines.{Word, is_nil}
@@ -102,6 +102,8 @@ command_of size (name ∷ ws) =
     else if bytes_eq name (codes "box") then box_of ws
     else if bytes_eq name (codes "hull") then last Hull ws
     else if bytes_eq name (codes "closest") then last Closest ws
+    else if bytes_eq name (codes "next") then last Next ws
+    else if bytes_eq name (codes "live") then last Live ws
     else None
 
 -- size K
@@ -118,18 +120,20 @@ direction_of ws = do
   dy ← integer_at 16 dx.1
   if unsigned_abs dx.0 + unsigned_abs dy.0 == 0 then None else last (dx.0, dy.0) dy.1
 
--- what is kept: order DX DY
+-- what is kept: order DX DY, extreme DX DY
 unfoldable pub keep_of : List Word → Option Keep
 keep_of [] = None
 keep_of (kind ∷ ws) =
     if bytes_eq kind (codes "order") then option_map (λ d. keep.Order d.0 d.1) (direction_of ws)
+    else if bytes_eq kind (codes "extreme") then option_map (λ d. keep.Extreme d.0 d.1) (direction_of ws)
     else None
 
--- whether the journal is on: off
+-- whether the journal is on: on, off
 unfoldable pub journal_of : List Word → Option Bool
 journal_of [] = None
 journal_of (word ∷ ws) =
-    if bytes_eq word (codes "off") then last false ws
+    if bytes_eq word (codes "on") then last true ws
+    else if bytes_eq word (codes "off") then last false ws
     else None
 
 -- a line of the header behind the size line

@@ -7,6 +7,7 @@ pub mod Ranges
 pub mod Gives
 pub mod Reading
 pub mod Printed
+pub mod PrintedJournal
 pub mod Written
 pub mod Replay
 pub mod Text

@@ -5,7 +5,7 @@ use Rattle.kin_motion.specs.declared.keep.Keep.TheVariants as keep
 use Rattle.kin_motion.specs.declared.keep.Rect.{Rect}
 use Rattle.kin_motion.specs.Course.{IsSlow}
 use Rattle.kin_script.specs.declared.command.Command.{Command}
-use Rattle.kin_script.specs.declared.command.Command.TheVariants.{Insert, AtRatio, AtRoot, Order, Extreme, Hull, Closest, Inside}
+use Rattle.kin_script.specs.declared.command.Command.TheVariants.{Insert, AtRatio, AtRoot, Next, Order, Extreme, Hull, Closest, Inside, Live}
 use Rattle.kin_script.specs.declared.line.Setting.{Setting}
 use Rattle.kin_script.specs.declared.line.Setting.TheVariants as setting
 use Rattle.kin_script.specs.declared.script.Script.{Script}
@@ -16,13 +16,11 @@ pub record IsDirection (dx dy : ℤ) : Type 0 where
   pub dy_small : unsigned_abs dy ≤ 16
   pub not_still : 0 < unsigned_abs dx + unsigned_abs dy
 
--- a kept structure that a script can name
+-- a kept structure that a script can name: an order or an extreme point
 abbrev pub IsKeepInRange : Keep → Type 0
 IsKeepInRange (keep.Order dx dy) = IsDirection dx dy
 IsKeepInRange (keep.Extreme dx dy) = IsDirection dx dy
-IsKeepInRange keep.Hull = Unit {0}
-IsKeepInRange keep.Closest = Unit {0}
-IsKeepInRange keep.Range = Unit {0}
+IsKeepInRange _ = ⊥
 
 abbrev pub IsSettingInRange : Setting → Type 0
 IsSettingInRange (setting.Keep k) = IsKeepInRange k
@@ -54,11 +52,13 @@ abbrev pub IsCommandInRange : ℕ → Command → Type 0
 IsCommandInRange size (Insert number motion) = (number < 2 ^ size) × IsSlow motion
 IsCommandInRange size (AtRatio n d) = IsRatioInRange n d
 IsCommandInRange size (AtRoot a b c upper) = IsRootInRange a b c
+IsCommandInRange size Next = Unit {0}
 IsCommandInRange size (Order s) = s ≤ 31
 IsCommandInRange size (Extreme s) = s ≤ 31
 IsCommandInRange size Hull = Unit {0}
 IsCommandInRange size Closest = Unit {0}
 IsCommandInRange size (Inside r) = IsRectInRange r
+IsCommandInRange size Live = Unit {0}
 
 -- every number of the script is in its range
 pub record IsWithin (s : Script) : Type 0 where

@@ -1,5 +1,5 @@
 -- The replay of a script: the motions and the moment after each command, and why a command is refused.
-use Rattle.std.specs.Prelude.{◌≡◌, ◌≢◌, ℕ, ◌^◌, ℤ, pos, ◌<ℤ◌, Bool, true, false, List, Option, Some, None, IsTrue, slice_get, slice_set, replicate}
+use Rattle.std.specs.Prelude.{◌≡◌, ◌≢◌, ◌⊎◌, ℕ, ◌^◌, ℤ, pos, ◌<ℤ◌, Bool, true, false, List, Option, Some, None, IsTrue, slice_get, slice_set, replicate}
 use Rattle.kin_algebra.specs.declared.sign.Sign.TheVariants.{Zero}
 use Rattle.kin_num.specs.declared.instant.Shape.{Shape}
 use Rattle.kin_num.specs.declared.instant.Shape.TheVariants.{Ratio}
@@ -13,8 +13,9 @@ use Rattle.kin_motion.specs.declared.keep.Keep.{Keep}
 use Rattle.kin_motion.specs.declared.keep.Keep.TheVariants as keep
 use Rattle.kin_motion.specs.Course.{Course, is_live}
 use Rattle.kin_motion.specs.Scene.{Scene, scene_at}
+use Rattle.kin_motion.specs.Journal.{Setting, Block, IsNextBlock, NothingFails}
 use Rattle.kin_script.specs.declared.command.Command.{Command}
-use Rattle.kin_script.specs.declared.command.Command.TheVariants.{Insert, AtRatio, AtRoot, Order, Extreme, Hull, Closest, Inside}
+use Rattle.kin_script.specs.declared.command.Command.TheVariants.{Insert, AtRatio, AtRoot, Next, Order, Extreme, Hull, Closest, Inside, Live}
 use Rattle.kin_script.specs.declared.refusal.Refusal.{Refusal}
 use Rattle.kin_script.specs.declared.refusal.Refusal.TheVariants.{Taken, NotKept, NoRoot, Past}
 
@@ -22,6 +23,7 @@ use Rattle.kin_script.specs.declared.refusal.Refusal.TheVariants.{Taken, NotKept
 pub record State : Type 0 where
   pub size : ℕ
   pub keeps : List Keep
+  pub journal : Bool
   pub motions : List (Option Course)
   pub moment : Moment
 
@@ -30,10 +32,11 @@ abbrev pub at : Shape → Moment
 at w = record { at = w; phase = At }
 
 -- no points yet, at the instant 0
-abbrev pub start : ℕ → List Keep → State
-start size keeps = record {
+abbrev pub start : ℕ → List Keep → Bool → State
+start size keeps journal = record {
   size = size;
   keeps = keeps;
+  journal = journal;
   motions = replicate (2 ^ size) None;
   moment = at (Ratio (pos 0) (pos 1));
 }
@@ -41,6 +44,10 @@ start size keeps = record {
 -- what is seen now
 abbrev pub scene_of : State → Scene
 scene_of s = scene_at s.motions s.moment
+
+-- what is kept, and what is seen at each moment as the points move now
+abbrev pub setting_of : State → Setting
+setting_of s = record { size = s.size; keeps = s.keeps; scene = scene_at s.motions }
 
 -- the polynomial is 0 at the instant
 pub record IsRootOf (p : Quadratic) (w : Shape) : Type 0 where
@@ -57,21 +64,23 @@ abbrev pub Asks : Command → Shape → Type 0
 Asks (AtRatio n d) w = IsNamedRoot true (line n d) w
 Asks (AtRoot a b c upper) w = IsNamedRoot upper (record { a = a; b = b; c = c }) w
 Asks (Insert number m) w = ⊥
+Asks Next w = ⊥
 Asks (Order k) w = ⊥
 Asks (Extreme k) w = ⊥
 Asks Hull w = ⊥
 Asks Closest w = ⊥
 Asks (Inside rect) w = ⊥
+Asks Live w = ⊥
 
 -- an insert of a live number
 abbrev pub IsTaken : State → Command → Type 0
 IsTaken s (Insert number m) = IsTrue (is_live s.motions number)
 IsTaken s _ = ⊥
 
--- a question about what is not kept; nothing but orders is kept
+-- a question about what is not kept; nothing but orders and extreme points is kept
 abbrev pub IsNotKept : State → Command → Type 0
 IsNotKept s (Order k) = (dx dy : ℤ) → slice_get s.keeps k ≢ Some (keep.Order dx dy)
-IsNotKept s (Extreme k) = Unit {0}
+IsNotKept s (Extreme k) = (dx dy : ℤ) → slice_get s.keeps k ≢ Some (keep.Extreme dx dy)
 IsNotKept s Hull = Unit {0}
 IsNotKept s Closest = Unit {0}
 IsNotKept s (Inside rect) = Unit {0}
@@ -96,9 +105,15 @@ Refuses s c Past = IsPast s c
 abbrev pub IsAllowed : State → Command → Type 0
 IsAllowed s c = (r : Refusal) → ¬ (Refuses s c r)
 
+-- to the moment of the next block; where no live fact ever fails, nothing changes
+abbrev pub LeadsToNext : State → State → Type 0
+LeadsToNext s t = ((b : Block) × IsNextBlock (setting_of s) s.moment b × (t ≡ record s { moment = b.moment }))
+    ⊎ (NothingFails (setting_of s) s.moment × (t ≡ s))
+
 -- the state after a command that is not refused
 abbrev pub LeadsTo : State → Command → State → Type 0
 LeadsTo s (Insert number m) t = t ≡ record s { motions = slice_set s.motions number (Some m) }
 LeadsTo s (AtRatio n d) t = (w : Shape) × Asks (AtRatio n d) w × (t ≡ record s { moment = at w })
 LeadsTo s (AtRoot a b c upper) t = (w : Shape) × Asks (AtRoot a b c upper) w × (t ≡ record s { moment = at w })
+LeadsTo s Next t = LeadsToNext s t
 LeadsTo s _ t = t ≡ s

@@ -1,13 +1,18 @@
 -- The text of a script: what each command prints, up to the first that is refused.
-use Rattle.std.specs.Prelude.{◌≡◌, ℕ, ℤ, List, [], ◌∷◌, ◌++◌, Option, Some, None, codes, slice_get, ◌⊎◌}
+use Rattle.std.specs.Prelude.{◌≡◌, ℕ, ℤ, Bool, true, false, List, [], ◌∷◌, ◌++◌, Option, Some, None, codes, slice_get, ◌⊎◌, if◌then◌else◌}
 use Rattle.kin_motion.specs.declared.keep.Keep.TheVariants as keep
+use Rattle.kin_num.specs.declared.instant.Shape.{Shape}
 use Rattle.kin_motion.specs.Orders.{IsOrder}
+use Rattle.kin_motion.specs.Extremes.{IsExtremePoint}
+use Rattle.kin_motion.specs.Live.{IsLiveCount}
+use Rattle.kin_motion.specs.Journal.{Block, IsNextBlock, IsJournal, NothingFails}
 use Rattle.kin_script.specs.declared.command.Command.{Command}
-use Rattle.kin_script.specs.declared.command.Command.TheVariants.{Insert, AtRatio, AtRoot, Order, Extreme, Hull, Closest, Inside}
+use Rattle.kin_script.specs.declared.command.Command.TheVariants.{Insert, AtRatio, AtRoot, Next, Order, Extreme, Hull, Closest, Inside, Live}
 use Rattle.kin_script.specs.declared.refusal.Refusal.{Refusal}
 use Rattle.std.specs.Fmt.{decimal}
 use Rattle.kin_script.specs.Printed.{list_line, name_of}
-use Rattle.kin_script.specs.Replay.{State, scene_of, Refuses, IsAllowed, LeadsTo}
+use Rattle.kin_script.specs.PrintedJournal.{block_lines, journal_lines, now_line, none_line, count_line, one_line}
+use Rattle.kin_script.specs.Replay.{State, at, scene_of, setting_of, Asks, Refuses, IsAllowed, LeadsTo}
 
 -- the line that names the first line outside the grammar
 abbrev pub bad_line : ℕ → List ℕ
@@ -26,16 +31,41 @@ pub record IsOrderLine (s : State) (k : ℕ) (text : List ℕ) : Type 0 where
   pub ordered : IsOrder (scene_of s) dx dy order
   pub line : text ≡ list_line order
 
+-- the line of an extreme point along the kept direction
+pub record IsExtremeLine (s : State) (k : ℕ) (text : List ℕ) : Type 0 where
+  pub dx : ℤ
+  pub dy : ℤ
+  pub kept : slice_get s.keeps k ≡ Some (keep.Extreme dx dy)
+  pub point : Option ℕ
+  pub extreme : IsExtremePoint (scene_of s) dx dy point
+  pub line : text ≡ one_line point
+
+-- the lines of the journal from now to the asked instant; where the journal is off, nothing
+abbrev pub IsPassedText : Bool → State → Shape → List ℕ → Type 0
+IsPassedText false s w text = text ≡ []
+IsPassedText true s w text = (bs : List Block) × IsJournal (setting_of s) s.moment (at w) bs × (text ≡ journal_lines bs)
+
+-- the lines of the next block where the journal is on, and its moment; where no live fact ever fails, none
+abbrev pub IsNextText : State → List ℕ → Type 0
+IsNextText s text = ((b : Block) × IsNextBlock (setting_of s) s.moment b × (text ≡ (if s.journal then block_lines b else []) ++ now_line b.moment))
+    ⊎ (NothingFails (setting_of s) s.moment × (text ≡ none_line))
+
+-- the line with the number of live facts
+abbrev pub IsLiveLine : State → List ℕ → Type 0
+IsLiveLine s text = (n : ℕ) × IsLiveCount s.size s.keeps (scene_of s) n × (text ≡ count_line n)
+
 -- what a command that is not refused prints
 abbrev pub Prints : State → Command → List ℕ → Type 0
 Prints s (Insert number m) text = text ≡ []
-Prints s (AtRatio n d) text = text ≡ []
-Prints s (AtRoot a b c upper) text = text ≡ []
+Prints s (AtRatio n d) text = (w : Shape) × Asks (AtRatio n d) w × IsPassedText s.journal s w text
+Prints s (AtRoot a b c upper) text = (w : Shape) × Asks (AtRoot a b c upper) w × IsPassedText s.journal s w text
+Prints s Next text = IsNextText s text
 Prints s (Order k) text = IsOrderLine s k text
-Prints s (Extreme k) text = ⊥
+Prints s (Extreme k) text = IsExtremeLine s k text
 Prints s Hull text = ⊥
 Prints s Closest text = ⊥
 Prints s (Inside rect) text = ⊥
+Prints s Live text = IsLiveLine s text
 
 -- a command that is not refused, from a state to a state
 pub record Step (s : State) (c : Command) (text : List ℕ) (t : State) : Type 0 where

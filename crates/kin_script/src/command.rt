@@ -12,6 +12,8 @@ pub enum Command {
     /// Time goes to the greater (`upper`) or the lesser root of `a*t^2 + b*t + c`, as it is written.
     /// With one root both name it.
     AtRoot { a: i64, b: i64, c: i64, upper: bool },
+    /// Time goes to the next moment at which a live fact fails, if there is one.
+    Next,
     /// The points along the direction of the kept order `s`.
     Order { s: u32 },
     /// The extreme point along the direction of the kept structure `s`.
@@ -22,4 +24,6 @@ pub enum Command {
     Closest,
     /// The points in a rectangle.
     Inside { rect: Rect },
+    /// How many facts are live.
+    Live,
 }

@@ -134,6 +134,10 @@ pub fn command_of(size: u32, mut words: Words<'_>) -> Option<Command>
         words.last(Command::Hull)
     } else if name == b"closest".as_slice() {
         words.last(Command::Closest)
+    } else if name == b"next".as_slice() {
+        words.last(Command::Next)
+    } else if name == b"live".as_slice() {
+        words.last(Command::Live)
     } else {
         None
     }
@@ -172,11 +176,16 @@ fn keep(words: &mut Words<'_>) -> Option<Keep>
     ensures value { result ≡ keep_of words.old }
     ensures range { IfSome result IsKeepInRange }
 {
-    if words.next()? != b"order".as_slice() {
-        return None;
+    let kind = words.next()?;
+    if kind == b"order".as_slice() {
+        let (dx, dy) = direction(words)?;
+        Some(Keep::Order { dx, dy })
+    } else if kind == b"extreme".as_slice() {
+        let (dx, dy) = direction(words)?;
+        Some(Keep::Extreme { dx, dy })
+    } else {
+        None
     }
-    let (dx, dy) = direction(words)?;
-    Some(Keep::Order { dx, dy })
 }
 
 /// Whether a journal line puts the journal on.
@@ -184,10 +193,14 @@ fn keep(words: &mut Words<'_>) -> Option<Keep>
 fn journal(words: &mut Words<'_>) -> Option<bool>
     ensures { result ≡ journal_of words.old }
 {
-    if words.next()? != b"off".as_slice() {
-        return None;
+    let word = words.next()?;
+    if word == b"on".as_slice() {
+        words.last(true)
+    } else if word == b"off".as_slice() {
+        words.last(false)
+    } else {
+        None
     }
-    words.last(false)
 }
 
 /// What a line of the header says, behind the size line.

@@ -207,7 +207,7 @@ mod tests {
     #[test]
     fn each_line_is_read(rt: HostRuntime) -> Result<(), Fail> {
         let bytes =
-            b"size 12\nkeep order 0 -16\njournal off\nat 7\nat 14/6\nextreme 31\nhull\nclosest\nbox -16777216 16777216 5 -0\n";
+            b"size 12\nkeep order 0 -16\njournal off\nat 7\nat 14/6\nextreme 31\nhull\nclosest\nbox -16777216 16777216 5 -0\nnext\nlive\n";
         let script = read(rt.alloc(), bytes)?;
         assert_eq!(rt; script.size, 12);
         assert_eq!(rt;
@@ -227,6 +227,41 @@ mod tests {
             (7, Command::Hull),
             (8, Command::Closest),
             (9, Command::Inside { rect }),
+            (10, Command::Next),
+            (11, Command::Live),
+        ];
+        assert_eq!(rt; script.lines.as_slice(), lines.as_slice());
+        Ok(())
+    }
+
+    #[test]
+    fn a_journal_is_put_on(rt: HostRuntime) -> Result<(), Fail> {
+        let bytes =
+            b"size 1\nkeep order 1 0\nkeep extreme -1 2\njournal on\ninsert 0 0 0 1 0\ninsert 1 10 0 -1 0\nat 4\norder 0\n";
+        let script = read(rt.alloc(), bytes)?;
+        let keeps = [
+            Keep::Order { dx: 1, dy: 0 },
+            Keep::Extreme { dx: -1, dy: 2 },
+        ];
+        assert_eq!(rt; script.keeps.as_slice(), keeps.as_slice());
+        assert!(rt; script.journal);
+        let lines = [
+            (
+                5,
+                Command::Insert {
+                    no: 0,
+                    m: Motion::new(0, 0, 1, 0),
+                },
+            ),
+            (
+                6,
+                Command::Insert {
+                    no: 1,
+                    m: Motion::new(10, 0, -1, 0),
+                },
+            ),
+            (7, Command::AtRatio { n: 4, d: 1 }),
+            (8, Command::Order { s: 0 }),
         ];
         assert_eq!(rt; script.lines.as_slice(), lines.as_slice());
         Ok(())
@@ -234,7 +269,7 @@ mod tests {
 
     #[test]
     fn ranges_end_where_they_should(rt: HostRuntime) -> Result<(), Fail> {
-        let table: [(&[u8], u32); 72] = [
+        let table: [(&[u8], u32); 92] = [
             (b"", 1),
             (b"\n", 2),
             (b"# only words in a comment\n\n", 3),
@@ -263,11 +298,24 @@ mod tests {
             (b"size 1\nkeep order 0 -0", 2),
             (b"size 1\nkeep order 1", 2),
             (b"size 1\nkeep order 1 0 0", 2),
-            (b"size 1\nkeep extreme 1 0", 2),
+            (b"size 1\nkeep extreme -16 16", 0),
+            (b"size 1\nkeep extreme 0 17", 2),
+            (b"size 1\nkeep extreme 0 0", 2),
+            (b"size 1\nkeep extreme 1", 2),
+            (b"size 1\nkeep extreme 1 0 0", 2),
             (b"size 1\nkeep hull", 2),
-            (b"size 1\njournal on", 2),
+            (b"size 1\nkeep closest", 2),
+            (b"size 1\nkeep range", 2),
+            (b"size 1\njournal on", 0),
+            (b"size 1\njournal", 2),
+            (b"size 1\njournal on on", 2),
+            (b"size 1\njournal On", 2),
             (b"size 1\njournal off\nkeep order 1 0", 0),
             (b"size 1\njournal off\n\njournal off", 4),
+            (b"size 1\njournal on\nkeep extreme 1 0\njournal off", 4),
+            (b"size 1\njournal off\njournal on", 3),
+            (b"size 1\nlive\nkeep extreme 1 0", 3),
+            (b"size 1\nnext\njournal on", 3),
             (b"size 1\nhull\nkeep order 1 0", 3),
             (b"size 1\nhull\njournal off", 3),
             (b"size 1\ninsert 1 0 0 0 0", 0),
@@ -306,7 +354,14 @@ mod tests {
             (b"size 1\nhull 0", 2),
             (b"size 1\nbox -16777217 0 0 0", 2),
             (b"size 1\nbox 0 0 0 16777217", 2),
-            (b"size 1\nnext", 2),
+            (b"size 1\nnext", 0),
+            (b"size 1\nnext 1", 2),
+            (b"size 1\nlive", 0),
+            (b"size 1\nlive 0", 2),
+            (b"size 1\nextreme 32", 2),
+            (b"size 1\nremove 0", 2),
+            (b"size 1\nreplace 0 0 0 0 0", 2),
+            (b"size 1\nturn 0 0 0", 2),
         ];
         for (bytes, line) in table {
             assert_eq!(rt; first_outside(rt.alloc(), bytes)?, line, "at {line}");
@@ -315,13 +370,13 @@ mod tests {
     }
 
     #[test]
-    fn sixteen_orders_are_kept_and_no_more(rt: HostRuntime) -> Result<(), Fail> {
+    fn sixteen_structures_are_kept_and_no_more(rt: HostRuntime) -> Result<(), Fail> {
         let mut bytes = Vec::from_slice(rt.alloc(), b"size 1\n")?;
-        for _ in 0..16 {
-            bytes.extend_from_slice(b"keep order 1 1\n")?;
+        for _ in 0..8 {
+            bytes.extend_from_slice(b"keep order 1 1\nkeep extreme 1 1\n")?;
         }
         assert_eq!(rt; first_outside(rt.alloc(), &bytes)?, 0);
-        bytes.extend_from_slice(b"keep order 1 1\n")?;
+        bytes.extend_from_slice(b"keep extreme 1 1\n")?;
         assert_eq!(rt; first_outside(rt.alloc(), &bytes)?, 18);
         Ok(())
     }

@@ -130,6 +130,7 @@ impl<K: Keyed> Kinetic for Tourney<K> {
         ensures settled { OnOk result (IsSettled K.names (K.key self.new.key) self.new (O.scene now.now)) }
         ensures delta { OnOk result (HasChanged self.old.facts self.new.facts out.old out.new) }
         ensures same { OnOk result (self.new ≡ record self.old { marked = self.new.marked; winners = self.new.winners; facts = self.new.facts }) }
+        ensures room { OnOk result (length self.new.marked ≡ length self.old.marked) }
         ensures cost { OnOk result (steps.new ≤ steps.old + self.old.size * (mark_count self.old.marked + length failed.now)) }
     {
         self.whole = false;

@@ -1,17 +1,12 @@
-use Rattle.std.proofs.Common.{◌≡◌, ℕ, ◌*◌, ◌<◌, ◌≤◌, ◌^◌, ℤ, pos, ◌*ℤ◌, unsigned_abs, w64, to_z, of_z, arith, refl, ap, sym, ◌∙◌, subst, [], ◌∷◌}
+use Rattle.std.proofs.Common.{◌≡◌, ℕ, ◌<◌, ◌≤◌, ◌^◌, ℤ, pos, ◌*ℤ◌, unsigned_abs, w64, to_z, of_z, arith, ap, sym, ◌∙◌, subst}
 use Rattle.std.specs.Prelude.{◌<ℤ◌}
 use Rattle.std.specs.Int.{IsGcd, ◌∣◌}
-use Rattle.std.proofs.lemmas.Int.{ints, to_z_pos, fits_signed_from_abs, unsigned_abs-mul}
+use Rattle.std.proofs.lemmas.Int.{ints, to_z_pos, fits_signed_from_abs}
 use Rattle.std.proofs.lemmas.Nat.Gcd.{le_of_dvd}
 use Rattle.std.proofs.Math.Nat.{pos_of_dvd_of_pos}
-use Rattle.kin_algebra.specs.declared.sign.Sign.TheVariants.{Plus}
-use Rattle.kin_algebra.specs.Signs.{sign_of}
-use Rattle.kin_algebra.proofs.Ring.{by_ring, quotes}
-use Rattle.kin_algebra.proofs.Signs.{same_from_product}
-use Rattle.kin_algebra.proofs.IntegerSigns.{sign_in, sign_out, sign_of-times}
 use Rattle.kin_num.specs.Canonical.{IsLowest}
 use Rattle.kin_instant.proofs.Widths.{clean}
-use Rattle.kin_instant.proofs.Lowest.{lowest_after}
+use Rattle.kin_instant.proofs.Lowest.{lowest_of, crossed, not_more}
 use Rattle.kin_instant.proofs.ratio.lowest.Goals as goal
 
 -- the greatest common divisor g of |n| and |d|, as the code has it
@@ -46,27 +41,6 @@ positive g h k = subst (λ (z : ℤ). pos 0 <ℤ z) (sym (read g k)) (some g h)
 
 quotient : (x x' q : ℤ) (g : ℕ) → g < 2 ^ 63 → x' ≡ x → x' ≡ q *ℤ to_z w64 g → x ≡ q *ℤ pos g
 quotient x x' q g h e f = sym e ∙ f ∙ ap (λ (z : ℤ). q *ℤ z) (read g h)
-
-abs_of : (x q : ℤ) (g : ℕ) → x ≡ q *ℤ pos g → unsigned_abs x ≡ unsigned_abs q * g
-abs_of x q g e = ap unsigned_abs e ∙ unsigned_abs-mul q (pos g)
-
-lowest_of : (n d m e : ℤ) (g : ℕ) → Common n d g → pos 0 <ℤ d → n ≡ m *ℤ pos g → d ≡ e *ℤ pos g → IsLowest m e
-lowest_of n d m e g c h p q = record {
-  positive = sign_out Plus e ((same_from_product _ _ (sym (sign_of-times e (pos g)) ∙ ap sign_of (sym q) ∙ sign_in Plus d h)).0 ∙ sign_in Plus (pos g) (some g c.some));
-  lowest = lowest_after (unsigned_abs n) (unsigned_abs d) (unsigned_abs m) (unsigned_abs e) g c.some c.common (abs_of n m g p) (abs_of d e g q);
-}
-  where
-    some : (g : ℕ) → 0 < g → pos 0 <ℤ pos g
-    some g h = omega (arith, ints)
-
-crossed : (n d m e g : ℤ) → n ≡ m *ℤ g → d ≡ e *ℤ g → m *ℤ d ≡ n *ℤ e
-crossed n d m e g p q = ap (λ (z : ℤ). m *ℤ z) q ∙ by_ring (m ∷ e ∷ g ∷ []) (m *ℤ (e *ℤ g)) ((m *ℤ g) *ℤ e) (search quotes depth 16) (search quotes depth 16) refl ∙ ap (λ (z : ℤ). z *ℤ e) (sym p)
-
-not_more : (x q : ℤ) (g : ℕ) → 0 < g → x ≡ q *ℤ pos g → unsigned_abs q ≤ unsigned_abs x
-not_more x q g h e = at_least (unsigned_abs q) g (unsigned_abs x) h (abs_of x q g e)
-  where
-    at_least : (q g x : ℕ) → 0 < g → x ≡ q * g → q ≤ x
-    at_least q g x h e = grind (arith, e)
 
 pub overflow_cast-divisor : goal.overflow_cast-divisor
 overflow_cast-divisor c =
@@ -105,7 +79,7 @@ returns c =
     let p = quotient c.args.n _ m c.gcd-divisor.result k.less cn c.exact_quotient.ensures in
     let q = quotient c.args.d _ e c.gcd-divisor.result k.less cd c.exact_quotient-2.ensures in
     record {
-      lowest = subst (λ (x : ℤ). IsLowest x (to_z w64 (of_z w64 e))) (sym cm) (subst (λ (y : ℤ). IsLowest m y) (sym ce) (lowest_of c.args.n c.args.d m e c.gcd-divisor.result k c.requires.d_positive p q));
+      lowest = subst (λ (x : ℤ). IsLowest x (to_z w64 (of_z w64 e))) (sym cm) (subst (λ (y : ℤ). IsLowest m y) (sym ce) (lowest_of c.args.n c.args.d m e c.gcd-divisor.result k.some k.common c.requires.d_positive p q));
       same = ap (λ (x : ℤ). x *ℤ c.args.d) cm ∙ crossed c.args.n c.args.d m e (pos c.gcd-divisor.result) p q ∙ ap (λ (y : ℤ). c.args.n *ℤ y) (sym ce);
       n_less = subst (λ (x : ℤ). unsigned_abs x ≤ unsigned_abs c.args.n) (sym cm) (not_more c.args.n m c.gcd-divisor.result k.some p);
       d_less = subst (λ (y : ℤ). unsigned_abs y ≤ unsigned_abs c.args.d) (sym ce) (not_more c.args.d e c.gcd-divisor.result k.some q);

@@ -1,12 +1,11 @@
-use Rattle.std.proofs.Common.{◌≡◌, ℕ, ◌+◌, ◌*◌, ◌<◌, ◌≤◌, ◌^◌, ℤ, pos, ◌-ℤ◌, ◌*ℤ◌, unsigned_abs, w64, to_z, of_z, arith, refl, ap, sym, ◌∙◌, subst, mul-le-mul, lt_of_not-le, not-le_of_lt}
+use Rattle.std.proofs.Common.{◌≡◌, ℕ, ◌*◌, ◌<◌, ◌≤◌, ◌^◌, ℤ, pos, ◌*ℤ◌, unsigned_abs, w64, to_z, of_z, arith, refl, ap, sym, ◌∙◌, subst}
 use Rattle.std.specs.Prelude.{◌<ℤ◌, ◌≤ℤ◌}
 use Rattle.std.proofs.lemmas.Int.{ints, to_z_pos}
-use Rattle.kin_num.specs.Quadratic.{IsSmall}
 use Rattle.kin_num.specs.Canonical.{discriminant}
 use Rattle.kin_instant.specs.Roots.{quadratic, AreRootsOf}
-use Rattle.kin_num.specs.Roots.{IsWholeRoot}
-use Rattle.kin_instant.proofs.Widths.{abs-product, clean, less_out, not_less_out, same_differences}
+use Rattle.kin_instant.proofs.Widths.{clean, less_out, not_less_out, same_differences}
 use Rattle.kin_instant.proofs.RootsOf.{negative_discriminant}
+use Rattle.kin_instant.proofs.Discriminants.{size, root_size, irrational}
 use Rattle.kin_instant.specs.declared.roots.Roots.{Roots}
 use Rattle.kin_instant.proofs.solve.quadratic_roots.Goals as goal
 
@@ -17,25 +16,6 @@ four a h = omega (arith, ints)
 not_negative : (d d' : ℤ) (s : ℕ) → d' ≡ d → pos 0 ≤ℤ d' → s ≡ unsigned_abs d' → pos s ≡ d
 not_negative d d' s e h f = omega (arith, ints, e, f)
 
-size : (a b c : ℤ) (s : ℕ) → IsSmall (quadratic a b c) → pos s ≡ discriminant a b c → s ≤ 2 ^ 59
-size a b c s h e =
-    let first : unsigned_abs (b *ℤ b) ≤ 2 ^ 58 = abs-product b b (2 ^ 29) (2 ^ 29) h.b_small h.b_small in
-    let quadruple : unsigned_abs (pos 4 *ℤ a) ≤ 2 ^ 30 = abs-product (pos 4) a 4 (2 ^ 28) (omega arith) h.a_small in
-    let second : unsigned_abs (pos 4 *ℤ a *ℤ c) ≤ 2 ^ 58 = abs-product (pos 4 *ℤ a) c (2 ^ 30) (2 ^ 28) quadruple h.c_small in
-    last (b *ℤ b) (pos 4 *ℤ a *ℤ c) s first second e
-  where
-    last : (x y : ℤ) (n : ℕ) → unsigned_abs x ≤ 2 ^ 58 → unsigned_abs y ≤ 2 ^ 58 → pos n ≡ x -ℤ y → n ≤ 2 ^ 59
-    last x y n h k e = omega (arith, ints, e)
-
-root_size : (r s : ℕ) → r * r ≤ s → s ≤ 2 ^ 59 → r < 2 ^ 30
-root_size r s h k = lt_of_not-le (λ l. not-le_of_lt (below s k) (over (2 ^ 30 * 2 ^ 30) (r * r) s (mul-le-mul l l) h))
-  where
-    below : (s : ℕ) → s ≤ 2 ^ 59 → s < 2 ^ 30 * 2 ^ 30
-    below s k = omega arith
-
-    over : (x y z : ℕ) → x ≤ y → y ≤ z → x ≤ z
-    over x y z h k = omega arith
-
 read : (r : ℕ) → r < 2 ^ 30 → to_z w64 r ≡ pos r
 read r h = to_z_pos w64 r (omega arith)
 
@@ -44,21 +24,6 @@ small_root r s h k = let l = root_size r s h k in subst (λ (z : ℤ). unsigned_
 
 squared : (r s : ℕ) (d : ℤ) → r < 2 ^ 30 → r * r ≡ s → pos s ≡ d → to_z w64 r *ℤ to_z w64 r ≡ d
 squared r s d h e f = ap (λ (z : ℤ). z *ℤ z) (read r h) ∙ ap pos e ∙ f
-
--- between r and r + 1 there is no whole root
-no_root : (r k : ℕ) → r * r ≤ k * k → k * k < (r + 1) * (r + 1) → (r * r ≡ k * k → ⊥) → ⊥
-no_root r k h l n =
-    let below : k < r + 1 = lt_of_not-le (λ m. not-le_of_lt l (mul-le-mul m m)) in
-    let most : k ≤ r = omega arith in
-    n (same (r * r) (k * k) h (mul-le-mul most most))
-  where
-    same : (x y : ℕ) → x ≤ y → y ≤ x → x ≡ y
-    same x y h k = omega arith
-
-irrational : (r s : ℕ) (d : ℤ) → IsWholeRoot s r → (r * r ≡ s → ⊥) → pos s ≡ d → (k : ℕ) → pos (k * k) ≡ d → ⊥
-irrational r s d w n e k f =
-    let same : s ≡ k * k = ap unsigned_abs (e ∙ sym f) in
-    no_root r k (subst (λ (x : ℕ). r * r ≤ x) same w.at_most) (subst (λ (x : ℕ). x < (r + 1) * (r + 1)) same w.greatest) (λ g. n (g ∙ sym same))
 
 same_discriminant : (a b c a' b' c' : ℤ) → a' ≡ a → b' ≡ b → c' ≡ c → discriminant a' b' c' ≡ discriminant a b c
 same_discriminant a b c a' b' c' e f g = rw (e, f, g)

@@ -1,9 +1,10 @@
 use Rattle.std.proofs.Common.{codes}
+use Rattle.std.specs.List.{flat_map}
 use Rattle.kin_print.specs.Pieces.{spaced}
-use Rattle.kin_print.proofs.Fronts.{on_err, front_at}
+use Rattle.kin_print.proofs.Fronts.{on_err, front_first}
 use Rattle.kin_print.proofs.list.put_rest.Goals as goal
 
-pub returns-in_err-put_spaced-clause-err : goal.returns-in_err-put_spaced-clause-err
-returns-in_err-put_spaced-clause-err c =
+pub returns-in_err-put_each-clause-err : goal.returns-in_err-put_each-clause-err
+returns-in_err-put_each-clause-err c =
     on_err c.from_residual.result
-    (front_at spaced c.args.out.now.items c.loop-n.out.items c.put_spaced.new.out.items c.args.list.now c.loop-n.n-index 0 (codes "\n") c.loop-n-test.true c.loop-n.invariant c.in_err-put_spaced.ensures.err)
+    (front_first c.args.out.now.items c.put_each.new.out.items (flat_map spaced c.args.list.now) (codes "\n") c.in_err-put_each.ensures.err)

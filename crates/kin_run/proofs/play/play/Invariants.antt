@@ -1,13 +1,14 @@
 use Rattle.std.proofs.Common.{◌≡◌, ◌≤◌, drop}
-use Rattle.kin_run.specs.Sound.{IsSound}
+use Rattle.kin_world.specs.Worlds.{IsWhole}
+use Rattle.kin_run.specs.States.{state_of}
 use Rattle.kin_run.proofs.Gathering.{Gathers}
 use Rattle.kin_run.proofs.Playing.{IsSoFar}
 use Rattle.kin_run.proofs.play.play.Given as goal
 
 abbrev pub invariant-loop-line : goal.invariant-loop-line
 invariant-loop-line g l = record {
-  gathered : Gathers (g.K.Sink.held l.fn.sink) (g.K.Sink.held l.sink) l.out.items (IsSoFar l.fn.state l.lines l.state (drop l.line-index l.lines));
-  sound : IsSound l.state;
-  size : l.state.size ≡ l.fn.state.size;
+  gathered : Gathers (g.K.Sink.held l.fn.sink) (g.K.Sink.held l.sink) l.out.items (IsSoFar (state_of l.journal l.fn.world) l.lines (state_of l.journal l.world) (drop l.line-index l.lines));
+  whole : IsWhole l.world;
+  size : l.world.size ≡ l.fn.world.size;
   later : g.K.Sink.faults l.fn.sink ≤ g.K.Sink.faults l.sink;
 }

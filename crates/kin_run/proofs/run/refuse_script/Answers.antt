@@ -1,9 +1,7 @@
-use Rattle.std.proofs.Common.{take, subst, sym}
-use Rattle.kin_run.specs.Headline.{Writes}
+use Rattle.std.proofs.Common.{take, subst}
 use Rattle.kin_run.specs.Written.{IsPrefix}
-use Rattle.kin_run.specs.declared.status.Status.{Status}
 use Rattle.kin_run.proofs.Fronts.{prefix_take}
-use Rattle.kin_run.proofs.OneText.{cut_of_bad, broken_off}
+use Rattle.kin_run.proofs.OneText.{cut_of_bad}
 use Rattle.kin_run.proofs.run.refuse_script.Goals as goal
 
 pub returns-clause-writes : goal.returns-clause-writes
@@ -12,4 +10,4 @@ returns-clause-writes g c =
     let front = c.in-Err.ensures.front in
     let written = take front.0 text in
     let cut = cut_of_bad c.args.input.now written c.args.line c.requires (subst (IsPrefix written) c.in-Ok.ensures (prefix_take front.0 text)) in
-    (written, front.1, subst (λ (st : Status). Writes c.args.input.now st written) (sym c.status_of.ensures) (broken_off c.args.input.now written c.in-Err.stop cut))
+    (written, front.1, cut)

@@ -2,6 +2,7 @@ use Rattle.std.proofs.Common.{◌≡◌, ◌∙◌, List, refl, sym, ap, subst, 
 use Rattle.kin_motion.specs.Scene.{scene_at}
 use Rattle.kin_cert.specs.Facts.{Facts, LiveFact}
 use Rattle.kin_cert.specs.Layout.{AreBorn, live_in}
+use Rattle.kin_cert.proofs.Tables.{table-once}
 use Rattle.kin_cert.proofs.Changes.{born-none, born-free, born-more, born-all, born-only}
 use Rattle.kin_cert.proofs.table.Table.bear_each.Goals as goal
 
@@ -40,3 +41,6 @@ returns-clause-only g c =
     let seen : c.loop-placed.self.live ≡ live_in c.self.inside.entries.slots = sym (ap (λ (t : Facts). t.live) c.self.view_is) in
     let born = subst (λ (ls : List LiveFact). AreBorn c.args.structure (scene_at c.args.motions.now) c.args.now.now c.args.born.now c.loop-placed.placed-index c.args.self.now.live ls) seen c.loop-placed.invariant.born in
     born-only c.args.structure (scene_at c.args.motions.now) c.args.now.now c.args.born.now c.loop-placed.placed-index c.args.self.now.live (live_in c.self.inside.entries.slots) born (omega arith)
+
+pub returns-clause-once : goal.returns-clause-once
+returns-clause-once g c = table-once c.self.inside.entries c.self.inside.ids c.self.inside.queue.moments c.self.invariant

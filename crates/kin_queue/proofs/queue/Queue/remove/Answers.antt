@@ -1,20 +1,34 @@
-use Rattle.std.proofs.Common.{◌≡◌, subst, sym, ◌∙◌, ap, arith, ℕ, Option, IsSome}
-use Rattle.std.specs.FinMap.{remove}
-use Rattle.kin_num.specs.declared.instant.Moment.{Moment}
-use Rattle.kin_queue.proofs.Rows.{row-remove, moments-removed, seen}
+use Rattle.std.proofs.Common.{◌≡◌, ℕ, get_or, ap, subst, ◌∙◌, arith}
+use Rattle.std.proofs.lemmas.Grind.{get_or_default_zero}
+use Rattle.std.specs.FinMap.{remove, from_entries}
+use Rattle.std.specs.Ordering.{nat_cmp}
+use Rattle.kin_queue.specs.Agenda.{Agenda}
+use Rattle.kin_queue.specs.Cost.{TakesSteps}
+use Rattle.kin_queue.proofs.Contents.{counted}
+use Rattle.kin_queue.proofs.Known.{known_at}
 use Rattle.kin_queue.proofs.queue.Queue.remove.Goals as goal
 
-pub place_of-place-requires : goal.place_of-place-requires
-place_of-place-requires g c =
-    rw c.deref.ensures.value (subst (λ (x : Option Moment). IsSome x) (sym (seen _ _ c.self.view_is c.args.id)) c.requires.present)
+pub index-place-requires : goal.index-place-requires
+index-place-requires g c =
+    let k = known_at c.self.inside.entries.items c.self.inside.places.items c.self.invariant c.args.id c.args.self.now c.self.view_is c.requires.present in
+    let low = k.known in
+    omega arith
 
-pub invariant_of-self : goal.invariant_of-self
-invariant_of-self g c = rw c.remove.ensures.items (row-remove _ _ c.self.invariant (omega arith))
+pub take_out-requires-clause-place : goal.take_out-requires-clause-place
+take_out-requires-clause-place g c =
+    let k = known_at c.self.inside.entries.items c.self.inside.places.items c.self.invariant c.args.id c.args.self.now c.self.view_is c.requires.present in
+    let place : c.index-place.result.now ≡ get_or c.self.inside.places.items c.args.id 0 = c.index-place.ensures ∙ get_or_default_zero c.self.inside.places.items c.args.id c.index-place.result.now k.known in
+    rw place k.within
 
-pub returns : goal.returns
-returns g c =
-    let id : (c.remove.result).0 ≡ c.args.id = ap (λ (x : ℕ × Moment). x.0) c.remove.ensures.value ∙ rw c.deref.ensures.value at (c.place_of-place.ensures.place c.remove.result) in
-    rw c.remove.ensures.items (
-    moments-removed c.self.inside.entries.items _ c.place_of-place.result c.remove.result c.self.view_is c.self.invariant (omega arith)
-    ∙ ap (λ (x : ℕ × Moment). remove c.args.self.now.moments x.0) (sym c.remove.ensures.value)
-    ∙ ap (λ (x : ℕ). remove c.args.self.now.moments x) id)
+pub returns-clause-moments : goal.returns-clause-moments
+returns-clause-moments g c =
+    let es = c.self.inside.entries.items in
+    let k = known_at es c.self.inside.places.items c.self.invariant c.args.id c.args.self.now c.self.view_is c.requires.present in
+    let place : c.index-place.result.now ≡ get_or c.self.inside.places.items c.args.id 0 = c.index-place.ensures ∙ get_or_default_zero c.self.inside.places.items c.args.id c.index-place.result.now k.known in
+    let id : (get_or es c.index-place.result.now k.entry).0 ≡ c.args.id = rw (place, k.stands k.entry) k.names in
+    c.take_out.ensures.moments k.entry
+    ∙ ap (λ (n : ℕ). remove (from_entries {R = nat_cmp} c.self.inside.entries.items) n) id
+    ∙ ap (λ (a : Agenda). remove a.moments c.args.id) c.self.view_is
+
+pub returns-clause-cost : goal.returns-clause-cost
+returns-clause-cost g c = subst (λ (n : ℕ). TakesSteps n c.args.steps.now c.take_out.new.steps) (counted c.self.inside.entries.items c.self.inside.places.items c.args.self.now c.self.view_is c.self.invariant) c.take_out.ensures.cost

@@ -1,0 +1,9 @@
+use Rattle.std.proofs.Common.{◌∙◌, sym, ap, subst}
+use Rattle.std.specs.Prelude.{is_some, IsTrue}
+use Rattle.kin_motion.proofs.LiveLaws.{live-members}
+use Rattle.kin_cases.proofs.ask.is_live.Goals as goal
+
+pub returns : goal.returns
+returns c =
+    let e = c.is_some.ensures ∙ ap is_some c.get.ensures.motion ∙ sym (live-members c.args.motions.now c.args.no) in
+    (λ h. subst IsTrue e h, λ h. subst IsTrue (sym e) h)

@@ -1,0 +1,211 @@
+//! A tournament of points along x, with the motions that it follows.
+
+ghost use Rattle.std.specs.Prelude.{◌≡◌, ◌≢◌, ◌+◌, ◌^◌, ◌<◌, ◌≤◌, ℕ, false, true, Some, None, length, replicate, slice_get, slice_set, IfOk, IsTrue};
+ghost use Rattle.kin_motion.specs.Tournaments.{item_in};
+
+use crate::ask::is_live;
+use crate::driver::Driver;
+use crate::fault::Fault;
+use crate::spares::SparesAbove;
+use crate::watch::{Tally, Watch};
+use kin_motion::Motions;
+use kin_num::{Moment, Steps};
+use kin_tourney::{Along, Tourney};
+use std::alloc::Global;
+use std::marker::Model;
+use std::sync::ledger::Ledger;
+
+impl Driver<Tourney<Along>> {
+    fn set(&mut self, slot: u32, item: u32)
+        requires { slot < 2 ^ self.old.size }
+        ensures { self.new ≡ record self.old { slots = slice_set self.old.slots slot (Some item); marked = slice_set self.old.marked slot true; winners = self.new.winners } }
+    {
+        self.structure.set(slot, item);
+    }
+
+    fn clear(&mut self, slot: u32)
+        requires { slot < 2 ^ self.old.size }
+        ensures { self.new ≡ record self.old { slots = slice_set self.old.slots slot None; marked = slice_set self.old.marked slot true; winners = self.new.winners } }
+    {
+        self.structure.clear(slot);
+    }
+}
+
+/// Whether another slot holds the item.
+fn holds_elsewhere(slots: &[Option<u32>], slot: u32, item: u32) -> bool
+    ensures { result ≡ false → (i : ℕ) → i ≢ slot → item_in slots.now i ≢ Some item }
+{
+    for other in 0..slots.len() {
+        if other != slot as usize && slots[other] == Some(item) {
+            return true;
+        }
+    }
+    false
+}
+
+fn no_items(alloc: Global, size: u32) -> Result<Vec<Option<u32>>, Fault>
+    requires { size ≤ 15 }
+    ensures { IfOk result (λ v. v.items ≡ replicate (2 ^ size) None) }
+{
+    Ok(Vec::from_elem(alloc, None, 1 << size)?)
+}
+
+fn no_marks(alloc: Global, size: u32) -> Result<Vec<bool>, Fault>
+    requires { size ≤ 15 }
+    ensures { IfOk result (λ v. v.items ≡ replicate (2 ^ size) false) }
+{
+    Ok(Vec::from_elem(alloc, false, 1 << size)?)
+}
+
+/// A tournament along x of points that have motions.
+#[derive(Drop)]
+pub struct Contest {
+    alloc: Global,
+    size: u32,
+    motions: Motions,
+    tourney: Driver<Tourney<Along>>,
+    /// What each slot holds.
+    slots: Vec<Option<u32>>,
+    /// Whether each slot is marked.
+    marks: Vec<bool>,
+    is_settled: bool,
+}
+
+impl Model for Contest {
+    ghost use Rattle.std.specs.Prelude.{ℕ};
+    ghost use Rattle.kin_tourney.specs.declared.along.Along.{Along as AlongValue};
+    ghost use Rattle.kin_tourney.specs.Tournament.{Tournament};
+    ghost use Rattle.kin_cases.specs.Contests.{IsHeld};
+
+    ghost Value = { Tournament AlongValue ℕ };
+
+    ghost view = { λ c. c.tourney };
+
+    ghost invariant = { λ c. IsHeld c.size c.motions c.slots.items c.marks.items c.is_settled c.tourney };
+}
+
+impl Contest {
+    /// A tournament of `2^size` empty slots.
+    pub fn new(alloc: Global, motions: Motions, size: u32) -> Result<Contest, Fault>
+        requires low { 1 ≤ size }
+        requires high { size ≤ 15 }
+    {
+        let tourney = Driver::new(alloc, Tourney::new(alloc, Along { dx: 1, dy: 0 }, size)?);
+        let slots = no_items(alloc, size)?;
+        let marks = no_marks(alloc, size)?;
+        Ok(Contest {
+            alloc,
+            size,
+            motions,
+            tourney,
+            slots,
+            marks,
+            is_settled: true,
+        })
+    }
+
+    /// Puts a point into a slot. No other slot may hold it.
+    pub fn set(self, slot: u32, item: u32) -> Result<Contest, Fault> {
+        let Contest {
+            alloc,
+            size,
+            motions,
+            mut tourney,
+            mut slots,
+            mut marks,
+            is_settled: _,
+        } = self;
+        if !is_live(&motions, item) {
+            return Err(Fault::NotAskable);
+        }
+        if slot >= 1 << size || holds_elsewhere(&slots, slot, item) {
+            return Err(Fault::NotNew);
+        }
+        tourney.set(slot, item);
+        slots[slot as usize] = Some(item);
+        marks[slot as usize] = true;
+        Ok(Contest {
+            alloc,
+            size,
+            motions,
+            tourney,
+            slots,
+            marks,
+            is_settled: false,
+        })
+    }
+
+    /// Empties a slot.
+    pub fn clear(self, slot: u32) -> Result<Contest, Fault> {
+        let Contest {
+            alloc,
+            size,
+            motions,
+            mut tourney,
+            mut slots,
+            mut marks,
+            is_settled: _,
+        } = self;
+        if slot >= 1 << size {
+            return Err(Fault::NotNew);
+        }
+        tourney.clear(slot);
+        slots[slot as usize] = None;
+        marks[slot as usize] = true;
+        Ok(Contest {
+            alloc,
+            size,
+            motions,
+            tourney,
+            slots,
+            marks,
+            is_settled: false,
+        })
+    }
+
+    /// Goes on to a moment.
+    pub fn go<L: Ledger>(
+        self,
+        moment: &Moment,
+        tally: &Tally,
+        steps: &mut Steps<L>,
+    ) -> Result<Contest, Fault> {
+        let Contest {
+            alloc,
+            size,
+            motions,
+            tourney,
+            slots,
+            marks,
+            is_settled: _,
+        } = self;
+        let spares = SparesAbove {
+            size,
+            marks: &marks,
+        };
+        let now = Watch {
+            motions: &motions,
+            moment,
+            tally,
+        };
+        let tourney = tourney.settle(&now, &spares, steps)?;
+        let marks = no_marks(alloc, size)?;
+        Ok(Contest {
+            alloc,
+            size,
+            motions,
+            tourney,
+            slots,
+            marks,
+            is_settled: true,
+        })
+    }
+
+    /// The winner of a node, or `None` where it has none, or where a mark stands.
+    pub fn winner(&self, node: u32) -> Option<u32> {
+        if !self.is_settled || node == 0 || node >= 2 << self.size {
+            return None;
+        }
+        self.tourney.structure.winner(node)
+    }
+}

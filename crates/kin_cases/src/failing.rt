@@ -1,0 +1,85 @@
+//! Which live facts fail at a moment, and which are live after a report.
+
+ghost use Rattle.std.specs.Prelude.{◌≡◌, ◌↔◌, List, [], ◌∷◌, ◌++◌, cond, Contains, IsTrue, IsFalse, IfOk, OnOk};
+ghost use Rattle.kin_motion.specs.declared.fact.Placed.{Placed as Put};
+ghost use Rattle.kin_motion.specs.Kinetics.{HasChanged};
+ghost use Rattle.kin_motion.specs.Scene.{scene_at, Holds};
+ghost use Rattle.kin_motion.specs.Sets.{AreDistinct, ListsExactly};
+
+use crate::ask::{is_askable, sign_of};
+use crate::fault::Fault;
+use crate::spares::Spares;
+use kin_cert::Now;
+use kin_motion::fact::{Delta, Placed};
+use std::alloc::Global;
+
+/// Whether a fact isn't spared and doesn't hold now.
+fn fails<S: Spares>(fact: &Placed, now: &Now<'_>, spares: &S) -> Result<bool, Fault>
+    ensures { IfOk result (λ b. IsTrue b ↔ (IsFalse (S.is_spared spares.now fact.now) × ¬ (Holds (scene_at now.now.motions.now now.now.moment.now) fact.now.fact))) }
+{
+    if spares.spares(fact) {
+        return Ok(false);
+    }
+    let form = fact.fact.form;
+    if !is_askable(&form, now.motions) {
+        return Err(Fault::NotAskable);
+    }
+    Ok(sign_of(now, &form) != fact.fact.sign)
+}
+
+fn push_if(facts: &mut Vec<Placed>, fact: Placed, is_wanted: bool) -> Result<(), Fault>
+    ensures { OnOk result (facts.new.items ≡ cond is_wanted (facts.old.items ++ fact ∷ []) facts.old.items) }
+{
+    if is_wanted {
+        facts.push(fact).map_err(|_| Fault::NoMemory)?;
+    }
+    Ok(())
+}
+
+/// Those of the facts that aren't spared and don't hold now.
+pub fn failing<S: Spares>(
+    alloc: Global,
+    facts: &[Placed],
+    now: &Now<'_>,
+    spares: &S,
+) -> Result<Vec<Placed>, Fault>
+    requires { AreDistinct facts.now }
+    ensures { IfOk result (λ v. ListsExactly v.items (λ p. Contains facts.now p × (IsFalse (S.is_spared spares.now p) × ¬ (Holds (scene_at now.now.motions.now now.now.moment.now) p.fact)))) }
+{
+    let mut failed = Vec::new(alloc);
+    for fact in facts {
+        let picked = fails(fact, now, spares)?;
+        push_if(&mut failed, *fact, picked)?;
+    }
+    Ok(failed)
+}
+
+/// Whether a list has the fact.
+fn is_among(fact: &Placed, facts: &[Placed]) -> bool
+    ensures { IsTrue result ↔ Contains facts.now fact.now }
+{
+    facts.iter().any(|other| other.is(*fact))
+}
+
+/// The facts without the dropped ones.
+fn without(alloc: Global, facts: &[Placed], dropped: &[Placed]) -> Result<Vec<Placed>, Fault>
+    requires { AreDistinct facts.now }
+    ensures { IfOk result (λ v. ListsExactly v.items (λ p. Contains facts.now p × ¬ (Contains dropped.now p))) }
+{
+    let mut kept = Vec::new(alloc);
+    for fact in facts {
+        let stays = !is_among(fact, dropped);
+        push_if(&mut kept, *fact, stays)?;
+    }
+    Ok(kept)
+}
+
+/// The facts after a report that began empty.
+pub fn after(alloc: Global, facts: &[Placed], report: &Delta) -> Result<Vec<Placed>, Fault>
+    requires { AreDistinct facts.now }
+    ensures { IfOk result (λ v. (old new : List Put) → ListsExactly facts.now (Contains old) → HasChanged old new (record { dropped = []; born = [] }) report.now → ListsExactly v.items (Contains new)) }
+{
+    let mut after = without(alloc, facts, &report.dropped)?;
+    after.extend_from_slice(&report.born)?;
+    Ok(after)
+}

@@ -1,0 +1,27 @@
+//! Why a case stops.
+
+use kin_num::NoMemory;
+use std::alloc::AllocError;
+
+/// Why a case stops.
+#[derive(Clone, Copy, Debug, PartialEq, Eq)]
+pub enum Fault {
+    /// A growth was refused.
+    NoMemory,
+    /// A fact names a number that isn't live, or a direction or offset out of its range.
+    NotAskable,
+    /// A number is live already, or has no room.
+    NotNew,
+}
+
+impl From<NoMemory> for Fault {
+    fn from(_error: NoMemory) -> Fault {
+        Fault::NoMemory
+    }
+}
+
+impl From<AllocError> for Fault {
+    fn from(_error: AllocError) -> Fault {
+        Fault::NoMemory
+    }
+}

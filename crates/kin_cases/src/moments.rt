@@ -1,0 +1,24 @@
+//! Whole seconds.
+
+ghost use Rattle.std.specs.Prelude.{◌<◌, ◌^◌, unsigned_abs};
+
+use kin_instant::ratio::ratio;
+use kin_num::{Moment, Phase};
+
+pub fn at(second: i64) -> Moment
+    requires { unsigned_abs second < 2 ^ 31 }
+{
+    Moment {
+        at: ratio(second, 1),
+        phase: Phase::At,
+    }
+}
+
+pub fn after(second: i64) -> Moment
+    requires { unsigned_abs second < 2 ^ 31 }
+{
+    Moment {
+        at: ratio(second, 1),
+        phase: Phase::After,
+    }
+}

@@ -1,0 +1,158 @@
+-- Every live fact may be asked for.
+use Rattle.std.proofs.Common.{◌≡◌, ◌⊎◌, inl, inr, refl, sym, ap, ◌∙◌, subst, List, [], ◌∷◌, ℕ, zero, suc, ◌+◌, ◌*◌, ◌/◌, ◌%◌, ◌<◌, ◌≤◌, Bool, true, false, cond, map, ℤ, pos, unsigned_abs, min, max, arith}
+use Rattle.std.specs.Prelude.{Option, Some, None, Contains, slice_get}
+use Rattle.kin_motion.specs.declared.form.Form.{Form}
+use Rattle.kin_motion.specs.declared.form.Form.TheVariants.{Line, Dist}
+use Rattle.kin_motion.specs.declared.fact.Placed.{Placed}
+use Rattle.kin_motion.specs.declared.keep.Keep.{Keep}
+use Rattle.kin_motion.specs.declared.keep.Keep.TheVariants.{Order, Extreme, Hull, Closest, Range}
+use Rattle.kin_motion.specs.Forms.{IsAskable}
+use Rattle.kin_motion.specs.Numbers.{is_in, IsIn}
+use Rattle.kin_motion.specs.Scene.{Scene, placed_at}
+use Rattle.kin_motion.specs.Orders.{neighbour_forms, IsOrderFact}
+use Rattle.kin_motion.specs.Tournaments.{Key, item_in, IsNodeFact}
+use Rattle.kin_motion.specs.Extremes.{slot_of_point, point_slots, along_key, IsExtremeFact}
+use Rattle.kin_motion.specs.Octants.{Octant, is_in_octant, IsCandidate, Near, near, HoldsNear, AreNearSlots, distance_key, Direction, eight_directions, IsClosestFact}
+use Rattle.kin_motion.specs.Merges.{IsHullFact}
+use Rattle.kin_motion.specs.Live.{IsKeepFact, IsSmallKeep}
+use Rattle.kin_motion.specs.Theorems.{LiveFactsAreAskable}
+use Rattle.kin_motion.proofs.SetLaws.{contains_none, contains_cases, contains_at, contains_mapped}
+use Rattle.kin_motion.proofs.AgreementLaws.{kept-members}
+use Rattle.kin_motion.proofs.NearLaws.{octant_at}
+use Rattle.kin_motion.proofs.AskableMerges.{AllLive, own_number, by_right, left_of_both, node_form_askable}
+
+-- ---- orders
+neighbours_askable : (live : List ℕ) (dx dy : ℤ) → unsigned_abs dx ≤ 16 → unsigned_abs dy ≤ 16 → (xs : List ℕ) → AllLive live xs → (f : Form) → Contains (neighbour_forms dx dy xs) f → IsAskable live f
+neighbours_askable live dx dy x_small y_small [] known f h = absurd (contains_none f h)
+neighbours_askable live dx dy x_small y_small (i ∷ []) known f h = absurd (contains_none f h)
+neighbours_askable live dx dy x_small y_small (i ∷ j ∷ xs) known f h =
+    at (contains_cases (Line dx dy (pos 0) i j) f (neighbour_forms dx dy (j ∷ xs)) h) (neighbours_askable live dx dy x_small y_small (j ∷ xs) (λ k e. known k (by_right _ _ e)) f)
+  where
+    here : IsAskable live (Line dx dy (pos 0) i j)
+    here = record {
+      i_live = known i (own_number i (j ∷ xs));
+      j_live = known j (by_right _ _ (own_number j xs));
+      dx_small = x_small;
+      dy_small = y_small;
+      off_small = omega arith;
+    }
+
+    at : (Line dx dy (pos 0) i j ≡ f) ⊎ Contains (neighbour_forms dx dy (j ∷ xs)) f → (Contains (neighbour_forms dx dy (j ∷ xs)) f → IsAskable live f) → IsAskable live f
+    at (inl e) rest = subst (IsAskable live) e here
+    at (inr l) rest = rest l
+
+pub order_fact_askable : (s : Scene) (dx dy : ℤ) (part : ℕ) → unsigned_abs dx ≤ 16 → unsigned_abs dy ≤ 16 → (p : Placed) → IsOrderFact s dx dy part p → IsAskable s.live p.fact.form
+order_fact_askable s dx dy part x_small y_small p f =
+    let m = contains_mapped (placed_at s part) (neighbour_forms dx dy f.order) p f.listed in
+    let form : m.0 ≡ p.fact.form = sym (ap (λ (q : Placed). q.fact.form) m.2) in
+    subst (IsAskable s.live) form (neighbours_askable s.live dx dy x_small y_small f.order (λ i e. sym (f.ordered.all.same i) ∙ e) m.0 m.1)
+
+-- ---- tournaments
+-- where the form of the items of two slots may be asked for, the fact of a node may be
+pub node_fact_askable : {Item : Type 0} (s : Scene) (key : Key Item) (size : ℕ) (slots : List (Option Item))
+    → ((i j : ℕ) (a b : Item) → item_in slots i ≡ Some a → item_in slots j ≡ Some b → IsAskable s.live (key.form a b))
+    → (p : Placed) → IsNodeFact s key size slots p → IsAskable s.live p.fact.form
+node_fact_askable {Item} s key size slots each p f =
+    let form : key.form f.left f.right ≡ p.fact.form = sym (ap (λ (q : Placed). q.fact.form) f.fact) in
+    subst (IsAskable s.live) form (each f.left_best.slot f.right_best.slot f.left f.right f.left_best.held f.right_best.held)
+
+-- what a slot of points holds is live
+held_live : (live xs : List ℕ) (n i : ℕ) → item_in (map (slot_of_point live) xs) n ≡ Some i → IsIn i live
+held_live live [] n i e = absurd cc
+held_live live (x ∷ xs) zero i e = at (is_in x live) refl e
+  where
+    at : (b : Bool) → is_in x live ≡ b → cond b (Some x) None ≡ Some i → IsIn i live
+    at true f g = let same : x ≡ i = cc in subst (λ j. is_in j live ≡ true) same f
+    at false f g = absurd cc
+held_live live (x ∷ xs) (suc n) i e = held_live live xs n i e
+
+extreme_fact_askable : (size : ℕ) (s : Scene) (dx dy : ℤ) → unsigned_abs dx ≤ 16 → unsigned_abs dy ≤ 16 → (p : Placed) → IsExtremeFact size s dx dy p → IsAskable s.live p.fact.form
+extreme_fact_askable size s dx dy x_small y_small = node_fact_askable s (along_key dx dy) size (point_slots size s.live) (λ i j a b e f. record {
+  i_live = held_live s.live _ i a e;
+  j_live = held_live s.live _ j b f;
+  dx_small = x_small;
+  dy_small = y_small;
+  off_small = omega arith;
+})
+
+-- ---- the closest pair
+AreLive : List ℕ → Near → Type 0
+AreLive live n = IsIn n.i live × IsIn n.j live
+
+near_live : (live : List ℕ) (slot p c : ℕ) → IsIn p live → IsIn c live → AreLive live (near slot p c)
+unfolding AreLive
+near_live live slot p c x y = (of_two (min p c) (least p c), of_two (max p c) (most p c))
+  where
+    least : (p c : ℕ) → (min p c ≡ p) ⊎ (min p c ≡ c)
+    least p c = grind arith
+
+    most : (p c : ℕ) → (max p c ≡ p) ⊎ (max p c ≡ c)
+    most p c = grind arith
+
+    of_two : (k : ℕ) → (k ≡ p) ⊎ (k ≡ c) → IsIn k live
+    of_two k (inl e) = subst (λ i. IsIn i live) (sym e) x
+    of_two k (inr e) = subst (λ i. IsIn i live) (sym e) y
+
+held_slot : (slots : List (Option Near)) (n : ℕ) (a : Near) → item_in slots n ≡ Some a → slice_get slots n ≡ Some (Some a)
+held_slot [] n a e = absurd cc
+held_slot (x ∷ slots) zero a e = ap Some e
+held_slot (x ∷ slots) (suc n) a e = held_slot slots n a e
+
+pair_live : (size : ℕ) (s : Scene) (slots : List (Option Near)) → AreNearSlots size s slots → (n : ℕ) (a : Near) → item_in slots n ≡ Some a → AreLive s.live a
+pair_live size s slots filled n a e =
+    let o = octant_at (n % 8) (low n) in
+    let held : slice_get slots (8 * (n / 8) + n % 8) ≡ Some (Some a) = ap (slice_get slots) (whole n) ∙ held_slot slots n a e in
+    let k : HoldsNear s o.0 (n / 8) (8 * (n / 8) + n % 8) (Some a) = filled.each (n / 8) (n % 8) o.0 (Some a) o.1 held in
+    subst (AreLive s.live) (sym k.3) (near_live s.live _ (n / 8) k.0 k.1 (member o.0 (n / 8) k.0 k.2))
+  where
+    low : (n : ℕ) → n % 8 < 8
+    low n = omega arith
+
+    whole : (n : ℕ) → 8 * (n / 8) + n % 8 ≡ n
+    whole n = omega arith
+
+    member : (o : Octant) (p c : ℕ) → IsCandidate s o p c → IsIn c s.live
+    member o p c h = left_of_both (is_in c s.live) (is_in_octant s o p c) (sym (kept-members (is_in_octant s o p) s.live c) ∙ h.member)
+
+small_of : {a : Direction} (d : Direction) → Some a ≡ Some d → unsigned_abs a.dx ≤ 16 → unsigned_abs a.dy ≤ 16 → (unsigned_abs d.dx ≤ 16) × (unsigned_abs d.dy ≤ 16)
+small_of {a} d e x y = let same : a ≡ d = cc in subst (λ (k : Direction). (unsigned_abs k.dx ≤ 16) × (unsigned_abs k.dy ≤ 16)) same (x, y)
+
+small_direction : (n : ℕ) (d : Direction) → slice_get eight_directions n ≡ Some d → (unsigned_abs d.dx ≤ 16) × (unsigned_abs d.dy ≤ 16)
+small_direction zero d e = small_of d e (omega arith) (omega arith)
+small_direction (suc zero) d e = small_of d e (omega arith) (omega arith)
+small_direction (suc (suc zero)) d e = small_of d e (omega arith) (omega arith)
+small_direction (suc (suc (suc zero))) d e = small_of d e (omega arith) (omega arith)
+small_direction (suc (suc (suc (suc zero)))) d e = small_of d e (omega arith) (omega arith)
+small_direction (suc (suc (suc (suc (suc zero))))) d e = small_of d e (omega arith) (omega arith)
+small_direction (suc (suc (suc (suc (suc (suc zero)))))) d e = small_of d e (omega arith) (omega arith)
+small_direction (suc (suc (suc (suc (suc (suc (suc zero))))))) d e = small_of d e (omega arith) (omega arith)
+small_direction (suc (suc (suc (suc (suc (suc (suc (suc n)))))))) d e = absurd cc
+
+closest_fact_askable : (size : ℕ) (s : Scene) (p : Placed) → IsClosestFact size s p → IsAskable s.live p.fact.form
+unfolding AreLive
+closest_fact_askable size s p (inl w) = let d = small_direction p.part w.way w.known in order_fact_askable s w.way.dx w.way.dy p.part d.0 d.1 p w.fact
+closest_fact_askable size s p (inr f) =
+    subst (IsAskable s.live) (sym (ap (λ (q : Placed). q.fact.form) f.placed))
+    (node_fact_askable s distance_key (size + 3) f.slots (λ i j a b x y. pairs a b (pair_live size s f.slots f.filled i a x) (pair_live size s f.slots f.filled j b y)) f.node f.fact)
+  where
+    pairs : (a b : Near) → AreLive s.live a → AreLive s.live b → IsAskable s.live (Dist a.i a.j b.i b.j)
+    pairs a b x y = (x.0, x.1, y.0, y.1)
+
+-- ---- the hull
+hull_fact_askable : (size : ℕ) (s : Scene) (p : Placed) → IsHullFact size s p → IsAskable s.live p.fact.form
+hull_fact_askable size s p (inl f) = subst (IsAskable s.live) (sym (ap (λ (q : Placed). q.fact.form) f.fact)) (node_form_askable size s f.node f.form f.merge)
+hull_fact_askable size s p (inr f) = subst (IsAskable s.live) (sym (ap (λ (q : Placed). q.fact.form) f.fact)) (node_form_askable size _ f.node f.form f.merge)
+
+-- ---- all structures
+pub keep_fact_askable : (size : ℕ) (s : Scene) (k : Keep) (p : Placed) → IsSmallKeep k → IsKeepFact size s k p → IsAskable s.live p.fact.form
+keep_fact_askable size s (Order dx dy) p small f = order_fact_askable s dx dy 0 small.0 small.1 p f
+keep_fact_askable size s (Extreme dx dy) p small f = extreme_fact_askable size s dx dy small.0 small.1 p f
+keep_fact_askable size s Hull p small f = hull_fact_askable size s p f
+keep_fact_askable size s Closest p small f = closest_fact_askable size s p f
+keep_fact_askable size s Range p small (inl f) = order_fact_askable s (pos 1) (pos 0) 0 (omega arith) (omega arith) p f
+keep_fact_askable size s Range p small (inr f) = order_fact_askable s (pos 0) (pos 1) 1 (omega arith) (omega arith) p f
+
+pub live_facts_are_askable : LiveFactsAreAskable
+live_facts_are_askable size keeps s c small f =
+    let k = contains_at keeps c.structure f.keep f.kept in
+    keep_fact_askable size s f.keep c.placed (subst IsSmallKeep k.2 (small k.0 f.keep k.1)) f.fact

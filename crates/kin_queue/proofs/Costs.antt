@@ -1,0 +1,47 @@
+-- The steps of a hole on its way.
+use Rattle.std.proofs.Common.{◌≡◌, inl, inr, ◌+◌, ◌*◌, ◌^◌, ◌<◌, ◌≤◌, ℕ, arith}
+use Rattle.std.proofs.lemmas.Nat.{mul-le, pow-add}
+use Rattle.std.proofs.lemmas.Bool.{cases_eq}
+use Rattle.kin_queue.specs.Cost.{TakesSteps}
+use Rattle.kin_queue.specs.Hole.{RisesWithin}
+
+-- a comparison that halves the factor
+pub one_more : (factor less bound old at new : ℕ) → RisesWithin factor bound old at → new ≡ at + 1 → 2 * less ≤ factor → RisesWithin less bound old new
+one_more factor less bound old at new (r, e, b) n h =
+    let step : 2 ^ (r + 1) ≡ 2 ^ r * 2 = pow-add 2 r 1 in
+    let part : 2 ^ r * (2 * less) ≤ 2 ^ r * factor = mul-le (2 ^ r) (2 * less) (2 ^ r) factor (omega arith) h in
+    (r + 1, omega arith, rw step (omega arith))
+
+pub less_factor : (factor less bound old new : ℕ) → RisesWithin factor bound old new → less ≤ factor → RisesWithin less bound old new
+less_factor factor less bound old new (r, e, b) h =
+    let part : 2 ^ r * less ≤ 2 ^ r * factor = mul-le (2 ^ r) less (2 ^ r) factor (omega arith) h in
+    (r, e, omega arith)
+
+pub more_bound : (factor bound more old new : ℕ) → RisesWithin factor bound old new → bound ≤ more → RisesWithin factor more old new
+more_bound factor bound more old new (r, e, b) h = (r, e, omega arith)
+
+-- one or two comparisons that double the square's side
+pub two_more : (factor i j old at new : ℕ) → RisesWithin factor (i * i) old at → at + 1 ≤ new → new ≤ at + 2 → 2 * i ≤ j → RisesWithin factor (j * j) old new
+two_more factor i j old at new (r, e, b) low high h =
+    let side : (2 * i) * (2 * i) ≤ j * j = mul-le (2 * i) (2 * i) j j h h in
+    elim (cases_eq new (at + 1)) [
+      | inl s ↦ let step : 2 ^ (r + 1) ≡ 2 ^ r * 2 = pow-add 2 r 1 in (r + 1, omega arith, rw step (omega arith))
+      | inr s ↦ let step : 2 ^ (r + 2) ≡ 2 ^ r * 4 = pow-add 2 r 2 in (r + 2, omega arith, rw step (omega arith))
+    ]
+
+-- a way up that ends where it began, and the way down from there
+pub both_ways : (side bound old at new : ℕ) → 0 < side → RisesWithin 1 side old at → RisesWithin (side * side) bound at new → RisesWithin 1 bound old new
+both_ways side bound old at new some (r, e, b) (q, f, c) =
+    let step : 2 ^ (r + q) ≡ 2 ^ r * 2 ^ q = pow-add 2 r q in
+    let first : 2 ^ r * 2 ^ q ≤ side * 2 ^ q = mul-le (2 ^ r) (2 ^ q) side (2 ^ q) (omega arith) (omega arith) in
+    let one : side * 1 ≤ side * side = mul-le side 1 side side (omega arith) some in
+    let second : 2 ^ q * side ≤ 2 ^ q * (side * side) = mul-le (2 ^ q) side (2 ^ q) (side * side) (omega arith) (omega arith) in
+    (r + q, omega arith, rw step (omega arith))
+
+pub takes_steps : (side n old new : ℕ) → RisesWithin 1 (side * side) old new → side ≤ n + 1 → TakesSteps n old new
+takes_steps side n old new (r, e, b) h =
+    let more : side * side ≤ (n + 1) * (n + 1) = mul-le side side (n + 1) (n + 1) h h in
+    (r, e, omega arith)
+
+pub no_steps : (n old : ℕ) → TakesSteps n old old
+no_steps n old = (0, omega arith, omega arith)

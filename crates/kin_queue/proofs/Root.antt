@@ -1,0 +1,32 @@
+-- The first entry of a heap is one of least moment.
+use Rattle.std.proofs.Common.{◌/◌, ◌<◌, ◌≤◌, ℕ, zero, suc, List, [], ◌∷◌, length, get_or, slice_get, Some, cond, Bool, refl, sym, ap, subst, ◌∙◌, arith}
+use Rattle.std.specs.FinMap.{from_entries, get-from_entries}
+use Rattle.std.proofs.lemmas.Cmp.{nat_cmp_total}
+use Rattle.kin_num.specs.declared.instant.Moment.{Moment}
+use Rattle.kin_queue.specs.Agenda.{IsNext}
+use Rattle.kin_queue.specs.Heap.{IsHeap, IsRightBelow, MayStandAbove}
+use Rattle.kin_queue.proofs.Entries.{look_up, look_up-place, same_itself}
+use Rattle.kin_queue.proofs.Order.{canonical_at, above_trans, above_itself}
+
+module _ (es : List (ℕ × Moment)) (ps : List ℕ) (heap : IsHeap es ps) (d : ℕ × Moment) where
+  least_up_to : (n i : ℕ) → i ≤ n → i < length es → MayStandAbove (get_or es 0 d) (get_or es i d)
+  least_up_to n zero le lt = above_itself (get_or es 0 d)
+  least_up_to zero (suc i) le lt = absurd (omega arith)
+  least_up_to (suc n) (suc i) le lt =
+      let up : IsRightBelow (i / 2) (suc i) = (omega arith, omega arith) in
+      let high : i / 2 < length es = omega arith in
+      above_trans (get_or es 0 d) (get_or es (i / 2) d) (get_or es (suc i) d) (canonical_at es 0 d heap.canonical (omega arith)) (canonical_at es (i / 2) d heap.canonical high) (canonical_at es (suc i) d heap.canonical lt)
+      (least_up_to n (i / 2) (omega arith) high) (heap.ordered (i / 2) (suc i) d up lt)
+
+  pub least_first : (i : ℕ) → i < length es → MayStandAbove (get_or es 0 d) (get_or es i d)
+  least_first i lt = least_up_to i i (omega arith) lt
+
+pub heap_next : (es : List (ℕ × Moment)) (ps : List ℕ) → IsHeap es ps → IsNext (from_entries es) (slice_get es 0)
+heap_next [] ps heap = refl
+heap_next (e ∷ es) ps heap =
+    record {
+      there = get-from_entries nat_cmp_total (e ∷ es) e.0 ∙ ap (λ (c : Bool). cond c (Some e.1) (look_up e.0 es)) (same_itself e.0);
+      least = λ id at h.
+          let r = look_up-place (e ∷ es) id at (sym (get-from_entries nat_cmp_total (e ∷ es) id) ∙ h) in
+          subst (MayStandAbove e) (r.2 e) (least_first (e ∷ es) ps heap e r.0 r.1);
+    }

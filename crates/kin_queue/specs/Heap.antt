@@ -1,0 +1,32 @@
+-- How a queue lies in memory: a heap of its entries, and the place of each id. No public clause cites this module.
+use Rattle.std.specs.Prelude.{◌≡◌, ℕ, ◌+◌, ◌*◌, ◌<◌, ◌≤◌, List, length, slice_get, slice_index, slice_index_or}
+use Rattle.std.specs.List.{All}
+use Rattle.std.specs.FinMap.{from_entries}
+use Rattle.kin_num.specs.declared.instant.Moment.{Moment}
+use Rattle.kin_num.specs.Canonical.{IsCanonical}
+use Rattle.kin_num.specs.Order.{IsEarlier}
+use Rattle.kin_queue.specs.Agenda.{Agenda}
+
+abbrev pub agenda_of : List (ℕ × Moment) → Agenda
+agenda_of es = record { moments = from_entries es; next = slice_get es 0 }
+
+-- the second place lies right below the first
+abbrev pub IsRightBelow : ℕ → ℕ → Type 0
+IsRightBelow p c = (2 * p < c) × (c ≤ 2 * p + 2)
+
+-- the second entry is not earlier than the first
+abbrev pub MayStandAbove : ℕ × Moment → ℕ × Moment → Type 0
+MayStandAbove above below = ¬ (IsEarlier below.1 above.1)
+
+-- the id is known to stand at this place
+abbrev pub IsPlaceOf : List ℕ → ℕ → ℕ → Type 0
+IsPlaceOf ps id i = (id < length ps) × (slice_index ps id ≡ i)
+
+pub record IsHeap (es : List (ℕ × Moment)) (ps : List ℕ) : Type 0 where
+  pub canonical : All (λ e. IsCanonical e.1.at) es
+  pub placed : (i : ℕ) (d : ℕ × Moment) → i < length es → IsPlaceOf ps (slice_index_or es i d).0 i
+  pub ordered : (p c : ℕ) (d : ℕ × Moment) → IsRightBelow p c → c < length es → MayStandAbove (slice_index_or es p d) (slice_index_or es c d)
+
+-- the places known before stand as they were
+abbrev pub Extends : List ℕ → List ℕ → Type 0
+Extends old new = (id : ℕ) → id < length old → IsPlaceOf new id (slice_index old id)

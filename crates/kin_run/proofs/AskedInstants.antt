@@ -1,0 +1,80 @@
+-- An `at` line in its range asks for an instant, unless its quadratic has no real root.
+use Rattle.std.proofs.Common.{◌≡◌, ◌≢◌, ◌⊎◌, inl, inr, zero, suc, ◌<◌, Bool, true, false, Some, None, refl, subst, ℤ, pos, negsuc, unsigned_abs, arith}
+use Rattle.std.specs.Prelude.{◌<ℤ◌, ◌≤ℤ◌}
+use Rattle.std.proofs.lemmas.Int.{ints}
+use Rattle.kin_algebra.specs.declared.sign.Sign.{Sign}
+use Rattle.kin_algebra.specs.declared.sign.Sign.TheVariants.{Minus, Zero, Plus}
+use Rattle.kin_algebra.specs.Signs.{sign_of}
+use Rattle.kin_algebra.proofs.IntegerSigns.{sign_out}
+use Rattle.kin_num.specs.declared.instant.Shape.{Shape}
+use Rattle.kin_num.specs.Quadratic.{Quadratic}
+use Rattle.kin_num.specs.Canonical.{discriminant}
+use Rattle.kin_num.specs.Instants.{line}
+use Rattle.kin_num.specs.Order.{IsLess}
+use Rattle.kin_num.proofs.LowerFractions.{not_less_itself}
+use Rattle.kin_instant.specs.declared.roots.Roots.{Roots}
+use Rattle.kin_instant.specs.declared.roots.Roots.TheVariants.{Nowhere, One, Two, All}
+use Rattle.kin_instant.specs.Roots.{quadratic, AreRootsOf, count_by}
+use Rattle.kin_instant.proofs.Existence.{ratio_exists, roots_exist}
+use Rattle.kin_script.specs.Ranges.{IsRatioInRange, IsRootInRange}
+use Rattle.kin_script.specs.Replay.{IsRootOf, IsNamedRoot}
+use Rattle.kin_run.proofs.NamedRoots.{ratio_named, two_named}
+
+pub ratio_asked : (n d : ℤ) → IsRatioInRange n d → (w : Shape) × IsNamedRoot true (line n d) w
+ratio_asked n d range =
+    let proper : pos 0 <ℤ d = positive d range.d_low in
+    let r = ratio_exists n d range.n_small range.d_small proper in
+    (r.0, ratio_named n d r.0 proper r.1 r.2)
+  where
+    positive : (d : ℤ) → pos 1 ≤ℤ d → pos 0 <ℤ d
+    positive d h = omega (arith, ints)
+
+-- where a quadratic has no root, its discriminant is negative
+none_counted : (a b c d : Sign) → a ≢ Zero → Some 0 ≡ count_by a b c d → d ≡ Minus
+none_counted Zero b c d some e = absurd (some refl)
+none_counted Minus b c Minus some e = refl
+none_counted Minus b c Zero some e = absurd cc
+none_counted Minus b c Plus some e = absurd cc
+none_counted Plus b c Minus some e = refl
+none_counted Plus b c Zero some e = absurd cc
+none_counted Plus b c Plus some e = absurd cc
+
+all_counted : (a b c d : Sign) → a ≢ Zero → None ≡ count_by a b c d → ⊥
+all_counted Zero b c d some e = some refl
+all_counted Minus b c Minus some e = absurd cc
+all_counted Minus b c Zero some e = absurd cc
+all_counted Minus b c Plus some e = absurd cc
+all_counted Plus b c Minus some e = absurd cc
+all_counted Plus b c Zero some e = absurd cc
+all_counted Plus b c Plus some e = absurd cc
+
+some_sign : (a : ℤ) → 0 < unsigned_abs a → sign_of a ≢ Zero
+some_sign (pos zero) h e = absurd (omega (arith, ints, h))
+some_sign (pos (suc n)) h e = cc
+some_sign (negsuc n) h e = cc
+
+-- one root is named by both words
+one_named : (upper : Bool) (p : Quadratic) (r : Shape) → AreRootsOf p (One r) → IsNamedRoot upper p r
+one_named upper p r roots = by_word upper
+  where
+    root : IsRootOf p r
+    root = record { canonical = roots.canonical; zero = (roots.exact r roots.canonical.form).1 refl }
+
+    same : (v : Shape) → IsRootOf p v → v ≡ r
+    same v h = (roots.exact v h.canonical.form).0 h.zero
+
+    by_word : (upper : Bool) → IsNamedRoot upper p r
+    by_word true = (root, λ v h less. not_less_itself r (subst (IsLess r) (same v h) less))
+    by_word false = (root, λ v h less. not_less_itself r (subst (λ (x : Shape). IsLess x r) (same v h) less))
+
+pub root_asked : (a b c : ℤ) (upper : Bool) → IsRootInRange a b c → (discriminant a b c <ℤ pos 0) ⊎ ((w : Shape) × IsNamedRoot upper (quadratic a b c) w)
+root_asked a b c upper range = let r = roots_exist (quadratic a b c) (record { a_small = range.a_small; b_small = range.b_small; c_small = range.c_small }) in by_roots r.0 r.1
+  where
+    some : sign_of a ≢ Zero
+    some = some_sign a range.a_not_zero
+
+    by_roots : (answer : Roots) → AreRootsOf (quadratic a b c) answer → (discriminant a b c <ℤ pos 0) ⊎ ((w : Shape) × IsNamedRoot upper (quadratic a b c) w)
+    by_roots Nowhere roots = inl (sign_out Minus (discriminant a b c) (none_counted (sign_of a) (sign_of b) (sign_of c) (sign_of (discriminant a b c)) some roots.number))
+    by_roots (One r) roots = inr (r, one_named upper (quadratic a b c) r roots)
+    by_roots (Two r s) roots = inr (_, two_named upper (quadratic a b c) (quadratic a b c) r s refl roots.canonical roots.exact roots.rising)
+    by_roots All roots = absurd (all_counted (sign_of a) (sign_of b) (sign_of c) (sign_of (discriminant a b c)) some roots.number)

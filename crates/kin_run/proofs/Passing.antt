@@ -1,0 +1,73 @@
+-- The blocks passed so far, and those that are still to come.
+use Rattle.std.proofs.Common.{◌≡◌, ℕ, Bool, true, false, List, [], ◌∷◌, ◌++◌, refl, sym, ap, ◌∙◌, subst, append_assoc}
+use Rattle.std.specs.Prelude.{map, flat_map}
+use Rattle.std.proofs.lemmas.List.{append-nil}
+use Rattle.std.proofs.lemmas.List.Concat.{flat_map-append}
+use Rattle.std.proofs.lemmas.List.Folds.{flat_map-map}
+use Rattle.kin_num.specs.declared.instant.Moment.{Moment}
+use Rattle.kin_num.specs.declared.instant.Shape.{Shape}
+use Rattle.kin_num.specs.Canonical.{IsCanonical}
+use Rattle.kin_num.specs.Order.{IsEarlier}
+use Rattle.kin_motion.specs.Journal.{Setting, Block, IsNextBlock, IsJournal}
+use Rattle.kin_motion.proofs.JournalLaws.{next_block_is_one, block_is_listed}
+use Rattle.kin_cert.specs.declared.owned.Failure.{Failure as Failed}
+use Rattle.kin_cert.specs.Blocks.{failure_of}
+use Rattle.kin_script.specs.PrintedJournal.{failure_line, block_lines, journal_lines}
+use Rattle.kin_script.specs.Replay.{State, at, setting_of}
+use Rattle.kin_script.specs.Text.{IsPassedText}
+use Rattle.kin_run.specs.Performed.{IsCutOf}
+use Rattle.kin_run.specs.States.{printed_if}
+
+-- From start, the journal up to the last moment is these blocks, and then the journal from now.
+pub record ArePassed (t : Setting) (start now last : Moment) (bs : List Block) : Type 0 where
+  pub forth : (more : List Block) → IsJournal t now last more → IsJournal t start last (bs ++ more)
+  pub back : (all : List Block) → IsJournal t start last all → (more : List Block) × IsJournal t now last more × (all ≡ bs ++ more)
+
+pub none_passed : (t : Setting) (start last : Moment) → ArePassed t start start last []
+none_passed t start last = record { forth = λ more j. j; back = λ all j. (all, j, refl) }
+
+-- the journal from a moment begins with the next block
+behind_block : (t : Setting) (now last : Moment) (b : Block) → IsCanonical now.at → IsCanonical last.at → IsNextBlock t now b → ¬ (IsEarlier last b.moment)
+    → (all : List Block) → IsJournal t now last all → (more : List Block) × IsJournal t b.moment last more × (all ≡ b ∷ more)
+behind_block t now last b here there next within [] j = absurd (block_is_listed t now last b here there next within j)
+behind_block t now last b here there next within (c ∷ more) j =
+    let same : c ≡ b = next_block_is_one t now c b here j.0 next in
+    (more, subst (λ (d : Block). IsJournal t d.moment last more) same j.2, ap (λ (d : Block). d ∷ more) same)
+
+pub one_more_passed : (t : Setting) (start now last : Moment) (bs : List Block) (b : Block) → IsCanonical now.at → IsCanonical last.at
+    → ArePassed t start now last bs → IsNextBlock t now b → ¬ (IsEarlier last b.moment) → ArePassed t start b.moment last (bs ++ b ∷ [])
+one_more_passed t start now last bs b here there p next within = record {
+  forth = λ more j. subst (λ (all : List Block). IsJournal t start last all) (sym (append_assoc bs (b ∷ []) more)) (p.forth (b ∷ more) (next, within, j));
+  back = λ all j.
+      let x = p.back all j in
+      let y = behind_block t now last b here there next within x.0 x.1 in
+      (y.0, y.1, x.2 ∙ ap (λ (more : List Block). bs ++ more) y.2 ∙ sym (append_assoc bs (b ∷ []) y.0));
+}
+
+-- the lines of blocks where the journal is on
+abbrev pub lines_if : Bool → List Block → List ℕ
+lines_if false bs = []
+lines_if true bs = journal_lines bs
+
+pub lines_behind : (journal : Bool) (bs : List Block) (b : Block) → lines_if journal (bs ++ b ∷ []) ≡ lines_if journal bs ++ printed_if journal b
+lines_behind false bs b = refl
+lines_behind true bs b = flat_map-append block_lines bs (b ∷ []) ∙ ap (λ (w : List ℕ). journal_lines bs ++ w) (append-nil (block_lines b))
+
+pub is_text : (journal : Bool) (s : State) (w : Shape) (bs : List Block) → IsJournal (setting_of s) s.moment (at w) bs → IsPassedText journal s w (lines_if journal bs)
+is_text false s w bs j = refl
+is_text true s w bs j = (bs, j, refl)
+
+-- what was printed on the way is a front of all that there is to print
+pub cut_on_the_way : (journal : Bool) (s : State) (now : Moment) (w : Shape) (bs : List Block)
+    → ArePassed (setting_of s) s.moment now (at w) bs → IsCutOf (IsPassedText journal s w) (lines_if journal bs)
+cut_on_the_way false s now w bs p text e = record { more = []; joined = e }
+cut_on_the_way true s now w bs p text e =
+    let x = p.back e.0 e.1 in
+    record { more = journal_lines x.0; joined = e.2 ∙ ap journal_lines x.2 ∙ flat_map-append block_lines bs x.0 }
+
+-- the line of a failure, and the lines of several
+abbrev pub line_in : Moment → Failed → List ℕ
+line_in m f = failure_line m (failure_of f)
+
+pub lines_in : (m : Moment) (fs : List Failed) → flat_map (line_in m) fs ≡ flat_map (failure_line m) (map failure_of fs)
+lines_in m fs = sym (flat_map-map (failure_line m) failure_of fs)

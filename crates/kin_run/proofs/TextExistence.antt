@@ -1,0 +1,76 @@
+-- Every input has a text.
+use Rattle.std.proofs.Common.{◌≡◌, inl, inr, ℕ, zero, suc, ◌^◌, List, [], ◌∷◌, ◌++◌, Some, None, Result, Ok, Err, refl, sym, subst, replicate}
+use Rattle.std.proofs.lemmas.List.{length-replicate}
+use Rattle.std.specs.Prelude.{All}
+use Rattle.std.proofs.lemmas.List.Elements.{All-head, All-tail, All-weaker}
+use Rattle.kin_motion.specs.declared.keep.Keep.{Keep}
+use Rattle.kin_motion.specs.declared.keep.Keep.TheVariants as keep
+use Rattle.kin_motion.specs.Course.{motion_of}
+use Rattle.kin_motion.specs.Live.{IsSmallKeep}
+use Rattle.kin_script.specs.declared.script.Script.{Script}
+use Rattle.kin_script.specs.Grammar.{script_of}
+use Rattle.kin_script.specs.Ranges.{IsKeepInRange, IsCommandInRange, IsWithin}
+use Rattle.kin_script.specs.Replay.{State, start}
+use Rattle.kin_script.specs.Text.{Text, Ending, bad_line, refused_line}
+use Rattle.kin_script.proofs.ScriptRanges.{script_within}
+use Rattle.kin_run.specs.declared.status.Status.{Status}
+use Rattle.kin_run.specs.declared.status.Status.TheVariants as status
+use Rattle.kin_run.specs.Headline.{IsAnswer, IsTextOf, TextsExist}
+use Rattle.kin_run.proofs.Commands.{start_canonical}
+use Rattle.kin_run.proofs.Playing.{Line}
+use Rattle.kin_run.proofs.StepExistence.{IsSound, Ends, command_ends}
+
+-- ---- the text of commands
+abbrev HasText : State → List Line → Type 0
+HasText s cs = (text : List ℕ) × (ending : Ending) × Text s cs text ending
+
+text_exists : (cs : List Line) (s : State) → IsSound s → All (λ c. IsCommandInRange s.size c.1) cs → HasText s cs
+text_exists [] s sound range = ([], None, (refl, refl))
+text_exists (c ∷ cs) s sound range = by_end (command_ends s sound c.1 (All-head (λ d. IsCommandInRange s.size d.1) c cs range)) (text_exists cs)
+  where
+    rest_range : (t : State) → t.size ≡ s.size → All (λ d. IsCommandInRange t.size d.1) cs
+    rest_range t e = subst (λ (size : ℕ). All (λ d. IsCommandInRange size d.1) cs) (sym e) (All-tail (λ d. IsCommandInRange s.size d.1) c cs range)
+
+    by_end : Ends s c.1 → ((t : State) → IsSound t → All (λ d. IsCommandInRange t.size d.1) cs → HasText t cs) → HasText s (c ∷ cs)
+    by_end (inl (r, refused)) rest = (refused_line c.0 r, Some (c.0, r), inl (r, refused, refl, refl))
+    by_end (inr steps) rest =
+        let more = rest steps.next steps.sound (rest_range steps.next steps.size) in
+        (steps.text ++ more.0, more.1, inr (steps.text, more.0, steps.next, steps.step, more.2, refl))
+
+-- ---- the state at the start
+none_moves : (n i : ℕ) → motion_of (replicate n None) i ≡ None
+none_moves zero i = refl
+none_moves (suc n) zero = refl
+none_moves (suc n) (suc i) = none_moves n i
+
+small_keep : (k : Keep) → IsKeepInRange k → IsSmallKeep k
+small_keep (keep.Order dx dy) h = (h.dx_small, h.dy_small)
+small_keep (keep.Extreme dx dy) h = (h.dx_small, h.dy_small)
+small_keep keep.Hull h = tt
+small_keep keep.Closest h = tt
+small_keep keep.Range h = tt
+
+start_sound : (s : Script) → IsWithin s → IsSound (start s.size s.keeps s.journal)
+start_sound s within = record {
+  proper = record {
+    slow = record { each = λ i c e. absurd (let none = none_moves (2 ^ s.size) i in cc) };
+    slots = length-replicate (2 ^ s.size) None;
+    small = All-weaker IsKeepInRange IsSmallKeep small_keep s.keeps within.keeps;
+  };
+  canonical = start_canonical;
+}
+
+-- ---- the answer
+pub texts_exist : TextsExist
+texts_exist input = by_reading (script_of input) refl
+  where
+    by_ending : (ending : Ending) (text : List ℕ) → IsTextOf input text ending → (answer : Status) × (text : List ℕ) × IsAnswer input answer text
+    by_ending None text is = (status.Done, text, is)
+    by_ending (Some (line, r)) text is = (status.Command line r, text, is)
+
+    by_reading : (r : Result Script ℕ) → script_of input ≡ r → (answer : Status) × (text : List ℕ) × IsAnswer input answer text
+    by_reading (Err line) e = (status.Script line, bad_line line, (e, refl))
+    by_reading (Ok s) e =
+        let within = script_within input s e in
+        let has = text_exists s.lines (start s.size s.keeps s.journal) (start_sound s within) within.commands in
+        by_ending has.1 has.0 (record { script = s; reads = e; replays = has.2 })

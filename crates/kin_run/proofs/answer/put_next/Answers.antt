@@ -1,0 +1,47 @@
+use Rattle.std.proofs.Common.{[], ◌++◌, inl, inr, refl, sym, ap}
+use Rattle.std.proofs.lemmas.List.{append-nil}
+use Rattle.std.proofs.lemmas.Result.{err_from_is_err_and, on_err_weaker}
+use Rattle.kin_script.specs.PrintedJournal.{none_line, now_line}
+use Rattle.kin_script.specs.Text.{IsNextText}
+use Rattle.kin_print.proofs.Fronts.{nothing}
+use Rattle.kin_world.specs.Worlds.{HasPassed}
+use Rattle.kin_run.specs.States.{state_of, printed_if}
+use Rattle.kin_run.proofs.Blocks.{one_next, not_back}
+use Rattle.kin_run.proofs.Fronts.{prefix_nil}
+use Rattle.kin_run.proofs.Lines.{puts_known, on_ok}
+use Rattle.kin_run.proofs.answer.put_next.Goals as goal
+
+pub returns-in_default-clause-line : goal.returns-in_default-clause-line
+returns-in_default-clause-line g c =
+    let s = state_of c.args.journal c.args.world.now in
+    let own : IsNextText s none_line = inr (c.in_default.ensures.none.0 refl, refl) in
+    puts_known (IsNextText s) none_line c.put_bytes.result c.args.out.now.items c.put_bytes.new.out.items own
+    (λ text is. one_next s text none_line c.requires.whole.canonical is own)
+    c.put_bytes.ensures.ok
+    (on_err_weaker c.put_bytes.result (nothing c.args.out.now.items c.put_bytes.new.out.items none_line) c.put_bytes.ensures.err)
+
+pub step-requires-clause-later : goal.step-requires-clause-later
+step-requires-clause-later g c =
+    let n = c.in-Some.ensures.some in
+    not_back c.args.world.now.moment c.in-Some.moment c.requires.whole.canonical n.canonical n.later
+
+pub returns-in_err-block-clause-line : goal.returns-in_err-block-clause-line
+returns-in_err-block-clause-line g c =
+    let e = err_from_is_err_and c.from_residual.result c.from_residual.ensures.1 in
+    rw e.1 ([], sym (append-nil c.args.out.now.items), λ text is. prefix_nil text)
+
+pub returns-clause-line : goal.returns-clause-line
+returns-clause-line g c =
+    let s = state_of c.args.journal c.args.world.now in
+    let b = c.in-Some-2.block in
+    let h : HasPassed c.in-Some.moment b c.args.world.now c.step.new.self = rw c.in-Some-2.is at c.in_ok-block.ensures.stepped in
+    let own : IsNextText s (printed_if c.args.journal b ++ now_line b.moment) = inl (b, h.next, refl) in
+    puts_known (IsNextText s) (printed_if c.args.journal b ++ now_line b.moment) c.put_passed.result c.args.out.now.items c.put_passed.new.out.items own
+    (λ text is. one_next s text (printed_if c.args.journal b ++ now_line b.moment) c.requires.whole.canonical is own)
+    c.put_passed.ensures.ok c.put_passed.ensures.err
+
+pub returns-clause-leads : goal.returns-clause-leads
+returns-clause-leads g c =
+    let b = c.in-Some-2.block in
+    let h : HasPassed c.in-Some.moment b c.args.world.now c.step.new.self = rw c.in-Some-2.is at c.in_ok-block.ensures.stepped in
+    on_ok c.put_passed.result (inl (b, h.next, ap (state_of c.args.journal) h.state))

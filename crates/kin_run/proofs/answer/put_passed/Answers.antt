@@ -1,0 +1,21 @@
+use Rattle.std.proofs.Common.{◌++◌, subst}
+use Rattle.std.specs.Prelude.{OnErr}
+use Rattle.kin_motion.specs.Journal.{Block}
+use Rattle.kin_script.specs.Printed.{PutsFront}
+use Rattle.std.proofs.lemmas.Result.{on_err_weaker}
+use Rattle.kin_script.specs.PrintedJournal.{now_line}
+use Rattle.kin_print.proofs.Fronts.{on_err, front_first, front_behind}
+use Rattle.kin_run.specs.States.{printed_if}
+use Rattle.kin_run.proofs.answer.put_passed.Goals as goal
+
+pub returns-in_err-put_if_on-clause-err : goal.returns-in_err-put_if_on-clause-err
+returns-in_err-put_if_on-clause-err c =
+    on_err c.from_residual.result
+    (front_first c.args.out.now.items c.put_if_on.new.out.items (printed_if c.args.journal c.args.block.now) (now_line c.args.block.now.moment) c.in_err-put_if_on.ensures.err)
+
+pub returns-clause-err : goal.returns-clause-err
+returns-clause-err c =
+    subst (λ (b : Block). OnErr c.put_now.result (PutsFront c.args.out.now.items c.put_now.new.out.items (printed_if c.args.journal c.args.block.now ++ now_line b.moment))) c.block.view_is
+    (on_err_weaker c.put_now.result
+    (front_behind c.args.out.now.items c.put_if_on.new.out.items c.put_now.new.out.items (printed_if c.args.journal c.args.block.now) (now_line c.block.inside.moment) c.in_ok-put_if_on.ensures.ok)
+    c.put_now.ensures.err)

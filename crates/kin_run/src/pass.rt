@@ -1,0 +1,74 @@
+//! The failures on the way to an instant, each block printed before the next is computed.
+
+ghost use Rattle.std.specs.Prelude.{◌≡◌, ◌≤◌, ◌++◌, OnOk, OnErr, IsErrOf};
+ghost use Rattle.kin_io.specs.Causes.{Rose};
+ghost use Rattle.kin_num.specs.Canonical.{IsCanonical};
+ghost use Rattle.kin_num.specs.Order.{IsEarlier};
+ghost use Rattle.kin_script.specs.Printed.{PutsFront};
+ghost use Rattle.kin_script.specs.PrintedJournal.{block_lines};
+ghost use Rattle.kin_script.specs.Replay.{at};
+ghost use Rattle.kin_script.specs.Text.{IsPassedText};
+ghost use Rattle.kin_world.specs.Worlds.{IsWhole};
+ghost use Rattle.kin_run.specs.declared.write.Stop.TheVariants.{Fault as FaultOf};
+ghost use Rattle.kin_run.specs.Performed.{PutsText};
+ghost use Rattle.kin_run.specs.States.{state_of, printed_if};
+
+use crate::write::{Stop, flush_if_much};
+use kin_cert::Block;
+use kin_io::sink::Sink;
+use kin_num::{Instant, Moment, NoMemory, Phase, Steps};
+use kin_print::put_failure;
+use kin_world::world::World;
+use std::sync::ledger::Ledger;
+
+/// Appends the lines of a block.
+fn put_block(out: &mut Vec<u8>, block: &Block) -> Result<(), NoMemory>
+    ensures ok { OnOk result (out.new.items ≡ out.old.items ++ block_lines block.now) }
+    ensures err { OnErr result (PutsFront out.old.items out.new.items (block_lines block.now)) }
+{
+    for failure in &block.failures {
+        put_failure(out, &block.moment, failure)?;
+    }
+    Ok(())
+}
+
+/// Appends the lines of a block where the journal is on.
+pub fn put_if_on(out: &mut Vec<u8>, journal: bool, block: &Block) -> Result<(), NoMemory>
+    ensures ok { OnOk result (out.new.items ≡ out.old.items ++ printed_if journal block.now) }
+    ensures err { OnErr result (PutsFront out.old.items out.new.items (printed_if journal block.now)) }
+{
+    if journal {
+        put_block(out, block)?;
+    }
+    Ok(())
+}
+
+/// Passes all failures up to the asked instant, which isn't before now, and prints them where the
+/// journal is on.
+pub fn pass<K: Sink, L: Ledger>(
+    world: &mut World,
+    journal: bool,
+    asked: Instant,
+    out: &mut Vec<u8>,
+    sink: &mut K,
+    steps: &mut Steps<L>,
+) -> Result<(), Stop>
+    requires whole { IsWhole world.old }
+    requires canonical { IsCanonical asked }
+    requires later { ¬ (IsEarlier (at asked) world.old.moment) }
+    ensures text { PutsText (IsPassedText journal (state_of journal world.old) asked) result (K.held sink.old) out.old.items (K.held sink.new) out.new.items }
+    ensures moved { OnOk result (state_of journal world.new ≡ record (state_of journal world.old) { moment = at asked }) }
+    ensures whole { OnOk result (IsWhole world.new) }
+    ensures later { K.faults sink.old ≤ K.faults sink.new }
+    ensures cause { IsErrOf result FaultOf → Rose (K.faults sink.old) (K.faults sink.new) }
+{
+    let limit = Moment {
+        at: asked,
+        phase: Phase::At,
+    };
+    while let Some(block) = world.step(&limit, steps)? {
+        put_if_on(out, journal, &block)?;
+        flush_if_much(out, sink)?;
+    }
+    Ok(())
+}

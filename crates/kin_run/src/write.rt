@@ -1,0 +1,62 @@
+//! What is gathered, and written once it is much.
+
+ghost use Rattle.std.specs.Prelude.{◌≡◌, [], OnOk, OnErr};
+ghost use Rattle.std.specs.Io.KnownBytes.{Appends};
+ghost use Rattle.kin_io.specs.Causes.{HasCause};
+ghost use Rattle.kin_io.specs.Ends.{AppendsPrefix};
+ghost use Rattle.kin_run.specs.declared.write.Stop.TheVariants.{Fault as FaultOf, NoMemory as WantOfMemory};
+ghost use Rattle.kin_run.specs.Written.{Gains};
+
+use kin_io::sink::{Sink, write_all};
+use kin_io::source::Failed;
+use kin_num::NoMemory;
+
+/// How many bytes are gathered before they are written.
+const BLOCK: usize = 1 << 16;
+
+/// Why a run was broken off.
+#[derive(Clone, Copy, Debug, PartialEq, Eq)]
+pub enum Stop {
+    Fault,
+    NoMemory,
+}
+
+impl From<NoMemory> for Stop {
+    ghost from_gives = { λ _ e. e ≡ WantOfMemory };
+
+    fn from(_error: NoMemory) -> Stop {
+        Stop::NoMemory
+    }
+}
+
+impl From<Failed> for Stop {
+    ghost from_gives = { λ _ e. e ≡ FaultOf };
+
+    fn from(_error: Failed) -> Stop {
+        Stop::Fault
+    }
+}
+
+/// Writes what was gathered, and forgets it.
+pub fn flush<K: Sink>(out: &mut Vec<u8>, sink: &mut K) -> Result<(), Failed>
+    ensures all { OnOk result (Appends (K.held sink.old) (K.held sink.new) out.old.items) }
+    ensures nothing_left { OnOk result (out.new.items ≡ []) }
+    ensures front { AppendsPrefix (K.held sink.old) (K.held sink.new) out.old.items }
+    ensures cause { HasCause (K.faults sink.old) (K.faults sink.new) result }
+{
+    write_all(sink, out)?;
+    out.clear();
+    Ok(())
+}
+
+/// Writes what was gathered, once it is much.
+pub fn flush_if_much<K: Sink>(out: &mut Vec<u8>, sink: &mut K) -> Result<(), Failed>
+    ensures gained { OnOk result (Gains (K.held sink.old) out.old.items (K.held sink.new) out.new.items []) }
+    ensures front { OnErr result (AppendsPrefix (K.held sink.old) (K.held sink.new) out.old.items) }
+    ensures cause { HasCause (K.faults sink.old) (K.faults sink.new) result }
+{
+    if out.len() >= BLOCK {
+        return flush(out, sink);
+    }
+    Ok(())
+}

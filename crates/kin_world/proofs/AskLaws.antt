@@ -1,0 +1,55 @@
+-- What is asked of a sound world: the structure of a keep, the certificate of a form.
+use Rattle.std.proofs.Common.{◌≡◌, refl, sym, ap, subst, ℕ, ◌<◌, List, Option, Some, None, length, get_or}
+use Rattle.std.specs.Prelude.{slice_get, Contains, ◌↔◌, IsNone, IfSome}
+use Rattle.std.proofs.lemmas.Option.{slice_get_within, slice_get_read}
+use Rattle.kin_algebra.specs.declared.sign.Sign.{Sign}
+use Rattle.kin_num.specs.declared.instant.Moment.{Moment}
+use Rattle.kin_motion.specs.declared.form.Form.{Form}
+use Rattle.kin_motion.specs.declared.keep.Keep.{Keep}
+use Rattle.kin_motion.specs.Course.{Course}
+use Rattle.kin_motion.specs.Live.{Certificate}
+use Rattle.kin_motion.specs.Scene.{scene_at}
+use Rattle.kin_motion.proofs.SetLaws.{contains_map, contains_mapped}
+use Rattle.kin_cert.specs.Facts.{LiveFact, IsAt}
+use Rattle.kin_world.specs.declared.structure.Structure.{Structure}
+use Rattle.kin_world.specs.Structures.{IsKept}
+use Rattle.kin_world.specs.Tables.{certificates_of}
+use Rattle.kin_world.specs.Upkeep.{IsSoundWorld}
+use Rattle.kin_world.specs.Worlds.{certificate}
+
+-- the structure of a keep is settled
+pub asked_kept : (size : ℕ) (keeps : List Keep) (motions : List (Option Course)) (m : Moment) (structures : List Structure) (live : List LiveFact) (made : ℕ) → IsSoundWorld size keeps motions m structures live made
+    → (s : ℕ) (kept : Keep) (st : Structure) → slice_get keeps s ≡ Some kept → st ≡ get_or structures s st → IsKept size kept (scene_at motions m) st
+asked_kept size keeps motions m structures live made sound s kept st is read =
+    let low : s < length structures = subst (λ n. s < n) (sym sound.upkept.matched.count) (slice_get_within keeps s kept is) in
+    (sound.upkept.kept s kept st is (slice_get_read structures _ s st refl low read)).0
+
+pub asked_within : (size : ℕ) (keeps : List Keep) (motions : List (Option Course)) (m : Moment) (structures : List Structure) (live : List LiveFact) (made : ℕ) → IsSoundWorld size keeps motions m structures live made
+    → (s : ℕ) (kept : Keep) → slice_get keeps s ≡ Some kept → s < length structures
+asked_within size keeps motions m structures live made sound s kept is = subst (λ n. s < n) (sym sound.upkept.matched.count) (slice_get_within keeps s kept is)
+
+-- the table has no fact of the owner and the form exactly where no certificate is of them
+pub no_certificate : (live : List LiveFact) (structure part : ℕ) (form : Form) (answer : Option Sign)
+    → IfSome answer (λ sign. (l : LiveFact) × Contains live l × IsAt structure part form l × (l.certificate.placed.fact.sign ≡ sign))
+    → (answer ≡ None) ↔ ((l : LiveFact) → Contains live l → ¬ (IsAt structure part form l))
+    → IsNone answer ↔ ((sign : Sign) → ¬ (Contains (certificates_of live) (certificate structure part form sign)))
+no_certificate live structure part form answer some none = (to answer none, from answer some)
+  where
+    at_certificate : (sign : Sign) (l : LiveFact) → certificate structure part form sign ≡ l.certificate → IsAt structure part form l
+    at_certificate sign l e = record {
+      structure_is = sym (ap (λ (c : Certificate). c.structure) e);
+      part_is = sym (ap (λ (c : Certificate). c.placed.part) e);
+      form_is = sym (ap (λ (c : Certificate). c.placed.fact.form) e);
+    }
+
+    to : (a : Option Sign) → (a ≡ None) ↔ ((l : LiveFact) → Contains live l → ¬ (IsAt structure part form l)) → IsNone a → (sign : Sign) → ¬ (Contains (certificates_of live) (certificate structure part form sign))
+    to None none h sign there = let l = contains_mapped (λ (k : LiveFact). k.certificate) live _ there in none.0 refl l.0 l.1 (at_certificate sign l.0 l.2)
+    to (Some x) none h sign there = absurd cc
+
+    from : (a : Option Sign) → IfSome a (λ sign. (l : LiveFact) × Contains live l × IsAt structure part form l × (l.certificate.placed.fact.sign ≡ sign)) → ((sign : Sign) → ¬ (Contains (certificates_of live) (certificate structure part form sign))) → IsNone a
+    from None some never = refl
+    from (Some x) (l, there, at, sign_is) never =
+        absurd (never x (subst (λ (c : Certificate). Contains (certificates_of live) c) (same l at sign_is) (contains_map (λ (k : LiveFact). k.certificate) live l there)))
+      where
+        same : (l : LiveFact) → IsAt structure part form l → l.certificate.placed.fact.sign ≡ x → l.certificate ≡ certificate structure part form x
+        same l at e = λ i. record { structure = at.structure_is i; placed = record { part = at.part_is i; fact = record { form = at.form_is i; sign = e i } } }

@@ -1,0 +1,71 @@
+-- Structures without members, where no number is live.
+use Rattle.std.proofs.Common.{◌≡◌, ◌⊎◌, inl, inr, refl, sym, ap, ◌∙◌, subst, arith, ℕ, zero, suc, ◌≤◌, List, [], ◌∷◌, ◌++◌, length}
+use Rattle.std.specs.Prelude.{slice_get, Some, Contains}
+use Rattle.kin_num.specs.declared.instant.Moment.{Moment}
+use Rattle.kin_motion.specs.declared.fact.Placed.{Placed}
+use Rattle.kin_motion.specs.declared.keep.Keep.{Keep}
+use Rattle.kin_motion.specs.Scene.{Scene}
+use Rattle.kin_motion.proofs.SetLaws.{contains_none}
+use Rattle.kin_cert.specs.Facts.{LiveFact}
+use Rattle.kin_world.specs.declared.structure.Structure.{Structure}
+use Rattle.kin_world.specs.Structures.{facts_of, IsKeepable, IsVacant}
+use Rattle.kin_world.specs.Tables.{HasFactsOf}
+use Rattle.kin_world.specs.Upkeep.{IsUpkept}
+use Rattle.kin_world.proofs.Places.{one_item}
+
+-- each is that of its keep, without members
+abbrev pub AreVacant : ℕ → List Keep → List Structure → Type 0
+AreVacant size keeps structures = (j : ℕ) (keep : Keep) (st : Structure) → slice_get keeps j ≡ Some keep → slice_get structures j ≡ Some st → IsVacant size keep st
+
+-- what stands in a list that has gained an item
+pushed : {A : Type 0} (xs : List A) (x y : A) (j : ℕ) → slice_get (xs ++ x ∷ []) j ≡ Some y → (slice_get xs j ≡ Some y) ⊎ ((j ≡ length xs) × (x ≡ y))
+pushed {A} [] x y zero e = inr (refl, one_item e)
+pushed {A} [] x y (suc j) e = absurd cc
+pushed {A} (z ∷ zs) x y zero e = inl e
+pushed {A} (z ∷ zs) x y (suc j) e = at (pushed zs x y j e)
+  where
+    at : (slice_get zs j ≡ Some y) ⊎ ((j ≡ length zs) × (x ≡ y)) → (slice_get zs j ≡ Some y) ⊎ ((suc j ≡ suc (length zs)) × (x ≡ y))
+    at (inl h) = inl h
+    at (inr (h, same)) = inr (ap suc h, same)
+
+pub vacant_none : (size : ℕ) (keeps : List Keep) (structures : List Structure) → structures ≡ [] → AreVacant size keeps structures
+vacant_none size keeps structures none j keep st kept there = let e = subst (λ (xs : List Structure). slice_get xs j ≡ Some st) none there in absurd cc
+
+-- one structure more
+pub vacant_more : (size : ℕ) (keeps : List Keep) (structures after : List Structure) (keep : Keep) (st : Structure)
+    → AreVacant size keeps structures → slice_get keeps (length structures) ≡ Some keep → IsVacant size keep st → after ≡ structures ++ st ∷ [] → AreVacant size keeps after
+vacant_more size keeps structures after keep st vacant here own pushed_is j keep' st' kept there =
+    at (pushed structures st st' j (subst (λ (xs : List Structure). slice_get xs j ≡ Some st') pushed_is there))
+  where
+    at : (slice_get structures j ≡ Some st') ⊎ ((j ≡ length structures) × (st ≡ st')) → IsVacant size keep' st'
+    at (inl old) = vacant j keep' st' kept old
+    at (inr (last, same)) =
+        let same_keep : keep ≡ keep' = one_item (sym here ∙ subst (λ n. slice_get keeps n ≡ Some keep') last kept) in
+        subst (λ (x : Structure). IsVacant size keep' x) same (subst (λ (k : Keep). IsVacant size k st) same_keep own)
+
+-- an empty table has the facts of a structure without any
+tabled_none : (j : ℕ) (facts : List Placed) → facts ≡ [] → HasFactsOf [] j facts
+tabled_none j facts none p = (
+  λ there. absurd (contains_none p (subst (λ (ps : List Placed). Contains ps p) none there)),
+  λ l. absurd (contains_none l.0 l.1),
+)
+
+-- so they are all kept where no number is live
+pub vacant_upkept : (size : ℕ) (keeps : List Keep) (scene : Moment → Scene) (m : Moment) (structures : List Structure) (live : List LiveFact)
+    → (scene m).live ≡ [] → live ≡ [] → length structures ≡ length keeps → length keeps ≤ 16
+    → ((j : ℕ) (keep : Keep) → slice_get keeps j ≡ Some keep → IsKeepable keep) → AreVacant size keeps structures
+    → IsUpkept (record { size = size; keeps = keeps; scene = scene }) m structures live
+vacant_upkept size keeps scene m structures live nobody none count few small vacant =
+    subst (λ (ls : List LiveFact). IsUpkept (record { size = size; keeps = keeps; scene = scene }) m structures ls) (sym none) (record {
+      matched = record {
+        count = count;
+        few = few;
+        small = small;
+        once = λ i j d less within. absurd (omega (arith, within));
+        owned = λ l there. absurd (contains_none l there);
+      };
+      kept = λ j keep st kept there.
+          let v = vacant j keep st kept there in
+          (v.kept (scene m) nobody, tabled_none j (facts_of st) v.facts);
+      timed = λ l there. absurd (contains_none l there);
+    })

@@ -1,0 +1,4 @@
+pub mod Structures
+pub mod Tables
+pub mod Upkeep
+pub mod Worlds

@@ -1,0 +1,116 @@
+-- What a world means, and what its calls do.
+use Rattle.std.specs.Prelude.{◌≡◌, ℕ, ◌+◌, ◌-◌, ◌≤◌, ◌^◌, pos, min, Bool, true, List, [], Option, Some, None, length, slice_get, slice_set, replicate, Contains, IsTrue}
+use Rattle.kin_algebra.specs.declared.sign.Sign.{Sign}
+use Rattle.kin_num.specs.declared.instant.Moment.{Moment}
+use Rattle.kin_num.specs.declared.instant.Phase.TheVariants.{At}
+use Rattle.kin_num.specs.declared.instant.Shape.TheVariants.{Ratio}
+use Rattle.kin_num.specs.Canonical.{IsCanonical}
+use Rattle.kin_num.specs.Order.{IsEarlier}
+use Rattle.kin_motion.specs.declared.form.Form.{Form}
+use Rattle.kin_motion.specs.declared.keep.Keep.{Keep}
+use Rattle.kin_motion.specs.Course.{Course}
+use Rattle.kin_motion.specs.Journal.{Setting, Block, AllHoldUntil, IsNextBlock, IsJournal}
+use Rattle.kin_motion.specs.Live.{Certificate, IsLiveFact, ListsLive}
+use Rattle.kin_motion.specs.Moments.{HoldsAt, FailsFirst}
+use Rattle.kin_motion.specs.Scene.{Scene, scene_at}
+use Rattle.kin_motion.specs.Sets.{ListsExactly}
+use Rattle.kin_world.specs.Structures.{IsKeepable}
+
+-- the size, what is kept, the motion of each live number, the moment now, the live facts with their owners, how many failure moments were made, and false after a changing call that found no memory
+pub record World : Type 0 where
+  pub size : ℕ
+  pub keeps : List Keep
+  pub motions : List (Option Course)
+  pub moment : Moment
+  pub live : List Certificate
+  pub made : ℕ
+  pub whole : Bool
+
+-- what is kept, and what is seen at each moment
+abbrev pub setting_of : World → Setting
+setting_of w = record { size = w.size; keeps = w.keeps; scene = scene_at w.motions }
+
+-- what is seen now
+abbrev pub scene_of : World → Scene
+scene_of w = scene_at w.motions w.moment
+
+-- the fact of this form with this sign, of a structure and a part
+abbrev pub certificate : ℕ → ℕ → Form → Sign → Certificate
+certificate structure part form sign = record { structure = structure; placed = record { part = part; fact = record { form = form; sign = sign } } }
+
+-- a world may keep these: at most 16 structures, each of a kind that is built, with a small direction
+pub record AreKeepable (keeps : List Keep) : Type 0 where
+  pub few : length keeps ≤ 16
+  pub small : (j : ℕ) (keep : Keep) → slice_get keeps j ≡ Some keep → IsKeepable keep
+
+-- the live facts are exactly those of the definition, at a canonical moment
+pub record IsWhole (w : World) : Type 0 where
+  pub whole : IsTrue w.whole
+  pub low : 1 ≤ w.size
+  pub high : w.size ≤ 12
+  pub keepable : AreKeepable w.keeps
+  pub room : length w.motions ≡ 2 ^ w.size
+  pub canonical : IsCanonical w.moment.at
+  pub live : ListsLive w.size w.keeps (scene_of w) w.live
+
+-- no points yet, at the instant 0
+abbrev pub empty : ℕ → List Keep → World
+empty size keeps = record {
+  size = size;
+  keeps = keeps;
+  motions = replicate (2 ^ size) None;
+  moment = record { at = Ratio (pos 0) (pos 1); phase = At };
+  live = [];
+  made = 0;
+  whole = true;
+}
+
+-- as many failure moments were made as there are live facts that were not there
+pub record HasMade (old new : World) : Type 0 where
+  pub born : List Certificate
+  pub exactly : ListsExactly born (λ c. Contains new.live c × ¬ (Contains old.live c))
+  pub count : new.made ≡ min (old.made + length born) (2 ^ 64 - 1)
+
+-- only the live facts and their count changed
+abbrev pub with_facts_of : World → World → World
+with_facts_of old new = record old { live = new.live; made = new.made }
+
+-- one number has a motion now, and nothing else changed but the facts
+pub record HasInserted (entering : ℕ) (motion : Course) (old new : World) : Type 0 where
+  pub state : new ≡ with_facts_of (record old { motions = slice_set old.motions entering (Some motion) }) new
+  pub whole : IsWhole new
+  pub made : HasMade old new
+
+-- the moment is that of the next block, which isn't after the limit, and nothing else changed but the facts
+pub record HasPassed (limit : Moment) (b : Block) (old new : World) : Type 0 where
+  pub next : IsNextBlock (setting_of old) old.moment b
+  pub within : ¬ (IsEarlier limit b.moment)
+  pub state : new ≡ with_facts_of (record old { moment = b.moment }) new
+  pub whole : IsWhole new
+  pub made : HasMade old new
+
+-- no live fact fails up to the limit, and nothing but the moment changed
+pub record HasMoved (limit : Moment) (old new : World) : Type 0 where
+  pub nothing : IsJournal (setting_of old) old.moment limit []
+  pub state : new ≡ record old { moment = limit }
+  pub whole : IsWhole new
+
+-- what a step did
+abbrev pub HasStepped : Moment → Option Block → World → World → Type 0
+HasStepped limit None old new = HasMoved limit old new
+HasStepped limit (Some b) old new = HasPassed limit b old new
+
+-- the first moment after now at which some live fact doesn't hold: that of the next block
+pub record IsNextMoment (t : Setting) (now m : Moment) : Type 0 where
+  pub canonical : IsCanonical m.at
+  pub later : IsEarlier now m
+  pub some : (c : Certificate) × IsLiveFact t.size t.keeps (t.scene now) c × ¬ (HoldsAt t.scene m c.placed.fact)
+  pub hold_before : AllHoldUntil t now m
+
+-- a live fact fails at or before the limit
+pub record FailsWithin (limit : Moment) (w : World) : Type 0 where
+  pub certificate : Certificate
+  pub live : IsLiveFact w.size w.keeps (scene_of w) certificate
+  pub moment : Moment
+  pub fails : FailsFirst (scene_at w.motions) w.moment moment certificate.placed.fact
+  pub within : ¬ (IsEarlier limit moment)

@@ -1,0 +1,238 @@
+//! The world: motions, structures and the table of live facts together.
+
+ghost use Rattle.std.specs.Prelude.{◌≡◌, ◌≤◌, ◌<◌, ◌^◌, ◌↔◌, ℕ, ℤ, true, false, Some, None, slice_get, length, Contains, IsTrue, IsFalse, IfOk, OnOk, OnErr, IfSome, IsSome, IsNone, MatchOption};
+ghost use Rattle.kin_algebra.specs.declared.sign.Sign.{Sign as Signum};
+ghost use Rattle.kin_num.specs.Grains.{moments_left};
+ghost use Rattle.kin_num.specs.Order.{IsEarlier};
+ghost use Rattle.kin_motion.specs.declared.keep.Keep.TheVariants as keep;
+ghost use Rattle.kin_motion.specs.Course.{is_live, motion_of};
+ghost use Rattle.kin_motion.specs.Extremes.{IsExtremePoint};
+ghost use Rattle.kin_motion.specs.Journal.{NothingFails};
+ghost use Rattle.kin_motion.specs.Orders.{IsOrder};
+ghost use Rattle.kin_world.specs.Worlds.{AreKeepable, IsNextMoment, IsWhole, HasInserted, HasStepped, FailsWithin, certificate, empty, setting_of, scene_of};
+
+use crate::upkeep::Upkeep;
+use kin_cert::Block;
+use kin_instant::order::compare_moments;
+use kin_motion::{Form, Keep, Motion, Motions};
+use kin_num::{Instant, Moment, NoMemory, Phase, Shape, Sign, Steps};
+use std::alloc::Global;
+use std::cmp::Ordering;
+use std::marker::Model;
+use std::sync::ledger::Ledger;
+
+/// Moving points and the structures that are kept over them, at one moment.
+///
+/// Between two calls every structure is settled at the moment now, and the table has exactly the
+/// live facts. After a changing call that answered want of memory the world isn't whole, and only
+/// `is_whole` and `keep` may be asked.
+#[derive(Drop)]
+pub struct World {
+    alloc: Global,
+    motions: Motions,
+    moment: Moment,
+    upkeep: Upkeep,
+    whole: bool,
+}
+
+impl Model for World {
+    ghost use Rattle.std.specs.Prelude.{IsTrue};
+    ghost use Rattle.kin_world.specs.Tables.{certificates_of};
+    ghost use Rattle.kin_world.specs.Worlds.{World as Meaning};
+    ghost use Rattle.kin_world.specs.Upkeep.{IsSoundWorld};
+
+    ghost Value = { Meaning };
+
+    ghost view = { λ w. record { size = w.upkeep.size; keeps = w.upkeep.keeps.items; motions = w.motions; moment = w.moment; live = certificates_of w.upkeep.table.live; made = w.upkeep.table.made; whole = w.whole } };
+
+    ghost invariant = { λ w. IsTrue w.whole → IsSoundWorld w.upkeep.size w.upkeep.keeps.items w.motions w.moment w.upkeep.structures.items w.upkeep.table.live w.upkeep.table.made };
+}
+
+impl World {
+    /// No points yet, at the instant 0.
+    pub fn new(alloc: Global, size: u32, keeps: &[Keep]) -> Result<World, NoMemory>
+        requires low { 1 ≤ size }
+        requires high { size ≤ 12 }
+        requires keepable { AreKeepable keeps.now }
+        ensures empty { IfOk result (λ w. w ≡ empty size keeps.now) }
+        ensures whole { IfOk result IsWhole }
+    {
+        let moment = Moment {
+            at: Instant::of(Shape::Ratio { n: 0, d: 1 }),
+            phase: Phase::At,
+        };
+        Ok(World {
+            alloc,
+            motions: Motions::new(alloc, size)?,
+            moment,
+            upkeep: Upkeep::new(alloc, size, keeps)?,
+            whole: true,
+        })
+    }
+
+    /// False exactly where a changing call has answered want of memory.
+    pub fn is_whole(&self) -> bool
+        ensures value { result ≡ self.now.whole }
+        ensures whole { IsTrue result → IsWhole self.now }
+    {
+        self.whole
+    }
+
+    /// The motion of a number, or `None` exactly where it isn't live.
+    pub fn motion(&self, no: u32) -> Option<Motion>
+        requires { IsTrue self.now.whole }
+        ensures value { result ≡ motion_of self.now.motions no }
+    {
+        self.motions.get(no)
+    }
+
+    /// Whether a number may be inserted: it is below `2^size`, and it isn't live.
+    pub fn can_insert(&self, no: u32) -> bool
+        requires { IsTrue self.now.whole }
+        ensures value { IsTrue result ↔ ((no < 2 ^ self.now.size) × IsFalse (is_live self.now.motions no)) }
+        ensures whole { IsWhole self.now }
+    {
+        no < 1 << self.upkeep.size && self.motions.get(no).is_none()
+    }
+
+    /// Gives a number this motion, from the moment now on. Each structure takes it in, and tells
+    /// the table only what has changed. After want of memory the world isn't whole.
+    pub fn insert<L: Ledger>(
+        &mut self,
+        no: u32,
+        m: Motion,
+        steps: &mut Steps<L>,
+    ) -> Result<(), NoMemory>
+        requires whole { IsTrue self.old.whole }
+        requires room { no < 2 ^ self.old.size }
+        requires free { IsFalse (is_live self.old.motions no) }
+        ensures inserted { OnOk result (HasInserted no m self.old self.new) }
+        ensures broken { OnErr result (self.new.whole ≡ false) }
+    {
+        self.whole = false;
+        self.motions.set(no, m);
+        self.upkeep
+            .enter_each(no, &self.motions, &self.moment, steps)?;
+        self.whole = true;
+        Ok(())
+    }
+
+    /// Moves to the first moment, not after the limit, at which live facts fail, and repairs all
+    /// structures there. `None` exactly where no live fact fails at or before the limit: then the
+    /// moment is the limit, and want of memory isn't answered. A loop over steps ends, since fewer
+    /// moments are left after each block. Structures without a failed fact aren't visited. After
+    /// want of memory the world isn't whole.
+    pub fn step<L: Ledger>(
+        &mut self,
+        limit: &Moment,
+        steps: &mut Steps<L>,
+    ) -> Result<Option<Block>, NoMemory>
+        requires whole { IsTrue self.old.whole }
+        requires later { ¬ (IsEarlier limit.now self.old.moment) }
+        ensures stepped { IfOk result (λ block. HasStepped limit.now block self.old self.new) }
+        ensures fewer { IfOk result (λ block. IsSome block → moments_left self.new.moment < moments_left self.old.moment) }
+        ensures broken { OnErr result (self.new.whole ≡ false) }
+        ensures cause { OnErr result (FailsWithin limit.now self.old) }
+    {
+        // An instant tells that it is canonical where its shape is asked.
+        let _ = limit.at.shape();
+        let due = self.upkeep.table.failing();
+        let Some(moment) = if_within(due, limit, steps) else {
+            self.moment = *limit;
+            return Ok(None);
+        };
+        self.whole = false;
+        self.moment = moment;
+        let block = self
+            .upkeep
+            .pass(self.alloc, &self.motions, &self.moment, steps)?;
+        self.whole = true;
+        Ok(Some(block))
+    }
+
+    /// The moment now.
+    pub fn now(&self) -> &Moment
+        requires { IsTrue self.now.whole }
+        ensures value { result.now ≡ self.now.moment }
+        ensures whole { IsWhole self.now }
+    {
+        &self.moment
+    }
+
+    /// The moment of the next block, or `None` exactly where no live fact ever fails.
+    pub fn next(&self) -> Option<Moment>
+        requires { IsTrue self.now.whole }
+        ensures some { IfSome result (λ m. IsNextMoment (setting_of self.now) self.now.moment m) }
+        ensures none { IsNone result ↔ NothingFails (setting_of self.now) self.now.moment }
+    {
+        self.upkeep.table.failing()
+    }
+
+    /// How many facts are live.
+    pub fn live(&self) -> usize
+        requires { IsTrue self.now.whole }
+        ensures count { result ≡ length self.now.live }
+        ensures whole { IsWhole self.now }
+    {
+        self.upkeep.table.live()
+    }
+
+    /// How many failure moments were made, up to 2^64 - 1.
+    pub fn made(&self) -> u64
+        requires { IsTrue self.now.whole }
+        ensures { result ≡ self.now.made }
+    {
+        self.upkeep.table.made()
+    }
+
+    /// The kept structure of that number.
+    pub fn keep(&self, s: u32) -> Option<Keep>
+        ensures { result ≡ slice_get self.now.keeps s }
+    {
+        self.upkeep.keeps.get(s as usize).copied()
+    }
+
+    /// The sign of an owner's live fact of this form, or `None` exactly where there is none.
+    pub fn sign_of(&self, structure: u32, part: u32, form: &Form) -> Option<Sign>
+        requires { IsTrue self.now.whole }
+        ensures some { IfSome result (λ sign. Contains self.now.live (certificate structure part form.now sign)) }
+        ensures none { IsNone result ↔ ((sign : Signum) → ¬ (Contains self.now.live (certificate structure part form.now sign))) }
+    {
+        self.upkeep.table.sign_of(structure, part, form)
+    }
+
+    /// The live numbers in the order that structure `s` keeps. Want of memory changes nothing.
+    pub fn order(&self, s: u32) -> Result<Vec<u32>, NoMemory>
+        requires whole { IsTrue self.now.whole }
+        requires kept { (dx : ℤ) × (dy : ℤ) × (slice_get self.now.keeps s ≡ Some (keep.Order dx dy)) }
+        ensures order { IfOk result (λ list. (dx dy : ℤ) → slice_get self.now.keeps s ≡ Some (keep.Order dx dy) → IsOrder (scene_of self.now) dx dy list.items) }
+    {
+        let Some(items) = self.upkeep.structures[s as usize].order() else {
+            unreachable!()
+        };
+        let Ok(list) = Vec::from_slice(self.alloc, items) else {
+            return Err(NoMemory);
+        };
+        Ok(list)
+    }
+
+    /// The extreme point that structure `s` keeps, or `None` exactly with no point.
+    pub fn extreme(&self, s: u32) -> Option<u32>
+        requires whole { IsTrue self.now.whole }
+        requires kept { (dx : ℤ) × (dy : ℤ) × (slice_get self.now.keeps s ≡ Some (keep.Extreme dx dy)) }
+        ensures extreme { (dx dy : ℤ) → slice_get self.now.keeps s ≡ Some (keep.Extreme dx dy) → IsExtremePoint (scene_of self.now) dx dy result }
+    {
+        self.upkeep.structures[s as usize].extreme()
+    }
+}
+
+// The moment, where it isn't after the limit.
+fn if_within<L: Ledger>(due: Option<Moment>, limit: &Moment, steps: &mut Steps<L>) -> Option<Moment>
+    ensures { MatchOption result (IfSome due (IsEarlier limit.now)) (λ m. (due ≡ Some m) × ¬ (IsEarlier limit.now m)) }
+{
+    let moment = due?;
+    match compare_moments(&moment, limit, steps) {
+        Ordering::Greater => None,
+        _ => Some(moment),
+    }
+}
