@@ -21,7 +21,7 @@ use Rattle.kin_num.proofs.LowerFractions.{not_less_itself, less_trans, less_asym
 use Rattle.kin_num.proofs.InstantOrder.{total, level_same}
 use Rattle.kin_instant.specs.declared.roots.Roots.{Roots}
 use Rattle.kin_instant.specs.declared.roots.Roots.TheVariants.{Nowhere, One, Two, All}
-use Rattle.kin_instant.specs.Roots.{quadratic, AreRootsOf, count_by, root_count}
+use Rattle.kin_instant.specs.Roots.{quadratic, AreRootsOf, count_by_signs, root_count}
 use Rattle.kin_instant.specs.Places.{IsZeroPolynomial, IsNextRoot, HasNoRootAfter, KeepsSign}
 use Rattle.kin_instant.proofs.RootsOf.{constant_sign, negated_zeros, count_negated, line_as}
 use Rattle.kin_instant.proofs.Nexts.{count_of_zero}
@@ -33,7 +33,7 @@ module _ (w : Shape) (i : IsCanonicalForm w) (f : Phase) where
   m = record { at = w; phase = f }
 
   line_counted : (b c : ℤ) → pos 0 <ℤ b → root_count (quadratic (pos 0) b c) ≡ Some 1
-  line_counted b c h = ap (λ (s : Sign). count_by Zero s (sign_of c) (sign_of (discriminant (pos 0) b c))) (sign_in Plus b h)
+  line_counted b c h = ap (λ (s : Sign). count_by_signs Zero s (sign_of c) (sign_of (discriminant (pos 0) b c))) (sign_in Plus b h)
 
   line_signed : (b c : ℤ) → pos 0 <ℤ b → (answer : Roots) → AreRootsOf (quadratic (pos 0) b c) answer → IsSigned (quadratic (pos 0) b c) answer m
   line_signed b c h Nowhere k = absurd (let e : Some 0 ≡ Some 1 = k.number ∙ line_counted b c h in cc)
@@ -66,19 +66,19 @@ module _ (w : Shape) (i : IsCanonicalForm w) (f : Phase) where
   constant_signed c Nowhere k = constant_at c
   constant_signed c (One r) k = absurd (one (sign_of c) _ k.number)
     where
-      one : (s o : Sign) → Some 1 ≡ count_by Zero Zero s o → ⊥
+      one : (s o : Sign) → Some 1 ≡ count_by_signs Zero Zero s o → ⊥
       one Minus o e = cc
       one Zero o e = cc
       one Plus o e = cc
   constant_signed c (Two r s) k = absurd (two (sign_of c) _ k.number)
     where
-      two : (s o : Sign) → Some 2 ≡ count_by Zero Zero s o → ⊥
+      two : (s o : Sign) → Some 2 ≡ count_by_signs Zero Zero s o → ⊥
       two Minus o e = cc
       two Zero o e = cc
       two Plus o e = cc
   constant_signed c All k = constant_at c ∙ none (sign_of c) _ k.number
     where
-      none : (s o : Sign) → None ≡ count_by Zero Zero s o → s ≡ Zero
+      none : (s o : Sign) → None ≡ count_by_signs Zero Zero s o → s ≡ Zero
       none Minus o e = absurd cc
       none Zero o e = refl
       none Plus o e = absurd cc

@@ -12,3 +12,7 @@ pub mod Divided
 pub mod Discriminants
 pub mod Existence
 pub mod NextExistence
+pub mod KeyOrder
+pub mod Spans
+pub mod HeronRoots
+pub mod LineRoots

@@ -10,10 +10,10 @@ use Rattle.kin_num.specs.Canonical.{discriminant}
 use Rattle.kin_num.specs.Order.{IsLess}
 use Rattle.kin_num.proofs.LowerFractions.{not_less_itself, less_asym}
 use Rattle.kin_instant.specs.declared.roots.Roots.TheVariants.{Nowhere, One, Two, All}
-use Rattle.kin_instant.specs.Roots.{AreRootsOf, count_by, root_count}
+use Rattle.kin_instant.specs.Roots.{AreRootsOf, count_by_signs, root_count}
 use Rattle.kin_instant.specs.Places.{IsZeroPolynomial, IsNextRoot, HasNoRootAfter}
 
-zero_signs : (s t u v : Sign) → count_by s t u v ≡ None → (s ≡ Zero) × (t ≡ Zero) × (u ≡ Zero)
+zero_signs : (s t u v : Sign) → count_by_signs s t u v ≡ None → (s ≡ Zero) × (t ≡ Zero) × (u ≡ Zero)
 zero_signs Zero Zero Zero v e = (refl, refl, refl)
 zero_signs Zero Zero Minus v e = absurd cc
 zero_signs Zero Zero Plus v e = absurd cc
@@ -33,8 +33,8 @@ zero_of_count p e =
 
 pub count_of_zero : (p : Quadratic) → IsZeroPolynomial p → root_count p ≡ None
 count_of_zero p z =
-    ap (λ (s : Sign). count_by s (sign_of p.b) (sign_of p.c) (sign_of (discriminant p.a p.b p.c))) (ap sign_of z.a_zero)
-    ∙ ap₂ (λ (s t : Sign). count_by Zero s t (sign_of (discriminant p.a p.b p.c))) (ap sign_of z.b_zero) (ap sign_of z.c_zero)
+    ap (λ (s : Sign). count_by_signs s (sign_of p.b) (sign_of p.c) (sign_of (discriminant p.a p.b p.c))) (ap sign_of z.a_zero)
+    ∙ ap₂ (λ (s t : Sign). count_by_signs Zero s t (sign_of (discriminant p.a p.b p.c))) (ap sign_of z.b_zero) (ap sign_of z.c_zero)
 
 module _ (p : Quadratic) (w : Shape) where
   abbrev pub IsEmpty : Type 0

@@ -18,7 +18,7 @@ use Rattle.kin_num.specs.Order.{IsLess}
 use Rattle.kin_num.proofs.Values.{negated}
 use Rattle.kin_num.proofs.SignLaws.{sign_at_instant-neg}
 use Rattle.kin_instant.specs.declared.roots.Roots.TheVariants.{Nowhere, One, Two, All}
-use Rattle.kin_instant.specs.Roots.{IsFraction, count_by, root_count, quadratic, AreRootsOf}
+use Rattle.kin_instant.specs.Roots.{IsFraction, count_by_signs, root_count, quadratic, AreRootsOf}
 use Rattle.kin_instant.proofs.Values.{sign-scaled, pair_sign-positive, pair_sign-scaled}
 use Rattle.kin_instant.proofs.Zeros.{line-zero, line-zero_at, quadratic-zero, root-zero_at, instant-negative, instant-split, instant-scaled}
 
@@ -50,11 +50,11 @@ line_as b c = ap (quadratic (pos 0) b) (twice c)
 same_polynomial : (p q : Quadratic) → p ≡ q → SameZeros p q
 same_polynomial p q e w i = (λ z. ap (λ (x : Quadratic). sign_at_instant x w) (sym e) ∙ z, λ z. ap (λ (x : Quadratic). sign_at_instant x w) e ∙ z)
 
-count_line-plus : (b c d : ℤ) → sign_of b ≡ Plus → count_by Zero (sign_of b) (sign_of c) (sign_of d) ≡ Some 1
-count_line-plus b c d e = ap (λ (s : Sign). count_by Zero s (sign_of c) (sign_of d)) e
+count_line-plus : (b c d : ℤ) → sign_of b ≡ Plus → count_by_signs Zero (sign_of b) (sign_of c) (sign_of d) ≡ Some 1
+count_line-plus b c d e = ap (λ (s : Sign). count_by_signs Zero s (sign_of c) (sign_of d)) e
 
-count_line-minus : (b c d : ℤ) → sign_of b ≡ Minus → count_by Zero (sign_of b) (sign_of c) (sign_of d) ≡ Some 1
-count_line-minus b c d e = ap (λ (s : Sign). count_by Zero s (sign_of c) (sign_of d)) e
+count_line-minus : (b c d : ℤ) → sign_of b ≡ Minus → count_by_signs Zero (sign_of b) (sign_of c) (sign_of d) ≡ Some 1
+count_line-minus b c d e = ap (λ (s : Sign). count_by_signs Zero s (sign_of c) (sign_of d)) e
 
 pub rising_line : (b c : ℤ) → pos 0 <ℤ b → (r : Shape) → IsFraction (neg_ℤ c) b r → IsCanonical r → AreRootsOf (quadratic (pos 0) b c) (One r)
 rising_line b c h r f k =
@@ -122,14 +122,14 @@ zero_nowhere b c e n = subst (λ (x : ℤ). AreRootsOf (quadratic (pos 0) x c) N
   number = counted (sign_of c) (sign_of (discriminant (pos 0) (pos 0) c)) (λ z. n (zero_of c z));
 }
   where
-    counted : (s t : Sign) → s ≢ Zero → Some 0 ≡ count_by Zero Zero s t
+    counted : (s t : Sign) → s ≢ Zero → Some 0 ≡ count_by_signs Zero Zero s t
     counted Minus t n = refl
     counted Zero t n = absurd (n refl)
     counted Plus t n = refl
 
 -- ---- quadratics
-count_plus : (a b c : ℤ) (s : Sign) → pos 0 <ℤ a → sign_of (discriminant a b c) ≡ s → root_count (quadratic a b c) ≡ count_by Plus (sign_of b) (sign_of c) s
-count_plus a b c s h e = ap₂ (λ (x y : Sign). count_by x (sign_of b) (sign_of c) y) (sign_in Plus a h) e
+count_plus : (a b c : ℤ) (s : Sign) → pos 0 <ℤ a → sign_of (discriminant a b c) ≡ s → root_count (quadratic a b c) ≡ count_by_signs Plus (sign_of b) (sign_of c) s
+count_plus a b c s h e = ap₂ (λ (x y : Sign). count_by_signs x (sign_of b) (sign_of c) y) (sign_in Plus a h) e
 
 pub negative_discriminant : (a b c : ℤ) → pos 0 <ℤ a → discriminant a b c <ℤ pos 0 → AreRootsOf (quadratic a b c) Nowhere
 negative_discriminant a b c h k = record {
@@ -325,7 +325,7 @@ irreducible_after a b c a' b' c' g some h real irrational e f l i = record {
     g_positive = omega (arith, ints)
 
 -- ---- the number of roots of the negated polynomial
-count_turned : (s t u v : Sign) → count_by (opposite_of s) (opposite_of t) (opposite_of u) v ≡ count_by s t u v
+count_turned : (s t u v : Sign) → count_by_signs (opposite_of s) (opposite_of t) (opposite_of u) v ≡ count_by_signs s t u v
 count_turned Zero Zero Zero v = refl
 count_turned Zero Zero Minus v = refl
 count_turned Zero Zero Plus v = refl
@@ -343,9 +343,9 @@ same_discriminant a b c = by_ring (a ∷ b ∷ c ∷ []) _ _ (search quotes dept
 
 pub count_negated : (p : Quadratic) → root_count (negated p) ≡ root_count p
 count_negated p =
-    ap (λ (z : ℤ). count_by (sign_of (neg_ℤ p.a)) (sign_of (neg_ℤ p.b)) (sign_of (neg_ℤ p.c)) (sign_of z)) (same_discriminant p.a p.b p.c)
-    ∙ ap (λ (s : Sign). count_by s (sign_of (neg_ℤ p.b)) (sign_of (neg_ℤ p.c)) (sign_of (discriminant p.a p.b p.c))) (sign_of-negative p.a)
-    ∙ ap₂ (λ (s t : Sign). count_by (opposite_of (sign_of p.a)) s t (sign_of (discriminant p.a p.b p.c))) (sign_of-negative p.b) (sign_of-negative p.c)
+    ap (λ (z : ℤ). count_by_signs (sign_of (neg_ℤ p.a)) (sign_of (neg_ℤ p.b)) (sign_of (neg_ℤ p.c)) (sign_of z)) (same_discriminant p.a p.b p.c)
+    ∙ ap (λ (s : Sign). count_by_signs s (sign_of (neg_ℤ p.b)) (sign_of (neg_ℤ p.c)) (sign_of (discriminant p.a p.b p.c))) (sign_of-negative p.a)
+    ∙ ap₂ (λ (s t : Sign). count_by_signs (opposite_of (sign_of p.a)) s t (sign_of (discriminant p.a p.b p.c))) (sign_of-negative p.b) (sign_of-negative p.c)
     ∙ count_turned (sign_of p.a) (sign_of p.b) (sign_of p.c) (sign_of (discriminant p.a p.b p.c))
 
 -- ---- what the code has, read as what it means

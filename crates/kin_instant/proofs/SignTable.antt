@@ -23,7 +23,7 @@ use Rattle.kin_num.proofs.LowerFractions.{not_less_itself}
 use Rattle.kin_num.proofs.InstantOrder.{below_upper, above_upper, at_upper, below_lower, above_lower, at_lower, level_value, above_fraction, below_fraction}
 use Rattle.kin_instant.specs.declared.roots.Roots.{Roots}
 use Rattle.kin_instant.specs.declared.roots.Roots.TheVariants.{Nowhere, One, Two, All}
-use Rattle.kin_instant.specs.Roots.{quadratic, AreRootsOf, count_by, root_count}
+use Rattle.kin_instant.specs.Roots.{quadratic, AreRootsOf, count_by_signs, root_count}
 use Rattle.kin_instant.proofs.Values.{sign_at-curvature}
 use Rattle.kin_instant.proofs.Zeros.{line-zero, line-zero_at, line-never, on_line, root-zero_at, instant-scaled, instant-negative, positive_product, square_zero}
 use Rattle.kin_instant.proofs.RootsOf.{constant_sign, rising_surds}
@@ -190,7 +190,7 @@ by_lead l s t e f = f ∙ ap (λ (x : Sign). product_of x t) (sym e)
 by_square : (d l s t : Sign) → d ≡ Plus → l ≡ Plus → s ≡ product_of t t → s ≡ product_of l (by_degree d t)
 by_square d l s t e f g = g ∙ ap₂ (λ (x y : Sign). product_of x (by_degree y t)) (sym f) (sym e)
 
-own_counted : (v s : Sign) (o : Sign) → Some 1 ≡ count_by Plus v s o → o ≡ Zero
+own_counted : (v s : Sign) (o : Sign) → Some 1 ≡ count_by_signs Plus v s o → o ≡ Zero
 own_counted v s Minus e = absurd cc
 own_counted v s Zero e = refl
 own_counted v s Plus e = absurd cc
@@ -225,13 +225,13 @@ module _ (a b c : ℤ) (h : pos 0 <ℤ a) (w : Shape) (i : IsCanonicalForm w) (f
   none_signed : AreRootsOf q Nowhere → IsSigned q Nowhere m
   none_signed k = everywhere f ∙ sym (lead-plus q h)
     where
-      negative : (v s o : Sign) → Some 0 ≡ count_by Plus v s o → o ≡ Minus
+      negative : (v s o : Sign) → Some 0 ≡ count_by_signs Plus v s o → o ≡ Minus
       negative v s Minus e = refl
       negative v s Zero e = absurd cc
       negative v s Plus e = absurd cc
 
       below : discriminant a b c <ℤ pos 0
-      below = sign_out Minus _ (negative (sign_of b) (sign_of c) _ (k.number ∙ ap (λ (s : Sign). count_by s (sign_of b) (sign_of c) (sign_of (discriminant a b c))) (sign_in Plus a h)))
+      below = sign_out Minus _ (negative (sign_of b) (sign_of c) _ (k.number ∙ ap (λ (s : Sign). count_by_signs s (sign_of b) (sign_of c) (sign_of (discriminant a b c))) (sign_in Plus a h)))
 
       here : sign_at_instant q w ≡ Plus
       here = instant-negative w i a b c h below
@@ -257,7 +257,7 @@ module _ (a b c : ℤ) (h : pos 0 <ℤ a) (w : Shape) (i : IsCanonicalForm w) (f
       nothing a = by_ring (a ∷ []) _ _ (search quotes depth 16) (search quotes depth 16) refl
 
       flat : discriminant a b c ≡ pos 0
-      flat = zero_of _ (own_counted (sign_of b) (sign_of c) _ (k.number ∙ ap (λ (s : Sign). count_by s (sign_of b) (sign_of c) (sign_of (discriminant a b c))) (sign_in Plus a h)))
+      flat = zero_of _ (own_counted (sign_of b) (sign_of c) _ (k.number ∙ ap (λ (s : Sign). count_by_signs s (sign_of b) (sign_of c) (sign_of (discriminant a b c))) (sign_in Plus a h)))
 
       zeros : (x y : ℤ) → pos 0 *ℤ x +ℤ y *ℤ pos 0 ≡ pos 0
       zeros x y = by_ring (x ∷ y ∷ []) _ _ (search quotes depth 16) (search quotes depth 16) refl
@@ -357,9 +357,9 @@ module _ (a b c : ℤ) (h : pos 0 <ℤ a) (w : Shape) (i : IsCanonicalForm w) (f
   positive_signed All k = absurd (code (zero_lead k.number))
     where
       zero_lead : None ≡ root_count q → Plus ≡ Zero
-      zero_lead e = never (sign_of b) (sign_of c) (sign_of (discriminant a b c)) (e ∙ ap (λ (s : Sign). count_by s (sign_of b) (sign_of c) (sign_of (discriminant a b c))) (sign_in Plus a h))
+      zero_lead e = never (sign_of b) (sign_of c) (sign_of (discriminant a b c)) (e ∙ ap (λ (s : Sign). count_by_signs s (sign_of b) (sign_of c) (sign_of (discriminant a b c))) (sign_in Plus a h))
         where
-          never : (v s o : Sign) → None ≡ count_by Plus v s o → Plus ≡ Zero
+          never : (v s o : Sign) → None ≡ count_by_signs Plus v s o → Plus ≡ Zero
           never v s Minus e = absurd cc
           never v s Zero e = absurd cc
           never v s Plus e = absurd cc

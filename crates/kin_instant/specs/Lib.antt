@@ -1,4 +1,5 @@
 pub mod Remainders
 pub mod Roots
 pub mod Places
+pub mod Keys
 pub mod Laws

@@ -18,11 +18,11 @@ IsFraction n d (Ratio m e) = m *ℤ d ≡ n *ℤ e
 IsFraction n d (Root a b c upper) = ⊥
 
 -- the instant stands in the answer
-abbrev pub Lists : Roots → Shape → Type 0
-Lists Nowhere w = ⊥
-Lists (One r) w = w ≡ r
-Lists (Two r s) w = (w ≡ r) ⊎ (w ≡ s)
-Lists All w = Unit {0}
+abbrev pub HasRoot : Roots → Shape → Type 0
+HasRoot Nowhere w = ⊥
+HasRoot (One r) w = w ≡ r
+HasRoot (Two r s) w = (w ≡ r) ⊎ (w ≡ s)
+HasRoot All w = Unit {0}
 
 -- each instant that stands by itself in the answer is canonical
 abbrev pub AreCanonical : Roots → Type 0
@@ -46,18 +46,18 @@ count_of (Two r s) = Some 2
 count_of All = None
 
 -- the number of real roots by the signs of the coefficients and of the discriminant: none is told where all instants are roots
-abbrev pub count_by : Sign → Sign → Sign → Sign → Option ℕ
-count_by Zero Zero Zero d = None
-count_by Zero Zero Minus d = Some 0
-count_by Zero Zero Plus d = Some 0
-count_by Zero Minus c d = Some 1
-count_by Zero Plus c d = Some 1
-count_by Minus b c Minus = Some 0
-count_by Minus b c Zero = Some 1
-count_by Minus b c Plus = Some 2
-count_by Plus b c Minus = Some 0
-count_by Plus b c Zero = Some 1
-count_by Plus b c Plus = Some 2
+abbrev pub count_by_signs : Sign → Sign → Sign → Sign → Option ℕ
+count_by_signs Zero Zero Zero d = None
+count_by_signs Zero Zero Minus d = Some 0
+count_by_signs Zero Zero Plus d = Some 0
+count_by_signs Zero Minus c d = Some 1
+count_by_signs Zero Plus c d = Some 1
+count_by_signs Minus b c Minus = Some 0
+count_by_signs Minus b c Zero = Some 1
+count_by_signs Minus b c Plus = Some 2
+count_by_signs Plus b c Minus = Some 0
+count_by_signs Plus b c Zero = Some 1
+count_by_signs Plus b c Plus = Some 2
 
 -- a*t^2 + b*t + c
 abbrev pub quadratic : ℤ → ℤ → ℤ → Quadratic
@@ -65,11 +65,11 @@ quadratic a b c = record { a = a; b = b; c = c }
 
 -- the number of real roots of a quadratic
 abbrev pub root_count : Quadratic → Option ℕ
-root_count p = count_by (sign_of p.a) (sign_of p.b) (sign_of p.c) (sign_of (discriminant p.a p.b p.c))
+root_count p = count_by_signs (sign_of p.a) (sign_of p.b) (sign_of p.c) (sign_of (discriminant p.a p.b p.c))
 
 -- the answer lists, by rising time, exactly the canonical forms of the real roots
 pub record AreRootsOf (p : Quadratic) (answer : Roots) : Type 0 where
   pub canonical : AreCanonical answer
-  pub exact : (w : Shape) → IsCanonicalForm w → (sign_at_instant p w ≡ Zero) ↔ Lists answer w
+  pub exact : (w : Shape) → IsCanonicalForm w → (sign_at_instant p w ≡ Zero) ↔ HasRoot answer w
   pub rising : IsRising answer
   pub number : count_of answer ≡ root_count p

@@ -12,6 +12,7 @@
 //! `Equal` exactly for equal forms; [`next::next_root`] is the least later root. Counted calls raise the count by one.
 #![tactic(auto)]
 
+pub mod key;
 pub mod laws;
 pub mod next;
 pub mod order;
@@ -26,3 +27,4 @@ pub mod sign;
 pub mod solve;
 #[cfg(test)]
 mod tests;
+mod wide_root;

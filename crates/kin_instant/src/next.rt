@@ -1,13 +1,16 @@
-//! The next root of a quadratic.
+//! The next root of a quadratic, after an instant or after a moment at which its sign is known.
 
-ghost use Rattle.std.specs.Prelude.{◌≡◌, ◌⊎◌, ◌↔◌, MatchOption, IfSome, IsNone};
+ghost use Rattle.std.specs.Prelude.{◌≡◌, ◌≢◌, ◌⊎◌, ◌↔◌, MatchOption, IfSome, IfNone, IsNone, pos};
+ghost use Rattle.kin_algebra.specs.declared.sign.Sign.TheVariants.{Zero};
+ghost use Rattle.kin_num.specs.Instants.{sign_at};
 ghost use Rattle.kin_num.specs.Order.{IsLess};
 ghost use Rattle.kin_instant.specs.Places.{IsZeroPolynomial, IsNextRoot, HasNoRootAfter, KeepsSign};
 
 use crate::order::compare;
 use crate::roots::Roots;
 use crate::solve::roots;
-use kin_num::instant::Instant;
+use kin_algebra::sign::Sign;
+use kin_num::instant::{Instant, Moment};
 use kin_num::poly::Poly;
 use std::cmp::Ordering;
 
@@ -36,5 +39,42 @@ pub fn next_root(p: &Poly, w: &Instant) -> Option<Instant>
             Some(r) => Some(r),
             None => if_later(s, w),
         },
+    }
+}
+
+/// The least root of `p` later than the moment `m`, at which `p` has this sign, which isn't 0.
+///
+/// A line whose slope has its sign moves away from 0; any other line with a slope comes to its root. So a line takes
+/// no comparison, and its root is made only where it is still to come.
+pub fn next_root_from(p: &Poly, m: &Moment, sign: Sign) -> Option<Instant>
+    requires sign { sign_at p.now m.now ≡ sign }
+    requires some { sign ≢ Zero }
+    ensures next { IfSome result (λ r. IsNextRoot p.now m.now.at r) }
+    ensures none { IfNone result (IsZeroPolynomial p.now ⊎ HasNoRootAfter p.now m.now.at) }
+    ensures kept { KeepsSign p.now m.now.at result }
+{
+    if p.a() == 0 {
+        line_root_from(p, m, sign)
+    } else {
+        next_root(p, &m.at)
+    }
+}
+
+/// The root of a line later than the moment `m`, at which the line has this sign, which isn't 0.
+fn line_root_from(p: &Poly, m: &Moment, sign: Sign) -> Option<Instant>
+    requires flat { p.now.a ≡ pos 0 }
+    requires sign { sign_at p.now m.now ≡ sign }
+    requires some { sign ≢ Zero }
+    ensures next { IfSome result (λ r. IsNextRoot p.now m.now.at r) }
+    ensures none { IfNone result (IsZeroPolynomial p.now ⊎ HasNoRootAfter p.now m.now.at) }
+    ensures kept { KeepsSign p.now m.now.at result }
+{
+    let (_, b, _, _) = (p.a(), p.b(), p.c(), m.at.shape());
+    if let Sign::Plus = sign.times(Sign::of(i128::from(b))) {
+        return None;
+    }
+    match roots(p) {
+        Roots::One(r) => Some(r),
+        _ => None,
     }
 }

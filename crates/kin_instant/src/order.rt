@@ -88,7 +88,7 @@ pub fn compare(x: &Instant, y: &Instant) -> Ordering
 }
 
 /// The phases of one instant: at it comes before just after it.
-fn phase_order(x: Phase, y: Phase) -> Ordering
+pub(crate) fn phase_order(x: Phase, y: Phase) -> Ordering
     ensures { MatchOrdering result ((x ≡ At) × (y ≡ After)) (x ≡ y) ((x ≡ After) × (y ≡ At)) }
 {
     match (x, y) {

@@ -76,7 +76,7 @@ pub(crate) fn value_at_root(p: &Poly, a: i64, b: i64, c: i64, upper: bool) -> Si
 }
 
 /// The discriminant of a quadratic that has two real roots.
-fn radicand(a: i64, b: i64, c: i64) -> u64
+pub(crate) fn radicand(a: i64, b: i64, c: i64) -> u64
     requires a_small { unsigned_abs a ≤ 2 ^ 29 }
     requires b_small { unsigned_abs b ≤ 2 ^ 31 }
     requires c_small { unsigned_abs c ≤ 2 ^ 29 }

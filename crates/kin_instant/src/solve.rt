@@ -7,7 +7,7 @@ ghost use Rattle.kin_num.specs.declared.instant.Shape.{Shape as InstantShape};
 ghost use Rattle.kin_num.specs.Quadratic.{Quadratic, IsSmall};
 ghost use Rattle.kin_num.specs.Canonical.{IsCanonicalForm, discriminant};
 ghost use Rattle.kin_num.specs.Instants.{sign_at_instant};
-ghost use Rattle.kin_instant.specs.Roots.{Lists, AreCanonical, IsRising, count_of, root_count, AreRootsOf, quadratic};
+ghost use Rattle.kin_instant.specs.Roots.{HasRoot, AreCanonical, IsRising, count_of, root_count, AreRootsOf, quadratic};
 
 use crate::product::difference_of_products;
 use crate::ratio::{exact_quotient, ratio};
@@ -118,7 +118,7 @@ fn quadratic_roots(a: i64, b: i64, c: i64) -> Roots
 /// common divisors, and no memory.
 pub fn roots(p: &Poly) -> Roots
     ensures canonical { AreCanonical result }
-    ensures exact { (w : InstantShape) → IsCanonicalForm w → (sign_at_instant p.now w ≡ Zero) ↔ Lists result w }
+    ensures exact { (w : InstantShape) → IsCanonicalForm w → (sign_at_instant p.now w ≡ Zero) ↔ HasRoot result w }
     ensures rising { IsRising result }
     ensures number { count_of result ≡ root_count p.now }
 {

@@ -1,5 +1,6 @@
 ghost use Rattle.std.specs.Prelude.{◌≡◌, ◌<◌};
 
+use crate::key::key_of;
 use crate::next::next_root;
 use crate::order::compare;
 use crate::pairs::PAIRS;
@@ -158,4 +159,25 @@ fn next_roots(rt: HostRuntime) {
     assert_eq!(rt; next([1, -5, 6], [0, 3, 1, 0]), Some(None));
     assert_eq!(rt; next([1, 0, -2], [0, 0, 1, 0]), Some(Some(root_two(true))));
     assert_eq!(rt; next([0, 0, 0], [0, 0, 1, 0]), Some(None));
+}
+
+/// The whole part of `2^32` times the instant, and whether another instant may have it.
+fn span(numbers: [i64; 4]) -> Option<(u64, bool)> {
+    let at = instant(numbers)?;
+    let key = key_of(&Moment {
+        at,
+        phase: Phase::At,
+    });
+    Some((key.span, key.is_vague))
+}
+
+/// The roots are those of 2, and 5 less it; their spans were computed with whole numbers of any width.
+#[test]
+fn spans_are_whole_parts(rt: HostRuntime) {
+    assert!(rt; matches!(span([0, 3, 2, 0]), Some((6_442_450_944, false))));
+    assert!(rt; matches!(span([0, 1, 65_537, 0]), Some((65_535, true))));
+    assert!(rt; matches!(span([0, -3, 2, 0]), Some((0, true))));
+    assert!(rt; matches!(span([1, 0, -2, 1]), Some((6_074_000_999, true))));
+    assert!(rt; matches!(span([1, 0, -2, 0]), Some((0, true))));
+    assert!(rt; matches!(span([1, -10, 23, 0]), Some((15_400_835_480, true))));
 }

@@ -22,6 +22,10 @@ is_no_plus Minus = true
 is_no_plus Zero = true
 is_no_plus Plus = false
 
+-- Where the numbers come from: the whole part and the divisor of an instant's number are at most w = 2^33, and the coefficients
+-- of its polynomial at most h = 2^31, so two different instants lie at least 1/(12*h^2*w^4) apart, which is more than 2^-200, and all of them
+-- lie between -2^34 and 2^34.
+
 -- a grain is a fraction of the denominator 2^200; this is the line of grain j, counted from -2^34 on
 abbrev pub grain_line : ℕ → Quadratic
 grain_line j = line (pos j -ℤ pos (2 ^ 234)) (pos (2 ^ 200))

@@ -11,17 +11,17 @@ use Rattle.kin_queue.specs.Hole.{Stands, StandsOutside}
 use Rattle.kin_queue.proofs.Entries.{same, same_is, same_itself, look_up, look_up-place, look_up-missed, look_up-absent}
 
 -- an id stands at one place alone
-abbrev pub AreApart : List (ℕ × Moment) → Type 0
-AreApart es = (i j : ℕ) (d : ℕ × Moment) → i < length es → j < length es → (get_or es i d).0 ≡ (get_or es j d).0 → i ≡ j
+abbrev pub HaveDifferentIds : List (ℕ × Moment) → Type 0
+HaveDifferentIds es = (i j : ℕ) (d : ℕ × Moment) → i < length es → j < length es → (get_or es i d).0 ≡ (get_or es j d).0 → i ≡ j
 
-pub heap_apart : (es : List (ℕ × Moment)) (ps : List ℕ) → IsHeap es ps → AreApart es
+pub heap_apart : (es : List (ℕ × Moment)) (ps : List ℕ) → IsHeap es ps → HaveDifferentIds es
 heap_apart es ps heap i j d li lj e = sym (heap.placed i d li).1 ∙ ap (λ (k : ℕ). get_or ps k 0) e ∙ (heap.placed j d lj).1
 
 -- what is looked up stands there
 pub found : (es : List (ℕ × Moment)) (q : ℕ) (v : Moment) → look_up q es ≡ Some v → Stands es (q, v)
 found es q v h = let r = look_up-place es q v h in (r.0, r.1, r.2)
 
-pub found_at : (es : List (ℕ × Moment)) → AreApart es → (e : ℕ × Moment) → Stands es e → look_up e.0 es ≡ Some e.1
+pub found_at : (es : List (ℕ × Moment)) → HaveDifferentIds es → (e : ℕ × Moment) → Stands es e → look_up e.0 es ≡ Some e.1
 found_at es apart e s = at (look_up e.0 es) refl
   where
     at : (o : Option Moment) → look_up e.0 es ≡ o → look_up e.0 es ≡ Some e.1
@@ -35,7 +35,7 @@ none_some : (v : Moment) → None ≡ Some v → ⊥
 none_some v e = cc
 
 -- lists with the same entries of an id answer it alike
-pub same_look_up : (es fs : List (ℕ × Moment)) → AreApart es → AreApart fs → (q : ℕ) → ((v : Moment) → Stands es (q, v) ↔ Stands fs (q, v)) → look_up q es ≡ look_up q fs
+pub same_look_up : (es fs : List (ℕ × Moment)) → HaveDifferentIds es → HaveDifferentIds fs → (q : ℕ) → ((v : Moment) → Stands es (q, v) ↔ Stands fs (q, v)) → look_up q es ≡ look_up q fs
 same_look_up es fs ae af q same = at (look_up q es) (look_up q fs) refl refl
   where
     at : (a b : Option Moment) → look_up q es ≡ a → look_up q fs ≡ b → look_up q es ≡ look_up q fs
@@ -56,7 +56,7 @@ by_id q k P same_id other = elim (same q k) as (λ b. same q k ≡ b → P b) [
   | false ↦ λ t. other (λ e. absurd (let both : true ≡ false = sym (subst (λ (x : ℕ). same q x ≡ true) e (same_itself q)) ∙ t in cc))
 ] refl
 
-pub moments_inserted : (es fs : List (ℕ × Moment)) (x : ℕ × Moment) → AreApart es → AreApart fs → ((e : ℕ × Moment) → Stands fs e ↔ ((e ≡ x) ⊎ Stands es e)) → from_entries {R = nat_cmp} fs ≡ map.insert (from_entries es) x.0 x.1
+pub moments_inserted : (es fs : List (ℕ × Moment)) (x : ℕ × Moment) → HaveDifferentIds es → HaveDifferentIds fs → ((e : ℕ × Moment) → Stands fs e ↔ ((e ≡ x) ⊎ Stands es e)) → from_entries {R = nat_cmp} fs ≡ map.insert (from_entries es) x.0 x.1
 moments_inserted es fs x ae af is =
     same_map nat_cmp_total nat_cmp-IsAntisymmetric _ _ (λ q. get-from_entries nat_cmp_total fs q ∙ answer q ∙ sym (get-insert nat_cmp_total (from_entries es) x.0 x.1 q ∙ ap (cond (same q x.0) (Some x.1)) (get-from_entries nat_cmp_total es q)))
   where
@@ -65,7 +65,7 @@ moments_inserted es fs x ae af is =
         (λ e. ap (λ (k : ℕ). look_up k fs) e ∙ found_at fs af x ((is x).1 (inl refl)))
         (λ n. same_look_up fs es af ae q (λ v. (λ s. elim ((is (q, v)).0 s) [ inl e ↦ absurd (n (ap (λ (k : ℕ × Moment). k.0) e)) | inr o ↦ o ], λ s. (is (q, v)).1 (inr s))))
 
-pub moments_removed : (es fs : List (ℕ × Moment)) (place : ℕ) (d : ℕ × Moment) → AreApart es → AreApart fs → place < length es → ((e : ℕ × Moment) → Stands fs e ↔ StandsOutside es place e) → from_entries {R = nat_cmp} fs ≡ map.remove (from_entries es) (get_or es place d).0
+pub moments_removed : (es fs : List (ℕ × Moment)) (place : ℕ) (d : ℕ × Moment) → HaveDifferentIds es → HaveDifferentIds fs → place < length es → ((e : ℕ × Moment) → Stands fs e ↔ StandsOutside es place e) → from_entries {R = nat_cmp} fs ≡ map.remove (from_entries es) (get_or es place d).0
 moments_removed es fs place d ae af lt is =
     same_map nat_cmp_total nat_cmp-IsAntisymmetric _ _ (λ q. get-from_entries nat_cmp_total fs q ∙ answer q ∙ sym (get-remove nat_cmp_total (from_entries es) (get_or es place d).0 q ∙ ap (cond (same q (get_or es place d).0) None) (get-from_entries nat_cmp_total es q)))
   where
@@ -84,10 +84,10 @@ moments_removed es fs place d ae af lt is =
         (λ e. nowhere fs q (λ v s. other_id q v ((is (q, v)).0 s) e))
         (λ n. same_look_up fs es af ae q (λ v. (λ s. let o = (is (q, v)).0 s in (o.0, o.1, o.3), λ s. (is (q, v)).1 (outside q v n s))))
 
-tail_apart : (e : ℕ × Moment) (es : List (ℕ × Moment)) → AreApart (e ∷ es) → AreApart es
+tail_apart : (e : ℕ × Moment) (es : List (ℕ × Moment)) → HaveDifferentIds (e ∷ es) → HaveDifferentIds es
 tail_apart e es a i j d li lj s = let h : suc i ≡ suc j = a (suc i) (suc j) d (omega arith) (omega arith) s in omega arith
 
-pub len_entries : (es : List (ℕ × Moment)) → AreApart es → map.len (from_entries {R = nat_cmp} es) ≡ length es
+pub len_entries : (es : List (ℕ × Moment)) → HaveDifferentIds es → map.len (from_entries {R = nat_cmp} es) ≡ length es
 len_entries [] a = len-empty nat_cmp Moment
 len_entries (e ∷ es) a =
     let none : look_up e.0 es ≡ None = look_up-absent es e.0 e (λ i li s. absurd (let h : suc i ≡ 0 = a (suc i) 0 e (omega arith) (omega arith) s in omega arith)) in

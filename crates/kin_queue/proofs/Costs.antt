@@ -5,12 +5,14 @@ use Rattle.std.proofs.lemmas.Bool.{cases_eq}
 use Rattle.kin_queue.specs.Cost.{TakesSteps}
 use Rattle.kin_queue.specs.Hole.{RisesWithin}
 
--- a comparison that halves the factor
-pub one_more : (factor less bound old at new : ℕ) → RisesWithin factor bound old at → new ≡ at + 1 → 2 * less ≤ factor → RisesWithin less bound old new
-one_more factor less bound old at new (r, e, b) n h =
-    let step : 2 ^ (r + 1) ≡ 2 ^ r * 2 = pow-add 2 r 1 in
+-- at most one comparison for a half of the factor
+pub one_more : (factor less bound old at new : ℕ) → RisesWithin factor bound old at → at ≤ new → new ≤ at + 1 → 2 * less ≤ factor → RisesWithin less bound old new
+one_more factor less bound old at new (r, e, b) low high h =
     let part : 2 ^ r * (2 * less) ≤ 2 ^ r * factor = mul-le (2 ^ r) (2 * less) (2 ^ r) factor (omega arith) h in
-    (r + 1, omega arith, rw step (omega arith))
+    elim (cases_eq new at) [
+      | inl s ↦ (r, omega arith, omega arith)
+      | inr s ↦ let step : 2 ^ (r + 1) ≡ 2 ^ r * 2 = pow-add 2 r 1 in (r + 1, omega arith, rw step (omega arith))
+    ]
 
 pub less_factor : (factor less bound old new : ℕ) → RisesWithin factor bound old new → less ≤ factor → RisesWithin less bound old new
 less_factor factor less bound old new (r, e, b) h =
@@ -20,13 +22,16 @@ less_factor factor less bound old new (r, e, b) h =
 pub more_bound : (factor bound more old new : ℕ) → RisesWithin factor bound old new → bound ≤ more → RisesWithin factor more old new
 more_bound factor bound more old new (r, e, b) h = (r, e, omega arith)
 
--- one or two comparisons that double the square's side
-pub two_more : (factor i j old at new : ℕ) → RisesWithin factor (i * i) old at → at + 1 ≤ new → new ≤ at + 2 → 2 * i ≤ j → RisesWithin factor (j * j) old new
+-- at most two comparisons for the square of twice the side
+pub two_more : (factor i j old at new : ℕ) → RisesWithin factor (i * i) old at → at ≤ new → new ≤ at + 2 → 2 * i ≤ j → RisesWithin factor (j * j) old new
 two_more factor i j old at new (r, e, b) low high h =
     let side : (2 * i) * (2 * i) ≤ j * j = mul-le (2 * i) (2 * i) j j h h in
-    elim (cases_eq new (at + 1)) [
-      | inl s ↦ let step : 2 ^ (r + 1) ≡ 2 ^ r * 2 = pow-add 2 r 1 in (r + 1, omega arith, rw step (omega arith))
-      | inr s ↦ let step : 2 ^ (r + 2) ≡ 2 ^ r * 4 = pow-add 2 r 2 in (r + 2, omega arith, rw step (omega arith))
+    elim (cases_eq new at) [
+      | inl s ↦ (r, omega arith, omega arith)
+      | inr n ↦ elim (cases_eq new (at + 1)) [
+        | inl s ↦ let step : 2 ^ (r + 1) ≡ 2 ^ r * 2 = pow-add 2 r 1 in (r + 1, omega arith, rw step (omega arith))
+        | inr s ↦ let step : 2 ^ (r + 2) ≡ 2 ^ r * 4 = pow-add 2 r 2 in (r + 2, omega arith, rw step (omega arith))
+      ]
     ]
 
 -- a way up that ends where it began, and the way down from there

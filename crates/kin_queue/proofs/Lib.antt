@@ -1,13 +1,17 @@
 pub mod Entries
 pub mod Looks
 pub mod Order
+pub mod Tickets
 pub mod Moves
 pub mod Rising
 pub mod Sinking
 pub mod Filling
 pub mod Contents
 pub mod Begin
+pub mod Opening
+pub mod Steps
 pub mod Root
 pub mod Costs
 pub mod Whole
 pub mod Known
+pub mod Noting

@@ -1,4 +1,5 @@
 pub mod Agenda
 pub mod Cost
+pub mod Tickets
 pub mod Heap
 pub mod Hole

@@ -1,16 +1,21 @@
 //! The heap below the queue: entries with an earliest one first, and the place of each id.
 //!
 //! Right below place p lie the places 2p + 1 and 2p + 2, and no entry is earlier than the one above it. A hole rises or
-//! sinks to where an entry may stand, so that each other entry on its way moves once.
+//! sinks to where an entry may stand, so that each other entry on its way moves once. An entry is a ticket of 16 bytes;
+//! the moments stand by id beside the heap, and are looked at only where two keys don't tell which one is earlier.
 
-ghost use Rattle.std.specs.Prelude.{◌≡◌, ◌≢◌, ◌⊎◌, ◌↔◌, ℕ, ◌+◌, ◌*◌, ◌<◌, ◌≤◌, length, slice_set, slice_index_or, None, IfSome, IfNone, vec_len, vec_capacity};
+ghost use Rattle.std.specs.Prelude.{◌≡◌, ◌≢◌, ◌⊎◌, ◌↔◌, ℕ, ◌+◌, ◌*◌, ◌<◌, ◌≤◌, length, slice_set, slice_index_or, None, IfSome, IfNone, IsTrue, vec_len, vec_capacity};
 ghost use Rattle.std.specs.FinMap.{get, insert, remove, from_entries};
 ghost use Rattle.std.specs.Ordering.{nat_cmp};
-ghost use Rattle.kin_num.specs.Canonical.{IsCanonical};
+ghost use Rattle.kin_num.specs.Order.{IsEarlier};
+ghost use Rattle.kin_num.specs.declared.instant.Moment.{Moment as Time};
 ghost use Rattle.kin_queue.specs.Cost.{TakesSteps};
-ghost use Rattle.kin_queue.specs.Heap.{IsHeap};
-ghost use Rattle.kin_queue.specs.Hole.{IsHollow, FitsBelow, FitsAbove, Stands, StandsOutside, HasMoved, IsEarliestBelow, RisesWithin};
+ghost use Rattle.kin_queue.specs.Tickets.{moment_in, entry_of, entries_of, IsStamped, AreStamped};
+ghost use Rattle.kin_queue.specs.Heap.{IsKeyed};
+ghost use Rattle.kin_queue.specs.Hole.{IsOpen, FitsBelow, FitsAbove, Stands, StandsOutside, HasMoved, IsEarliestBelow, RisesWithin};
 
+use crate::ticket::Ticket;
+use kin_instant::key::order_by_keys;
 use kin_instant::order::compare_moments;
 use kin_num::{Moment, Steps};
 use std::cmp::Ordering;
@@ -18,105 +23,112 @@ use std::sync::ledger::Ledger;
 
 /// Puts an entry in, for which there is room. Its id isn't there yet.
 pub fn put_in<L: Ledger>(
-    entries: &mut Vec<(usize, Moment)>,
+    entries: &mut Vec<Ticket>,
     places: &mut [usize],
-    entry: (usize, Moment),
+    moments: &[Moment],
+    entry: Ticket,
     steps: &mut Steps<L>,
 )
-    requires heap { IsHeap entries.old.items places.old }
-    requires absent { get (from_entries {R = nat_cmp} entries.old.items) entry.0 ≡ None }
-    requires canonical { IsCanonical entry.1.at }
+    requires heap { IsKeyed moments.now entries.old.items places.old }
+    requires absent { get (from_entries {R = nat_cmp} (entries_of moments.now entries.old.items)) entry.id ≡ None }
+    requires stamped { IsStamped moments.now entry }
     requires room { vec_len entries.old < vec_capacity entries.old }
-    requires known { entry.0 < length places.old }
-    ensures heap { IsHeap entries.new.items places.new }
-    ensures moments { from_entries {R = nat_cmp} entries.new.items ≡ insert (from_entries entries.old.items) entry.0 entry.1 }
+    requires known { entry.id < length places.old }
+    ensures heap { IsKeyed moments.now entries.new.items places.new }
+    ensures moments { from_entries {R = nat_cmp} (entries_of moments.now entries.new.items) ≡ insert (from_entries (entries_of moments.now entries.old.items)) entry.id (moment_in moments.now entry.id) }
     ensures cost { TakesSteps (length entries.old.items) steps.old steps.new }
 {
     let end = entries.len();
     entries.push_reserved(entry);
-    settle(entries, places, end, &entry, steps);
+    settle(entries, places, moments, end, &entry, steps);
 }
 
 /// Takes the entry at a place out. The last entry comes into its stead and moves to where it may
 /// stand.
 pub fn take_out<L: Ledger>(
-    entries: &mut Vec<(usize, Moment)>,
+    entries: &mut Vec<Ticket>,
     places: &mut [usize],
+    moments: &[Moment],
     place: usize,
     steps: &mut Steps<L>,
 )
-    requires heap { IsHeap entries.old.items places.old }
+    requires heap { IsKeyed moments.now entries.old.items places.old }
     requires place { place < length entries.old.items }
-    ensures heap { IsHeap entries.new.items places.new }
-    ensures moments { (d : ℕ × Moment) → from_entries {R = nat_cmp} entries.new.items ≡ remove (from_entries entries.old.items) (slice_index_or entries.old.items place d).0 }
+    ensures heap { IsKeyed moments.now entries.new.items places.new }
+    ensures moments { (d : ℕ × Time) → from_entries {R = nat_cmp} (entries_of moments.now entries.new.items) ≡ remove (from_entries (entries_of moments.now entries.old.items)) (slice_index_or (entries_of moments.now entries.old.items) place d).0 }
     ensures cost { TakesSteps (length entries.old.items) steps.old steps.new }
 {
     let last = entries.take_last();
     if place == entries.len() {
         return;
     }
-    settle(entries, places, place, &last, steps);
+    settle(entries, places, moments, place, &last, steps);
 }
 
 // Puts the entry where it may stand, beginning at a hole.
 fn settle<L: Ledger>(
-    entries: &mut [(usize, Moment)],
+    entries: &mut [Ticket],
     places: &mut [usize],
+    moments: &[Moment],
     start: usize,
-    entry: &(usize, Moment),
+    entry: &Ticket,
     steps: &mut Steps<L>,
 )
-    requires { IsHollow entries.old places.old start entry.now }
-    ensures heap { IsHeap entries.new places.new }
-    ensures stands { (e : ℕ × Moment) → Stands entries.new e ↔ ((e ≡ entry.now) ⊎ StandsOutside entries.old start e) }
+    requires { IsOpen moments.now entries.old places.old start entry.now }
+    ensures heap { IsKeyed moments.now entries.new places.new }
+    ensures stands { (e : ℕ × Time) → Stands (entries_of moments.now entries.new) e ↔ ((e ≡ entry_of moments.now entry.now) ⊎ StandsOutside (entries_of moments.now entries.old) start e) }
     ensures cost { RisesWithin 1 (length entries.old * length entries.old) steps.old steps.new }
 {
-    let hole = find_hole(entries, places, start, entry, steps);
+    let hole = find_hole(entries, places, moments, start, entry, steps);
     put(entries, places, hole, *entry);
 }
 
 // Moves the hole to where the entry may stand.
 fn find_hole<L: Ledger>(
-    entries: &mut [(usize, Moment)],
+    entries: &mut [Ticket],
     places: &mut [usize],
+    moments: &[Moment],
     start: usize,
-    entry: &(usize, Moment),
+    entry: &Ticket,
     steps: &mut Steps<L>,
 ) -> usize
-    requires { IsHollow entries.old places.old start entry.now }
-    ensures moved { HasMoved entry.now entries.old start entries.new places.new result }
-    ensures above { FitsBelow entries.new result entry.now }
-    ensures below { FitsAbove entries.new result entry.now }
+    requires { IsOpen moments.now entries.old places.old start entry.now }
+    ensures moved { HasMoved (entry_of moments.now entry.now) (entries_of moments.now entries.old) start (entries_of moments.now entries.new) places.new result }
+    ensures stamped { AreStamped moments.now entries.new }
+    ensures above { FitsBelow (entries_of moments.now entries.new) result (entry_of moments.now entry.now) }
+    ensures below { FitsAbove (entries_of moments.now entries.new) result (entry_of moments.now entry.now) }
     ensures cost { RisesWithin 1 (length entries.old * length entries.old) steps.old steps.new }
 {
-    let hole = rise(entries, places, start, entry, steps);
+    let hole = rise(entries, places, moments, start, entry, steps);
     if hole != start {
         return hole;
     }
-    sink(entries, places, start, entry, steps)
+    sink(entries, places, moments, start, entry, steps)
 }
 
 // Moves the hole up past all later entries.
 fn rise<L: Ledger>(
-    entries: &mut [(usize, Moment)],
+    entries: &mut [Ticket],
     places: &mut [usize],
+    moments: &[Moment],
     start: usize,
-    entry: &(usize, Moment),
+    entry: &Ticket,
     steps: &mut Steps<L>,
 ) -> usize
-    requires { IsHollow entries.old places.old start entry.now }
-    ensures moved { HasMoved entry.now entries.old start entries.new places.new result }
-    ensures above { FitsBelow entries.new result entry.now }
-    ensures below { result ≢ start → FitsAbove entries.new result entry.now }
+    requires { IsOpen moments.now entries.old places.old start entry.now }
+    ensures moved { HasMoved (entry_of moments.now entry.now) (entries_of moments.now entries.old) start (entries_of moments.now entries.new) places.new result }
+    ensures stamped { AreStamped moments.now entries.new }
+    ensures above { FitsBelow (entries_of moments.now entries.new) result (entry_of moments.now entry.now) }
+    ensures below { result ≢ start → FitsAbove (entries_of moments.now entries.new) result (entry_of moments.now entry.now) }
     ensures cost { RisesWithin 1 (start + 1) steps.old steps.new }
 {
     let mut hole = start;
     while hole > 0 {
         let parent = (hole - 1) / 2;
         let above = entries[parent];
-        let Ordering::Less = compare_moments(&entry.1, &above.1, steps) else {
+        if !is_earlier(entry, &above, moments, steps) {
             return hole;
-        };
+        }
         put(entries, places, hole, above);
         hole = parent;
     }
@@ -125,25 +137,27 @@ fn rise<L: Ledger>(
 
 // Moves the hole down past all earlier entries, by way of the earlier one of two.
 fn sink<L: Ledger>(
-    entries: &mut [(usize, Moment)],
+    entries: &mut [Ticket],
     places: &mut [usize],
+    moments: &[Moment],
     start: usize,
-    entry: &(usize, Moment),
+    entry: &Ticket,
     steps: &mut Steps<L>,
 ) -> usize
-    requires hollow { IsHollow entries.old places.old start entry.now }
-    requires above { FitsBelow entries.old start entry.now }
-    ensures moved { HasMoved entry.now entries.old start entries.new places.new result }
-    ensures above { FitsBelow entries.new result entry.now }
-    ensures below { FitsAbove entries.new result entry.now }
+    requires hollow { IsOpen moments.now entries.old places.old start entry.now }
+    requires above { FitsBelow (entries_of moments.now entries.old) start (entry_of moments.now entry.now) }
+    ensures moved { HasMoved (entry_of moments.now entry.now) (entries_of moments.now entries.old) start (entries_of moments.now entries.new) places.new result }
+    ensures stamped { AreStamped moments.now entries.new }
+    ensures above { FitsBelow (entries_of moments.now entries.new) result (entry_of moments.now entry.now) }
+    ensures below { FitsAbove (entries_of moments.now entries.new) result (entry_of moments.now entry.now) }
     ensures cost { RisesWithin ((start + 1) * (start + 1)) (length entries.old * length entries.old) steps.old steps.new }
 {
     let mut hole = start;
-    while let Some(child) = earliest_below(entries, hole, steps) {
+    while let Some(child) = earliest_below(entries, moments, hole, steps) {
         let below = entries[child];
-        let Ordering::Less = compare_moments(&below.1, &entry.1, steps) else {
+        if !is_earlier(&below, entry, moments, steps) {
             return hole;
-        };
+        }
         put(entries, places, hole, below);
         hole = child;
     }
@@ -152,12 +166,14 @@ fn sink<L: Ledger>(
 
 // Where the earlier one of the entries right below a place stands, if there is one.
 fn earliest_below<L: Ledger>(
-    entries: &[(usize, Moment)],
+    entries: &[Ticket],
+    moments: &[Moment],
     place: usize,
     steps: &mut Steps<L>,
 ) -> Option<usize>
+    requires { AreStamped moments.now entries.now }
     ensures none { IfNone result (length entries.now ≤ 2 * place + 1) }
-    ensures some { IfSome result (λ child. IsEarliestBelow entries.now place child) }
+    ensures some { IfSome result (λ child. IsEarliestBelow (entries_of moments.now entries.now) place child) }
     ensures low { steps.old ≤ steps.new }
     ensures high { steps.new ≤ steps.old + 1 }
     ensures free { IfNone result (steps.new ≡ steps.old) }
@@ -170,20 +186,42 @@ fn earliest_below<L: Ledger>(
     if right == entries.len() {
         return Some(left);
     }
-    match compare_moments(&entries[right].1, &entries[left].1, steps) {
-        Ordering::Less => Some(right),
-        _ => Some(left),
+    if is_earlier(&entries[right], &entries[left], moments, steps) {
+        Some(right)
+    } else {
+        Some(left)
     }
 }
 
-// Puts an entry at a place.
-fn put(entries: &mut [(usize, Moment)], places: &mut [usize], place: usize, entry: (usize, Moment))
-    requires place { place < length entries.old }
-    requires known { entry.0 < length places.old }
-    ensures entries { entries.new ≡ slice_set entries.old place entry }
-    ensures places { places.new ≡ slice_set places.old entry.0 place }
+// Whether the moment of one ticket is earlier than that of the other one.
+fn is_earlier<L: Ledger>(x: &Ticket, y: &Ticket, moments: &[Moment], steps: &mut Steps<L>) -> bool
+    requires left { IsStamped moments.now x.now }
+    requires right { IsStamped moments.now y.now }
+    ensures earlier { IsTrue result ↔ IsEarlier (moment_in moments.now x.now.id) (moment_in moments.now y.now.id) }
+    ensures low { steps.old ≤ steps.new }
+    ensures high { steps.new ≤ steps.old + 1 }
 {
-    let id = entry.0;
+    match order_by_keys(&x.key(), &y.key()) {
+        Some(order) => matches!(order, Ordering::Less),
+        None => is_earlier_moment(&moments[x.id as usize], &moments[y.id as usize], steps),
+    }
+}
+
+// Whether a moment is earlier than another one.
+fn is_earlier_moment<L: Ledger>(x: &Moment, y: &Moment, steps: &mut Steps<L>) -> bool
+    ensures earlier { IsTrue result ↔ IsEarlier x.now y.now }
+    ensures count { steps.new ≡ steps.old + 1 }
+{
+    matches!(compare_moments(x, y, steps), Ordering::Less)
+}
+
+// Puts an entry at a place.
+fn put(entries: &mut [Ticket], places: &mut [usize], place: usize, entry: Ticket)
+    requires place { place < length entries.old }
+    requires known { entry.id < length places.old }
+    ensures entries { entries.new ≡ slice_set entries.old place entry }
+    ensures places { places.new ≡ slice_set places.old entry.id place }
+{
     entries[place] = entry;
-    places[id] = place;
+    places[entry.id as usize] = place;
 }

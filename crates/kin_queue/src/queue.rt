@@ -4,9 +4,10 @@ ghost use Rattle.std.specs.Prelude.{◌≡◌, ◌<◌, length, None, OnOk, OnEr
 ghost use Rattle.std.specs.FinMap.{get, insert, remove, empty, len};
 ghost use Rattle.kin_queue.specs.Agenda.{IsNext, without};
 ghost use Rattle.kin_queue.specs.Cost.{TakesSteps};
-ghost use Rattle.kin_queue.specs.Heap.{Extends};
+ghost use Rattle.kin_queue.specs.Heap.{Extends, IsNoted};
 
 use crate::heap::{put_in, take_out};
+use crate::ticket::Ticket;
 use kin_num::{Moment, NoMemory, Steps};
 use std::alloc::Global;
 use std::marker::Model;
@@ -14,13 +15,16 @@ use std::sync::ledger::Ledger;
 
 /// A finite map from ids to moments that gives an entry of least moment. Which one of several
 /// entries of the least moment comes next is free. `first` compares nothing, and each other call
-/// makes at most `2 log2(n + 1)` comparisons on `n` entries. The memory grows with the greatest id.
+/// compares moments at most `2 log2(n + 1)` times on `n` entries, and only where keys don't tell. The
+/// memory grows with the greatest id, which is below `2^32`.
 #[derive(Drop)]
 pub struct Queue {
     /// The entries, each id once. No entry is earlier than the one above it.
-    entries: Vec<(usize, Moment)>,
+    entries: Vec<Ticket>,
     /// Where the entry of each id stands. For an id that isn't there it means nothing.
     places: Vec<usize>,
+    /// The moment of each id. For an id that isn't there it means nothing.
+    moments: Vec<Moment>,
 }
 
 impl Model for Queue {
@@ -30,11 +34,12 @@ impl Model for Queue {
 
     ghost coded = { agenda_code };
 
-    ghost use Rattle.kin_queue.specs.Heap.{agenda_of, IsHeap};
+    ghost use Rattle.kin_queue.specs.Tickets.{entries_of};
+    ghost use Rattle.kin_queue.specs.Heap.{agenda_of, IsKeyed};
 
-    ghost view = { λ q. agenda_of q.entries.items };
+    ghost view = { λ q. agenda_of (entries_of q.moments.items q.entries.items) };
 
-    ghost invariant = { λ q. IsHeap q.entries.items q.places.items };
+    ghost invariant = { λ q. IsKeyed q.moments.items q.entries.items q.places.items };
 }
 
 impl Queue {
@@ -46,6 +51,7 @@ impl Queue {
         Queue {
             entries: Vec::new(alloc),
             places: Vec::new(alloc),
+            moments: Vec::new(alloc),
         }
     }
 
@@ -61,10 +67,20 @@ impl Queue {
         ensures err { OnErr result (self.new ≡ self.old) }
         ensures cost { TakesSteps (len self.old.moments) steps.old steps.new }
     {
-        let _ = at.at.shape();
+        let Ok(short) = u32::try_from(id) else {
+            return Err(NoMemory);
+        };
         self.entries.reserve(1)?;
         reach(&mut self.places, id)?;
-        put_in(&mut self.entries, &mut self.places, (id, at), steps);
+        note(&mut self.moments, id, &at)?;
+        let entry = Ticket::new(short, &at);
+        put_in(
+            &mut self.entries,
+            &mut self.places,
+            &self.moments,
+            entry,
+            steps,
+        );
         Ok(())
     }
 
@@ -75,7 +91,13 @@ impl Queue {
         ensures cost { TakesSteps (len self.old.moments) steps.old steps.new }
     {
         let place = self.places[id];
-        take_out(&mut self.entries, &mut self.places, place, steps);
+        take_out(
+            &mut self.entries,
+            &mut self.places,
+            &self.moments,
+            place,
+            steps,
+        );
     }
 
     /// The next entry, which is one of least moment, or `None` exactly where the queue is empty.
@@ -83,7 +105,9 @@ impl Queue {
         ensures value { result ≡ self.now.next }
         ensures least { IsNext self.now.moments self.now.next }
     {
-        self.entries.first().copied()
+        let entry = self.entries.first()?;
+        let id = entry.id as usize;
+        Some((id, self.moments[id]))
     }
 
     /// Takes the entry out that `first` gives, or `None` exactly where the queue is empty.
@@ -94,7 +118,7 @@ impl Queue {
         ensures cost { TakesSteps (len self.old.moments) steps.old steps.new }
     {
         let first = self.first()?;
-        take_out(&mut self.entries, &mut self.places, 0, steps);
+        take_out(&mut self.entries, &mut self.places, &self.moments, 0, steps);
         Some(first)
     }
 }
@@ -111,6 +135,21 @@ fn reach(places: &mut Vec<usize>, id: usize) -> Result<(), NoMemory>
         return Err(NoMemory);
     };
     places.resize(count, 0)?;
+    Ok(())
+}
+
+// Writes the moment of an id down.
+fn note(moments: &mut Vec<Moment>, id: usize, at: &Moment) -> Result<(), NoMemory>
+    ensures noted { OnOk result (IsNoted moments.old.items id at.now moments.new.items) }
+    ensures err { OnErr result (moments.new.items ≡ moments.old.items) }
+{
+    if id >= moments.len() {
+        let Some(count) = id.checked_add(1) else {
+            return Err(NoMemory);
+        };
+        moments.resize(count, *at)?;
+    }
+    moments[id] = *at;
     Ok(())
 }
 
@@ -258,6 +297,54 @@ mod tests {
         }
         queue.remove(3, &mut steps);
         drain(&mut queue, &mut steps)
+    }
+
+    fn moment_at(at: Instant) -> Moment {
+        Moment {
+            at,
+            phase: Phase::At,
+        }
+    }
+
+    /// Puts the root of 2 in, and two of its convergents, one on either side. All three have one span.
+    #[tactic(auto, using(crate::proofs::Looks::looks))]
+    fn fill_closely<L: Ledger>(
+        queue: &mut Queue,
+        root: Instant,
+        steps: &mut Steps<L>,
+    ) -> Result<(), NoMemory>
+        requires { queue.old.moments ≡ empty }
+    {
+        queue.insert(1, moment_at(ratio(131_836_323, 93_222_358)), steps)?;
+        queue.insert(2, moment_at(root), steps)?;
+        queue.insert(3, moment_at(ratio(54_608_393, 38_613_965)), steps)
+    }
+
+    /// Whether this id is taken out next.
+    fn gives<L: Ledger>(queue: &mut Queue, id: usize, steps: &mut Steps<L>) -> bool {
+        matches!(queue.pop(steps), Some(popped) if popped.0 == id)
+    }
+
+    fn tells_close_moments<L: Ledger>(alloc: Global, root: Instant, blank: Blank) -> bool
+        requires name { blank.name ≡ L.name }
+        requires parts { blank.parts ≡ L.parts }
+        requires some { 0 < L.parts }
+    {
+        let mut steps = Steps::<L>::open(blank);
+        let mut queue = Queue::new(alloc);
+        fill_closely(&mut queue, root, &mut steps).is_ok()
+            && gives(&mut queue, 3, &mut steps)
+            && gives(&mut queue, 2, &mut steps)
+            && gives(&mut queue, 1, &mut steps)
+    }
+
+    #[test]
+    fn close_moments_come_in_order(rt: HostRuntime) {
+        let root = root_two();
+        assert!(rt; root.is_some());
+        if let Some(root) = root {
+            assert!(rt; tells_close_moments::<Brand>(rt.alloc(), root, Blank::new(1)));
+        }
     }
 
     #[test]

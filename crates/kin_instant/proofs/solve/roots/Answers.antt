@@ -10,7 +10,7 @@ use Rattle.kin_num.specs.Canonical.{IsCanonicalForm}
 use Rattle.kin_num.specs.Instants.{sign_at_instant}
 use Rattle.kin_num.proofs.Values.{negated}
 use Rattle.kin_instant.specs.declared.roots.Roots.{Roots}
-use Rattle.kin_instant.specs.Roots.{Lists, root_count}
+use Rattle.kin_instant.specs.Roots.{HasRoot, root_count}
 use Rattle.kin_instant.proofs.Widths.{clean, not_less_out}
 use Rattle.kin_instant.proofs.RootsOf.{negated_zeros, count_negated}
 use Rattle.kin_instant.proofs.solve.roots.Goals as goal
@@ -27,12 +27,12 @@ wider x h = omega arith
 level : (b b' : ℤ) → b' ≡ b → pos 0 ≤ℤ b' → b' ≤ℤ pos 0 → b ≡ pos 0
 level b b' e h k = omega (arith, ints, e)
 
-exactly : (p q : Quadratic) (r : Roots) → q ≡ p → AreRootsOf q r → (w : Shape) → IsCanonicalForm w → (sign_at_instant p w ≡ Zero → Lists r w) × (Lists r w → sign_at_instant p w ≡ Zero)
+exactly : (p q : Quadratic) (r : Roots) → q ≡ p → AreRootsOf q r → (w : Shape) → IsCanonicalForm w → (sign_at_instant p w ≡ Zero → HasRoot r w) × (HasRoot r w → sign_at_instant p w ≡ Zero)
 exactly p q r e h w i =
     let same_sign = ap (λ (x : Quadratic). sign_at_instant x w) e in
     (λ z. (h.exact w i).0 (same_sign ∙ z), λ l. sym same_sign ∙ (h.exact w i).1 l)
 
-turned : (p q : Quadratic) (r : Roots) → q ≡ negated p → AreRootsOf q r → (w : Shape) → IsCanonicalForm w → (sign_at_instant p w ≡ Zero → Lists r w) × (Lists r w → sign_at_instant p w ≡ Zero)
+turned : (p q : Quadratic) (r : Roots) → q ≡ negated p → AreRootsOf q r → (w : Shape) → IsCanonicalForm w → (sign_at_instant p w ≡ Zero → HasRoot r w) × (HasRoot r w → sign_at_instant p w ≡ Zero)
 turned p q r e h w i =
     let there = exactly (negated p) q r e h w i in
     let zeros = negated_zeros p w i in

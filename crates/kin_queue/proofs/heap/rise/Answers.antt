@@ -1,35 +1,48 @@
-use Rattle.std.proofs.Common.{◌≡◌, ℕ, ◌+◌, ◌-◌, ◌/◌, ◌<◌, sym, ◌∙◌, length, get_or, arith}
-use Rattle.kin_num.specs.declared.instant.Moment.{Moment}
+use Rattle.std.proofs.Common.{◌≡◌, ℕ, ◌+◌, ◌-◌, ◌/◌, ◌<◌, true, false, sym, ◌∙◌, length, get_or, arith}
+use Rattle.std.proofs.lemmas.List.Elements.{All-set}
 use Rattle.kin_queue.specs.Heap.{IsRightBelow}
+use Rattle.kin_queue.specs.Tickets.{IsStamped}
 use Rattle.kin_queue.proofs.Costs.{one_more}
-use Rattle.kin_queue.proofs.Entries.{defaults}
-use Rattle.kin_queue.proofs.Rising.{risen, fits_above_risen, fits_below_at}
+use Rattle.kin_queue.proofs.Tickets.{blank, ticket_there}
+use Rattle.kin_queue.proofs.Steps.{known_there, ticket_risen, fits_above_raised, fits_below_there}
 use Rattle.kin_queue.proofs.heap.rise.Goals as goal
 
 halved : (h : ℕ) → 0 < h → IsRightBelow ((h - 1) / 2) h
 halved h some = (omega arith, omega arith)
 
-pub returns-in_default : goal.returns-in_default
-returns-in_default g c =
+less : (h n : ℕ) → h < n → (h - 1) / 2 < n
+less h n lt = omega arith
+
+pub returns-then-not-is_earlier-clause-above : goal.returns-then-not-is_earlier-clause-above
+returns-then-not-is_earlier-clause-above g c =
     let l = c.loop-hole in
-    let up : IsRightBelow ((l.hole - 1) / 2) l.hole = halved l.hole c.loop-hole-test.true in
-    let inside : (l.hole - 1) / 2 < length l.entries = omega arith in
-    let is : (d : ℕ × Moment) → get_or l.entries ((l.hole - 1) / 2) d ≡ c.index-entries-parent.result = λ d. defaults l.entries ((l.hole - 1) / 2) d c.index-entries-parent.result inside ∙ sym c.index-entries-parent.is in
-    record {
-      moved = l.invariant.moved;
-      above = fits_below_at l.entries l.places l.hole ((l.hole - 1) / 2) c.args.entry.now c.index-entries-parent.result l.invariant.moved.hollow up is (λ e. c.in_default.not-Less (c.compare_moments.ensures.less.1 e));
-      below = l.invariant.below;
-      cost = one_more (l.hole + 1) 1 (c.args.start + 1) c.args.steps.now l.steps c.compare_moments.new.steps l.invariant.cost c.compare_moments.ensures.count (omega arith);
-    }
+    let ms = c.args.moments.now in
+    let w = l.invariant.moved.hollow in
+    fits_below_there ms l.entries l.places l.hole ((l.hole - 1) / 2) c.args.entry.now w (less l.hole (length l.entries) (ticket_there ms l.entries l.hole w.within)) (halved l.hole c.loop-hole-test.true)
+    (λ h. absurd (let k : false ≡ true = sym c.if-not-is_earlier.true ∙ c.is_earlier.ensures.earlier.1 h in cc))
+
+pub returns-then-not-is_earlier-clause-cost : goal.returns-then-not-is_earlier-clause-cost
+returns-then-not-is_earlier-clause-cost g c =
+    let l = c.loop-hole in
+    one_more (l.hole + 1) 1 (c.args.start + 1) c.args.steps.now l.steps c.is_earlier.new.steps l.invariant.cost c.is_earlier.ensures.low c.is_earlier.ensures.high (let h = c.loop-hole-test.true in omega arith)
+
+pub put-requires-clause-known : goal.put-requires-clause-known
+put-requires-clause-known g c =
+    let l = c.loop-hole in
+    let ms = c.args.moments.now in
+    let w = l.invariant.moved.hollow in
+    known_there ms l.entries l.places l.hole ((l.hole - 1) / 2) c.args.entry.now w (less l.hole (length l.entries) (ticket_there ms l.entries l.hole w.within)) (λ s. absurd (let h = c.loop-hole-test.true in omega arith))
 
 pub loop-hole-preserved : goal.loop-hole-preserved
 loop-hole-preserved g c =
     let l = c.loop-hole in
+    let ms = c.args.moments.now in
+    let w = l.invariant.moved.hollow in
+    let inside : (l.hole - 1) / 2 < length l.entries = less l.hole (length l.entries) (ticket_there ms l.entries l.hole w.within) in
     let up : IsRightBelow ((l.hole - 1) / 2) l.hole = halved l.hole c.loop-hole-test.true in
-    let inside : (l.hole - 1) / 2 < length l.entries = omega arith in
-    let is : (d : ℕ × Moment) → get_or l.entries ((l.hole - 1) / 2) d ≡ c.index-entries-parent.result = λ d. defaults l.entries ((l.hole - 1) / 2) d c.index-entries-parent.result inside ∙ sym c.index-entries-parent.is in
     rw (c.put.ensures.entries, c.put.ensures.places) (record {
-      moved = risen l.entries l.places l.hole ((l.hole - 1) / 2) c.args.entry.now c.index-entries-parent.result l.invariant.moved.hollow up is c.args.entries.now c.args.start l.invariant.moved;
-      below = λ n. fits_above_risen l.entries l.places l.hole ((l.hole - 1) / 2) c.args.entry.now c.index-entries-parent.result l.invariant.moved.hollow up is (c.compare_moments.ensures.less.0 c.in-Less.is);
-      cost = one_more (l.hole + 1) ((l.hole - 1) / 2 + 1) (c.args.start + 1) c.args.steps.now l.steps c.compare_moments.new.steps l.invariant.cost c.compare_moments.ensures.count (omega arith);
+      moved = ticket_risen ms l.entries l.places l.hole ((l.hole - 1) / 2) c.args.entry.now w inside up _ c.args.start l.invariant.moved;
+      stamped = All-set (IsStamped ms) l.entries l.hole (get_or l.entries ((l.hole - 1) / 2) blank) (l.invariant.stamped ((l.hole - 1) / 2) blank inside) l.invariant.stamped;
+      below = λ n. fits_above_raised ms l.entries l.places l.hole ((l.hole - 1) / 2) c.args.entry.now w inside up (c.is_earlier.ensures.earlier.0 c.if-not-is_earlier.false);
+      cost = one_more (l.hole + 1) ((l.hole - 1) / 2 + 1) (c.args.start + 1) c.args.steps.now l.steps c.is_earlier.new.steps l.invariant.cost c.is_earlier.ensures.low c.is_earlier.ensures.high (let h = c.loop-hole-test.true in omega arith);
     })

@@ -1,11 +1,13 @@
 use Rattle.std.proofs.Common.{◌≢◌, ◌+◌}
+use Rattle.kin_queue.specs.Tickets.{entry_of, entries_of, AreStamped}
 use Rattle.kin_queue.specs.Hole.{RisesWithin, FitsAbove, HasMoved}
 use Rattle.kin_queue.proofs.heap.rise.Given as goal
 
 abbrev pub invariant-loop-hole : goal.invariant-loop-hole
 invariant-loop-hole g l = record {
-  moved : HasMoved l.entry l.initial.entries l.start l.entries l.places l.hole;
-  below : l.hole ≢ l.start → FitsAbove l.entries l.hole l.entry;
+  moved : HasMoved (entry_of l.moments l.entry) (entries_of l.moments l.initial.entries) l.start (entries_of l.moments l.entries) l.places l.hole;
+  stamped : AreStamped l.moments l.entries;
+  below : l.hole ≢ l.start → FitsAbove (entries_of l.moments l.entries) l.hole (entry_of l.moments l.entry);
   cost : RisesWithin (l.hole + 1) (l.start + 1) l.initial.steps l.steps;
 }
 

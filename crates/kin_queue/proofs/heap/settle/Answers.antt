@@ -1,16 +1,16 @@
 use Rattle.std.proofs.Common.{inl, inr}
-use Rattle.kin_queue.proofs.Filling.{filled, stands_filled}
+use Rattle.kin_queue.proofs.Steps.{ticket_filled, stands_there}
 use Rattle.kin_queue.proofs.heap.settle.Goals as goal
 
 pub returns-clause-heap : goal.returns-clause-heap
 returns-clause-heap g c =
     let h = c.find_hole-hole in
-    rw (c.put.ensures.entries, c.put.ensures.places) (filled h.new.entries h.new.places h.result c.args.entry.now h.ensures.moved.hollow h.ensures.above h.ensures.below)
+    rw (c.put.ensures.entries, c.put.ensures.places) (ticket_filled c.args.moments.now h.new.entries h.new.places h.result c.args.entry.now h.ensures.moved.hollow h.ensures.stamped c.requires.stamped_hand h.ensures.above h.ensures.below)
 
 pub returns-clause-stands : goal.returns-clause-stands
 returns-clause-stands g c = λ e.
     let h = c.find_hole-hole in
-    let s = stands_filled h.new.entries h.new.places h.result c.args.entry.now h.ensures.moved.hollow e in
+    let s = stands_there c.args.moments.now h.new.entries h.new.places h.result c.args.entry.now h.ensures.moved.hollow e in
     rw c.put.ensures.entries (
       λ k. elim (s.0 k) [ inl t ↦ inl t | inr o ↦ inr ((h.ensures.moved.same e).1 o) ],
       λ k. s.1 (elim k [ inl t ↦ inl t | inr o ↦ inr ((h.ensures.moved.same e).0 o) ]),

@@ -1,11 +1,13 @@
 use Rattle.std.proofs.Common.{◌+◌, ◌*◌, ◌-◌, length}
+use Rattle.kin_queue.specs.Tickets.{entry_of, entries_of, AreStamped}
 use Rattle.kin_queue.specs.Hole.{RisesWithin, FitsBelow, HasMoved}
 use Rattle.kin_queue.proofs.heap.sink.Given as goal
 
 abbrev pub invariant-loop-child : goal.invariant-loop-child
 invariant-loop-child g l = record {
-  moved : HasMoved l.entry l.initial.entries l.start l.entries l.places l.hole;
-  above : FitsBelow l.entries l.hole l.entry;
+  moved : HasMoved (entry_of l.moments l.entry) (entries_of l.moments l.initial.entries) l.start (entries_of l.moments l.entries) l.places l.hole;
+  stamped : AreStamped l.moments l.entries;
+  above : FitsBelow (entries_of l.moments l.entries) l.hole (entry_of l.moments l.entry);
   cost : RisesWithin ((l.start + 1) * (l.start + 1)) ((l.hole + 1) * (l.hole + 1)) l.initial.steps l.steps;
 }
 

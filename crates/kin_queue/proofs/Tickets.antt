@@ -1,0 +1,62 @@
+-- Tickets, and the entries that they stand for.
+use Rattle.std.proofs.Common.{◌≡◌, ◌≢◌, ℕ, suc, ◌<◌, List, [], ◌∷◌, ◌++◌, length, get_or, set, false, refl, sym, ap₂, subst, arith}
+use Rattle.std.proofs.lemmas.List.{get_or-map, length-map, map-append, map-set}
+use Rattle.kin_num.specs.declared.instant.Phase.TheVariants.{At}
+use Rattle.kin_num.specs.declared.instant.Moment.{Moment}
+use Rattle.kin_num.specs.Canonical.{IsCanonical}
+use Rattle.kin_instant.specs.Keys.{IsKeyOf}
+use Rattle.kin_queue.specs.declared.ticket.Ticket.{Ticket}
+use Rattle.kin_queue.specs.Tickets.{moment_in, key_in, entry_of, entries_of, IsStamped, AreStamped}
+use Rattle.kin_queue.specs.Heap.{IsNoted}
+
+-- what a slice gives outside
+abbrev pub blank : Ticket
+blank = record { span = 0; id = 0; phase = At; is_vague = false }
+
+module _ (ms : List Moment) where
+  -- the entry of the ticket at a place
+  pub entry_at : (ts : List Ticket) (i : ℕ) → i < length ts → (d : ℕ × Moment) → get_or (entries_of ms ts) i d ≡ entry_of ms (get_or ts i blank)
+  entry_at ts i lt d = get_or-map (entry_of ms) ts i blank d lt
+
+  pub entries_length : (ts : List Ticket) → length (entries_of ms ts) ≡ length ts
+  entries_length ts = length-map ts (entry_of ms)
+
+  pub ticket_there : (ts : List Ticket) (i : ℕ) → i < length (entries_of ms ts) → i < length ts
+  ticket_there ts i lt = subst (λ (n : ℕ). i < n) (entries_length ts) lt
+
+  pub entry_there : (ts : List Ticket) (i : ℕ) → i < length ts → i < length (entries_of ms ts)
+  entry_there ts i lt = subst (λ (n : ℕ). i < n) (sym (entries_length ts)) lt
+
+  pub entries_set : (ts : List Ticket) (i : ℕ) (t : Ticket) → entries_of ms (set ts i t) ≡ set (entries_of ms ts) i (entry_of ms t)
+  entries_set ts i t = map-set (entry_of ms) ts i t
+
+  pub entries_append : (ts : List Ticket) (t : Ticket) → entries_of ms (ts ++ t ∷ []) ≡ entries_of ms ts ++ entry_of ms t ∷ []
+  entries_append ts t = map-append (entry_of ms) ts (t ∷ [])
+
+-- the tickets of other ids keep their moments
+module _ (old new : List Moment) (id : ℕ) (at : Moment) (noted : IsNoted old id at new) where
+  module _ (t : Ticket) (stamped : IsStamped old t) (other : t.id ≢ id) where
+    same_moment : moment_in new t.id ≡ moment_in old t.id
+    same_moment = noted.others t.id stamped.within other
+
+    still_stamped : IsStamped new t
+    still_stamped = record {
+      within = noted.kept t.id stamped.within;
+      canonical = subst (λ (m : Moment). IsCanonical m.at) (sym same_moment) stamped.canonical;
+      key = subst (λ (m : Moment). IsKeyOf (key_in t) m) (sym same_moment) stamped.key;
+    }
+
+  abbrev pub AreOthers : List Ticket → Type 0
+  AreOthers ts = (i : ℕ) (d : Ticket) → i < length ts → (get_or ts i d).id ≢ id
+
+  behind : (t : Ticket) (ts : List Ticket) → AreOthers (t ∷ ts) → AreOthers ts
+  behind t ts o i d lt = o (suc i) d (omega arith)
+
+  pub same_entries : (ts : List Ticket) → AreStamped old ts → AreOthers ts → entries_of new ts ≡ entries_of old ts
+  same_entries [] s o = refl
+  same_entries (t ∷ ts) s o =
+      ap₂ (λ (m : Moment) (es : List (ℕ × Moment)). (t.id, m) ∷ es) (same_moment t (s 0 t (omega arith)) (o 0 t (omega arith)))
+      (same_entries ts (λ k d lt. s (suc k) d (omega arith)) (behind t ts o))
+
+  pub same_stamps : (ts : List Ticket) → AreStamped old ts → AreOthers ts → AreStamped new ts
+  same_stamps ts s o = λ k d lt. still_stamped (get_or ts k d) (s k d lt) (o k d lt)

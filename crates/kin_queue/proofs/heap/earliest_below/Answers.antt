@@ -1,0 +1,25 @@
+use Rattle.std.proofs.Common.{◌≡◌, ◌+◌, ◌*◌, ◌<◌, true, false, length, get_or, sym, ◌∙◌, arith}
+use Rattle.kin_queue.specs.Tickets.{entry_of, entries_of}
+use Rattle.kin_queue.proofs.Tickets.{blank, entry_at, entry_there}
+use Rattle.kin_queue.proofs.Steps.{right_earliest, left_earliest}
+use Rattle.kin_queue.proofs.heap.earliest_below.Goals as goal
+
+pub returns-then-is_earlier-clause-some : goal.returns-then-is_earlier-clause-some
+returns-then-is_earlier-clause-some g c =
+    let ms = c.args.moments.now in
+    let ts = c.args.entries.now in
+    let p = c.args.place in
+    let inside : 2 * c.args.place + 1 + 1 < length c.args.entries.now = omega arith in
+    let low : 2 * c.args.place + 1 < length c.args.entries.now = omega arith in
+    right_earliest (entries_of ms ts) p (entry_of ms (get_or ts (2 * p + 1) blank)) (entry_of ms (get_or ts (2 * p + 1 + 1) blank)) (entry_there ms ts (2 * p + 1 + 1) inside) (entry_at ms ts (2 * p + 1) low) (entry_at ms ts (2 * p + 1 + 1) inside)
+    (c.requires (2 * p + 1) blank low).canonical (c.requires (2 * p + 1 + 1) blank inside).canonical (c.is_earlier.ensures.earlier.0 c.if-is_earlier.true)
+
+pub returns-else-is_earlier-clause-some : goal.returns-else-is_earlier-clause-some
+returns-else-is_earlier-clause-some g c =
+    let ms = c.args.moments.now in
+    let ts = c.args.entries.now in
+    let p = c.args.place in
+    let inside : 2 * c.args.place + 1 + 1 < length c.args.entries.now = omega arith in
+    let low : 2 * c.args.place + 1 < length c.args.entries.now = omega arith in
+    left_earliest (entries_of ms ts) p (entry_of ms (get_or ts (2 * p + 1) blank)) (entry_of ms (get_or ts (2 * p + 1 + 1) blank)) (entry_there ms ts (2 * p + 1 + 1) inside) (entry_at ms ts (2 * p + 1) low) (entry_at ms ts (2 * p + 1 + 1) inside)
+    (λ h. absurd (let k : false ≡ true = sym c.if-is_earlier.false ∙ c.is_earlier.ensures.earlier.1 h in cc))
