@@ -12,7 +12,9 @@ use Rattle.kin_motion.specs.Scene.{Scene, placed_at}
 use Rattle.kin_motion.specs.Orders.{neighbour_forms, IsOrderFact}
 use Rattle.kin_motion.specs.Tournaments.{Key, item_in, IsNodeFact}
 use Rattle.kin_motion.specs.Extremes.{slot_of_point, point_slots, along_key, IsExtremeFact}
-use Rattle.kin_motion.specs.Octants.{Octant, is_in_octant, IsCandidate, Near, near, HoldsNear, AreNearSlots, distance_key, Direction, eight_directions, IsClosestFact}
+use Rattle.kin_motion.specs.Octants.{Octant, is_in_octant, IsCandidate, Direction, eight_directions}
+use Rattle.kin_motion.specs.ClosestPairs.{Near, distance_key}
+use Rattle.kin_motion.specs.ClosestFacts.{near, HoldsNear, AreNearSlots, IsClosestFact}
 use Rattle.kin_motion.specs.Merges.{IsHullFact}
 use Rattle.kin_motion.specs.Live.{IsKeepFact, IsSmallKeep}
 use Rattle.kin_motion.specs.Theorems.{LiveFactsAreAskable}

@@ -11,6 +11,7 @@ use Rattle.kin_motion.specs.Scene.{Scene, x_sign}
 use Rattle.kin_motion.specs.Chains.{is_zero, is_bare, IsUpperChain}
 use Rattle.kin_motion.specs.Merges.{Half, Half.{A, B}, Breakpoint, is_of, breakpoints_of, slope_form, IsBreakpointList, current_after, other_current, turns_from, slope_between, slopes_from, end_forms, last_of, forms_of_ends, forms_of_merge, points_under, IsNodeForm}
 use Rattle.kin_motion.specs.Tournaments.{is_under}
+use Rattle.kin_motion.proofs.CurrentLaws.{forms_agree}
 use Rattle.kin_motion.proofs.SetLaws.{contains_none, contains_head, contains_tail, contains_cases, filter-complete}
 use Rattle.kin_motion.proofs.AgreementLaws.{kept-members}
 
@@ -161,4 +162,4 @@ node_form_askable size s v f m =
     merge_askable s.live s m.a m.b m.breakpoints
     (chain_live s.live s _ m.a m.a_chain (under_live size s (2 * v)))
     (chain_live s.live s _ m.b m.b_chain (under_live size s (2 * v + 1)))
-    m.sorted f m.listed
+    m.sorted f ((forms_agree s m.a m.b m.breakpoints f).1 m.listed)

@@ -95,20 +95,20 @@ weaker_chain {X} p q f (x ∷ []) c = tt
 weaker_chain {X} p q f (x ∷ y ∷ ys) c = (f x y c.0, weaker_chain p q f (y ∷ ys) c.1)
 
 module _ (s : Scene) (slopes : HasSlopeLaws s) where
-  abbrev goes_right : Breakpoint → Bool
+  abbrev pub goes_right : Breakpoint → Bool
   goes_right e = is_left s e.left e.right
 
   -- e is placed before f, and both go to the right
-  abbrev comes : Breakpoint → Breakpoint → Bool
+  abbrev pub comes : Breakpoint → Breakpoint → Bool
   comes e f = (goes_right e && goes_right f) && is_placed_before s e f
 
-  right_signs : (e f : Breakpoint) → comes e f ≡ true → (x_sign s e.left e.right ≡ Plus) × (x_sign s f.left f.right ≡ Plus) × (is_placed_before s e f ≡ true)
+  pub right_signs : (e f : Breakpoint) → comes e f ≡ true → (x_sign s e.left e.right ≡ Plus) × (x_sign s f.left f.right ≡ Plus) × (is_placed_before s e f ≡ true)
   right_signs e f c =
       let h = halves (goes_right e && goes_right f) (is_placed_before s e f) c in
       let g = halves (goes_right e) (goes_right f) h.0 in
       (plus_from (x_sign s e.left e.right) g.0, plus_from (x_sign s f.left f.right) g.1, h.1)
 
-  comes_through : (e f g : Breakpoint) → comes e f ≡ true → comes f g ≡ true → comes e g ≡ true
+  pub comes_through : (e f g : Breakpoint) → comes e f ≡ true → comes f g ≡ true → comes e g ≡ true
   comes_through e f g c d =
       let p = right_signs e f c in
       let q = right_signs f g d in
@@ -116,7 +116,7 @@ module _ (s : Scene) (slopes : HasSlopeLaws s) where
       (both_true (goes_right e) (goes_right g) (ap is_plus p.0) (ap is_plus q.1))
       (placed_through (s.sign (slope_form e f)) (s.sign (slope_form f g)) (s.sign (slope_form e g)) e.half f.half g.half (slopes.through e.left e.right f.left f.right g.left g.right p.0 p.1 q.1) p.2 q.2)
 
-  comes_never : (e : Breakpoint) → comes e e ≡ true → ⊥
+  pub comes_never : (e : Breakpoint) → comes e e ≡ true → ⊥
   comes_never e c = not_itself (s.sign (slope_form e e)) e.half (slopes.opposite e.left e.right e.left e.right) (right_signs e e c).2
 
   -- the breakpoints of an upper chain come one before the other
@@ -127,7 +127,7 @@ module _ (s : Scene) (slopes : HasSlopeLaws s) where
   breakpoints_come h (i ∷ j ∷ k ∷ ps) c f =
       (both_true (is_left s i j && is_left s j k) _ (both_true (is_left s i j) (is_left s j k) c.0 c.1.0) (ap (λ t. goes_first t h h) f.0), breakpoints_come h (j ∷ k ∷ ps) c.1 f.1)
 
-  all_right : (h : Half) (a : List ℕ) → IsChain (is_left s) a → (e : Breakpoint) → Contains (breakpoints_of h a) e → goes_right e ≡ true
+  pub all_right : (h : Half) (a : List ℕ) → IsChain (is_left s) a → (e : Breakpoint) → Contains (breakpoints_of h a) e → goes_right e ≡ true
   all_right h [] c e k = absurd (contains_none e k)
   all_right h (i ∷ []) c e k = absurd (contains_none e k)
   all_right h (i ∷ j ∷ ps) c e k = at (contains_cases (record { half = h; left = i; right = j }) e (breakpoints_of h (j ∷ ps)) k) (all_right h (j ∷ ps) c.1 e)

@@ -4,8 +4,7 @@ use Rattle.std.specs.Prelude.{Option, Some, None}
 use Rattle.std.proofs.lemmas.Bool.Decides.{nat_tests}
 use Rattle.kin_motion.specs.Numbers.{is_in, IsIn}
 use Rattle.kin_motion.specs.Scene.{Scene}
-use Rattle.kin_motion.specs.Orders.{is_before}
-use Rattle.kin_motion.specs.Octants.{Reading, comes_after, octant_members, IsCandidateAnswer, earlier_of, first_in, candidate_of}
+use Rattle.kin_motion.specs.Octants.{direction_of, is_before_in, Reading, comes_after, octant_members, IsCandidateAnswer, earlier_of, first_in, candidate_of}
 use Rattle.kin_motion.specs.Laws.{HasLineLaws}
 use Rattle.kin_motion.specs.Agreements.{CandidateAgrees}
 use Rattle.kin_motion.specs.Theorems.{OneCandidate}
@@ -28,23 +27,23 @@ module _ (s : Scene) (laws : HasLineLaws s) (r : Reading) where
   after_turned : (p q : ℕ) → p ≢ q → comes_after s r q p ≡ not (comes_after s r p q)
   after_turned p q n = at r.from_end
     where
-      at : (b : Bool) → cond b (is_before s r.dx r.dy p q) (is_before s r.dx r.dy q p) ≡ not (cond b (is_before s r.dx r.dy q p) (is_before s r.dx r.dy p q))
-      at true = before_turned s laws r.dx r.dy q p (λ e. n (sym e))
-      at false = before_turned s laws r.dx r.dy p q n
+      at : (b : Bool) → cond b (is_before_in s r.part p q) (is_before_in s r.part q p) ≡ not (cond b (is_before_in s r.part q p) (is_before_in s r.part p q))
+      at true = before_turned s laws (direction_of r.part).dx (direction_of r.part).dy q p (λ e. n (sym e))
+      at false = before_turned s laws (direction_of r.part).dx (direction_of r.part).dy p q n
 
   after_through : (p q v : ℕ) → comes_after s r p q ≡ true → comes_after s r q v ≡ true → comes_after s r p v ≡ true
   after_through p q v = at r.from_end
     where
-      at : (b : Bool) → cond b (is_before s r.dx r.dy q p) (is_before s r.dx r.dy p q) ≡ true → cond b (is_before s r.dx r.dy v q) (is_before s r.dx r.dy q v) ≡ true → cond b (is_before s r.dx r.dy v p) (is_before s r.dx r.dy p v) ≡ true
-      at true e f = before_through s laws r.dx r.dy v q p f e
-      at false e f = before_through s laws r.dx r.dy p q v e f
+      at : (b : Bool) → cond b (is_before_in s r.part q p) (is_before_in s r.part p q) ≡ true → cond b (is_before_in s r.part v q) (is_before_in s r.part q v) ≡ true → cond b (is_before_in s r.part v p) (is_before_in s r.part p v) ≡ true
+      at true e f = before_through s laws (direction_of r.part).dx (direction_of r.part).dy v q p f e
+      at false e f = before_through s laws (direction_of r.part).dx (direction_of r.part).dy p q v e f
 
   pub never_after_itself : (p : ℕ) → comes_after s r p p ≡ true → ⊥
   never_after_itself p = at r.from_end
     where
-      at : (b : Bool) → cond b (is_before s r.dx r.dy p p) (is_before s r.dx r.dy p p) ≡ true → ⊥
-      at true e = never_before_itself s laws r.dx r.dy p e
-      at false e = never_before_itself s laws r.dx r.dy p e
+      at : (b : Bool) → cond b (is_before_in s r.part p p) (is_before_in s r.part p p) ≡ true → ⊥
+      at true e = never_before_itself s laws (direction_of r.part).dx (direction_of r.part).dy p e
+      at false e = never_before_itself s laws (direction_of r.part).dx (direction_of r.part).dy p e
 
   -- it is in the list, and every other number of the list comes after it
   abbrev IsFirst : List ℕ → ℕ → Type 0

@@ -8,12 +8,12 @@ use Rattle.kin_motion.specs.Chains.{is_plus, is_left, IsUpperChain}
 use Rattle.kin_motion.specs.Laws.{HasLineLaws}
 use Rattle.kin_motion.proofs.Chains.{same_chain}
 
-never_left : (t : Sign) → t ≡ opposite_of t → is_plus t ≡ true → ⊥
+pub never_left : (t : Sign) → t ≡ opposite_of t → is_plus t ≡ true → ⊥
 never_left Minus e h = absurd cc
 never_left Zero e h = absurd cc
 never_left Plus e h = absurd cc
 
-left_through : (t u r : Sign) → SumMayBe t u r → is_plus t ≡ true → is_plus u ≡ true → is_plus r ≡ true
+pub left_through : (t u r : Sign) → SumMayBe t u r → is_plus t ≡ true → is_plus u ≡ true → is_plus r ≡ true
 left_through Minus u r sum a b = absurd cc
 left_through Zero u r sum a b = absurd cc
 left_through Plus Minus r sum a b = absurd cc

@@ -11,7 +11,9 @@ use Rattle.kin_motion.specs.Sets.{ListsExactly}
 use Rattle.kin_motion.specs.Scene.{Scene, IsReal, placed_at}
 use Rattle.kin_motion.specs.Orders.{IsOrderFact, neighbour_forms, order_of, order_facts}
 use Rattle.kin_motion.specs.Tournaments.{beats, item_in, IsNodeFact, tournament_facts}
-use Rattle.kin_motion.specs.Octants.{Near, left_is_nearer, distance_key, near_slots, Direction, eight_directions, IsWedgeFact, IsPairFact, wedge_facts_from}
+use Rattle.kin_motion.specs.Octants.{Direction, eight_directions}
+use Rattle.kin_motion.specs.ClosestPairs.{Near, left_is_nearer, distance_key}
+use Rattle.kin_motion.specs.ClosestFacts.{near_slots, IsWedgeFact, IsPairFact, wedge_facts_from}
 use Rattle.kin_motion.specs.Laws.{HasDistanceLaws}
 use Rattle.kin_motion.specs.Agreements.{OrderFactsAgree, ClosestFactsAgree}
 use Rattle.kin_motion.proofs.SetLaws.{contains_mapped, exactly_none, exactly_both, exactly_in_words, exactly_mapped}
@@ -19,6 +21,8 @@ use Rattle.kin_motion.proofs.FactLaws.{neighbour_facts-exact}
 use Rattle.kin_motion.proofs.RealLaws.{real_line_laws}
 use Rattle.kin_motion.proofs.DistanceLaws.{LessPair, less_from, not_both, same_or_less, nearer_total, nearer_transitive, real_distance_laws}
 use Rattle.kin_motion.proofs.NearLaws.{near_agrees, one_near, own-slot}
+use Rattle.kin_motion.specs.Parts.{moved_by}
+use Rattle.kin_motion.proofs.PartLaws.{moved_one}
 use Rattle.kin_motion.proofs.NodeLaws.{tournament_agrees}
 use Rattle.kin_motion.proofs.Proved.{order_proved}
 
@@ -55,7 +59,7 @@ module _ (s : Scene) (real : IsReal s) where
           inl (subst (λ (x : Direction). IsOrderFact s x.dx x.dy n p) (sym same) (subst (λ part. IsOrderFact s way.dx way.dy part p) g f))
       from p (suc k, way, e, h, f) = inr (k, way, e, omega (arith, h), f)
 
-  wedge_exact : ListsExactly (wedge_facts_from s 0 eight_directions) (IsWedgeFact s)
+  pub wedge_exact : ListsExactly (wedge_facts_from s 0 eight_directions) (IsWedgeFact s)
   wedge_exact = exactly_in_words (wedge_facts_from s 0 eight_directions) _ _ (λ p. (to p, from p)) (orders_exact 0 eight_directions)
     where
       to : (p : Placed) → IsFactOf 0 eight_directions p → IsWedgeFact s p
@@ -88,18 +92,6 @@ module _ (s : Scene) (laws : HasDistanceLaws s) where
       at Plus o f = absurd cc
       at Zero o f = let g = less_from p p f in not_both p p g g
 
--- the pair facts stand behind the eight orders
-shifted : Placed → Placed
-shifted p = record { part = 8 + p.part; fact = p.fact }
-
-shifted_one : (p q : Placed) → shifted p ≡ shifted q → p ≡ q
-unfolding shifted
-shifted_one p q e =
-    let parts : 8 + p.part ≡ 8 + q.part = ap (λ (x : Placed). x.part) e in
-    let f : p.part ≡ q.part = omega (arith, parts) in
-    let g : p.fact ≡ q.fact = ap (λ (x : Placed). x.fact) e in
-    λ t. record { part = f t; fact = g t }
-
 held_item : {A : Type 0} (slots : List (Option A)) (i : ℕ) (a : A) → item_in slots i ≡ Some a → slice_get slots i ≡ Some (Some a)
 held_item {A} [] i a e = absurd cc
 held_item {A} (x ∷ xs) zero a e = ap (λ (y : Option A). Some y) e
@@ -119,16 +111,15 @@ module _ (size : ℕ) (s : Scene) (real : IsReal s) where
       sym g ∙ h)
       (let c = slots.count in omega (arith, c))
 
-  pairs_exact : ListsExactly (map shifted (tournament_facts s distance_key (size + 3) (near_slots size s))) (IsPairFact size s)
-  unfolding shifted
+  pairs_exact : ListsExactly (map (moved_by 8) (tournament_facts s distance_key (size + 3) (near_slots size s))) (IsPairFact size s)
   pairs_exact =
-      exactly_in_words (map shifted (tournament_facts s distance_key (size + 3) (near_slots size s))) _ _ (λ p. (to p, from p))
-      (exactly_mapped shifted (tournament_facts s distance_key (size + 3) (near_slots size s)) (IsNodeFact s distance_key (size + 3) (near_slots size s)) shifted_one nodes_exact)
+      exactly_in_words (map (moved_by 8) (tournament_facts s distance_key (size + 3) (near_slots size s))) _ _ (λ p. (to p, from p))
+      (exactly_mapped (moved_by 8) (tournament_facts s distance_key (size + 3) (near_slots size s)) (IsNodeFact s distance_key (size + 3) (near_slots size s)) (moved_one 8) nodes_exact)
     where
-      to : (p : Placed) → (x : Placed) × IsNodeFact s distance_key (size + 3) (near_slots size s) x × (p ≡ shifted x) → IsPairFact size s p
+      to : (p : Placed) → (x : Placed) × IsNodeFact s distance_key (size + 3) (near_slots size s) x × (p ≡ moved_by 8 x) → IsPairFact size s p
       to p (x, f, e) = record { slots = near_slots size s; filled = near_agrees s real size; node = x; fact = f; placed = e }
 
-      from : (p : Placed) → IsPairFact size s p → (x : Placed) × IsNodeFact s distance_key (size + 3) (near_slots size s) x × (p ≡ shifted x)
+      from : (p : Placed) → IsPairFact size s p → (x : Placed) × IsNodeFact s distance_key (size + 3) (near_slots size s) x × (p ≡ moved_by 8 x)
       from p w =
           let e : w.slots ≡ near_slots size s = one_near s real size w.slots (near_slots size s) w.filled (near_agrees s real size) in
           (w.node, subst (λ slots. IsNodeFact s distance_key (size + 3) slots w.node) e w.fact, w.placed)
@@ -137,8 +128,7 @@ module _ (size : ℕ) (s : Scene) (real : IsReal s) where
   pair_part p w = let e : p.part ≡ 8 + w.node.part = ap (λ (x : Placed). x.part) w.placed in omega (arith, e)
 
 pub closest_facts_agree : ClosestFactsAgree
-unfolding shifted
 closest_facts_agree size s real =
-    exactly_both (wedge_facts_from s 0 eight_directions) (map shifted (tournament_facts s distance_key (size + 3) (near_slots size s))) (IsWedgeFact s) (IsPairFact size s)
+    exactly_both (wedge_facts_from s 0 eight_directions) (map (moved_by 8) (tournament_facts s distance_key (size + 3) (near_slots size s))) (IsWedgeFact s) (IsPairFact size s)
     (wedge_exact s real) (pairs_exact size s real)
     (λ p w v. let low = wedge_part s real p w in let high = pair_part size s real p v in omega (arith, low, high))

@@ -10,7 +10,7 @@ use Rattle.kin_motion.specs.declared.form.Form.TheVariants.{Dist}
 use Rattle.kin_motion.specs.Numbers.{is_in, IsIn, filled_from}
 use Rattle.kin_motion.specs.Scene.{Scene}
 use Rattle.kin_motion.specs.Tournaments.{beats, best_of}
-use Rattle.kin_motion.specs.Octants.{Near, is_less_pair, left_is_nearer, distance_key, pairs_with, pairs_of, pair_in, IsClosestPair, IsClosest, closest_of}
+use Rattle.kin_motion.specs.ClosestPairs.{Near, is_less_pair, left_is_nearer, distance_key, pairs_with, pairs_of, pair_in, IsClosestPair, IsClosest, closest_of}
 use Rattle.kin_motion.specs.Laws.{HasDistanceLaws}
 use Rattle.kin_motion.specs.Agreements.{ClosestAgrees}
 use Rattle.kin_motion.proofs.LiveLaws.{not_below}

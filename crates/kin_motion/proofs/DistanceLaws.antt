@@ -15,7 +15,7 @@ use Rattle.kin_motion.specs.Course.{Course}
 use Rattle.kin_motion.specs.Forms.{difference, square_of_step, polynomial_of}
 use Rattle.kin_motion.specs.Scene.{Scene, IsReal}
 use Rattle.kin_motion.specs.Tournaments.{beats}
-use Rattle.kin_motion.specs.Octants.{Near, is_less_pair, left_is_nearer, distance_key}
+use Rattle.kin_motion.specs.ClosestPairs.{Near, is_less_pair, left_is_nearer, distance_key}
 use Rattle.kin_motion.specs.Laws.{HasDistanceLaws}
 use Rattle.kin_motion.proofs.RealLaws.{by_signs, line_sum, opposite_forms}
 

@@ -24,7 +24,7 @@ number_in live j a e = at (is_in j live) e
     at false f = absurd cc
 
 -- slot i of the points from n on holds point n + i, if anything
-held_number : (live : List ℕ) (n k i a : ℕ) → item_in (map (slot_of_point live) (numbers_from n k)) i ≡ Some a → n + i ≡ a
+pub held_number : (live : List ℕ) (n k i a : ℕ) → item_in (map (slot_of_point live) (numbers_from n k)) i ≡ Some a → n + i ≡ a
 held_number live n zero i a e = absurd cc
 held_number live n (suc k) zero a e = let f = number_in live n a e in omega (arith, f)
 held_number live n (suc k) (suc i) a e = let f = held_number live (n + 1) k i a e in omega (arith, f)

@@ -21,6 +21,7 @@ use Rattle.kin_motion.proofs.Sorting.{sorted-once}
 use Rattle.kin_motion.proofs.AgreementLaws.{chain_agrees, kept-members, kept-once, halves}
 use Rattle.kin_motion.proofs.NodeLaws.{node_with_slot, not_above}
 use Rattle.kin_motion.proofs.BreakpointLaws.{members_of, breakpoints_agree, one_breakpoint_list, chain_of_list, list_distinct}
+use Rattle.kin_motion.proofs.CurrentLaws.{forms_agree}
 use Rattle.kin_motion.proofs.MergeFormLaws.{lefts, kind, turn_first, turns_distinct, slope_first, slopes_distinct, ends_distinct, ends_kind}
 use Rattle.kin_motion.proofs.Proved.{live-once}
 
@@ -60,13 +61,13 @@ same_left h (i ∷ j ∷ ps) o e f c k q =
     at (inr l) (inl p) rest = absurd (clash f e p l (sym q))
     at (inr l) (inr m) rest = rest l m
 
-unfoldable pub AreApart : List ℕ → List ℕ → Type 0
-AreApart a b = (i : ℕ) → is_in i a ≡ true → is_in i b ≡ true → ⊥
+unfoldable pub AreDisjoint : List ℕ → List ℕ → Type 0
+AreDisjoint a b = (i : ℕ) → is_in i a ≡ true → is_in i b ≡ true → ⊥
 
 -- ---- one merge
 module _ (s : Scene) (real : IsReal s) where
-  lefts_distinct : (a b : List ℕ) (es : List Breakpoint) → IsOnce a → IsOnce b → AreApart a b → IsChain (is_left s) a → IsChain (is_left s) b → IsBreakpointList s a b es → AreDistinct (lefts es)
-  unfolding lefts AreApart
+  lefts_distinct : (a b : List ℕ) (es : List Breakpoint) → IsOnce a → IsOnce b → AreDisjoint a b → IsChain (is_left s) a → IsChain (is_left s) b → IsBreakpointList s a b es → AreDistinct (lefts es)
+  unfolding lefts AreDisjoint
   lefts_distinct a b es oa ob apart ca cb l =
       let slopes = real_slope_laws s real in
       distinct_mapped_on (λ (e : Breakpoint). e.left) es
@@ -99,46 +100,38 @@ module _ (s : Scene) (real : IsReal s) where
   chain_part : (set xs : List ℕ) → IsUpperChain s set xs → (i : ℕ) → is_in i xs ≡ true → is_in i set ≡ true
   chain_part set xs u i h = (halves (is_in i set) (is_bare s set i) (sym (u.members i) ∙ h)).0
 
-  pub merge_exact : (left right : List ℕ) → IsOnce left → IsOnce right → AreApart left right → ListsExactly (merge_forms s left right) (IsMergeForm s left right)
-  unfolding AreApart
-  merge_exact left right ol or apart = record { once = once; each = λ f. (to f, from f) }
+  -- by two upper chains and their breakpoint list the forms are listed exactly
+  pub forms_exact : (left right a b : List ℕ) (es : List Breakpoint) → IsUpperChain s left a → IsUpperChain s right b → IsOnce a → IsOnce b → AreDisjoint a b → IsBreakpointList s a b es
+      → ListsExactly (forms_of_merge s a b es) (IsMergeForm s left right)
+  forms_exact left right a b es ua ub oa ob apart list = record {
+    once = forms_distinct a b es oa ob (lefts_distinct a b es oa ob apart ua.rising ub.rising list);
+    each = λ f. (to f, from f);
+  }
+    where
+      to : (f : Form) → Contains (forms_of_merge s a b es) f → IsMergeForm s left right f
+      to f c = record { a = a; b = b; breakpoints = es; a_chain = ua; b_chain = ub; sorted = list; listed = (forms_agree s a b es f).0 c }
+
+      from : (f : Form) → IsMergeForm s left right f → Contains (forms_of_merge s a b es) f
+      from f m =
+          let ea : m.a ≡ a = one_upper_chain s (real_line_laws s real) left m.a a m.a_chain ua in
+          let eb : m.b ≡ b = one_upper_chain s (real_line_laws s real) right m.b b m.b_chain ub in
+          let sorted = subst (λ (xs : List ℕ). IsBreakpointList s xs b m.breakpoints) ea (subst (λ (ys : List ℕ). IsBreakpointList s m.a ys m.breakpoints) eb m.sorted) in
+          let ee : m.breakpoints ≡ es = one_breakpoint_list s (real_slope_laws s real) a b m.breakpoints es ua.rising ub.rising sorted list in
+          subst (λ (fs : List Breakpoint). Contains (forms_of_merge s a b fs) f) ee
+          (subst (λ (xs : List ℕ). Contains (forms_of_merge s xs b m.breakpoints) f) ea (subst (λ (ys : List ℕ). Contains (forms_of_merge s m.a ys m.breakpoints) f) eb ((forms_agree s m.a m.b m.breakpoints f).1 m.listed)))
+
+  pub merge_exact : (left right : List ℕ) → IsOnce left → IsOnce right → AreDisjoint left right → ListsExactly (merge_forms s left right) (IsMergeForm s left right)
+  unfolding AreDisjoint
+  merge_exact left right ol or apart =
+      forms_exact left right (upper_chain_of s left) (upper_chain_of s right) (breakpoint_list s (upper_chain_of s left) (upper_chain_of s right)) left_chain right_chain (chain_once left ol) (chain_once right or)
+      (λ i h k. apart i (chain_part left (upper_chain_of s left) left_chain i h) (chain_part right (upper_chain_of s right) right_chain i k))
+      (breakpoints_agree s (real_slope_laws s real) (real_turn_laws s real) left right (upper_chain_of s left) (upper_chain_of s right) left_chain right_chain)
     where
       left_chain : IsUpperChain s left (upper_chain_of s left)
       left_chain = chain_agrees s (real_line_laws s real) left ol
 
       right_chain : IsUpperChain s right (upper_chain_of s right)
       right_chain = chain_agrees s (real_line_laws s real) right or
-
-      list : IsBreakpointList s (upper_chain_of s left) (upper_chain_of s right) (breakpoint_list s (upper_chain_of s left) (upper_chain_of s right))
-      list = breakpoints_agree s (real_slope_laws s real) (real_turn_laws s real) left right (upper_chain_of s left) (upper_chain_of s right) left_chain right_chain
-
-      once : AreDistinct (merge_forms s left right)
-      once =
-          forms_distinct (upper_chain_of s left) (upper_chain_of s right) (breakpoint_list s (upper_chain_of s left) (upper_chain_of s right)) (chain_once left ol) (chain_once right or)
-          (lefts_distinct (upper_chain_of s left) (upper_chain_of s right) (breakpoint_list s (upper_chain_of s left) (upper_chain_of s right)) (chain_once left ol) (chain_once right or)
-          (λ i h k. apart i (chain_part left (upper_chain_of s left) left_chain i h) (chain_part right (upper_chain_of s right) right_chain i k))
-          left_chain.rising right_chain.rising list)
-
-      to : (f : Form) → Contains (merge_forms s left right) f → IsMergeForm s left right f
-      to f c = record {
-        a = upper_chain_of s left;
-        b = upper_chain_of s right;
-        breakpoints = breakpoint_list s (upper_chain_of s left) (upper_chain_of s right);
-        a_chain = left_chain;
-        b_chain = right_chain;
-        sorted = list;
-        listed = c;
-      }
-
-      from : (f : Form) → IsMergeForm s left right f → Contains (merge_forms s left right) f
-      from f m =
-          let ea : m.a ≡ upper_chain_of s left = one_upper_chain s (real_line_laws s real) left m.a (upper_chain_of s left) m.a_chain left_chain in
-          let eb : m.b ≡ upper_chain_of s right = one_upper_chain s (real_line_laws s real) right m.b (upper_chain_of s right) m.b_chain right_chain in
-          let sorted = subst (λ (xs : List ℕ). IsBreakpointList s xs (upper_chain_of s right) m.breakpoints) ea (subst (λ (ys : List ℕ). IsBreakpointList s m.a ys m.breakpoints) eb m.sorted) in
-          let ee : m.breakpoints ≡ breakpoint_list s (upper_chain_of s left) (upper_chain_of s right) =
-          one_breakpoint_list s (real_slope_laws s real) (upper_chain_of s left) (upper_chain_of s right) m.breakpoints (breakpoint_list s (upper_chain_of s left) (upper_chain_of s right)) left_chain.rising right_chain.rising sorted list in
-          subst (λ (es : List Breakpoint). Contains (forms_of_merge s (upper_chain_of s left) (upper_chain_of s right) es) f) ee
-          (subst (λ (xs : List ℕ). Contains (forms_of_merge s xs (upper_chain_of s right) m.breakpoints) f) ea (subst (λ (ys : List ℕ). Contains (forms_of_merge s m.a ys m.breakpoints) f) eb m.listed))
 
 -- ---- nodes
 either_true : (a b : Bool) → a || b ≡ true → (a ≡ true) ⊎ (b ≡ true)
@@ -164,20 +157,20 @@ module _ (size : ℕ) (s : Scene) (real : IsReal s) (fits : FitsSize size s) whe
   under_once : (v : ℕ) → IsOnce (points_under size s v)
   under_once v = kept-once (is_under size v) s.live (live-once s real)
 
-  under_apart : (v : ℕ) → AreApart (points_under size s (2 * v)) (points_under size s (2 * v + 1))
-  unfolding AreApart
+  under_apart : (v : ℕ) → AreDisjoint (points_under size s (2 * v)) (points_under size s (2 * v + 1))
+  unfolding AreDisjoint
   under_apart v i h k =
       let p = live_under (2 * v) i h in
       let q = live_under (2 * v + 1) i k in
       let some = (node_with_slot size v i (fits i p.0) p.1).0 in
       not_both size (2 ^ size + i) v (omega (arith, some)) p.1 q.1
 
-  node_exact : (v : ℕ) → ListsExactly (node_forms size s v) (IsNodeForm size s v)
+  pub node_exact : (v : ℕ) → ListsExactly (node_forms size s v) (IsNodeForm size s v)
   node_exact v = merge_exact s real (points_under size s (2 * v)) (points_under size s (2 * v + 1)) (under_once (2 * v)) (under_once (2 * v + 1)) (under_apart v)
 
   -- a node with a form is an inner node
-  node_is_inner : (v : ℕ) (f : Form) → IsNodeForm size s v f → (1 ≤ v) × (v < 2 ^ size)
-  node_is_inner v f m = at m.a (λ i h. (halves (is_in i (points_under size s (2 * v))) (is_bare s (points_under size s (2 * v)) i) (sym (m.a_chain.members i) ∙ h)).0) m.listed
+  pub node_is_inner : (v : ℕ) (f : Form) → IsNodeForm size s v f → (1 ≤ v) × (v < 2 ^ size)
+  node_is_inner v f m = at m.a (λ i h. (halves (is_in i (points_under size s (2 * v))) (is_bare s (points_under size s (2 * v)) i) (sym (m.a_chain.members i) ∙ h)).0) ((forms_agree s m.a m.b m.breakpoints f).1 m.listed)
     where
       at : (a : List ℕ) → ((i : ℕ) → is_in i a ≡ true → is_in i (points_under size s (2 * v)) ≡ true) → Contains (forms_of_merge s a m.b m.breakpoints) f → (1 ≤ v) × (v < 2 ^ size)
       at [] part c = absurd (contains_none f c)
@@ -189,7 +182,7 @@ module _ (size : ℕ) (s : Scene) (real : IsReal s) (fits : FitsSize size s) whe
           front i is = let same : nat_eq i i ≡ true = grind (arith, nat_tests) in ap (λ t. t || is_in i is) same
 
 -- ---- both trees
-one_form : (s : Scene) (part : ℕ) (f g : Form) → placed_at s part f ≡ placed_at s part g → f ≡ g
+pub one_form : (s : Scene) (part : ℕ) (f g : Form) → placed_at s part f ≡ placed_at s part g → f ≡ g
 one_form s part f g e = ap (λ (p : Placed). p.fact.form) e
 
 abbrev IsUpperOf : ℕ → Scene → ℕ → Placed → Type 0
@@ -198,7 +191,7 @@ IsUpperOf size s v p = (f : Form) × IsNodeForm size s v f × (p ≡ placed_at s
 abbrev IsLowerOf : ℕ → Scene → ℕ → Placed → Type 0
 IsLowerOf size s v p = (f : Form) × IsNodeForm size (turned s) v f × (p ≡ placed_at s (2 * v + 1) f)
 
-part_of : (s : Scene) (part : ℕ) (f : Form) (p : Placed) → p ≡ placed_at s part f → p.part ≡ part
+pub part_of : (s : Scene) (part : ℕ) (f : Form) (p : Placed) → p ≡ placed_at s part f → p.part ≡ part
 part_of s part f p e = ap (λ (q : Placed). q.part) e
 
 both_exact : (size : ℕ) (s : Scene) → IsReal s → FitsSize size s → (v : ℕ) → ListsExactly (hull_facts_of_node size s v) (λ p. IsUpperOf size s v p ⊎ IsLowerOf size s v p)

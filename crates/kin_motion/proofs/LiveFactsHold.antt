@@ -8,7 +8,8 @@ use Rattle.kin_motion.specs.Scene.{Scene, Holds, placed_at}
 use Rattle.kin_motion.specs.Orders.{neighbour_forms, IsOrderFact}
 use Rattle.kin_motion.specs.Extremes.{along_key, point_slots}
 use Rattle.kin_motion.specs.Tournaments.{Key, IsNodeFact}
-use Rattle.kin_motion.specs.Octants.{distance_key, IsClosestFact}
+use Rattle.kin_motion.specs.ClosestPairs.{distance_key}
+use Rattle.kin_motion.specs.ClosestFacts.{IsClosestFact}
 use Rattle.kin_motion.specs.Merges.{IsHullFact}
 use Rattle.kin_motion.specs.Live.{Certificate, IsKeepFact, IsLiveFact}
 use Rattle.kin_motion.proofs.SetLaws.{contains_mapped}
@@ -34,7 +35,7 @@ closest_fact_holds size s p (inr f) =
     let node = node_fact_holds s distance_key _ f.slots f.node f.fact in
     ap (λ (q : Placed). s.sign q.fact.form) f.placed ∙ node ∙ sym (ap (λ (q : Placed). q.fact.sign) f.placed)
 
-keep_fact_holds : (size : ℕ) (s : Scene) (k : Keep) (p : Placed) → IsKeepFact size s k p → Holds s p.fact
+pub keep_fact_holds : (size : ℕ) (s : Scene) (k : Keep) (p : Placed) → IsKeepFact size s k p → Holds s p.fact
 keep_fact_holds size s (Order dx dy) p f = order_fact_holds s dx dy 0 p f
 keep_fact_holds size s (Extreme dx dy) p f = node_fact_holds s (along_key dx dy) size (point_slots size s.live) p f
 keep_fact_holds size s Hull p f = hull_fact_holds size s p f

@@ -5,7 +5,9 @@ use Rattle.std.proofs.lemmas.Nat.{pow-add}
 use Rattle.std.proofs.lemmas.Option.{slice_get_within}
 use Rattle.kin_motion.specs.Numbers.{is_in, numbers_from}
 use Rattle.kin_motion.specs.Scene.{Scene, IsReal}
-use Rattle.kin_motion.specs.Octants.{Octant, octants, candidate_of, IsCandidateAnswer, Near, near, near_of, HoldsNear, AreNearSlots, near_slots_of_point, near_slots}
+use Rattle.kin_motion.specs.Octants.{Octant, octants, candidate_of, IsCandidateAnswer}
+use Rattle.kin_motion.specs.ClosestPairs.{Near}
+use Rattle.kin_motion.specs.ClosestFacts.{near, near_of, HoldsNear, AreNearSlots, near_slots_of_point, near_slots}
 use Rattle.kin_motion.proofs.CandidateLaws.{candidate_agrees, one_candidate}
 
 -- ---- places in lists

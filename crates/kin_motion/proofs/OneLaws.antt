@@ -9,7 +9,7 @@ use Rattle.kin_motion.specs.Numbers.{IsIn}
 use Rattle.kin_motion.specs.Scene.{Scene, IsReal, turned}
 use Rattle.kin_motion.specs.Extremes.{IsExtreme}
 use Rattle.kin_motion.specs.Chains.{round}
-use Rattle.kin_motion.specs.Octants.{IsClosestPair}
+use Rattle.kin_motion.specs.ClosestPairs.{IsClosestPair}
 use Rattle.kin_motion.specs.Theorems.{OneExtreme, OneHullCycle, OneClosest}
 use Rattle.kin_motion.proofs.RealLaws.{real_line_laws}
 use Rattle.kin_motion.proofs.TurnedLaws.{turned-real}

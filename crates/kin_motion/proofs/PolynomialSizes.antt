@@ -1,10 +1,10 @@
 -- How large the polynomials of forms are, where motions are slow.
 use Rattle.std.proofs.Common.{◌≡◌, ℤ, ℕ, ◌≤◌, ◌+◌, ◌*◌, ◌^◌, ◌+ℤ◌, ◌-ℤ◌, ◌*ℤ◌, unsigned_abs, List, Option, Some, None, refl, arith, mul-le-mul}
 use Rattle.std.proofs.lemmas.Int.{ints, unsigned_abs-mul}
-use Rattle.kin_num.specs.Quadratic.{Quadratic, IsSmall}
+use Rattle.kin_num.specs.Quadratic.{Quadratic, IsSmall, quadratic_sum}
 use Rattle.kin_motion.specs.declared.form.Form.TheVariants.{Line, Turn, Slope, Dist}
 use Rattle.kin_motion.specs.Course.{Course, IsSlow, AreSlow, motion_of}
-use Rattle.kin_motion.specs.Forms.{Linear, minus, product, plus, difference, along, x_of_course, y_of_course, x_step, y_step, polynomial_of, square_of_step}
+use Rattle.kin_motion.specs.Forms.{Linear, minus, product, difference, along, x_of_course, y_of_course, x_step, y_step, polynomial_of, square_of_step}
 use Rattle.kin_motion.specs.Sizes.{IsShort, IsWithin}
 use Rattle.kin_motion.specs.Theorems.{PolynomialsAreSmall}
 use Rattle.kin_motion.proofs.PolyLaws.{within_plus}
@@ -55,7 +55,7 @@ product_within p q h k = record {
   c_small = product_size (2 ^ 13) (2 ^ 13) p.start q.start h.start_small k.start_small;
 }
 
-square_within : (p q : Linear) → IsShort p → IsShort q → IsWithin (2 ^ 27) (plus (product p p) (product q q))
+square_within : (p q : Linear) → IsShort p → IsShort q → IsWithin (2 ^ 27) (quadratic_sum (product p p) (product q q))
 square_within p q h k = within_plus (2 ^ 26) (product p p) (product q q) (product_within p p h h) (product_within q q k k)
 
 wider : (p : Quadratic) → IsWithin (2 ^ 26) p → IsWithin (2 ^ 27) p

@@ -15,7 +15,7 @@ use Rattle.kin_num.proofs.NumberRing.{flat, ring_over}
 use Rattle.kin_motion.specs.declared.form.Form.{Form}
 use Rattle.kin_motion.specs.declared.form.Form.TheVariants.{Line, Slope}
 use Rattle.kin_motion.specs.Course.{Course}
-use Rattle.kin_motion.specs.Forms.{Linear, product, difference, along, x_step, y_step, polynomial_of, sign_of_form}
+use Rattle.kin_motion.specs.Forms.{Linear, minus, product, difference, along, x_step, y_step, polynomial_of, sign_of_form}
 use Rattle.kin_motion.specs.Scene.{Scene, IsReal, x_sign}
 use Rattle.kin_motion.specs.Laws.{HasSlopeLaws}
 use Rattle.kin_motion.proofs.SetLaws.{contains_at}
@@ -24,7 +24,7 @@ use Rattle.kin_motion.proofs.RealLaws.{by_signs, opposite_forms}
 
 -- ---- values of lines
 -- the value of slope*t + start at a number, times its divisor
-abbrev line_value : Linear → Number → Pair
+abbrev pub line_value : Linear → Number → Pair
 line_value p x = pair (p.slope *ℤ x.whole +ℤ p.start *ℤ x.divisor) (p.slope *ℤ x.root)
 
 product_whole : (a b c e n m d q : ℤ) →
@@ -35,7 +35,7 @@ product_whole a b c e n m d q = by_ring (a ∷ b ∷ c ∷ e ∷ n ∷ m ∷ d �
 product_root : (a b c e n m q : ℤ) → pos 2 *ℤ (a *ℤ c) *ℤ n *ℤ m +ℤ (a *ℤ e +ℤ b *ℤ c) *ℤ m *ℤ q ≡ (a *ℤ n +ℤ b *ℤ q) *ℤ (c *ℤ m) +ℤ (a *ℤ m) *ℤ (c *ℤ n +ℤ e *ℤ q)
 product_root a b c e n m q = by_ring (a ∷ b ∷ c ∷ e ∷ n ∷ m ∷ q ∷ []) _ _ (search quotes depth 30 fits 40000) (search quotes depth 30 fits 40000) refl
 
-value-product : (p q : Linear) (x : Number) → value (product p q) x ≡ pair_times x.radicand (line_value p x) (line_value q x)
+pub value-product : (p q : Linear) (x : Number) → value (product p q) x ≡ pair_times x.radicand (line_value p x) (line_value q x)
 value-product p q x = ap₂ pair (product_whole p.slope p.start q.slope q.start x.whole x.root x.radicand x.divisor) (product_root p.slope p.start q.slope q.start x.whole x.root x.divisor)
 
 less_is_plus : (a b : ℤ) → a -ℤ b ≡ a +ℤ neg_ℤ b
@@ -57,6 +57,27 @@ along_root a b c e n m q = by_ring (a ∷ b ∷ c ∷ e ∷ n ∷ m ∷ q ∷ []
 
 value-along : (p q : Linear) (x : Number) → value (along (pos 1) (pos 0) (pos 0) p q) x ≡ pair_times x.radicand (flat x.divisor) (line_value p x)
 value-along p q x = ap₂ pair (along_whole p.slope p.start q.slope q.start x.whole x.root x.radicand x.divisor) (along_root p.slope p.start q.slope q.start x.whole x.root x.divisor)
+
+along_whole_y : (a b c e n m d q : ℤ) →
+    pos 0 *ℤ (n *ℤ n +ℤ m *ℤ m *ℤ d) +ℤ (pos 0 *ℤ a +ℤ pos 1 *ℤ c) *ℤ n *ℤ q +ℤ (pos 0 *ℤ b +ℤ pos 1 *ℤ e +ℤ pos 0) *ℤ q *ℤ q
+    ≡ q *ℤ (c *ℤ n +ℤ e *ℤ q) +ℤ d *ℤ (pos 0 *ℤ (c *ℤ m))
+along_whole_y a b c e n m d q = by_ring (a ∷ b ∷ c ∷ e ∷ n ∷ m ∷ d ∷ q ∷ []) _ _ (search quotes depth 30 fits 40000) (search quotes depth 30 fits 40000) refl
+
+along_root_y : (a b c e n m q : ℤ) → pos 2 *ℤ pos 0 *ℤ n *ℤ m +ℤ (pos 0 *ℤ a +ℤ pos 1 *ℤ c) *ℤ m *ℤ q ≡ q *ℤ (c *ℤ m) +ℤ pos 0 *ℤ (c *ℤ n +ℤ e *ℤ q)
+along_root_y a b c e n m q = by_ring (a ∷ b ∷ c ∷ e ∷ n ∷ m ∷ q ∷ []) _ _ (search quotes depth 30 fits 40000) (search quotes depth 30 fits 40000) refl
+
+value-along_y : (p q : Linear) (x : Number) → value (along (pos 0) (pos 1) (pos 0) p q) x ≡ pair_times x.radicand (flat x.divisor) (line_value q x)
+value-along_y p q x = ap₂ pair (along_whole_y p.slope p.start q.slope q.start x.whole x.root x.radicand x.divisor) (along_root_y p.slope p.start q.slope q.start x.whole x.root x.divisor)
+
+minus_whole : (a b c e n q : ℤ) → (a -ℤ c) *ℤ n +ℤ (b -ℤ e) *ℤ q ≡ (a *ℤ n +ℤ b *ℤ q) +ℤ neg_ℤ (c *ℤ n +ℤ e *ℤ q)
+minus_whole a b c e n q = by_ring (a ∷ b ∷ c ∷ e ∷ n ∷ q ∷ []) _ _ (search quotes depth 30 fits 40000) (search quotes depth 30 fits 40000) refl
+
+minus_root : (a c m : ℤ) → (a -ℤ c) *ℤ m ≡ a *ℤ m +ℤ neg_ℤ (c *ℤ m)
+minus_root a c m = by_ring (a ∷ c ∷ m ∷ []) _ _ (search quotes depth 20) (search quotes depth 20) refl
+
+-- the value of a difference of lines
+pub line_value-minus : (p q : Linear) (x : Number) → line_value (minus p q) x ≡ pair_plus (line_value p x) (pair_negative (line_value q x))
+line_value-minus p q x = ap₂ pair (minus_whole p.slope p.start q.slope q.start x.whole x.divisor) (minus_root p.slope q.slope x.root)
 
 -- ---- the identity of three steps
 module _ {R : Type 0} (o : OrderedRing R) where
@@ -90,12 +111,17 @@ module _ (x : Number) (sound : Sound x.radicand) (positive : sign_of x.divisor �
   abbrev o : OrderedRing Pair
   o = ring_over x.radicand sound
 
-  x_sign-value : (p q : Linear) → sign_at_number (along (pos 1) (pos 0) (pos 0) p q) x ≡ o.sign (line_value p x)
+  pub x_sign-value : (p q : Linear) → sign_at_number (along (pos 1) (pos 0) (pos 0) p q) x ≡ o.sign (line_value p x)
   x_sign-value p q =
       ap (sign_over x.radicand) (value-along p q x)
       ∙ scale o {a = flat x.divisor} (line_value p x) (sign_over-whole x.radicand sound x.divisor ∙ positive)
 
-  slope-value : (a b c e : Linear) → sign_at_number (difference (product a b) (product c e)) x ≡ o.sign (cross o (line_value e x) (line_value a x) (line_value b x) (line_value c x))
+  pub y_sign-value : (p q : Linear) → sign_at_number (along (pos 0) (pos 1) (pos 0) p q) x ≡ o.sign (line_value q x)
+  y_sign-value p q =
+      ap (sign_over x.radicand) (value-along_y p q x)
+      ∙ scale o {a = flat x.divisor} (line_value q x) (sign_over-whole x.radicand sound x.divisor ∙ positive)
+
+  pub slope-value : (a b c e : Linear) → sign_at_number (difference (product a b) (product c e)) x ≡ o.sign (cross o (line_value e x) (line_value a x) (line_value b x) (line_value c x))
   slope-value a b c e =
       ap (sign_over x.radicand) (value-difference (product a b) (product c e) x ∙ ap₂ (λ (p q : Pair). pair_plus p (pair_negative q)) (value-product a b x) (value-product c e x))
 

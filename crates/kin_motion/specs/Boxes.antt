@@ -1,5 +1,5 @@
 -- The points in a rectangle.
-use Rattle.std.specs.Prelude.{ℕ, Bool, true, false, ◌&&◌, ℤ, pos, negsuc, List, Option, filter}
+use Rattle.std.specs.Prelude.{ℕ, ◌≤◌, ◌^◌, unsigned_abs, Bool, true, false, ◌&&◌, ℤ, pos, negsuc, List, Option, filter}
 use lib.IntN.{neg_ℤ}
 use Rattle.kin_algebra.specs.declared.sign.Sign.{Sign}
 use Rattle.kin_algebra.specs.declared.sign.Sign.TheVariants.{Minus, Zero, Plus}
@@ -9,6 +9,13 @@ use Rattle.kin_motion.specs.declared.keep.Rect.{Rect}
 use Rattle.kin_motion.specs.Course.{Course}
 use Rattle.kin_motion.specs.Forms.{along, x_of, y_of}
 use Rattle.kin_motion.specs.Numbers.{filled_from}
+
+-- the border of a rectangle is in -2^24..2^24
+pub record IsRectInRange (r : Rect) : Type 0 where
+  pub x1_small : unsigned_abs r.x1 ≤ 2 ^ 24
+  pub x2_small : unsigned_abs r.x2 ≤ 2 ^ 24
+  pub y1_small : unsigned_abs r.y1 ≤ 2 ^ 24
+  pub y2_small : unsigned_abs r.y2 ≤ 2 ^ 24
 
 -- + or 0
 abbrev pub is_not_minus : Sign → Bool

@@ -2,7 +2,7 @@
 use Rattle.std.specs.Prelude.{ℤ, pos, ◌+ℤ◌, ◌-ℤ◌, ◌*ℤ◌, ℕ, ◌≤◌, ◌^◌, unsigned_abs, Bool, List, [], ◌∷◌, Option, Some, None}
 use Rattle.kin_algebra.specs.declared.sign.Sign.{Sign}
 use Rattle.kin_num.specs.declared.instant.Moment.{Moment}
-use Rattle.kin_num.specs.Quadratic.{Quadratic}
+use Rattle.kin_num.specs.Quadratic.{Quadratic, quadratic_sum}
 use Rattle.kin_num.specs.Instants.{sign_at}
 use Rattle.kin_motion.specs.declared.form.Form.{Form}
 use Rattle.kin_motion.specs.declared.form.Form.TheVariants.{Line, Turn, Slope, Dist}
@@ -48,10 +48,6 @@ minus p q = record { slope = p.slope -ℤ q.slope; start = p.start -ℤ q.start 
 abbrev pub product : Linear → Linear → Quadratic
 product p q = record { a = p.slope *ℤ q.slope; b = p.slope *ℤ q.start +ℤ p.start *ℤ q.slope; c = p.start *ℤ q.start }
 
--- the sum of two polynomials
-abbrev pub plus : Quadratic → Quadratic → Quadratic
-plus p q = record { a = p.a +ℤ q.a; b = p.b +ℤ q.b; c = p.c +ℤ q.c }
-
 -- the difference of two polynomials
 abbrev pub difference : Quadratic → Quadratic → Quadratic
 difference p q = record { a = p.a -ℤ q.a; b = p.b -ℤ q.b; c = p.c -ℤ q.c }
@@ -88,7 +84,7 @@ along dx dy off x y = record { a = pos 0; b = dx *ℤ x.slope +ℤ dy *ℤ y.slo
 
 -- the squared distance of two points
 abbrev pub square_of_step : List (Option Course) → ℕ → ℕ → Quadratic
-square_of_step ms i j = plus (product (x_step ms i j) (x_step ms i j)) (product (y_step ms i j) (y_step ms i j))
+square_of_step ms i j = quadratic_sum (product (x_step ms i j) (x_step ms i j)) (product (y_step ms i j) (y_step ms i j))
 
 -- the polynomial that a form names
 unfoldable pub polynomial_of : List (Option Course) → Form → Quadratic

@@ -1,5 +1,5 @@
 -- The journal: which live facts fail, at which moments.
-use Rattle.std.specs.Prelude.{◌≡◌, ◌≢◌, ℕ, Bool, true, false, not, ◌&&◌, ◌||◌, ℤ, pos, List, [], ◌∷◌, filter, map, Contains, ◌↔◌, int_lt, int_le}
+use Rattle.std.specs.Prelude.{◌≡◌, ◌≢◌, ℕ, Bool, true, false, not, ◌&&◌, ◌||◌, ℤ, pos, List, [], ◌∷◌, filter, map, Option, Contains, ◌↔◌, int_lt, int_le}
 use Rattle.kin_algebra.specs.declared.sign.Sign.{Sign}
 use Rattle.kin_algebra.specs.declared.sign.Sign.TheVariants.{Minus, Zero, Plus}
 use Rattle.kin_num.specs.declared.instant.Moment.{Moment}
@@ -8,7 +8,8 @@ use Rattle.kin_motion.specs.declared.form.Form.{Form}
 use Rattle.kin_motion.specs.declared.form.Form.TheVariants.{Line, Turn, Slope, Dist}
 use Rattle.kin_motion.specs.declared.keep.Keep.{Keep}
 use Rattle.kin_motion.specs.Numbers.{IsChain, sorted_by}
-use Rattle.kin_motion.specs.Scene.{Scene}
+use Rattle.kin_motion.specs.Course.{Course}
+use Rattle.kin_motion.specs.Scene.{Scene, scene_at}
 use Rattle.kin_motion.specs.Live.{Certificate, IsLiveFact, live_facts}
 use Rattle.kin_num.specs.Order.{IsEarlier}
 use Rattle.kin_motion.specs.Moments.{HoldsAt, HoldsUntil}
@@ -18,6 +19,10 @@ pub record Setting : Type 0 where
   pub size : ℕ
   pub keeps : List Keep
   pub scene : Moment → Scene
+
+-- what is kept, and what is seen at each moment as these motions go on
+abbrev pub setting_of : List (Option Course) → ℕ → List Keep → Setting
+setting_of ms size keeps = record { size = size; keeps = keeps; scene = scene_at ms }
 
 -- a fact that was live, with its new sign
 pub record Failure : Type 0 where

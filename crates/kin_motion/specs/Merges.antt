@@ -44,14 +44,23 @@ goes_first Plus g h = true
 goes_first Zero g h = is_of A g && is_of B h
 goes_first Minus g h = false
 
--- whether e is placed before f, where they are of different chains
+-- whether e is placed before f: by falling slope, and where slopes are equal that of A before that of B
 abbrev pub is_placed_before : Scene → Breakpoint → Breakpoint → Bool
 is_placed_before s e f = goes_first (s.sign (slope_form e f)) e.half f.half
 
+-- the breakpoints of one half, in their order
+abbrev pub own_of : Half → List Breakpoint → List Breakpoint
+own_of h es = filter (λ e. is_of h e.half) es
+
+-- the breakpoints of both chains in one list, each chain's in its order
+pub record IsInterleaving (a b : List ℕ) (es : List Breakpoint) : Type 0 where
+  pub of_a : own_of A es ≡ breakpoints_of A a
+  pub of_b : own_of B es ≡ breakpoints_of B b
+
 -- the breakpoints of both chains in one list, by falling slope, with those of A first where slopes are equal
 pub record IsBreakpointList (s : Scene) (a b : List ℕ) (es : List Breakpoint) : Type 0 where
-  pub of_a : filter (λ e. is_of A e.half) es ≡ breakpoints_of A a
-  pub of_b : filter (λ e. is_of B e.half) es ≡ breakpoints_of B b
+  pub of_a : own_of A es ≡ breakpoints_of A a
+  pub of_b : own_of B es ≡ breakpoints_of B b
   pub falling : IsChain (is_placed_before s) es
 
 -- the list fs with e put before the first that it is placed before
@@ -68,19 +77,29 @@ merged s (e ∷ es) fs = put_before s e (merged s es fs)
 abbrev pub breakpoint_list : Scene → List ℕ → List ℕ → List Breakpoint
 breakpoint_list s a b = merged s (breakpoints_of A a) (breakpoints_of B b)
 
--- the current point of a half behind a breakpoint
-abbrev pub current_after : Half → Breakpoint → ℕ → ℕ
-current_after h e p = cond (is_of h e.half) e.right p
+-- p is the current point of a half behind these breakpoints: the first point of its chain where none of them is of that half, otherwise the right point of the last one that is
+abbrev pub IsCurrent : Half → ℕ → List Breakpoint → ℕ → Type 0
+IsCurrent h first es p = ((own_of h es ≡ []) × (p ≡ first)) ⊎ ((ds : List Breakpoint) × (e : Breakpoint) × (own_of h es ≡ ds ++ e ∷ []) × (p ≡ e.right))
 
--- of the current points a of A and b of B, that of the other half
-abbrev pub other_current : Half → ℕ → ℕ → ℕ
-other_current A a b = b
-other_current B a b = a
+-- the other half
+abbrev pub other : Half → Half
+other A = B
+other B = A
 
--- (Y) at each breakpoint the turn to the current point of the other half; a and b are current before the first
-abbrev pub turns_from : ℕ → ℕ → List Breakpoint → List Form
-turns_from a b [] = []
-turns_from a b (e ∷ es) = Turn e.left e.right (other_current e.half a b) ∷ turns_from (current_after A e a) (current_after B e b) es
+-- of two points, a of A and b of B, that of the half
+abbrev pub point_of : Half → ℕ → ℕ → ℕ
+point_of A a b = a
+point_of B a b = b
+
+-- (Y) at a breakpoint the turn to the current point of the other half; a and b are the first points of the chains
+pub record IsTurnForm (a b : ℕ) (es : List Breakpoint) (f : Form) : Type 0 where
+  pub before : List Breakpoint
+  pub place : Breakpoint
+  pub behind : List Breakpoint
+  pub point : ℕ
+  pub split : es ≡ before ++ place ∷ behind
+  pub current : IsCurrent (other place.half) (point_of (other place.half) a b) before point
+  pub form : f ≡ Turn place.left place.right point
 
 -- (X) the slope of each two neighbours of different halves
 abbrev pub slope_between : Breakpoint → Breakpoint → List Form
@@ -106,11 +125,11 @@ abbrev pub forms_of_ends : Scene → ℕ → List ℕ → ℕ → List ℕ → L
 forms_of_ends s a [] b [] = end_forms s a b
 forms_of_ends s a as' b bs = end_forms s a b ++ end_forms s (last_of a as') (last_of b bs)
 
--- all forms of a merge by its breakpoint list; none where a chain is empty
-abbrev pub forms_of_merge : Scene → List ℕ → List ℕ → List Breakpoint → List Form
-forms_of_merge s [] b es = []
-forms_of_merge s (a ∷ as') [] es = []
-forms_of_merge s (a ∷ as') (b ∷ bs) es = turns_from a b es ++ slopes_from es ++ forms_of_ends s a as' b bs
+-- a form of a merge by its breakpoint list; none where a chain is empty
+abbrev pub IsListedForm : Scene → List ℕ → List ℕ → List Breakpoint → Form → Type 0
+IsListedForm s [] b es f = ⊥
+IsListedForm s (a ∷ as') [] es f = ⊥
+IsListedForm s (a ∷ as') (b ∷ bs) es f = IsTurnForm a b es f ⊎ (Contains (slopes_from es) f ⊎ Contains (forms_of_ends s a as' b bs) f)
 
 -- a form of the merge of the upper chains of two sets
 pub record IsMergeForm (s : Scene) (left right : List ℕ) (f : Form) : Type 0 where
@@ -120,9 +139,28 @@ pub record IsMergeForm (s : Scene) (left right : List ℕ) (f : Form) : Type 0 w
   pub a_chain : IsUpperChain s left a
   pub b_chain : IsUpperChain s right b
   pub sorted : IsBreakpointList s a b breakpoints
-  pub listed : Contains (forms_of_merge s a b breakpoints) f
+  pub listed : IsListedForm s a b breakpoints f
 
--- the same by computation
+-- the current point of a half behind one more breakpoint
+abbrev pub current_after : Half → Breakpoint → ℕ → ℕ
+current_after h e p = cond (is_of h e.half) e.right p
+
+-- of the current points a of A and b of B, that of the other half
+abbrev pub other_current : Half → ℕ → ℕ → ℕ
+other_current h a b = point_of (other h) a b
+
+-- the turns by computation; a and b are current before the first breakpoint
+abbrev pub turns_from : ℕ → ℕ → List Breakpoint → List Form
+turns_from a b [] = []
+turns_from a b (e ∷ es) = Turn e.left e.right (other_current e.half a b) ∷ turns_from (current_after A e a) (current_after B e b) es
+
+-- all forms of a merge by computation
+abbrev pub forms_of_merge : Scene → List ℕ → List ℕ → List Breakpoint → List Form
+forms_of_merge s [] b es = []
+forms_of_merge s (a ∷ as') [] es = []
+forms_of_merge s (a ∷ as') (b ∷ bs) es = turns_from a b es ++ slopes_from es ++ forms_of_ends s a as' b bs
+
+-- and from the chains alone
 abbrev pub forms_of_chains : Scene → List ℕ → List ℕ → List Form
 forms_of_chains s a b = forms_of_merge s a b (breakpoint_list s a b)
 

@@ -17,7 +17,8 @@ use Rattle.kin_motion.specs.Kinetics.{AllHold, HaveSameLive}
 use Rattle.kin_motion.specs.Orders.{IsOrder, IsOrderFact}
 use Rattle.kin_motion.specs.Extremes.{IsExtremePoint}
 use Rattle.kin_motion.specs.Chains.{IsUpperChain, IsHullCycle}
-use Rattle.kin_motion.specs.Octants.{Octant, octants, is_in_octant, IsCandidate, IsClosest}
+use Rattle.kin_motion.specs.Octants.{Octant, octants, is_in_octant, IsCandidate}
+use Rattle.kin_motion.specs.ClosestPairs.{IsClosest}
 use Rattle.kin_motion.specs.Live.{Certificate, IsLiveFact, IsSmallKeep}
 use Rattle.kin_motion.specs.Moments.{FailsFirst}
 use Rattle.kin_motion.specs.Journal.{Setting, Block, IsNextBlock, IsJournal}

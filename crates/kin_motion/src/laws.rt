@@ -1,6 +1,10 @@
 //! What holds of the definitions. Each function's contract is one law; none of them does anything.
 
-ghost use Rattle.kin_motion.specs.Agreements.{CandidateAgrees, ChainAgrees, ClosestAgrees, ClosestFactsAgree, CycleAgrees, ExtremeAgrees, ExtremeFactsAgree, FailuresAgree, HullFactsAgree, LiveFactsAgree, OrderAgrees, OrderFactsAgree};
+ghost use Rattle.kin_motion.specs.Agreements.{CandidateAgrees, ChainAgrees, ClosestAgrees, ClosestFactsAgree, CycleAgrees, ExtremeAgrees, ExtremeFactsAgree, FailuresAgree, HullFactsAgree, LiveFactsAgree, MergeFormsAgree, OrderAgrees, OrderFactsAgree};
+ghost use Rattle.kin_motion.specs.Claims.{ChainHasLeast, ChainIsStrict, HullHasLeast, HullIsStrict, SettledStatesExist, WrongRectIsEmpty};
+ghost use Rattle.kin_motion.specs.Parts.{MovedFactsChange, MovedFactsFail, MovedOrderFacts};
+ghost use Rattle.kin_motion.specs.TurnedFacts.{TurnedFactsHold, TurnedTwiceIsSame};
+ghost use Rattle.kin_motion.specs.Turning.{OneTurn, SceneIsByPlaces, TurnKeepsScene};
 ghost use Rattle.kin_motion.specs.Theorems.{LiveFactsAreAskable, OctantsAreOpposite, OneCandidate, OneClosest, OneExtreme, OneFirstFailure, OneHullCycle, OneJournal, OneNextBlock, OneOctant, OneOrder, OneUpperChain, OrderIsDetermined, PolynomialsAreSmall, RealScenesHaveLaws, TurnedIsMirrored, TurnedIsReal};
 
 /// Where motions are slow, the polynomial of each form that may be asked for is within the bounds.
@@ -19,10 +23,30 @@ pub fn real_scenes_have_laws()
     ensures { RealScenesHaveLaws }
 {}
 
-/// After y is turned round, the signs are those of the motions with every y and v negated.
+/// After y is turned round, the signs are those of the motions with every y and v negated. A fact
+/// of a hull holds exactly where its turned fact holds there; turned twice it is itself.
 pub fn turned_is_mirrored()
     ensures signs { TurnedIsMirrored }
     ensures real { TurnedIsReal }
+    ensures facts { TurnedFactsHold }
+    ensures twice { TurnedTwiceIsSame }
+{}
+
+/// Where facts are moved to other parts, what changed of them and which of them fail is moved with
+/// them; the facts of an order are then those of the order in its part.
+pub fn moved_facts_agree()
+    ensures change { MovedFactsChange }
+    ensures fail { MovedFactsFail }
+    ensures order { MovedOrderFacts }
+{}
+
+/// What is seen at an instant is a matter of who is live and where each point is. So a turn to
+/// another velocity leaves every fact and every answer at its instant; there is one motion to turn
+/// to at most.
+pub fn turns_keep_the_scene()
+    ensures places { SceneIsByPlaces }
+    ensures turn { TurnKeepsScene }
+    ensures one { OneTurn }
 {}
 
 /// There is one order along a direction at most.
@@ -95,7 +119,28 @@ pub fn computed_facts_agree()
     ensures order { OrderFactsAgree }
     ensures extreme { ExtremeFactsAgree }
     ensures closest { ClosestFactsAgree }
+    ensures merge { MergeFormsAgree }
     ensures hull { HullFactsAgree }
     ensures live { LiveFactsAgree }
     ensures failures { FailuresAgree }
+{}
+
+/// A rectangle whose sides are the wrong way round has no point.
+pub fn wrong_rect_is_empty()
+    ensures { WrongRectIsEmpty }
+{}
+
+/// Of points at one place a hull has the least number, and no point of it is collinear with one to
+/// its left and one to its right. The same holds of an upper chain.
+pub fn hulls_are_strict()
+    ensures strict { HullIsStrict }
+    ensures least { HullHasLeast }
+    ensures strict_chain { ChainIsStrict }
+    ensures least_chain { ChainHasLeast }
+{}
+
+/// In each real scene whose numbers have slots every kept structure, and the tree of upper chains, can
+/// be settled: what `Contents` asks for exists.
+pub fn settled_states_exist()
+    ensures { SettledStatesExist }
 {}

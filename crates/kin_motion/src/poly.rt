@@ -2,7 +2,9 @@
 
 ghost use Rattle.std.specs.Prelude.{◌≡◌, ◌≤◌, ◌^◌, ◌+ℤ◌, ◌-ℤ◌, ◌*ℤ◌, unsigned_abs, Some};
 ghost use Rattle.kin_motion.specs.Course.{live_of, motion_of, IsSlow};
-ghost use Rattle.kin_motion.specs.Forms.{IsAskable, polynomial_of, product, plus, minus, difference, along, square_of_step, x_step, y_step};
+ghost use Rattle.kin_motion.specs.declared.form.Form.TheVariants.{Turn, Slope, Dist};
+ghost use Rattle.kin_motion.specs.Forms.{IsAskable, polynomial_of, product, minus, difference, along, square_of_step, x_step, y_step};
+ghost use Rattle.kin_num.specs.Quadratic.{quadratic_sum};
 ghost use Rattle.kin_motion.specs.Numbers.{IsIn};
 ghost use Rattle.kin_motion.specs.Sizes.{IsShort, IsWithin};
 
@@ -121,7 +123,7 @@ fn product(p: Linear, q: Linear) -> Poly
 fn sum(p: Poly, q: Poly) -> Poly
     requires p_small { IsWithin (2 ^ 26) p }
     requires q_small { IsWithin (2 ^ 26) q }
-    ensures value { result ≡ plus p q }
+    ensures value { result ≡ quadratic_sum p q }
     ensures size { IsWithin (2 ^ 27) result }
 {
     Poly::new(p.a() + q.a(), p.b() + q.b(), p.c() + q.c())
@@ -140,7 +142,7 @@ fn difference(p: Poly, q: Poly) -> Poly
 fn square(step: Step) -> Poly
     requires x_short { IsShort step.x }
     requires y_short { IsShort step.y }
-    ensures value { result ≡ plus (product step.x step.x) (product step.y step.y) }
+    ensures value { result ≡ quadratic_sum (product step.x step.x) (product step.y step.y) }
     ensures size { IsWithin (2 ^ 27) result }
 {
     sum(product(step.x, step.x), product(step.y, step.y))
@@ -160,7 +162,42 @@ fn along(dx: i64, dy: i64, off: i64, step: Step) -> Poly
     Poly::new(0, b, c + off)
 }
 
-/// The polynomial that a form names. Each named number is live.
+/// The polynomial of a turn.
+#[inline(never)]
+#[tactic(auto, unfolding(crate::specs::Forms::polynomial_of))]
+fn of_turn(motions: &Motions, i: u32, j: u32, k: u32) -> Poly
+    requires askable { IsAskable (live_of motions.now) (Turn i j k) }
+    ensures { result ≡ polynomial_of motions.now (Turn i j k) }
+{
+    let (there, on) = (step_between(motions, i, j), step_between(motions, i, k));
+    difference(product(there.x, on.y), product(there.y, on.x))
+}
+
+/// The polynomial of a comparison of slopes.
+#[inline(never)]
+#[tactic(auto, unfolding(crate::specs::Forms::polynomial_of))]
+fn of_slope(motions: &Motions, i: u32, j: u32, k: u32, l: u32) -> Poly
+    requires askable { IsAskable (live_of motions.now) (Slope i j k l) }
+    ensures { result ≡ polynomial_of motions.now (Slope i j k l) }
+{
+    let (first, second) = (step_between(motions, i, j), step_between(motions, k, l));
+    difference(product(first.y, second.x), product(second.y, first.x))
+}
+
+/// The polynomial of a comparison of distances.
+#[inline(never)]
+#[tactic(auto, unfolding(crate::specs::Forms::polynomial_of))]
+fn of_dist(motions: &Motions, i: u32, j: u32, k: u32, l: u32) -> Poly
+    requires askable { IsAskable (live_of motions.now) (Dist i j k l) }
+    ensures { result ≡ polynomial_of motions.now (Dist i j k l) }
+{
+    let (first, second) = (step_between(motions, i, j), step_between(motions, k, l));
+    difference(square(second), square(first))
+}
+
+/// The polynomial that a form names. Each named number is live. That of a line is made in line, so
+/// that its caller is spared what only polynomials of degree two need.
+#[inline(always)]
 #[tactic(auto, unfolding(crate::specs::Forms::polynomial_of))]
 pub fn poly_of(form: &Form, motions: &Motions) -> Poly
     requires askable { IsAskable (live_of motions.now) form.now }
@@ -173,17 +210,8 @@ pub fn poly_of(form: &Form, motions: &Motions) -> Poly
             i64::from(off),
             step_between(motions, i, j),
         ),
-        Form::Turn { i, j, k } => {
-            let (there, on) = (step_between(motions, i, j), step_between(motions, i, k));
-            difference(product(there.x, on.y), product(there.y, on.x))
-        }
-        Form::Slope { i, j, k, l } => {
-            let (first, second) = (step_between(motions, i, j), step_between(motions, k, l));
-            difference(product(first.y, second.x), product(second.y, first.x))
-        }
-        Form::Dist { i, j, k, l } => {
-            let (first, second) = (step_between(motions, i, j), step_between(motions, k, l));
-            difference(square(second), square(first))
-        }
+        Form::Turn { i, j, k } => of_turn(motions, i, j, k),
+        Form::Slope { i, j, k, l } => of_slope(motions, i, j, k, l),
+        Form::Dist { i, j, k, l } => of_dist(motions, i, j, k, l),
     }
 }

@@ -12,6 +12,9 @@ use Rattle.kin_rows.specs.Passing.{PassingRow}
 use Rattle.kin_rows.specs.Extremes.{ExtremeRow}
 use Rattle.kin_rows.specs.Carriageways.{CarriagewaysRow}
 use Rattle.kin_rows.specs.Changes.{ChangeRows}
+use Rattle.kin_rows.specs.HullFactRows.{HullFactRows}
+use Rattle.kin_rows.specs.ClosestFactRows.{ClosestFactRows}
+use Rattle.kin_rows.specs.Generated.{GeneratedRows}
 
 pub order_rows : OrderRows
 unfolding sign_of_form polynomial_of sign_at sign_at_instant
@@ -124,3 +127,30 @@ change_rows = record {
   turning_4 = refl;
   turning_0 = refl;
 }
+
+pub hull_fact_rows : HullFactRows
+unfolding sign_of_form polynomial_of sign_at sign_at_instant
+hull_fact_rows = record {
+  four_hull = refl;
+  four_facts = refl;
+  stacked_facts = refl;
+  stacked_range = refl;
+}
+
+pub closest_fact_rows : ClosestFactRows
+unfolding sign_of_form polynomial_of sign_at sign_at_instant
+closest_fact_rows = record {
+  square_facts = refl;
+  fan_0 = refl;
+  fan_1 = refl;
+  fan_2 = refl;
+  fan_3 = refl;
+  fan_4 = refl;
+  fan_5 = refl;
+  fan_6 = refl;
+  fan_7 = refl;
+}
+
+pub generated_rows : GeneratedRows
+unfolding sign_of_form polynomial_of sign_at sign_at_instant
+generated_rows = record { level = refl; exchanged = refl }

@@ -13,7 +13,7 @@ use Rattle.kin_motion.specs.Kinetics.{HasChanged}
 use Rattle.kin_motion.proofs.SetLaws.{contains_none, contains_cases}
 use Rattle.kin_motion.proofs.ChangeLaws.{both_changed}
 use Rattle.kin_rows.specs.declared.pair.Pair.{Pair}
-use Rattle.kin_rows.specs.Pairs.{fact_of, facts_of}
+use Rattle.kin_rows.specs.Pairs.{fact_of, pair_facts}
 
 either_way : (a b : Bool) → a || (b || false) ≡ b || (a || false)
 either_way true true = refl
@@ -68,7 +68,7 @@ apart k l p a b = let e = x_part a in let f = y_part b in let g : 0 ≡ 1 = sym 
 
 -- the reports of both rows are the report of the pair
 pub pair_changed : (k l : Pair) (a b p q : Placed) (c d e : Change) → a ≡ fact_of (pos 1) (pos 0) 0 k.by_x → b ≡ fact_of (pos 1) (pos 0) 0 l.by_x → p ≡ fact_of (pos 0) (pos 1) 1 k.by_y → q ≡ fact_of (pos 0) (pos 1) 1 l.by_y
-    → HasChanged (a ∷ []) (b ∷ []) c d → HasChanged (p ∷ []) (q ∷ []) d e → HasChanged (facts_of k) (facts_of l) c e
+    → HasChanged (a ∷ []) (b ∷ []) c d → HasChanged (p ∷ []) (q ∷ []) d e → HasChanged (pair_facts k) (pair_facts l) c e
 pair_changed k l a b p q c d e f g h i x y =
     both_changed (fact_of (pos 1) (pos 0) 0 k.by_x ∷ []) (fact_of (pos 1) (pos 0) 0 l.by_x ∷ []) (fact_of (pos 0) (pos 1) 1 k.by_y ∷ []) (fact_of (pos 0) (pos 1) 1 l.by_y ∷ []) c d e (apart k l)
     (coerced (λ t. HasChanged (f t ∷ []) (g t ∷ []) c d) x) (coerced (λ t. HasChanged (h t ∷ []) (i t ∷ []) d e) y)

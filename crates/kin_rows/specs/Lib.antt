@@ -11,3 +11,6 @@ pub mod Carriageways
 pub mod Changes
 pub mod Pairs
 pub mod PairLaws
+pub mod HullFactRows
+pub mod ClosestFactRows
+pub mod Generated

@@ -17,7 +17,7 @@ use Rattle.kin_motion.proofs.SetLaws.{exactly_both, contains_head, contains_tail
 use Rattle.kin_motion.proofs.ClosestFactLaws.{part_of_order}
 use Rattle.kin_rows.specs.declared.pair.Row.{Row}
 use Rattle.kin_rows.specs.declared.pair.Pair.{Pair}
-use Rattle.kin_rows.specs.Pairs.{items_of, fact_of, facts_of, IsSettled}
+use Rattle.kin_rows.specs.Pairs.{items_of, fact_of, pair_facts, IsSettled}
 
 -- their fact is the fact of the order
 pub one_fact : (s : Scene) (dx dy : ℤ) (part : ℕ) (r : Row) → HasLineLaws s → IsOrder s dx dy (items_of r) → s.sign (Line dx dy (pos 0) r.first r.second) ≡ r.sign
@@ -52,11 +52,11 @@ same_order v w dx dy r same e o = record {
   chain = (subst (λ t. IsTrue (leads t r.first r.second)) e o.chain.0, tt);
 }
 
-module _ (k : Pair) (v w : Scene) (before : IsSettled k v) (hold : AllHold w (facts_of k)) where
-  held : (p : Placed) → Contains (facts_of k) p → Holds w p.fact
-  held p h = All-contains (λ (q : Placed). Holds w q.fact) (facts_of k) p hold h
+module _ (k : Pair) (v w : Scene) (before : IsSettled k v) (hold : AllHold w (pair_facts k)) where
+  held : (p : Placed) → Contains (pair_facts k) p → Holds w p.fact
+  held p h = All-contains (λ (q : Placed). Holds w q.fact) (pair_facts k) p hold h
 
-  old_sign : (p : Placed) → Contains (facts_of k) p → Holds v p.fact
+  old_sign : (p : Placed) → Contains (pair_facts k) p → Holds v p.fact
   old_sign p h = at ((before.exact.each p).0 h)
     where
       at : IsOrderFact v (pos 1) (pos 0) 0 p ⊎ IsOrderFact v (pos 0) (pos 1) 1 p → Holds v p.fact
@@ -73,5 +73,5 @@ module _ (k : Pair) (v w : Scene) (before : IsSettled k v) (hold : AllHold w (fa
       (same_order v w (pos 1) (pos 0) k.by_x same (old_sign x x_in ∙ sym (held x x_in)) before.x_order) (held x x_in)
       (same_order v w (pos 0) (pos 1) k.by_y same (old_sign y y_in ∙ sym (held y y_in)) before.y_order) (held y y_in)
 
-pub pair_determined : (k : Pair) (v w : Scene) → Unit {0} → IsReal v → IsSettled k v → HaveSameLive v w → IsReal w → Unit {0} → AllHold w (facts_of k) → IsSettled k w
+pub pair_determined : (k : Pair) (v w : Scene) → Unit {0} → IsReal v → IsSettled k v → HaveSameLive v w → IsReal w → Unit {0} → AllHold w (pair_facts k) → IsSettled k w
 pair_determined k v w rest old before same real grounded hold = pair_settled_again k v w before hold same real

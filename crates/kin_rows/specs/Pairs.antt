@@ -17,8 +17,8 @@ abbrev pub fact_of : ℤ → ℤ → ℕ → Row → Placed
 fact_of dx dy part r = record { part = part; fact = record { form = Line dx dy (pos 0) r.first r.second; sign = r.sign } }
 
 -- one fact along x in part 0, and one along y in part 1
-abbrev pub facts_of : Pair → List Placed
-facts_of k = fact_of (pos 1) (pos 0) 0 k.by_x ∷ fact_of (pos 0) (pos 1) 1 k.by_y ∷ []
+abbrev pub pair_facts : Pair → List Placed
+pair_facts k = fact_of (pos 1) (pos 0) 0 k.by_x ∷ fact_of (pos 0) (pos 1) 1 k.by_y ∷ []
 
 -- its numbers are exactly the live ones
 pub record IsReady (k : Pair) (s : Scene) : Type 0 where
@@ -27,4 +27,4 @@ pub record IsReady (k : Pair) (s : Scene) : Type 0 where
 
 -- both rows are the orders, and the facts are theirs
 abbrev pub IsSettled : Pair → Scene → Type 0
-IsSettled k s = IsSettledRange s (items_of k.by_x) (items_of k.by_y) (facts_of k)
+IsSettled k s = IsSettledRange s (items_of k.by_x) (items_of k.by_y) (pair_facts k)

@@ -3,7 +3,8 @@ use Rattle.std.specs.Prelude.{◌≡◌, ℕ, pos, List, [], ◌∷◌, Option, 
 use Rattle.kin_motion.specs.Course.{Course}
 use Rattle.kin_motion.specs.Scene.{scene_at}
 use Rattle.kin_motion.specs.Chains.{cycle_of}
-use Rattle.kin_motion.specs.Octants.{closest_of, candidate_of, octants}
+use Rattle.kin_motion.specs.Octants.{candidate_of, octants}
+use Rattle.kin_motion.specs.ClosestPairs.{closest_of}
 use Rattle.kin_rows.specs.Settings.{point, at}
 
 -- a unit square

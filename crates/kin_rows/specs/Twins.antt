@@ -4,7 +4,7 @@ use Rattle.kin_motion.specs.declared.keep.Keep.TheVariants.{Hull, Closest}
 use Rattle.kin_motion.specs.Course.{Course}
 use Rattle.kin_motion.specs.Scene.{scene_at}
 use Rattle.kin_motion.specs.Chains.{cycle_of}
-use Rattle.kin_motion.specs.Octants.{closest_of}
+use Rattle.kin_motion.specs.ClosestPairs.{closest_of}
 use Rattle.kin_motion.specs.Journal.{Setting}
 use Rattle.kin_rows.specs.Settings.{point, at, setting, count_at}
 

@@ -102,10 +102,10 @@ fn report(old: Placed, new: Placed, out: &mut Delta) -> Result<(), NoMemory>
 
 impl Kinetic for Pair {
     ghost use Rattle.std.specs.Prelude.{false};
-    ghost use Rattle.kin_rows.specs.Pairs.{facts_of, IsSettled, IsReady};
+    ghost use Rattle.kin_rows.specs.Pairs.{pair_facts, IsSettled, IsReady};
     ghost use Rattle.kin_rows.specs.PairLaws.{pair_determined};
 
-    ghost facts = { facts_of };
+    ghost facts = { pair_facts };
 
     ghost is_spared = { λ k p. false };
 

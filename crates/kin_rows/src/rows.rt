@@ -3,7 +3,10 @@
 ghost use Rattle.kin_rows.specs.Boxes.{SlidingRow};
 ghost use Rattle.kin_rows.specs.Carriageways.{CarriagewaysRow};
 ghost use Rattle.kin_rows.specs.Changes.{ChangeRows};
+ghost use Rattle.kin_rows.specs.ClosestFactRows.{ClosestFactRows};
 ghost use Rattle.kin_rows.specs.Extremes.{ExtremeRow};
+ghost use Rattle.kin_rows.specs.Generated.{GeneratedRows};
+ghost use Rattle.kin_rows.specs.HullFactRows.{HullFactRows};
 ghost use Rattle.kin_rows.specs.Orders.{OrderRows};
 ghost use Rattle.kin_rows.specs.Passing.{PassingRow};
 ghost use Rattle.kin_rows.specs.Square.{SquareRow};
@@ -61,4 +64,21 @@ pub fn carriageways_row()
 /// Moved pairs, the records of a merge, and a point that turns back.
 pub fn change_rows()
     ensures { ChangeRows }
+{}
+
+/// The facts of a hull and of a range, each with its part and sign: slopes of both halves that are
+/// equal, and an upper and a lower chain that differ.
+pub fn hull_fact_rows()
+    ensures { HullFactRows }
+{}
+
+/// The facts of the closest pair in a unit square, each with its part and sign, and the candidates
+/// of a point that has two points in each octant.
+pub fn closest_fact_rows()
+    ensures { ClosestFactRows }
+{}
+
+/// The failures of two generated points, with every kind of structure kept.
+pub fn generated_rows()
+    ensures { GeneratedRows }
 {}

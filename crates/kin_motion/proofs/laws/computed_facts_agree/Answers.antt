@@ -1,4 +1,5 @@
 use Rattle.kin_motion.proofs.ClosestFactLaws.{order_facts_agree, closest_facts_agree}
+use Rattle.kin_motion.proofs.CurrentLaws.{forms_agree}
 use Rattle.kin_motion.proofs.ExtremeFactLaws.{extreme_facts_agree}
 use Rattle.kin_motion.proofs.HullFactLaws.{hull_facts_agree}
 use Rattle.kin_motion.proofs.LiveFactLaws.{live_facts_agree, failures_agree}
@@ -18,6 +19,9 @@ returns-clause-live c = live_facts_agree
 
 pub returns-clause-failures : goal.returns-clause-failures
 returns-clause-failures c = failures_agree
+
+pub returns-clause-merge : goal.returns-clause-merge
+returns-clause-merge c = forms_agree
 
 pub returns-clause-hull : goal.returns-clause-hull
 returns-clause-hull c = hull_facts_agree
