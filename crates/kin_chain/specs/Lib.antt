@@ -1,0 +1,4 @@
+pub mod Upper
+pub mod Merging
+pub mod Supports
+pub mod Covering
