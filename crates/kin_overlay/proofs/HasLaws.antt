@@ -1,0 +1,214 @@
+-- Which facts a list has.
+use Rattle.std.proofs.Common.{◌≡◌, ◌⊎◌, inl, inr, sym, ap, ◌∙◌, subst, List, [], ◌∷◌, ◌++◌, ℕ, Bool, true, false, nat_eq, map, ℤ, pos, Option, Some, None, Contains}
+use Rattle.std.specs.Prelude.{flat_map, ◌↔◌, IsTrue, option_to_list}
+use Rattle.std.specs.Map.{lookup, keys_of}
+use Rattle.std.specs.List.{IsDistinct}
+use Rattle.std.proofs.lemmas.List.Elements.{Contains-append_left, Contains-append_right, Contains-append_cases}
+use Rattle.kin_motion.specs.declared.form.Form.TheVariants.{Line, Turn, Slope, Dist}
+use Rattle.kin_motion.specs.declared.fact.Fact.{Fact}
+use Rattle.kin_motion.proofs.SetLaws.{contains_none, contains_head, contains_tail, contains_cases, contains_map, contains_mapped}
+use Rattle.kin_overlay.specs.declared.record.Record.{Record}
+use Rattle.kin_overlay.specs.declared.record.Next.{Next}
+use Rattle.kin_overlay.specs.declared.end.End.{End}
+use Rattle.kin_algebra.specs.declared.sign.Sign.{Sign}
+use Rattle.kin_motion.specs.Merges.{Breakpoint, slope_form}
+use Rattle.kin_overlay.specs.Seen.{seen}
+use Rattle.kin_overlay.specs.Layout.{AreKeyed, records_of}
+use Rattle.kin_overlay.specs.Remembered.{Remembered, place_of, turn_fact, slope_facts_of, slope_facts, y_facts, end_facts, facts_of}
+use Rattle.kin_overlay.proofs.LookupLaws.{Entry, found, the-one}
+
+-- ---- the facts by their kinds
+module _ (m : Remembered) (f : Fact) where
+  abbrev turns : List Fact
+  turns = map turn_fact m.records
+
+  abbrev slopes : List Fact
+  slopes = flat_map slope_facts m.records
+
+  pub is-turn : Contains (map turn_fact m.records) f → Contains (facts_of m) f
+  is-turn c = Contains-append_left (turns ++ slopes ++ end_facts m.left) (end_facts m.right) f (Contains-append_left (turns ++ slopes) (end_facts m.left) f (Contains-append_left turns slopes f c))
+
+  pub is-slope : Contains (flat_map slope_facts m.records) f → Contains (facts_of m) f
+  is-slope c = Contains-append_left (turns ++ slopes ++ end_facts m.left) (end_facts m.right) f (Contains-append_left (turns ++ slopes) (end_facts m.left) f (Contains-append_right turns slopes f c))
+
+  pub is-left : Contains (end_facts m.left) f → Contains (facts_of m) f
+  is-left c = Contains-append_left (turns ++ slopes ++ end_facts m.left) (end_facts m.right) f (Contains-append_right (turns ++ slopes) (end_facts m.left) f c)
+
+  pub is-right : Contains (end_facts m.right) f → Contains (facts_of m) f
+  is-right c = Contains-append_right (turns ++ slopes ++ end_facts m.left) (end_facts m.right) f c
+
+  abbrev pub Kinds : Type 0
+  Kinds = (Contains (map turn_fact m.records) f ⊎ Contains (flat_map slope_facts m.records) f) ⊎ (Contains (end_facts m.left) f ⊎ Contains (end_facts m.right) f)
+
+  pub kinds : Contains (facts_of m) f → Kinds
+  kinds c = last (Contains-append_cases (turns ++ slopes ++ end_facts m.left) (end_facts m.right) f c)
+    where
+      middle : Contains (turns ++ slopes) f ⊎ Contains (end_facts m.left) f → Kinds
+      middle (inl d) = inl (Contains-append_cases turns slopes f d)
+      middle (inr d) = inr (inl d)
+
+      last : Contains (turns ++ slopes ++ end_facts m.left) f ⊎ Contains (end_facts m.right) f → Kinds
+      last (inl d) = middle (Contains-append_cases (turns ++ slopes) (end_facts m.left) f d)
+      last (inr d) = inr (inr d)
+
+-- a slope fact is that of a record
+pub of-record : (rs : List Record) (f : Fact) → Contains (flat_map slope_facts rs) f → (r : Record) × Contains rs r × Contains (slope_facts r) f
+of-record [] f c = absurd (contains_none f c)
+of-record (r ∷ rs) f c = at (Contains-append_cases (slope_facts r) (flat_map slope_facts rs) f c) (of-record rs f)
+  where
+    at : Contains (slope_facts r) f ⊎ Contains (flat_map slope_facts rs) f → (Contains (flat_map slope_facts rs) f → (q : Record) × Contains rs q × Contains (slope_facts q) f)
+        → (q : Record) × Contains (r ∷ rs) q × Contains (slope_facts q) f
+    at (inl d) rest = (r, contains_head r rs, d)
+    at (inr d) rest = let w = rest d in (w.0, contains_tail r w.0 rs w.1, w.2)
+
+pub in-record : (rs : List Record) (r : Record) (f : Fact) → Contains rs r → Contains (slope_facts r) f → Contains (flat_map slope_facts rs) f
+in-record [] r f c d = absurd (contains_none r c)
+in-record (q ∷ rs) r f c d = at (contains_cases q r rs c) (λ e. in-record rs r f e d)
+  where
+    at : (q ≡ r) ⊎ Contains rs r → (Contains rs r → Contains (flat_map slope_facts rs) f) → Contains (slope_facts q ++ flat_map slope_facts rs) f
+    at (inl e) rest = Contains-append_left (slope_facts q) (flat_map slope_facts rs) f (subst (λ (z : Record). Contains (slope_facts z) f) (sym e) d)
+    at (inr e) rest = Contains-append_right (slope_facts q) (flat_map slope_facts rs) f (rest e)
+
+-- the form of a slope fact
+pub slope-is : (e : Breakpoint) (o : Option Next) (f : Fact) → Contains (slope_facts_of e o) f → (k l : ℕ) × (f.form ≡ Slope e.left e.right k l)
+slope-is e None f c = absurd (contains_none f c)
+slope-is e (Some n) f c = at (contains_cases (record { form = slope_form e (seen n.at); sign = n.slope }) f [] c)
+  where
+    at : (record { form = slope_form e (seen n.at); sign = n.slope } ≡ f) ⊎ Contains [] f → (k l : ℕ) × (f.form ≡ Slope e.left e.right k l)
+    at (inl q) = (n.at.left, n.at.right, sym (ap (λ (g : Fact). g.form) q))
+    at (inr d) = absurd (contains_none f d)
+
+-- the form of a fact of an end
+pub end-is : (o : Option End) (f : Fact) → Contains (end_facts o) f → (dx dy : ℤ) × (i j : ℕ) × (f.form ≡ Line dx dy (pos 0) i j)
+end-is None f c = absurd (contains_none f c)
+end-is (Some e) f c = at (contains_cases x_line f (y_facts e.a e.b e.y) c)
+  where
+    x_line : Fact
+    x_line = record { form = Line (pos 1) (pos 0) (pos 0) e.a e.b; sign = e.x }
+
+    by-y : (y : Option Sign) → Contains (y_facts e.a e.b y) f → (dx dy : ℤ) × (i j : ℕ) × (f.form ≡ Line dx dy (pos 0) i j)
+    by-y None d = absurd (contains_none f d)
+    by-y (Some t) d = only (contains_cases (record { form = Line (pos 0) (pos 1) (pos 0) e.a e.b; sign = t }) f [] d)
+      where
+        only : (record { form = Line (pos 0) (pos 1) (pos 0) e.a e.b; sign = t } ≡ f) ⊎ Contains [] f → (dx dy : ℤ) × (i j : ℕ) × (f.form ≡ Line dx dy (pos 0) i j)
+        only (inl q) = (pos 0, pos 1, e.a, e.b, sym (ap (λ (g : Fact). g.form) q))
+        only (inr k) = absurd (contains_none f k)
+
+    at : (x_line ≡ f) ⊎ Contains (y_facts e.a e.b e.y) f → (dx dy : ℤ) × (i j : ℕ) × (f.form ≡ Line dx dy (pos 0) i j)
+    at (inl q) = (pos 1, pos 0, e.a, e.b, sym (ap (λ (g : Fact). g.form) q))
+    at (inr d) = by-y e.y d
+
+-- ---- what a search finds
+module _ (es : List Entry) (keyed : AreKeyed es) (unique : IsDistinct nat_eq (keys_of es)) (left right : Option End) (f : Fact) where
+  abbrev m : Remembered
+  m = record { records = records_of es; left = left; right = right }
+
+  -- a turn is that of the record at its first number
+  turn-at : (i j k : ℕ) → f.form ≡ Turn i j k → Contains (facts_of m) f → (r : Record) × (lookup (nat_eq i) es ≡ Some r) × (turn_fact r ≡ f)
+  turn-at i j k is c = at (kinds m f c)
+    where
+      at : Kinds m f → (r : Record) × (lookup (nat_eq i) es ≡ Some r) × (turn_fact r ≡ f)
+      at (inl (inl d)) =
+          let w = contains_mapped turn_fact (records_of es) f d in
+          let same : Turn i j k ≡ Turn w.0.at.left w.0.at.right w.0.across = sym is ∙ ap (λ (g : Fact). g.form) w.2 in
+          let first : w.0.at.left ≡ i = cc in
+          (w.0, subst (λ (n : ℕ). lookup (nat_eq n) es ≡ Some w.0) first (the-one es w.0 keyed unique w.1), sym w.2)
+      at (inl (inr d)) =
+          let w = of-record (records_of es) f d in
+          let v = slope-is (place_of w.0) w.0.next f w.2 in
+          absurd (let clash : Turn i j k ≡ Slope w.0.at.left w.0.at.right v.0 v.1 = sym is ∙ v.2 in cc)
+      at (inr (inl d)) = let v = end-is left f d in absurd (let clash : Turn i j k ≡ Line v.0 v.1 (pos 0) v.2 v.3 = sym is ∙ v.4 in cc)
+      at (inr (inr d)) = let v = end-is right f d in absurd (let clash : Turn i j k ≡ Line v.0 v.1 (pos 0) v.2 v.3 = sym is ∙ v.4 in cc)
+
+  -- a slope is that of the record at its first number
+  slope-at : (i j k l : ℕ) → f.form ≡ Slope i j k l → Contains (facts_of m) f → (r : Record) × (lookup (nat_eq i) es ≡ Some r) × Contains (slope_facts r) f
+  slope-at i j k l is c = at (kinds m f c)
+    where
+      at : Kinds m f → (r : Record) × (lookup (nat_eq i) es ≡ Some r) × Contains (slope_facts r) f
+      at (inl (inl d)) =
+          let w = contains_mapped turn_fact (records_of es) f d in
+          absurd (let clash : Slope i j k l ≡ Turn w.0.at.left w.0.at.right w.0.across = sym is ∙ ap (λ (g : Fact). g.form) w.2 in cc)
+      at (inl (inr d)) =
+          let w = of-record (records_of es) f d in
+          let v = slope-is (place_of w.0) w.0.next f w.2 in
+          let same : Slope i j k l ≡ Slope w.0.at.left w.0.at.right v.0 v.1 = sym is ∙ v.2 in
+          let first : w.0.at.left ≡ i = cc in
+          (w.0, subst (λ (n : ℕ). lookup (nat_eq n) es ≡ Some w.0) first (the-one es w.0 keyed unique w.1), w.2)
+      at (inr (inl d)) = let v = end-is left f d in absurd (let clash : Slope i j k l ≡ Line v.0 v.1 (pos 0) v.2 v.3 = sym is ∙ v.4 in cc)
+      at (inr (inr d)) = let v = end-is right f d in absurd (let clash : Slope i j k l ≡ Line v.0 v.1 (pos 0) v.2 v.3 = sym is ∙ v.4 in cc)
+
+  one_record : (i : ℕ) (r q : Record) → lookup (nat_eq i) es ≡ Some r → lookup (nat_eq i) es ≡ Some q → q ≡ r
+  one_record i r q e d = let same : Some q ≡ Some r = sym d ∙ e in cc
+
+  pub turn-found : (i j k : ℕ) → f.form ≡ Turn i j k → (r : Record) → Some r ≡ lookup (nat_eq i) es → (g : Fact) → g ≡ turn_fact r → (b : Bool) → IsTrue b ↔ (g ≡ f) → IsTrue b ↔ Contains (facts_of m) f
+  turn-found i j k is r e g own b test = (
+    λ t. is-turn m f (subst (λ (h : Fact). Contains (map turn_fact (records_of es)) h) (sym own ∙ test.0 t) (contains_map turn_fact (records_of es) r (found es i r keyed (sym e)).0)),
+    λ c. let w = turn-at i j k is c in test.1 (own ∙ ap turn_fact (sym (one_record i r w.0 (sym e) w.1)) ∙ w.2),
+  )
+
+  pub turn-missing : (i j k : ℕ) → f.form ≡ Turn i j k → None ≡ lookup (nat_eq i) es → IsTrue false ↔ Contains (facts_of m) f
+  turn-missing i j k is e = (
+    λ t. absurd (let clash : false ≡ true = t in cc),
+    λ c. let w = turn-at i j k is c in absurd (let clash : None ≡ Some w.0 = e ∙ w.1 in cc),
+  )
+
+  pub slope-found : (i j k l : ℕ) → f.form ≡ Slope i j k l → (r : Record) → Some r ≡ lookup (nat_eq i) es → (o : Option Fact) → option_to_list o ≡ slope_facts r → (b : Bool) → IsTrue b ↔ (o ≡ Some f) → IsTrue b ↔ Contains (facts_of m) f
+  slope-found i j k l is r e o own b test = (
+    λ t. is-slope m f (in-record (records_of es) r f (found es i r keyed (sym e)).0 (subst (λ (fs : List Fact). Contains fs f) (ap (λ (q : Option Fact). option_to_list q) (sym (test.0 t)) ∙ own) (contains_head f []))),
+    λ c. let w = slope-at i j k l is c in test.1 (only o (subst (λ (fs : List Fact). Contains fs f) (ap slope_facts (one_record i r w.0 (sym e) w.1) ∙ sym own) w.2)),
+  )
+    where
+      only : (q : Option Fact) → Contains (option_to_list q) f → q ≡ Some f
+      only None c = absurd (contains_none f c)
+      only (Some g) c = at (contains_cases g f [] c)
+        where
+          at : (g ≡ f) ⊎ Contains [] f → Some g ≡ Some f
+          at (inl q) = ap (λ (h : Fact). Some h) q
+          at (inr d) = absurd (contains_none f d)
+
+  pub slope-missing : (i j k l : ℕ) → f.form ≡ Slope i j k l → None ≡ lookup (nat_eq i) es → IsTrue false ↔ Contains (facts_of m) f
+  slope-missing i j k l is e = (
+    λ t. absurd (let clash : false ≡ true = t in cc),
+    λ c. let w = slope-at i j k l is c in absurd (let clash : None ≡ Some w.0 = e ∙ w.1 in cc),
+  )
+
+  -- a line is that of an end
+  line-at : (dx dy off : ℤ) (i j : ℕ) → f.form ≡ Line dx dy off i j → Contains (facts_of m) f → Contains (end_facts left) f ⊎ Contains (end_facts right) f
+  line-at dx dy off i j is c = at (kinds m f c)
+    where
+      at : Kinds m f → Contains (end_facts left) f ⊎ Contains (end_facts right) f
+      at (inl (inl d)) =
+          let w = contains_mapped turn_fact (records_of es) f d in
+          absurd (let clash : Line dx dy off i j ≡ Turn w.0.at.left w.0.at.right w.0.across = sym is ∙ ap (λ (g : Fact). g.form) w.2 in cc)
+      at (inl (inr d)) =
+          let w = of-record (records_of es) f d in
+          let v = slope-is (place_of w.0) w.0.next f w.2 in
+          absurd (let clash : Line dx dy off i j ≡ Slope w.0.at.left w.0.at.right v.0 v.1 = sym is ∙ v.2 in cc)
+      at (inr d) = d
+
+  pub line-left : (b : Bool) → b ≡ true → IsTrue b ↔ Contains (end_facts left) f → IsTrue b ↔ Contains (facts_of m) f
+  line-left b t test = (λ h. is-left m f (test.0 h), λ c. t)
+
+  pub line-right : (dx dy off : ℤ) (i j : ℕ) → f.form ≡ Line dx dy off i j → (d b : Bool) → d ≡ false → IsTrue d ↔ Contains (end_facts left) f → IsTrue b ↔ Contains (end_facts right) f → IsTrue b ↔ Contains (facts_of m) f
+  line-right dx dy off i j is d b out first test = (λ h. is-right m f (test.0 h), λ c. at (line-at dx dy off i j is c))
+    where
+      at : Contains (end_facts left) f ⊎ Contains (end_facts right) f → IsTrue b
+      at (inl k) = absurd (let clash : false ≡ true = sym out ∙ first.1 k in cc)
+      at (inr k) = test.1 k
+
+  pub no-distance : (i j k l : ℕ) → f.form ≡ Dist i j k l → IsTrue false ↔ Contains (facts_of m) f
+  no-distance i j k l is = (λ t. absurd (let clash : false ≡ true = t in cc), λ c. at (kinds m f c))
+    where
+      by-end : (o : Option End) → Contains (end_facts o) f → IsTrue false
+      by-end o d = let v = end-is o f d in absurd (let clash : Dist i j k l ≡ Line v.0 v.1 (pos 0) v.2 v.3 = sym is ∙ v.4 in cc)
+
+      at : Kinds m f → IsTrue false
+      at (inl (inl d)) =
+          let w = contains_mapped turn_fact (records_of es) f d in
+          absurd (let clash : Dist i j k l ≡ Turn w.0.at.left w.0.at.right w.0.across = sym is ∙ ap (λ (g : Fact). g.form) w.2 in cc)
+      at (inl (inr d)) =
+          let w = of-record (records_of es) f d in
+          let v = slope-is (place_of w.0) w.0.next f w.2 in
+          absurd (let clash : Dist i j k l ≡ Slope w.0.at.left w.0.at.right v.0 v.1 = sym is ∙ v.2 in cc)
+      at (inr (inl d)) = by-end left d
+      at (inr (inr d)) = by-end right d

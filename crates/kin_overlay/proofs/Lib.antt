@@ -1,0 +1,11 @@
+pub mod ListLaws
+pub mod EditLaws
+pub mod LookupLaws
+pub mod HasLaws
+pub mod ReportLaws
+pub mod FingerLaws
+pub mod StepLaws
+pub mod WalkLaws
+pub mod FactLaws
+pub mod SoundLaws
+pub mod ApartLaws

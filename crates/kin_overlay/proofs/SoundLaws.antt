@@ -1,0 +1,34 @@
+-- What is true of an overlay, from call to call.
+use Rattle.std.proofs.Common.{◌≡◌, ◌≢◌, refl, subst, List, [], ℕ, None}
+use Rattle.kin_motion.specs.declared.fact.Placed.{Placed}
+use Rattle.kin_motion.specs.Kinetics.{HasChanged}
+use Rattle.kin_motion.specs.Sets.{AreDistinct}
+use Rattle.kin_overlay.specs.declared.stage.Stage.{Stage}
+use Rattle.kin_overlay.specs.declared.stage.Stage.TheVariants.{Rest, Told, Broken}
+use Rattle.kin_overlay.specs.Remembered.{Remembered, facts_of, all_placed}
+use Rattle.kin_overlay.specs.Reports.{IsTold}
+use Rattle.kin_overlay.specs.Sound.{IsWhole, IsSound}
+use Rattle.kin_overlay.proofs.FactLaws.{changed}
+use Rattle.kin_motion.proofs.SetLaws.{distinct_none}
+
+pub whole : (t : Stage) (a b : List ℕ) (fs : List Placed) → t ≢ Broken → IsSound t a b fs → IsWhole a b fs
+whole Rest a b fs n s = s
+whole Told a b fs n s = s
+whole Broken a b fs n s = absurd (n refl)
+
+pub whole-at-rest : (t : Stage) (a b : List ℕ) (fs : List Placed) → t ≡ Rest → IsSound t a b fs → IsWhole a b fs
+whole-at-rest t a b fs q s = subst (λ (u : Stage). IsSound u a b fs) q s
+
+-- all facts are dropped
+pub retired : (part : ℕ) (old none : Remembered) (dropped dropped' born : List Placed) → none ≡ record { records = []; left = None; right = None } → AreDistinct (all_placed part (facts_of old))
+    → IsTold part (facts_of none) (facts_of old) dropped dropped' → HasChanged (all_placed part (facts_of old)) [] (record { dropped = dropped; born = born }) (record { dropped = dropped'; born = born })
+retired part old none dropped dropped' born is distinct told =
+    changed part old (record { records = []; left = None; right = None }) (record { dropped = dropped; born = born }) (record { dropped = dropped'; born = born }) distinct distinct_none
+    (subst (λ (m : Remembered). IsTold part (facts_of m) (facts_of old) dropped dropped') is told) refl
+
+-- all facts are born
+pub all-born : (part : ℕ) (new none : Remembered) (dropped born born' : List Placed) → none ≡ record { records = []; left = None; right = None } → AreDistinct (all_placed part (facts_of new))
+    → IsTold part (facts_of none) (facts_of new) born born' → HasChanged [] (all_placed part (facts_of new)) (record { dropped = dropped; born = born }) (record { dropped = dropped; born = born' })
+all-born part new none dropped born born' is distinct told =
+    changed part (record { records = []; left = None; right = None }) new (record { dropped = dropped; born = born }) (record { dropped = dropped; born = born' }) distinct_none distinct refl
+    (subst (λ (m : Remembered). IsTold part (facts_of m) (facts_of new) born born') is told)

@@ -1,0 +1,52 @@
+use Rattle.std.proofs.Common.{sym, subst, List, [], ℕ}
+use Rattle.kin_motion.specs.Contents.{IsSettledMerge}
+use Rattle.kin_motion.specs.Deltas.{Change}
+use Rattle.kin_motion.specs.Kinetics.{HasChanged}
+use Rattle.kin_motion.proofs.RealLaws.{real_line_laws}
+use Rattle.kin_chain.proofs.MergeFacts.{rising_once}
+use Rattle.kin_overlay.specs.Fingers.{AreLess}
+use Rattle.kin_overlay.specs.Remembered.{facts_of, all_placed}
+use Rattle.kin_overlay.proofs.FactLaws.{merged-settled}
+use Rattle.kin_overlay.proofs.SoundLaws.{all-born}
+use Rattle.kin_overlay.proofs.overlay.Overlay.build.Goals as goal
+
+pub merge-requires-clause-a_once : goal.merge-requires-clause-a_once
+merge-requires-clause-a_once g c = let s = g.O.Signs.scene c.args.now.now in rising_once s (real_line_laws s c.requires.real) c.args.a.now c.requires.a_chain.rising
+
+pub merge-requires-clause-b_once : goal.merge-requires-clause-b_once
+merge-requires-clause-b_once g c = let s = g.O.Signs.scene c.args.now.now in rising_once s (real_line_laws s c.requires.real) c.args.b.now c.requires.b_chain.rising
+
+pub invariant_of-result : goal.invariant_of-result
+invariant_of-result g c =
+    let s = g.O.Signs.scene c.args.now.now in
+    let a = c.args.a.now in
+    let b = c.args.b.now in
+    let m = c.merge.new.self in
+    let chain = c.merged_chain.new.chain.items in
+    let settled = merged-settled s c.requires.real a b chain c.args.part m c.requires.a_some c.requires.b_some c.requires.less c.requires.a_chain c.requires.b_chain c.in_ok-merge.ensures (c.in_ok-merged_chain.ensures s a b c.requires.a_some c.requires.b_some c.in_ok-merge.ensures) in
+    record {
+      less = subst (λ (l : List ℕ). AreLess l c.in_ok-from_slice-2.field-0.items) (sym c.in_ok-from_slice.ensures.items) (subst (λ (l : List ℕ). AreLess a l) (sym c.in_ok-from_slice-2.ensures.items) c.requires.less);
+      distinct = settled.exact.once;
+    }
+
+pub returns-clause-settled : goal.returns-clause-settled
+returns-clause-settled g c =
+    let s = g.O.Signs.scene c.args.now.now in
+    let a = c.args.a.now in
+    let b = c.args.b.now in
+    let m = c.merge.new.self in
+    let chain = c.merged_chain.new.chain.items in
+    let settled = merged-settled s c.requires.real a b chain c.args.part m c.requires.a_some c.requires.b_some c.requires.less c.requires.a_chain c.requires.b_chain c.in_ok-merge.ensures (c.in_ok-merged_chain.ensures s a b c.requires.a_some c.requires.b_some c.in_ok-merge.ensures) in
+    subst (λ (l : List ℕ). IsSettledMerge s l c.in_ok-from_slice-2.field-0.items chain c.args.part (all_placed c.args.part (facts_of m))) (sym c.in_ok-from_slice.ensures.items)
+    (subst (λ (l : List ℕ). IsSettledMerge s a l chain c.args.part (all_placed c.args.part (facts_of m))) (sym c.in_ok-from_slice-2.ensures.items) settled)
+
+pub returns-clause-born : goal.returns-clause-born
+returns-clause-born g c =
+    let s = g.O.Signs.scene c.args.now.now in
+    let a = c.args.a.now in
+    let b = c.args.b.now in
+    let m = c.merge.new.self in
+    let chain = c.merged_chain.new.chain.items in
+    let settled = merged-settled s c.requires.real a b chain c.args.part m c.requires.a_some c.requires.b_some c.requires.less c.requires.a_chain c.requires.b_chain c.in_ok-merge.ensures (c.in_ok-merged_chain.ensures s a b c.requires.a_some c.requires.b_some c.in_ok-merge.ensures) in
+    let done = all-born c.args.part m c.new-none.result c.out.inside.dropped.items c.out.inside.born.items c.tell_missing.new.told.items c.new-none.ensures settled.exact.once c.in_ok-tell_missing.ensures in
+    subst (λ (d : Change). HasChanged [] (all_placed c.args.part (facts_of m)) d (record { dropped = c.out.inside.dropped.items; born = c.tell_missing.new.told.items })) c.out.view_is done

@@ -1,0 +1,69 @@
+use Rattle.std.proofs.Common.{sym, subst, List, ℕ}
+use Rattle.kin_motion.specs.Chains.{IsUpperChain}
+use Rattle.kin_motion.specs.Numbers.{IsOnce}
+use Rattle.kin_motion.proofs.RealLaws.{real_line_laws}
+use Rattle.kin_chain.proofs.MergeFacts.{rising_once}
+use Rattle.kin_motion.specs.Deltas.{Change}
+use Rattle.kin_motion.specs.Kinetics.{HasChanged}
+use Rattle.kin_overlay.specs.Fingers.{IsMerged}
+use Rattle.kin_overlay.specs.Overlays.{Merge, IsReady}
+use Rattle.kin_overlay.specs.Remembered.{Remembered, facts_of, all_placed}
+use Rattle.kin_overlay.specs.Reports.{IsTold}
+use Rattle.kin_overlay.proofs.FactLaws.{merged-settled, changed}
+use Rattle.kin_overlay.proofs.SoundLaws.{whole}
+use Rattle.kin_overlay.proofs.overlay.OverlayKinetic.settle.Goals as goal
+
+pub merge-requires-clause-a_once : goal.merge-requires-clause-a_once
+merge-requires-clause-a_once g c =
+    let s = g.O.Signs.scene c.args.now.now in
+    let chain = subst (λ (m : Merge). IsUpperChain s m.a m.a) (sym c.self.view_is) c.requires.ready.a_chain in
+    subst IsOnce (sym c.deref.ensures.value) (rising_once s (real_line_laws s c.requires.real) c.self.inside.a.items chain.rising)
+
+pub merge-requires-clause-b_once : goal.merge-requires-clause-b_once
+merge-requires-clause-b_once g c =
+    let s = g.O.Signs.scene c.args.now.now in
+    let chain = subst (λ (m : Merge). IsUpperChain s m.b m.b) (sym c.self.view_is) c.requires.ready.b_chain in
+    subst IsOnce (sym c.deref-2.ensures.value) (rising_once s (real_line_laws s c.requires.real) c.self.inside.b.items chain.rising)
+
+pub invariant_of-self-2 : goal.invariant_of-self-2
+invariant_of-self-2 g c =
+    let s = g.O.Signs.scene c.args.now.now in
+    let o = c.self.inside in
+    let m = c.swap.new.x in
+    let ready = subst (λ (v : Merge). IsReady v s) (sym c.self.view_is) c.requires.ready in
+    let kept = whole o.stage o.a.items o.b.items (all_placed o.part (facts_of o.list)) ready.whole c.self.invariant in
+    let merged =
+    subst (λ (l : List ℕ). IsMerged s l o.b.items m) c.deref.ensures.value
+    (subst (λ (l : List ℕ). IsMerged s c.deref.result.now l m) c.deref-2.ensures.value (subst (λ (n : Remembered). IsMerged s c.deref.result.now c.deref-2.result.now n) (sym c.swap.ensures.x_after) c.in_ok-merge.ensures)) in
+    let settled = merged-settled s c.requires.real o.a.items o.b.items c.merged_chain.new.chain.items o.part m ready.a_some ready.b_some kept.less ready.a_chain ready.b_chain merged (c.in_ok-merged_chain.ensures s o.a.items o.b.items ready.a_some ready.b_some merged) in
+    record { less = kept.less; distinct = settled.exact.once }
+
+pub returns-clause-settled : goal.returns-clause-settled
+returns-clause-settled g c =
+    let s = g.O.Signs.scene c.args.now.now in
+    let o = c.self.inside in
+    let m = c.swap.new.x in
+    let ready = subst (λ (v : Merge). IsReady v s) (sym c.self.view_is) c.requires.ready in
+    let kept = whole o.stage o.a.items o.b.items (all_placed o.part (facts_of o.list)) ready.whole c.self.invariant in
+    let merged =
+    subst (λ (l : List ℕ). IsMerged s l o.b.items m) c.deref.ensures.value
+    (subst (λ (l : List ℕ). IsMerged s c.deref.result.now l m) c.deref-2.ensures.value (subst (λ (n : Remembered). IsMerged s c.deref.result.now c.deref-2.result.now n) (sym c.swap.ensures.x_after) c.in_ok-merge.ensures)) in
+    let settled = merged-settled s c.requires.real o.a.items o.b.items c.merged_chain.new.chain.items o.part m ready.a_some ready.b_some kept.less ready.a_chain ready.b_chain merged (c.in_ok-merged_chain.ensures s o.a.items o.b.items ready.a_some ready.b_some merged) in
+    settled
+
+pub returns-clause-delta : goal.returns-clause-delta
+returns-clause-delta g c =
+    let s = g.O.Signs.scene c.args.now.now in
+    let o = c.self.inside in
+    let m = c.swap.new.x in
+    let ready = subst (λ (v : Merge). IsReady v s) (sym c.self.view_is) c.requires.ready in
+    let kept = whole o.stage o.a.items o.b.items (all_placed o.part (facts_of o.list)) ready.whole c.self.invariant in
+    let merged =
+    subst (λ (l : List ℕ). IsMerged s l o.b.items m) c.deref.ensures.value
+    (subst (λ (l : List ℕ). IsMerged s c.deref.result.now l m) c.deref-2.ensures.value (subst (λ (n : Remembered). IsMerged s c.deref.result.now c.deref-2.result.now n) (sym c.swap.ensures.x_after) c.in_ok-merge.ensures)) in
+    let settled = merged-settled s c.requires.real o.a.items o.b.items c.merged_chain.new.chain.items o.part m ready.a_some ready.b_some kept.less ready.a_chain ready.b_chain merged (c.in_ok-merged_chain.ensures s o.a.items o.b.items ready.a_some ready.b_some merged) in
+    let dropped = subst (λ (n : Remembered). IsTold o.part (facts_of n) (facts_of o.list) c.out.inside.dropped.items c.tell_missing.new.told.items) (sym c.swap.ensures.x_after) c.in_ok-tell_missing.ensures in
+    let born = subst (λ (n : Remembered). IsTold o.part (facts_of o.list) (facts_of n) c.out.inside.born.items c.tell_missing-2.new.told.items) (sym c.swap.ensures.x_after) c.in_ok-tell_missing-2.ensures in
+    let done = changed o.part o.list m (record { dropped = c.out.inside.dropped.items; born = c.out.inside.born.items }) (record { dropped = c.tell_missing.new.told.items; born = c.tell_missing-2.new.told.items }) kept.distinct settled.exact.once dropped born in
+    subst (λ (v : Merge). HasChanged v.facts (all_placed o.part (facts_of m)) c.args.out.now (record { dropped = c.tell_missing.new.told.items; born = c.tell_missing-2.new.told.items })) c.self.view_is
+    (subst (λ (d : Change). HasChanged (all_placed o.part (facts_of o.list)) (all_placed o.part (facts_of m)) d (record { dropped = c.tell_missing.new.told.items; born = c.tell_missing-2.new.told.items })) c.out.view_is done)

@@ -1,0 +1,116 @@
+-- How the list of breakpoints is made: what is picked next, and what is noted of it.
+use Rattle.std.specs.Prelude.{◌≡◌, ℕ, ◌<◌, true, cond, List, [], ◌∷◌, option_map, Option, Some, None, ◌⊎◌}
+use Rattle.kin_algebra.specs.declared.sign.Sign.{Sign}
+use Rattle.kin_motion.specs.declared.form.Form.TheVariants.{Turn}
+use Rattle.kin_motion.specs.Numbers.{IsIn, IsChain}
+use Rattle.kin_motion.specs.Scene.{Scene, x_sign, y_sign}
+use Rattle.kin_motion.specs.Chains.{is_zero}
+use Rattle.kin_motion.specs.Merges.{Half.{A, B}, Half, Breakpoint, is_of, other, breakpoints_of, slope_form, is_placed_before, IsInterleaving, other_current, current_after, last_of}
+use Rattle.kin_chain.specs.Merging.{is_in_place}
+use Rattle.kin_overlay.specs.declared.breakpoint.Breakpoint.{Breakpoint as Pair}
+use Rattle.kin_overlay.specs.declared.record.Record.{Record}
+use Rattle.kin_overlay.specs.declared.record.Next.{Next}
+use Rattle.kin_overlay.specs.declared.end.End.{End}
+use Rattle.kin_overlay.specs.declared.fingers.Pick.{Pick}
+use Rattle.kin_overlay.specs.Lists.{first_of, front, behind}
+use Rattle.kin_overlay.specs.Seen.{seen}
+use Rattle.kin_overlay.specs.Remembered.{Remembered, place_of, breakpoints}
+
+-- of two chains that of the half
+abbrev pub chain_of : Half → List ℕ → List ℕ → List ℕ
+chain_of A a b = a
+chain_of B a b = b
+
+-- what is left of the chain of a half behind a breakpoint of the half g
+abbrev pub passed : Half → Half → List ℕ → List ℕ
+passed h g xs = cond (is_of h g) (behind xs) xs
+
+-- the first breakpoint that is left of the other half, with the sign of the slope form, by which e is placed before it
+abbrev pub IsRival : Scene → Breakpoint → List Breakpoint → Option Next → Type 0
+IsRival s e fs None = fs ≡ []
+IsRival s e fs (Some n) = (first_of fs ≡ Some (seen n.at)) × (n.slope ≡ s.sign (slope_form e (seen n.at))) × (is_placed_before s e (seen n.at) ≡ true)
+
+-- both points of a breakpoint are live
+abbrev pub IsBreakpointOf : List ℕ → Pair → Type 0
+IsBreakpointOf live e = IsIn e.left live × IsIn e.right live
+
+-- e is picked, and f is its rival
+pub record IsBefore (s : Scene) (e f : Breakpoint) (p : Pick) : Type 0 where
+  pub at : seen p.at ≡ e
+  pub rival : Next
+  pub found : p.rival ≡ Some rival
+  pub other : seen rival.at ≡ f
+  pub slope : rival.slope ≡ s.sign (slope_form e f)
+  pub before : is_placed_before s e f ≡ true
+
+-- of e and f that is picked which is placed before the other
+abbrev pub IsChosen : Scene → Breakpoint → Breakpoint → Pick → Type 0
+IsChosen s e f p = IsBefore s e f p ⊎ IsBefore s f e p
+
+-- a breakpoint that comes first of those that are left of both chains
+pub record IsFirstOfBoth (s : Scene) (a b : List ℕ) (p : Pick) : Type 0 where
+  pub own : first_of (breakpoints_of (seen p.at).half (chain_of (seen p.at).half a b)) ≡ Some (seen p.at)
+  pub rival : IsRival s (seen p.at) (breakpoints_of (other (seen p.at).half) (chain_of (other (seen p.at).half) a b)) p.rival
+
+-- what comes first of what is left of both chains, if something is left
+abbrev pub IsPick : Scene → List ℕ → List ℕ → Option Pick → Type 0
+IsPick s a b None = (breakpoints_of A a ≡ []) × (breakpoints_of B b ≡ [])
+IsPick s a b (Some p) = IsFirstOfBoth s a b p
+
+-- the rival, where it comes next
+abbrev pub next_of : Pick → Option Pick → Option Next
+next_of p None = None
+next_of p (Some q) = cond (is_of (seen q.at).half (seen p.at).half) None p.rival
+
+-- a next breakpoint as the definitions have it
+abbrev pub seen_next : Next → Breakpoint × Sign
+seen_next n = (seen n.at, n.slope)
+
+-- the next breakpoint with the sign of the slope form, where it is of the other half
+abbrev pub next_for : Scene → Breakpoint → Option Breakpoint → Option (Breakpoint × Sign)
+next_for s e None = None
+next_for s e (Some f) = cond (is_of e.half f.half) None (Some (f, s.sign (slope_form e f)))
+
+-- what is noted of a breakpoint beside which a and b are current, and that stands before this one
+pub record IsNoted (s : Scene) (a b : ℕ) (r : Record) (f : Option Breakpoint) : Type 0 where
+  pub across : r.across ≡ other_current (place_of r).half a b
+  pub turn : r.turn ≡ s.sign (Turn r.at.left r.at.right r.across)
+  pub next : option_map seen_next r.next ≡ next_for s (place_of r) f
+
+-- the same of all breakpoints of a list; a and b are current before the first
+abbrev pub AreNoted : Scene → ℕ → ℕ → List Record → Type 0
+AreNoted s a b [] = Unit {0}
+AreNoted s a b (r ∷ rs) = IsNoted s a b r (first_of (breakpoints rs)) × AreNoted s (current_after A (place_of r) a) (current_after B (place_of r) b) rs
+
+-- the right end of a list for what is left of both chains, where this is the next breakpoint
+pub record IsRest (s : Scene) (a b : List ℕ) (next : Option Pick) (rest : List Record) : Type 0 where
+  pub first : first_of (breakpoints rest) ≡ option_map (λ (p : Pick). seen p.at) next
+  pub interleaved : IsInterleaving a b (breakpoints rest)
+  pub in_place : IsChain (is_in_place s) (breakpoints rest)
+  pub noted : AreNoted s (front a) (front b) rest
+
+-- an outer end with the points a and b
+abbrev pub end_at : Scene → ℕ → ℕ → End
+end_at s a b = record { a = a; b = b; x = x_sign s a b; y = cond (is_zero (x_sign s a b)) (Some (y_sign s a b)) None }
+
+-- the right outer end, where it is another than the left one
+abbrev pub right_end : Scene → ℕ → List ℕ → ℕ → List ℕ → Option End
+right_end s a [] b [] = None
+right_end s a (p ∷ ps) b bs = Some (end_at s (last_of a (p ∷ ps)) (last_of b bs))
+right_end s a [] b (q ∷ qs) = Some (end_at s a (last_of b (q ∷ qs)))
+
+-- what is remembered is the merge of both chains in the scene
+pub record IsMerged (s : Scene) (a b : List ℕ) (m : Remembered) : Type 0 where
+  pub interleaved : IsInterleaving a b (breakpoints m.records)
+  pub in_place : IsChain (is_in_place s) (breakpoints m.records)
+  pub noted : AreNoted s (front a) (front b) m.records
+  pub left : m.left ≡ Some (end_at s (front a) (front b))
+  pub right : m.right ≡ right_end s (front a) (behind a) (front b) (behind b)
+
+-- every number of the list is live
+abbrev pub AreLive : List ℕ → List ℕ → Type 0
+AreLive live xs = (i : ℕ) → IsIn i xs → IsIn i live
+
+-- every number of a is less than every number of b
+abbrev pub AreLess : List ℕ → List ℕ → Type 0
+AreLess a b = (i j : ℕ) → IsIn i a → IsIn j b → i < j

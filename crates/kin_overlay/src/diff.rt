@@ -1,0 +1,122 @@
+//! The edits that lead from one list to another.
+
+ghost use Rattle.std.specs.Prelude.{◌≡◌, ◌≢◌, ℕ, ◌+◌, ◌<◌, ◌≤◌, ◌^◌, true, false, List, [], ◌∷◌, ◌++◌, length, take, drop, slice_get, Some, IsTrue, IsFalse, OnOk, IfOk};
+ghost use Rattle.kin_motion.specs.Edits.{all_edited, AreFitting};
+ghost use Rattle.kin_motion.specs.Numbers.{is_in};
+ghost use Rattle.kin_overlay.specs.Diffs.{KeepOrder, ArePutApart};
+
+use crate::edit::ChainEdit;
+use smallvec::SmallVec;
+use std::alloc::{AllocError, Global};
+
+/// How many items stand at the front of one list that aren't in the other.
+fn strangers(list: &[u32], other: &[u32]) -> usize
+    ensures within { result ≤ length list.now }
+    ensures strange { (k x : ℕ) → k < result → slice_get list.now k ≡ Some x → is_in x other.now ≡ false }
+    ensures next { (x : ℕ) → slice_get list.now result ≡ Some x → is_in x other.now ≡ true }
+{
+    let mut count = 0;
+    while count < list.len() && !other.contains(&list[count]) {
+        count += 1;
+    }
+    count
+}
+
+/// Whether both lists begin with the same number.
+fn begin_alike(old: &[u32], new: &[u32]) -> bool
+    ensures alike { IsTrue result → (x : ℕ) × (xs ys : List ℕ) × (old.now ≡ x ∷ xs) × (new.now ≡ x ∷ ys) }
+    ensures differ { IsFalse result → (x y : ℕ) (xs ys : List ℕ) → old.now ≡ x ∷ xs → new.now ≡ y ∷ ys → x ≢ y }
+{
+    match (old.first(), new.first()) {
+        (Some(x), Some(y)) => x == y,
+        _ => false,
+    }
+}
+
+/// How many numbers of the new list stand before the first of the rest of the old one: all of them
+/// where there is no rest.
+fn added_before(new: &[u32], rest: &[u32]) -> usize
+    ensures within { result ≤ length new.now }
+    ensures all { rest.now ≡ [] → result ≡ length new.now }
+    ensures others { (x y k : ℕ) (xs : List ℕ) → rest.now ≡ x ∷ xs → k < result → slice_get new.now k ≡ Some y → x ≢ y }
+    ensures at { (x y : ℕ) (xs : List ℕ) → rest.now ≡ x ∷ xs → slice_get new.now result ≡ Some y → x ≡ y }
+{
+    match rest.first() {
+        Some(next) => count_before(new, *next),
+        None => new.len(),
+    }
+}
+
+/// How many numbers of a list stand before this one.
+fn count_before(list: &[u32], no: u32) -> usize
+    ensures within { result ≤ length list.now }
+    ensures others { (k y : ℕ) → k < result → slice_get list.now k ≡ Some y → no ≢ y }
+    ensures at { (y : ℕ) → slice_get list.now result ≡ Some y → no ≡ y }
+{
+    let mut count = 0;
+    while count < list.len() && list[count] != no {
+        count += 1;
+    }
+    count
+}
+
+/// A count of numbers as an edit has it. A list of 2^32 numbers counts as want of memory.
+fn short(count: usize) -> Result<u32, AllocError>
+    ensures { IfOk result (λ n. n ≡ count) }
+{
+    if count > u32::MAX as usize {
+        return Err(AllocError);
+    }
+    Ok(count as u32)
+}
+
+/// An edit from its parts.
+fn stretch(alloc: Global, place: usize, gone: usize, put: &[u32]) -> Result<ChainEdit, AllocError>
+    ensures { IfOk result (λ e. e ≡ record { place = place; drop = gone; put = put.now }) }
+{
+    let place = short(place)?;
+    let drop = short(gone)?;
+    let put = SmallVec::from_slice(alloc, put)?;
+    Ok(ChainEdit { place, drop, put })
+}
+
+/// Whether nothing is left of both lists.
+fn is_done(old: &[u32], new: &[u32]) -> bool
+    ensures done { IsTrue result → (length old.now ≡ 0) × (length new.now ≡ 0) }
+    ensures more { IsFalse result → 0 < length old.now + length new.now }
+{
+    old.is_empty() && new.is_empty()
+}
+
+/// The edits that lead from one list to another, from left to right: one for each stretch of numbers
+/// that aren't in both.
+pub fn diff(
+    alloc: Global,
+    old: &[u32],
+    new: &[u32],
+    edits: &mut Vec<ChainEdit>,
+) -> Result<(), AllocError>
+    ensures lead { OnOk result (all_edited edits.new.items old.now ≡ new.now) }
+    ensures fit { OnOk result (AreFitting edits.new.items old.now) }
+    ensures apart { OnOk result (KeepOrder old.now new.now → ArePutApart edits.new.items old.now) }
+{
+    edits.clear();
+    let (mut old, mut new) = (old, new);
+    let mut place = 0;
+    while !is_done(old, new) {
+        if begin_alike(old, new) {
+            old = old.split_at(1).1;
+            new = new.split_at(1).1;
+            place += 1;
+        } else {
+            let (gone, rest) = old.split_at(strangers(old, new));
+            let (put, tail) = new.split_at(added_before(new, rest));
+            let edit = stretch(alloc, place, gone.len(), put)?;
+            edits.push(edit)?;
+            old = rest;
+            new = tail;
+            place += put.len();
+        }
+    }
+    Ok(())
+}

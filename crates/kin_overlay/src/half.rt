@@ -1,0 +1,24 @@
+//! The two halves of a merge.
+
+ghost use Rattle.std.specs.Prelude.{◌≡◌};
+ghost use Rattle.kin_motion.specs.Merges.{is_of};
+ghost use Rattle.kin_overlay.specs.Seen.{half_of};
+
+/// A half of a merge: every number of A is less than every number of B.
+#[derive(Clone, Copy, Debug, PartialEq, Eq)]
+pub enum Half {
+    A,
+    B,
+}
+
+impl Half {
+    /// Whether it is the same half.
+    pub fn is(self, other: Half) -> bool
+        ensures { result ≡ is_of (half_of self) (half_of other) }
+    {
+        match (self, other) {
+            (Half::A, Half::A) | (Half::B, Half::B) => true,
+            _ => false,
+        }
+    }
+}

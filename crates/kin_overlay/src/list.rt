@@ -1,0 +1,147 @@
+//! The list of breakpoints with what is remembered.
+
+ghost use Rattle.std.specs.Prelude.{◌≡◌, ◌<◌, ◌↔◌, false, [], ◌∷◌, ◌++◌, Some, None, Contains, length, slice_get, IsTrue, OnOk};
+ghost use Rattle.kin_motion.specs.Numbers.{is_in};
+ghost use Rattle.kin_overlay.specs.Remembered.{facts_of, left_points, end_facts};
+
+use crate::end::End;
+use crate::record::Record;
+use indexmap::IndexMap;
+use kin_motion::fact::Fact;
+use kin_motion::form::Form;
+use kin_num::memory::NoMemory;
+use std::alloc::Global;
+use std::marker::Model;
+
+/// The breakpoints of both chains by falling slope, those of A first where slopes are equal, with
+/// the signs that are remembered at each and at both outer ends.
+#[derive(Drop)]
+pub struct BreakpointList {
+    /// In the order of the list, each found by its left point.
+    records: IndexMap<u32, Record>,
+    left: Option<End>,
+    /// None where both ends are one, as each chain has one point.
+    right: Option<End>,
+}
+
+impl Model for BreakpointList {
+    ghost use Rattle.std.specs.Prelude.{nat_eq};
+    ghost use Rattle.indexmap.specs.IndexMap.{IsUnique};
+    ghost use Rattle.kin_overlay.specs.Remembered.{Remembered};
+    ghost use Rattle.kin_overlay.specs.Layout.{AreKeyed, records_of};
+
+    ghost Value = { Remembered };
+
+    ghost view = { λ l. record { records = records_of l.records.entries; left = l.left; right = l.right } };
+
+    ghost invariant = { λ l. AreKeyed l.records.entries × IsUnique nat_eq l.records };
+}
+
+impl BreakpointList {
+    /// Nothing is remembered.
+    pub fn new(alloc: Global) -> BreakpointList
+        ensures { result ≡ record { records = []; left = None; right = None } }
+    {
+        BreakpointList {
+            records: IndexMap::new(alloc),
+            left: None,
+            right: None,
+        }
+    }
+
+    /// Forgets everything. The memory stays.
+    pub fn clear(&mut self)
+        ensures { self.new ≡ record { records = []; left = None; right = None } }
+    {
+        self.records.clear();
+        self.left = None;
+        self.right = None;
+    }
+
+    /// How many breakpoints there are.
+    pub fn len(&self) -> usize
+        ensures { result ≡ length self.now.records }
+    {
+        self.records.len()
+    }
+
+    /// The breakpoint at a place of the list.
+    pub fn at(&self, place: usize) -> &Record
+        requires { place < length self.now.records }
+        ensures { slice_get self.now.records place ≡ Some result.now }
+    {
+        match self.records.get_index(place) {
+            Some((_, record)) => record,
+            None => unreachable!(),
+        }
+    }
+
+    /// Puts a breakpoint at the end of the list.
+    pub fn push(&mut self, noted: Record) -> Result<(), NoMemory>
+        requires new { is_in noted.at.left (left_points self.old.records) ≡ false }
+        ensures pushed { OnOk result (self.new ≡ record self.old { records = self.old.records ++ noted ∷ [] }) }
+    {
+        let Ok(_) = self.records.insert(noted.at.left, noted) else {
+            return Err(NoMemory);
+        };
+        Ok(())
+    }
+
+    /// Puts both outer ends in.
+    pub fn set_ends(&mut self, left: End, right: Option<End>)
+        ensures { self.new ≡ record self.old { left = Some left; right = right } }
+    {
+        self.left = Some(left);
+        self.right = right;
+    }
+
+    pub fn left(&self) -> Option<End>
+        ensures { result ≡ self.now.left }
+    {
+        self.left
+    }
+
+    pub fn right(&self) -> Option<End>
+        ensures { result ≡ self.now.right }
+    {
+        self.right
+    }
+
+    /// Whether the fact is remembered.
+    pub fn has(&self, fact: Fact) -> bool
+        ensures { IsTrue result ↔ Contains (facts_of self.now) fact }
+    {
+        match fact.form {
+            Form::Turn { i, .. } => match self.records.get(&i) {
+                Some(record) => record.turn_fact().is(fact),
+                None => false,
+            },
+            Form::Slope { i, .. } => match self.records.get(&i) {
+                Some(record) => is_the(record.slope_fact(), fact),
+                None => false,
+            },
+            Form::Line { .. } => is_of_end(self.left, fact) || is_of_end(self.right, fact),
+            Form::Dist { .. } => false,
+        }
+    }
+}
+
+/// Whether it is this fact.
+fn is_the(known: Option<Fact>, fact: Fact) -> bool
+    ensures { IsTrue result ↔ (known ≡ Some fact) }
+{
+    match known {
+        Some(known) => known.is(fact),
+        None => false,
+    }
+}
+
+/// Whether the fact is remembered at an end.
+fn is_of_end(end: Option<End>, fact: Fact) -> bool
+    ensures { IsTrue result ↔ Contains (end_facts end) fact }
+{
+    match end {
+        Some(end) => end.x_fact().is(fact) || is_the(end.y_fact(), fact),
+        None => false,
+    }
+}

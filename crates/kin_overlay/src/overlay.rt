@@ -1,0 +1,242 @@
+//! The merge as its callers see it.
+
+ghost use Rattle.std.specs.Prelude.{◌≡◌, ◌≢◌, ◌<◌, [], length, IfOk, OnOk, OnErr};
+ghost use Rattle.kin_motion.specs.Chains.{IsUpperChain};
+ghost use Rattle.kin_motion.specs.Edits.{all_edited, AreFitting};
+ghost use Rattle.kin_motion.specs.Kinetics.{ListsFailing, HasChanged};
+ghost use Rattle.kin_motion.specs.Scene.{IsReal};
+ghost use Rattle.kin_overlay.specs.declared.half.Half.TheVariants.{A, B};
+ghost use Rattle.kin_overlay.specs.declared.stage.Stage.TheVariants.{Broken};
+ghost use Rattle.kin_overlay.specs.Diffs.{KeepOrder, ArePutApart};
+ghost use Rattle.kin_overlay.specs.Fingers.{AreLive, AreLess};
+ghost use Rattle.kin_overlay.specs.Overlays.{told, told_chain, names_gone, IsReady, IsAtRest, IsSettled, IsSameMerge};
+
+use crate::diff::diff;
+use crate::edit::{ChainEdit, carry_out};
+use crate::half::Half;
+use crate::list::BreakpointList;
+use crate::report::tell_missing;
+use crate::stage::Stage;
+use crate::walk::merged_chain;
+use kin_motion::fact::{Delta, Placed};
+use kin_motion::kinetic::Kinetic;
+use kin_motion::signs::Signs;
+use kin_num::memory::NoMemory;
+use kin_num::steps::Steps;
+use std::alloc::Global;
+use std::marker::Model;
+use std::mem::swap;
+use std::sync::ledger::Ledger;
+
+/// The upper chain of two sets of points together, made of the upper chains of both.
+#[derive(Drop)]
+pub struct Overlay {
+    alloc: Global,
+    /// The part in which its facts stand.
+    part: u32,
+    /// The told chains.
+    a: Vec<u32>,
+    b: Vec<u32>,
+    /// The breakpoints with what is remembered, as they were settled last.
+    list: BreakpointList,
+    /// The merged chain.
+    chain: Vec<u32>,
+    /// From the merged chain before the last `settle` to the present one.
+    edits: Vec<ChainEdit>,
+    /// The numbers that the waiting edits drop.
+    gone: Vec<u32>,
+    stage: Stage,
+    /// A buffer for the next list.
+    spare_list: BreakpointList,
+    /// A buffer for numbers.
+    spare: Vec<u32>,
+}
+
+impl Model for Overlay {
+    ghost use Rattle.kin_overlay.specs.Overlays.{Merge};
+    ghost use Rattle.kin_overlay.specs.Remembered.{facts_of, all_placed};
+    ghost use Rattle.kin_overlay.specs.Sound.{IsSound};
+
+    ghost Value = { Merge };
+
+    ghost view = { λ o. record { part = o.part; a = o.a.items; b = o.b.items; facts = all_placed o.part (facts_of o.list); chain = o.chain.items; edits = o.edits.items; gone = o.gone.items; stage = o.stage } };
+
+    ghost invariant = { λ o. IsSound o.stage o.a.items o.b.items (all_placed o.part (facts_of o.list)) };
+}
+
+impl Overlay {
+    /// The merge of the upper chains of two sets, neither of them empty. Every number of the first
+    /// set is less than every number of the second, and the points are live. Its facts stand in
+    /// this part, and all are reported as born.
+    pub fn build<O: Signs, L: Ledger>(
+        alloc: Global,
+        a: &[u32],
+        b: &[u32],
+        part: u32,
+        now: &O,
+        out: &mut Delta,
+        steps: &mut Steps<L>,
+    ) -> Result<Overlay, NoMemory>
+        requires real { IsReal (O.scene now.now) }
+        requires a_some { 0 < length a.now }
+        requires b_some { 0 < length b.now }
+        requires a_live { AreLive (O.scene now.now).live a.now }
+        requires b_live { AreLive (O.scene now.now).live b.now }
+        requires a_chain { IsUpperChain (O.scene now.now) a.now a.now }
+        requires b_chain { IsUpperChain (O.scene now.now) b.now b.now }
+        requires less { AreLess a.now b.now }
+        ensures a { IfOk result (λ m. m.a ≡ a.now) }
+        ensures b { IfOk result (λ m. m.b ≡ b.now) }
+        ensures part { IfOk result (λ m. m.part ≡ part) }
+        ensures rest { IfOk result IsAtRest }
+        ensures settled { IfOk result (λ m. IsSettled m (O.scene now.now)) }
+        ensures edits { IfOk result (λ m. m.edits ≡ []) }
+        ensures gone { IfOk result (λ m. m.gone ≡ []) }
+        ensures born { IfOk result (λ m. HasChanged [] m.facts out.old out.new) }
+    {
+        let mut list = BreakpointList::new(alloc);
+        list.merge(a, b, now, steps)?;
+        let none = BreakpointList::new(alloc);
+        tell_missing(&list, &none, part, &mut out.born)?;
+        let mut chain = Vec::new(alloc);
+        merged_chain(&list, &mut chain)?;
+        Ok(Overlay {
+            alloc,
+            part,
+            a: Vec::from_slice(alloc, a)?,
+            b: Vec::from_slice(alloc, b)?,
+            list,
+            chain,
+            edits: Vec::new(alloc),
+            gone: Vec::new(alloc),
+            stage: Stage::Rest,
+            spare_list: none,
+            spare: Vec::new(alloc),
+        })
+    }
+
+    /// Tells how the chain of a half has changed. The next `settle` does the work. After want of
+    /// memory the overlay may not be used again.
+    pub fn edit(&mut self, half: Half, edits: &[ChainEdit]) -> Result<(), NoMemory>
+        requires whole { self.old.stage ≢ Broken }
+        requires fit { AreFitting edits.now (told_chain half self.old) }
+        requires less { AreLess (told half edits.now self.old).a (told half edits.now self.old).b }
+        ensures told { OnOk result (self.new ≡ told half edits.now self.old) }
+        ensures broken { OnErr result (self.new.stage ≡ Broken) }
+    {
+        match half {
+            Half::A => self.edit_a(edits),
+            Half::B => self.edit_b(edits),
+        }
+    }
+
+    fn edit_a(&mut self, edits: &[ChainEdit]) -> Result<(), NoMemory>
+        requires whole { self.old.stage ≢ Broken }
+        requires fit { AreFitting edits.now self.old.a }
+        requires less { AreLess (all_edited edits.now self.old.a) self.old.b }
+        ensures told { OnOk result (self.new ≡ told A edits.now self.old) }
+        ensures broken { OnErr result (self.new.stage ≡ Broken) }
+    {
+        self.stage = Stage::Broken;
+        carry_out(edits, &mut self.a, &mut self.gone, &mut self.spare)?;
+        self.stage = Stage::Told;
+        Ok(())
+    }
+
+    fn edit_b(&mut self, edits: &[ChainEdit]) -> Result<(), NoMemory>
+        requires whole { self.old.stage ≢ Broken }
+        requires fit { AreFitting edits.now self.old.b }
+        requires less { AreLess self.old.a (all_edited edits.now self.old.b) }
+        ensures told { OnOk result (self.new ≡ told B edits.now self.old) }
+        ensures broken { OnErr result (self.new.stage ≡ Broken) }
+    {
+        self.stage = Stage::Broken;
+        carry_out(edits, &mut self.b, &mut self.gone, &mut self.spare)?;
+        self.stage = Stage::Told;
+        Ok(())
+    }
+
+    /// Ends the merge. All its facts are reported as dropped. After want of memory it is gone, too.
+    pub fn retire(self, out: &mut Delta) -> Result<(), NoMemory>
+        requires rest { IsAtRest self }
+        ensures dropped { OnOk result (HasChanged self.facts [] out.old out.new) }
+    {
+        let none = BreakpointList::new(self.alloc);
+        tell_missing(&self.list, &none, self.part, &mut out.dropped)?;
+        Ok(())
+    }
+
+    /// The upper chain of both sets together.
+    pub fn chain(&self) -> &[u32]
+        requires rest { IsAtRest self.now }
+        ensures { result.now ≡ self.now.chain }
+    {
+        &self.chain
+    }
+
+    /// The edits that lead from the chain before the last `settle` to the present one.
+    pub fn edits(&self) -> &[ChainEdit]
+        requires rest { IsAtRest self.now }
+        ensures { result.now ≡ self.now.edits }
+    {
+        &self.edits
+    }
+}
+
+impl Kinetic for Overlay {
+    ghost use Rattle.kin_overlay.specs.Overlays.{names_gone, IsReady, IsAtRest, IsSettled, AreChains};
+    ghost use Rattle.kin_overlay.specs.OverlayLaws.{determined_lem};
+
+    ghost facts = { λ m. m.facts };
+
+    ghost is_spared = { names_gone };
+
+    ghost ready = { IsReady };
+
+    ghost at_rest = { IsAtRest };
+
+    ghost settled = { IsSettled };
+
+    ghost grounded = { AreChains };
+
+    ghost determined = { determined_lem };
+
+    fn settle<O: Signs, L: Ledger>(
+        &mut self,
+        now: &O,
+        _failed: &[Placed],
+        out: &mut Delta,
+        steps: &mut Steps<L>,
+    ) -> Result<(), NoMemory>
+        requires real { IsReal (O.scene now.now) }
+        requires ready { IsReady self.old (O.scene now.now) }
+        requires failing { ListsFailing self.old.facts (names_gone self.old) (O.scene now.now) _failed.now }
+        ensures rest { OnOk result (IsAtRest self.new) }
+        ensures settled { OnOk result (IsSettled self.new (O.scene now.now)) }
+        ensures delta { OnOk result (HasChanged self.old.facts self.new.facts out.old out.new) }
+
+        // The edits lead from the old chain to the new one.
+        ensures lead { OnOk result (all_edited self.new.edits self.old.chain ≡ self.new.chain) }
+        ensures fit { OnOk result (AreFitting self.new.edits self.old.chain) }
+        ensures apart { OnOk result (KeepOrder self.old.chain self.new.chain → ArePutApart self.new.edits self.old.chain) }
+
+        // What stays.
+        ensures same { OnOk result (IsSameMerge self.old self.new) }
+        ensures gone { OnOk result (self.new.gone ≡ []) }
+
+        // After want of memory no call but dropping it is left.
+        ensures broken { OnErr result (self.new.stage ≡ Broken) }
+    {
+        self.stage = Stage::Broken;
+        self.spare_list.merge(&self.a, &self.b, now, steps)?;
+        tell_missing(&self.list, &self.spare_list, self.part, &mut out.dropped)?;
+        tell_missing(&self.spare_list, &self.list, self.part, &mut out.born)?;
+        swap(&mut self.list, &mut self.spare_list);
+        swap(&mut self.chain, &mut self.spare);
+        merged_chain(&self.list, &mut self.chain)?;
+        diff(self.alloc, &self.spare, &self.chain, &mut self.edits)?;
+        self.gone.clear();
+        self.stage = Stage::Rest;
+        Ok(())
+    }
+}

@@ -1,0 +1,51 @@
+//! What is remembered at a breakpoint.
+
+ghost use Rattle.std.specs.Prelude.{◌≡◌, option_to_list};
+ghost use Rattle.kin_overlay.specs.Remembered.{turn_fact, slope_facts};
+
+use crate::breakpoint::Breakpoint;
+use kin_motion::fact::Fact;
+use kin_num::Sign;
+
+/// The next breakpoint in the list, which is of the other half, with the sign of the slope form of
+/// both.
+#[derive(Clone, Copy, Debug, PartialEq, Eq)]
+pub struct Next {
+    pub at: Breakpoint,
+    pub slope: Sign,
+}
+
+/// A breakpoint in the list, with what is remembered at it.
+#[derive(Clone, Copy, Debug, PartialEq, Eq)]
+pub struct Record {
+    pub at: Breakpoint,
+    /// The current point of the other half.
+    pub across: u32,
+    /// The sign of the turn to that point.
+    pub turn: Sign,
+    /// The next breakpoint, where it is of the other half.
+    pub next: Option<Next>,
+}
+
+impl Record {
+    /// The fact of the turn.
+    pub fn turn_fact(&self) -> Fact
+        ensures { result ≡ turn_fact self.now }
+    {
+        Fact {
+            form: self.at.turn(self.across),
+            sign: self.turn,
+        }
+    }
+
+    /// The fact of the slope, if there is one.
+    pub fn slope_fact(&self) -> Option<Fact>
+        ensures { option_to_list result ≡ slope_facts self.now }
+    {
+        let next = self.next?;
+        Some(Fact {
+            form: self.at.slope(next.at),
+            sign: next.slope,
+        })
+    }
+}

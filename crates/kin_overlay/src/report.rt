@@ -1,0 +1,91 @@
+//! What a change of the list changes in the facts.
+
+ghost use Rattle.std.specs.Prelude.{◌≡◌, map, flat_map, OnOk, option_to_list};
+ghost use Rattle.kin_overlay.specs.Remembered.{turn_fact, slope_facts, end_facts, facts_of};
+ghost use Rattle.kin_overlay.specs.Reports.{IsTold};
+
+use crate::end::End;
+use crate::list::BreakpointList;
+use kin_motion::fact::{Fact, Placed};
+use kin_num::memory::NoMemory;
+
+/// Tells a fact, if there is one that the other list doesn't have.
+fn tell(
+    fact: Option<Fact>,
+    other: &BreakpointList,
+    part: u32,
+    told: &mut Vec<Placed>,
+) -> Result<(), NoMemory>
+    ensures { OnOk result (IsTold part (facts_of other.now) (option_to_list fact) told.old.items told.new.items) }
+{
+    let Some(fact) = fact else {
+        return Ok(());
+    };
+    if other.has(fact) {
+        return Ok(());
+    }
+    let Ok(()) = told.push(Placed { part, fact }) else {
+        return Err(NoMemory);
+    };
+    Ok(())
+}
+
+fn tell_turns(
+    list: &BreakpointList,
+    other: &BreakpointList,
+    part: u32,
+    told: &mut Vec<Placed>,
+) -> Result<(), NoMemory>
+    ensures { OnOk result (IsTold part (facts_of other.now) (map turn_fact list.now.records) told.old.items told.new.items) }
+{
+    for place in 0..list.len() {
+        tell(Some(list.at(place).turn_fact()), other, part, told)?;
+    }
+    Ok(())
+}
+
+fn tell_slopes(
+    list: &BreakpointList,
+    other: &BreakpointList,
+    part: u32,
+    told: &mut Vec<Placed>,
+) -> Result<(), NoMemory>
+    ensures { OnOk result (IsTold part (facts_of other.now) (flat_map slope_facts list.now.records) told.old.items told.new.items) }
+{
+    for place in 0..list.len() {
+        tell(list.at(place).slope_fact(), other, part, told)?;
+    }
+    Ok(())
+}
+
+fn tell_end(
+    end: Option<End>,
+    other: &BreakpointList,
+    part: u32,
+    told: &mut Vec<Placed>,
+) -> Result<(), NoMemory>
+    ensures { OnOk result (IsTold part (facts_of other.now) (end_facts end) told.old.items told.new.items) }
+{
+    let Some(end) = end else {
+        return Ok(());
+    };
+    tell(Some(end.x_fact()), other, part, told)?;
+    tell(end.y_fact(), other, part, told)?;
+    Ok(())
+}
+
+/// Tells the facts of one list that the other one doesn't have.
+pub fn tell_missing(
+    list: &BreakpointList,
+    other: &BreakpointList,
+    part: u32,
+    told: &mut Vec<Placed>,
+) -> Result<(), NoMemory>
+    ensures { OnOk result (IsTold part (facts_of other.now) (facts_of list.now) told.old.items told.new.items) }
+{
+    tell_turns(list, other, part, told)?;
+    tell_slopes(list, other, part, told)?;
+    tell_end(list.left(), other, part, told)?;
+    tell_end(list.right(), other, part, told)?;
+    Ok(())
+}
