@@ -1,0 +1,16 @@
+pub mod Places
+pub mod Exchanges
+pub mod Awaited
+pub mod ThirdAfter
+pub mod Scenes
+pub mod StillThere
+pub mod Scanning
+pub mod Mirrors
+pub mod Cursors
+pub mod Touching
+pub mod HitLists
+pub mod Lost
+pub mod Following
+pub mod Renewing
+pub mod TakenUp
+pub mod Empty

@@ -1,0 +1,54 @@
+use Rattle.std.proofs.Common.{◌≡◌, ◌∙◌, sym, ap, subst, refl, List, ℕ, ◌<◌, ◌≤◌, false, true, Some, length, inl, inr}
+use Rattle.std.specs.Prelude.{slice_get, slice_index_or}
+use Rattle.std.proofs.lemmas.Option.{slice_get_within, get_or_from_slice_get, slice_get-get_or}
+use Rattle.kin_motion.specs.Numbers.{is_in}
+use Rattle.kin_wedge.specs.Rows.{is_in_wedge, row_of}
+use Rattle.kin_wedge.specs.Scans.{steps_in, step_to}
+use Rattle.kin_wedge.specs.Seen.{octant_seen, rows_of}
+use Rattle.kin_wedge.proofs.Places.{not_true}
+use Rattle.kin_wedge.proofs.Scanning.{starts, goes_on, ends, behind_place, apex_there, found_first}
+use Rattle.kin_wedge.proofs.orders.Orders.look_up.Goals as goal
+
+pub returns-in_default : goal.returns-in_default
+returns-in_default c = λ q. not_true _ (λ m.
+    let t = apex_there _ c.args.octant.third.from_end c.args.apex q (c.requires.behind q m) in
+    let f = ap (is_in c.args.apex) (sym c.list-list.ensures.row) ∙ c.in_default.ensures.none.0 refl in
+    let e : true ≡ false = sym t ∙ f in
+    cc)
+
+pub loop-k-init : goal.loop-k-init
+loop-k-init c = λ q t m h.
+    starts _ (c.requires.rows.apart c.args.octant.third.part) c.args.octant.third.from_end c.in-Some.place t c.args.apex q
+    (ap (λ (xs : List ℕ). slice_get xs c.in-Some.place) (sym c.list-list.ensures.row) ∙ c.in-Some.ensures.some)
+    (ap (λ (xs : List ℕ). slice_get xs t) (sym (c.items-items.ensures ∙ c.list-list.ensures.row)) ∙ h) (c.requires.behind q m)
+
+pub loop-k-preserved : goal.loop-k-preserved
+loop-k-preserved c = λ q t m h.
+    goes_on c.args.octant.third.from_end c.in-Some.place c.loop-k.k t (c.loop-k.invariant q t m h)
+    (λ s.
+    let same = get_or_from_slice_get c.items-items.result.now c.step_to.result q 0 (ap (slice_get c.items-items.result.now) (c.step_to.ensures.value ∙ sym s) ∙ h) in
+    let e : true ≡ false = sym m ∙ ap (is_in_wedge (rows_of c.args.self.now.lists.items) (octant_seen c.args.octant) c.args.apex) (sym same) ∙ sym c.is_in_octant.ensures ∙ c.if-is_in_octant.false in
+    cc)
+
+pub returns-then-is_in_octant : goal.returns-then-is_in_octant
+returns-then-is_in_octant c =
+    let row = c.items-items.ensures ∙ c.list-list.ensures.row in
+    record {
+      member = sym c.is_in_octant.ensures ∙ c.if-is_in_octant.true;
+      first = λ q m.
+          let t = behind_place _ c.args.octant.third.from_end c.args.apex q (c.requires.behind q m) in
+          let here = ap (λ (xs : List ℕ). slice_get xs t.0) row ∙ t.1 in
+          found_first _ c.args.octant.third.from_end c.in-Some.place c.loop-k.k t.0 _ q
+          (subst (λ (n : ℕ). c.loop-k.k < n) (c.steps_in-k-end.ensures ∙ ap (λ (xs : List ℕ). steps_in c.args.octant.third.from_end c.in-Some.place (length xs)) row) c.loop-k-test.true)
+          (ap (λ (xs : List ℕ). slice_get xs (step_to c.args.octant.third.from_end c.in-Some.place c.loop-k.k)) (sym row) ∙ ap (slice_get c.items-items.result.now) (sym c.step_to.ensures.value) ∙ slice_get-get_or c.items-items.result.now c.step_to.result 0 c.step_to.ensures.within) t.1
+          (c.loop-k.invariant q t.0 m here);
+    }
+
+pub returns : goal.returns
+returns c = λ q. not_true _ (λ m.
+    let row = c.items-items.ensures ∙ c.list-list.ensures.row in
+    let t = behind_place _ c.args.octant.third.from_end c.args.apex q (c.requires.behind q m) in
+    let here = ap (λ (xs : List ℕ). slice_get xs t.0) row ∙ t.1 in
+    let at-apex = ap (λ (xs : List ℕ). slice_get xs c.in-Some.place) c.items-items.ensures ∙ c.in-Some.ensures.some in
+    ends c.args.octant.third.from_end c.in-Some.place t.0 (length c.items-items.result.now) c.loop-k.k (slice_get_within _ t.0 q here) (slice_get_within _ c.in-Some.place c.args.apex at-apex)
+    (subst (λ (n : ℕ). n ≤ c.loop-k.k) c.steps_in-k-end.ensures c.loop-k-test.false) (c.loop-k.invariant q t.0 m here))

@@ -1,0 +1,6 @@
+use Rattle.std.specs.Prelude.{Some}
+use Rattle.kin_wedge.proofs.Lost.{AreOfferedBut, IsRankedBy}
+use Rattle.kin_wedge.proofs.touch.Touches.offer_beside.Given as goal
+
+abbrev pub invariant-loop-apex : goal.invariant-loop-apex
+invariant-loop-apex l = AreOfferedBut l.table l.of (IsRankedBy l.part) (Some l.no) l.fn.self.all.items l.self.all.items l.apex-iterator

@@ -1,0 +1,58 @@
+-- Slots whose candidate may change, and the numbers that are offered to them.
+use Rattle.std.specs.Prelude.{◌≡◌, ℕ, ◌+◌, ◌*◌, ◌/◌, true, false, cond, nat_eq, List, [], ◌∷◌, Option, Some, None, MatchOption, Contains, slice_get, ◌⊎◌}
+use Rattle.kin_motion.specs.Octants.{Octant, octants}
+use Rattle.kin_wedge.specs.declared.touch.Touch.{Touch}
+use Rattle.kin_wedge.specs.Rows.{is_in_wedge, stands_after, IsFirst, IsFirstAnswer}
+
+-- what is offered to a slot, in order; `None` asks for a look-up
+abbrev pub offers_for : ℕ → List Touch → List (Option ℕ)
+offers_for slot [] = []
+offers_for slot (t ∷ ts) = cond (nat_eq t.slot slot) (t.offer ∷ offers_for slot ts) (offers_for slot ts)
+
+-- the offers bring the candidate of the slot of p to the first of the octant
+pub record IsAwaited (rows : List (List ℕ)) (o : Octant) (p : ℕ) (now : Option ℕ) (offers : List (Option ℕ)) : Type 0 where
+  pub good : (c q : ℕ) → now ≡ Some c → is_in_wedge rows o p c ≡ true → is_in_wedge rows o p q ≡ true → ((q ≡ c) ⊎ (stands_after rows o.third c q ≡ true)) ⊎ (Contains offers (Some q) ⊎ Contains offers None)
+  pub lost : (c : ℕ) → now ≡ Some c → is_in_wedge rows o p c ≡ false → (x : Option ℕ) × Contains offers x
+  pub none : (q : ℕ) → now ≡ None → is_in_wedge rows o p q ≡ true → Contains offers (Some q) ⊎ Contains offers None
+
+-- what the slot of p has after an offer
+pub record IsRenewed (rows : List (List ℕ)) (o : Octant) (p : ℕ) (old offer new : Option ℕ) : Type 0 where
+  pub looked_up : offer ≡ None → IsFirstAnswer rows o p new
+  pub lost : (c : ℕ) → old ≡ Some c → is_in_wedge rows o p c ≡ false → IsFirstAnswer rows o p new
+  pub taken : (q : ℕ) → old ≡ None → offer ≡ Some q → is_in_wedge rows o p q ≡ true → new ≡ Some q
+  pub still_none : (q : ℕ) → old ≡ None → offer ≡ Some q → is_in_wedge rows o p q ≡ false → new ≡ None
+  pub better : (c q : ℕ) → old ≡ Some c → is_in_wedge rows o p c ≡ true → offer ≡ Some q → is_in_wedge rows o p q ≡ true → stands_after rows o.third q c ≡ true → new ≡ Some q
+  pub kept : (c q : ℕ) → old ≡ Some c → is_in_wedge rows o p c ≡ true → offer ≡ Some q → (is_in_wedge rows o p q ≡ false) ⊎ (stands_after rows o.third q c ≡ false) → new ≡ Some c
+
+-- a number or a look-up is offered to the slot
+abbrev pub IsOffered : List Touch → ℕ → Option ℕ → Type 0
+IsOffered ts slot x = (t : Touch) × Contains ts t × (t.slot ≡ slot) × (t.offer ≡ x)
+
+-- each touch knows the candidate that its slot has
+abbrev pub AreKnown : List (Option ℕ) → List Touch → Type 0
+AreKnown candidates ts = (t : Touch) → Contains ts t → slice_get candidates t.slot ≡ Some t.old
+
+-- touches were added, and none is lost
+pub record HasTouched (candidates : List (Option ℕ)) (old new : List Touch) : Type 0 where
+  pub keeps : (slot : ℕ) (x : Option ℕ) → IsOffered old slot x → IsOffered new slot x
+  pub known : AreKnown candidates old → AreKnown candidates new
+
+-- of the exchange of a and b in an order, each is offered to the other's slots in the octants that the order bounds, and to the slots whose candidate the other is in those that it ranks
+pub record HasOffered (candidates : List (Option ℕ)) (part a b : ℕ) (ts : List Touch) : Type 0 where
+  pub bounded : (w : ℕ) (o : Octant) → slice_get octants w ≡ Some o → (o.first.part ≡ part) ⊎ (o.second.part ≡ part) → IsOffered ts (8 * a + w) (Some b)
+  pub ranked : (apex w : ℕ) (o : Octant) → slice_get octants w ≡ Some o → o.third.part ≡ part → slice_get candidates (8 * apex + w) ≡ Some (Some a) → IsOffered ts (8 * apex + w) (Some b)
+
+abbrev pub HasOfferedBoth : List (Option ℕ) → ℕ → ℕ → ℕ → List Touch → Type 0
+HasOfferedBoth candidates part a b ts = HasOffered candidates part a b ts × HasOffered candidates part b a ts
+
+-- the slot has a candidate that these offers bring to the first of its octant
+pub record IsOnItsWay (rows : List (List ℕ)) (o : Octant) (slot : ℕ) (candidates : List (Option ℕ)) (offers : List (Option ℕ)) : Type 0 where
+  pub candidate : Option ℕ
+  pub held : slice_get candidates slot ≡ Some candidate
+  pub awaited : IsAwaited rows o (slot / 8) candidate offers
+
+-- the slot has the first of its octant
+pub record IsAnswered (rows : List (List ℕ)) (o : Octant) (slot : ℕ) (candidates : List (Option ℕ)) : Type 0 where
+  pub candidate : Option ℕ
+  pub held : slice_get candidates slot ≡ Some candidate
+  pub first : IsFirstAnswer rows o (slot / 8) candidate

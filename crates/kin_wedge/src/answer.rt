@@ -1,0 +1,111 @@
+//! The candidate of a slot after a settle.
+
+ghost use Rattle.std.specs.Prelude.{◌≡◌, ◌<◌, ℕ, true, false, Some, None, ◌⊎◌};
+ghost use Rattle.kin_wedge.specs.Rows.{stands_after, is_in_wedge, AreRows, IsFirstAnswer};
+ghost use Rattle.kin_wedge.specs.Scans.{steps_in, step_to};
+ghost use Rattle.kin_wedge.specs.Seen.{octant_seen, rows_of, IsOfEight};
+ghost use Rattle.kin_wedge.specs.Touched.{IsRenewed};
+
+use crate::octant::Octant;
+use crate::orders::Orders;
+
+/// How many places are behind a place, as the list is read.
+fn steps_in(from_end: bool, place: usize, len: usize) -> usize
+    requires { place < len }
+    ensures { result ≡ steps_in from_end place len }
+{
+    if from_end { place } else { len - place - 1 }
+}
+
+/// The place that is k + 1 steps behind a place, as the list is read.
+fn step_to(from_end: bool, place: usize, k: usize, len: usize) -> usize
+    requires place { place < len }
+    requires steps { k < steps_in from_end place len }
+    ensures value { result ≡ step_to from_end place k }
+    ensures within { result < len }
+{
+    if from_end {
+        place - 1 - k
+    } else {
+        place + 1 + k
+    }
+}
+
+impl Orders {
+    /// The first number of an octant in its third order, by a scan that begins behind the apex.
+    pub fn look_up(&self, octant: Octant, apex: u32) -> Option<u32>
+        requires rows { AreRows (rows_of self.now.lists.items) }
+        requires parts { IsOfEight (octant_seen octant) }
+        requires behind { (q : ℕ) → is_in_wedge (rows_of self.now.lists.items) (octant_seen octant) apex q ≡ true → stands_after (rows_of self.now.lists.items) (octant_seen octant).third apex q ≡ true }
+        ensures { IsFirstAnswer (rows_of self.now.lists.items) (octant_seen octant) apex result }
+    {
+        let list = self.list(octant.third.part);
+        let items = list.items();
+        let Some(place) = list.place_of(apex) else {
+            return None;
+        };
+        let place = place as usize;
+        for k in 0..steps_in(octant.third.from_end, place, items.len()) {
+            let no = items[step_to(octant.third.from_end, place, k, items.len())];
+            if self.is_in_octant(octant, apex, no) {
+                return Some(no);
+            }
+        }
+        None
+    }
+
+    /// The candidate of a slot after an offer. `None` asks for a look-up, and a candidate that isn't
+    /// in the octant any more is looked up too.
+    pub fn renewed(
+        &self,
+        octant: Octant,
+        apex: u32,
+        old: Option<u32>,
+        offer: Option<u32>,
+    ) -> Option<u32>
+        requires rows { AreRows (rows_of self.now.lists.items) }
+        requires parts { IsOfEight (octant_seen octant) }
+        requires behind { (q : ℕ) → is_in_wedge (rows_of self.now.lists.items) (octant_seen octant) apex q ≡ true → stands_after (rows_of self.now.lists.items) (octant_seen octant).third apex q ≡ true }
+        ensures { IsRenewed (rows_of self.now.lists.items) (octant_seen octant) apex old offer result }
+    {
+        let Some(no) = offer else {
+            return self.look_up(octant, apex);
+        };
+        let Some(best) = old else {
+            return self.only_within(octant, apex, no);
+        };
+        if self.is_in_octant(octant, apex, best) {
+            Some(self.better(octant, apex, best, no))
+        } else {
+            self.look_up(octant, apex)
+        }
+    }
+
+    /// A number, where it is in an octant.
+    fn only_within(&self, octant: Octant, apex: u32, no: u32) -> Option<u32>
+        requires rows { AreRows (rows_of self.now.lists.items) }
+        requires parts { IsOfEight (octant_seen octant) }
+        ensures within { is_in_wedge (rows_of self.now.lists.items) (octant_seen octant) apex no ≡ true → result ≡ Some no }
+        ensures none { is_in_wedge (rows_of self.now.lists.items) (octant_seen octant) apex no ≡ false → result ≡ None }
+    {
+        if self.is_in_octant(octant, apex, no) {
+            Some(no)
+        } else {
+            None
+        }
+    }
+
+    /// The better one of a candidate and an offered number.
+    fn better(&self, octant: Octant, apex: u32, best: u32, no: u32) -> u32
+        requires rows { AreRows (rows_of self.now.lists.items) }
+        requires parts { IsOfEight (octant_seen octant) }
+        ensures better { is_in_wedge (rows_of self.now.lists.items) (octant_seen octant) apex no ≡ true → stands_after (rows_of self.now.lists.items) (octant_seen octant).third no best ≡ true → result ≡ no }
+        ensures kept { (is_in_wedge (rows_of self.now.lists.items) (octant_seen octant) apex no ≡ false) ⊎ (stands_after (rows_of self.now.lists.items) (octant_seen octant).third no best ≡ false) → result ≡ best }
+    {
+        if self.is_in_octant(octant, apex, no) && self.comes_after(octant.third, no, best) {
+            no
+        } else {
+            best
+        }
+    }
+}

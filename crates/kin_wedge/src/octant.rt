@@ -1,0 +1,85 @@
+//! The eight octants, by their orders.
+
+ghost use Rattle.std.specs.Prelude.{◌≡◌, ◌<◌, Some, slice_get, true, false};
+ghost use Rattle.kin_motion.specs.Octants.{octants, direction_of};
+ghost use Rattle.kin_wedge.specs.Seen.{octant_seen, IsOfEight};
+
+/// An order as it is read, from the front or from the end.
+#[derive(Clone, Copy, Debug, PartialEq, Eq)]
+pub struct Reading {
+    /// Which of the eight orders.
+    pub part: u32,
+    pub from_end: bool,
+}
+
+/// The orders of an octant. The first two bound it, and its members are ranked by the third.
+#[derive(Clone, Copy, Debug, PartialEq, Eq)]
+pub struct Octant {
+    pub first: Reading,
+    pub second: Reading,
+    pub third: Reading,
+}
+
+fn forward(part: u32) -> Reading
+    ensures { result ≡ record { part = part; from_end = false } }
+{
+    Reading {
+        part,
+        from_end: false,
+    }
+}
+
+fn back(part: u32) -> Reading
+    ensures { result ≡ record { part = part; from_end = true } }
+{
+    Reading {
+        part,
+        from_end: true,
+    }
+}
+
+fn octant_by(first: Reading, second: Reading, third: Reading) -> Octant
+    ensures { result ≡ record { first = first; second = second; third = third } }
+{
+    Octant {
+        first,
+        second,
+        third,
+    }
+}
+
+/// The orders of one of the octants 0 to 7.
+pub fn orders_of(w: u32) -> Octant
+    requires { w < 8 }
+    ensures octant { slice_get octants w ≡ Some (octant_seen result) }
+    ensures parts { IsOfEight (octant_seen result) }
+{
+    match w {
+        0 => octant_by(forward(0), forward(1), forward(4)),
+        1 => octant_by(back(1), forward(2), forward(5)),
+        2 => octant_by(back(2), forward(3), forward(6)),
+        3 => octant_by(back(3), forward(0), forward(7)),
+        4 => octant_by(back(0), back(1), back(4)),
+        5 => octant_by(forward(1), back(2), back(5)),
+        6 => octant_by(forward(2), back(3), back(6)),
+        _ => octant_by(forward(3), back(0), back(7)),
+    }
+}
+
+/// The direction of the order of one of the parts 0 to 7.
+pub fn direction(part: u32) -> (i32, i32)
+    requires { part < 8 }
+    ensures dx { result.0 ≡ (direction_of part).dx }
+    ensures dy { result.1 ≡ (direction_of part).dy }
+{
+    match part {
+        0 => (0, 1),
+        1 => (1, -1),
+        2 => (1, 0),
+        3 => (1, 1),
+        4 => (2, 1),
+        5 => (1, 2),
+        6 => (-1, 2),
+        _ => (-2, 1),
+    }
+}
