@@ -8,7 +8,8 @@ use crate::driver::Driver;
 use crate::fault::Fault;
 use crate::spares::SparesAbove;
 use crate::watch::{Tally, Watch};
-use kin_motion::Motions;
+use kin_cert::Now;
+use kin_motion::{Motions, Placed};
 use kin_num::{Moment, Steps};
 use kin_tourney::{Along, Tourney};
 use std::alloc::Global;
@@ -199,6 +200,19 @@ impl Contest {
             marks,
             is_settled: true,
         })
+    }
+
+    /// The live facts, in any order.
+    pub fn facts(&self) -> &[Placed] {
+        self.tourney.facts()
+    }
+
+    /// The motions at a moment.
+    pub fn at<'a>(&'a self, moment: &'a Moment) -> Now<'a> {
+        Now {
+            motions: &self.motions,
+            moment,
+        }
     }
 
     /// The winner of a node, or `None` where it has none, or where a mark stands.

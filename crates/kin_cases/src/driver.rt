@@ -7,9 +7,9 @@ ghost use Rattle.kin_motion.specs.Scene.{scene_at};
 use crate::failing::{after, failing};
 use crate::fault::Fault;
 use crate::spares::Spares;
-use crate::steady::Steady;
 use crate::watch::Watch;
 use kin_motion::fact::{Delta, Placed};
+use kin_motion::kept::Kept;
 use kin_num::Steps;
 use std::alloc::Global;
 use std::marker::Model;
@@ -18,13 +18,13 @@ use std::sync::ledger::Ledger;
 /// A structure with the list of its live facts, which is kept by its reports alone. A contract sees
 /// it as its structure.
 #[derive(Drop)]
-pub struct Driver<K: Steady> {
+pub struct Driver<K: Kept> {
     pub(crate) alloc: Global,
     pub(crate) structure: K,
     pub(crate) facts: Vec<Placed>,
 }
 
-impl<K: Steady> Model for Driver<K> {
+impl<K: Kept> Model for Driver<K> {
     ghost use Rattle.std.specs.Prelude.{Contains};
     ghost use Rattle.kin_motion.specs.Sets.{ListsExactly};
 
@@ -35,7 +35,7 @@ impl<K: Steady> Model for Driver<K> {
     ghost invariant = { λ d. ListsExactly d.facts.items (Contains (K.facts d.structure)) };
 }
 
-impl<K: Steady> Driver<K> {
+impl<K: Kept> Driver<K> {
     /// A structure without facts.
     pub fn new(alloc: Global, structure: K) -> Driver<K>
         requires { K.facts structure ≡ [] }
@@ -53,6 +53,11 @@ impl<K: Steady> Driver<K> {
         ensures { result.now ≡ self.now }
     {
         &self.structure
+    }
+
+    /// Its live facts, in any order.
+    pub fn facts(&self) -> &[Placed] {
+        &self.facts
     }
 
     /// Settles the structure at a moment, by the facts that fail there.

@@ -13,10 +13,11 @@ pub mod driver;
 pub mod failing;
 pub mod fault;
 #[cfg(test)]
+mod many;
+#[cfg(test)]
 mod meetings;
 #[cfg(test)]
 mod moments;
 pub mod order;
 pub mod spares;
-pub mod steady;
 pub mod watch;

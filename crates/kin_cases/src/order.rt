@@ -8,8 +8,9 @@ use crate::driver::Driver;
 use crate::fault::Fault;
 use crate::spares::SparesNone;
 use crate::watch::{Tally, Watch};
+use kin_cert::Now;
 use kin_list::KinList;
-use kin_motion::{Motion, Motions};
+use kin_motion::{Motion, Motions, Placed};
 use kin_num::{Moment, Steps};
 use std::alloc::Global;
 use std::marker::Model;
@@ -126,6 +127,19 @@ impl Order {
             motions,
             list,
         })
+    }
+
+    /// The live facts, in any order.
+    pub fn facts(&self) -> &[Placed] {
+        self.list.facts()
+    }
+
+    /// The motions at a moment.
+    pub fn at<'a>(&'a self, moment: &'a Moment) -> Now<'a> {
+        Now {
+            motions: &self.motions,
+            moment,
+        }
     }
 
     /// The points in their order.

@@ -10,10 +10,22 @@ use Rattle.kin_motion.specs.Kinetics.{AreDistinct}
 use Rattle.kin_motion.specs.Live.{Certificate}
 use Rattle.kin_motion.specs.Deltas.{Change}
 use Rattle.kin_motion.specs.Scene.{Scene}
-use Rattle.kin_cert.specs.Facts.{LiveFact, IsAt, AreAlike, IsOnce}
-use Rattle.kin_cert.specs.Applied.{IsOf, Is, IsLiveIn, IsAmong, AreApart, IsBorn, HasApplied}
-use Rattle.kin_cert.specs.Layout.{AreDropped, AreBorn, HasGained}
+use Rattle.kin_cert.specs.Facts.{LiveFact, IsAt, AreAlike, NoneAlike}
+use Rattle.kin_cert.specs.Applied.{IsOf, Is, IsLiveIn, IsAmong, AreUnlike, IsBorn, HasApplied}
+use Rattle.kin_cert.specs.Layout.{HasBorn}
 use Rattle.kin_cert.proofs.Elements.{within, got, contained}
+
+-- the first n of these are dropped
+pub record AreDropped (structure : ℕ) (dropped : List Placed) (n : ℕ) (old new : List LiveFact) : Type 0 where
+  pub rest : (l : LiveFact) → Contains new l ↔ (Contains old l × ((j : ℕ) (p : Placed) → j < n → ¬ (IsOf structure (get_or dropped j p) l)))
+  pub count : length new + n ≡ length old
+
+-- the first n of these are born
+pub record AreBorn (structure : ℕ) (scene : Moment → Scene) (now : Moment) (born : List Placed) (n : ℕ) (old new : List LiveFact) : Type 0 where
+  pub kept : (l : LiveFact) → Contains old l → Contains new l
+  pub born_one : (j : ℕ) (p : Placed) → j < n → (l : LiveFact) × Contains new l × IsBorn structure scene now (get_or born j p) l
+  pub only : (l : LiveFact) → Contains new l → Contains old l ⊎ ((j : ℕ) × (j < n) × ((p : Placed) → IsBorn structure scene now (get_or born j p) l))
+  pub count : length new ≡ length old + n
 
 alike : (s p : ℕ) (f : Form) (k l : LiveFact) → IsAt s p f k → IsAt s p f l → AreAlike k l
 alike s p f k l a b =
@@ -24,7 +36,7 @@ alike s p f k l a b =
     }
 
 -- no owner has a form twice
-pub once-same : (live : List LiveFact) → IsOnce live → (s p : ℕ) (f : Form) (k l : LiveFact) → Contains live k → Contains live l → IsAt s p f k → IsAt s p f l → k ≡ l
+pub once-same : (live : List LiveFact) → NoneAlike live → (s p : ℕ) (f : Form) (k l : LiveFact) → Contains live k → Contains live l → IsAt s p f k → IsAt s p f l → k ≡ l
 once-same live once s p f k l (i, i_in, i_is) (j, j_in, j_is) a b =
     let j_is' : get_or live j k ≡ l = within live j k l j_in ∙ j_is in
     elim (cases_lt i j) [
@@ -44,7 +56,7 @@ is-at s p l e =
     }
 
 module _ (s : ℕ) (ps : List Placed) (n : ℕ) (old cur : List LiveFact) where
-  pub dropped-live : (d : Placed) → n < length ps → AreDropped s ps n old cur → IsOnce old → All (IsLiveIn old s) ps → AreDistinct ps → IsLiveIn cur s (get_or ps n d)
+  pub dropped-live : (d : Placed) → n < length ps → AreDropped s ps n old cur → NoneAlike old → All (IsLiveIn old s) ps → AreDistinct ps → IsLiveIn cur s (get_or ps n d)
   dropped-live d lt h once live distinct =
       let l = All-get_or (IsLiveIn old s) ps n d lt live in
       let untouched : (j : ℕ) (p : Placed) → j < n → ¬ (IsOf s (get_or ps j p) l.0) = λ j p jn of.
@@ -96,7 +108,7 @@ module _ (s : ℕ) (scene : Moment → Scene) (now : Moment) (ps : List Placed) 
         count = omega arith;
       }
 
-  pub born-free : (d : Placed) → n < length ps → AreBorn s scene now ps n old cur → ((l : LiveFact) → Contains old l → ¬ (IsAmong s ps l)) → AllPairs AreApart ps → (l : LiveFact) → Contains cur l → ¬ (IsOf s (get_or ps n d) l)
+  pub born-free : (d : Placed) → n < length ps → AreBorn s scene now ps n old cur → ((l : LiveFact) → Contains old l → ¬ (IsAmong s ps l)) → AllPairs AreUnlike ps → (l : LiveFact) → Contains cur l → ¬ (IsOf s (get_or ps n d) l)
   born-free d lt h free apart l c of =
       elim (h.only l c) [
         | inl o ↦ free l o (get_or ps n d, contained ps n d lt, of)
@@ -105,7 +117,7 @@ module _ (s : ℕ) (scene : Moment → Scene) (now : Moment) (ps : List Placed) 
             apart b.0 n d b.1 lt (sym at.part_is ∙ of.part_is) (sym at.form_is ∙ of.form_is)
       ]
 
-  pub born-more : (new : List LiveFact) (d : Placed) → n < length ps → AreBorn s scene now ps n old cur → HasGained s scene now (get_or ps n d) cur new → length new ≡ length cur + 1 → AreBorn s scene now ps (n + 1) old new
+  pub born-more : (new : List LiveFact) (d : Placed) → n < length ps → AreBorn s scene now ps n old cur → HasBorn s scene now (get_or ps n d) cur new → length new ≡ length cur + 1 → AreBorn s scene now ps (n + 1) old new
   born-more new d lt h gained count =
       record {
         kept = λ l c. (gained.exactly l).1 (inl (h.kept l c));

@@ -13,7 +13,7 @@ use Rattle.kin_queue.specs.Agenda.{IsLeast}
 use Rattle.kin_queue.proofs.Entries.{same}
 use Rattle.kin_cert.specs.declared.entry.Entry.{Entry}
 use Rattle.kin_cert.specs.Facts.{LiveFact}
-use Rattle.kin_cert.specs.Rank.{rank_of}
+use Rattle.kin_cert.specs.Rank.{padded_rank}
 use Rattle.kin_cert.specs.Taken.{NoneWaits, NoneFails, IsLeastFailure}
 use Rattle.kin_cert.specs.Layout.{IsTable, live_fact, live_in, entry_rank, queued_at, is_rank, IsDue, IsDueAt, NoneDue, HasGiven}
 use Rattle.kin_cert.proofs.Slots.{live-there, live-from, waiting}
@@ -94,7 +94,7 @@ module _ {S : Type 0} (entries : Slab Entry) (ids : IndexMap (List ℤ) ℕ S) (
         }
 
     apart-from : (j : ℕ) (f : Entry) → get entries j ≡ Some f → j ≢ id → live_fact f ≡ live_fact e → ⊥
-    apart-from j f h n same_fact = n (one_slot entries ids moments table j id f e h there (ap (λ (x : LiveFact). rank_of x.certificate.structure x.certificate.placed.part x.certificate.placed.fact.form) same_fact))
+    apart-from j f h n same_fact = n (one_slot entries ids moments table j id f e h there (ap (λ (x : LiveFact). padded_rank x.certificate.structure x.certificate.placed.part x.certificate.placed.fact.form) same_fact))
 
     pub has-given : HasGiven (live_in entries.slots) (live_in after.slots) (live_fact e) at
     has-given =

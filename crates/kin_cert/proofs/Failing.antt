@@ -19,7 +19,7 @@ use Rattle.kin_instant.proofs.RootsOf.{constant_sign}
 use Rattle.kin_instant.proofs.SignTable.{at_at, at_after}
 use Rattle.kin_instant.proofs.Kept.{zero_after}
 use Rattle.kin_motion.specs.declared.fact.Fact.{Fact}
-use Rattle.kin_cert.specs.Failures.{seen_by, IsFailure}
+use Rattle.kin_cert.specs.Failures.{seen_by, IsFirstFailure}
 
 -- the polynomial 0 has the sign 0 at every moment
 zero_at : (w : Shape) (f : Phase) → IsCanonical w → sign_at (quadratic (pos 0) (pos 0) (pos 0)) (record { at = w; phase = f }) ≡ Zero
@@ -48,7 +48,7 @@ module _ (p : Quadratic) (now : Moment) (here : IsCanonical now.at) (f : Fact) (
   at_less m r (inl l) = l
   at_less m r (inr h) = absurd (let e : At ≡ After = h.2 in cc)
 
-  pub fails_at_root : f.sign ≢ Zero → (r : Shape) → IsNextRoot p now.at r → KeepsSign p now.at (Some r) → IsFailure (seen_by p) now f (Some (record { at = r; phase = At }))
+  pub fails_at_root : f.sign ≢ Zero → (r : Shape) → IsNextRoot p now.at r → KeepsSign p now.at (Some r) → IsFirstFailure (seen_by p) now f (Some (record { at = r; phase = At }))
   fails_at_root some r next kept =
       record {
         canonical = next.canonical;
@@ -57,19 +57,19 @@ module _ (p : Quadratic) (now : Moment) (here : IsCanonical now.at) (f : Fact) (
         fails = λ h. some (sym h ∙ at_at p r ∙ next.root);
       }
 
-  pub never_fails : f.sign ≢ Zero → KeepsSign p now.at None → IsFailure (seen_by p) now f None
+  pub never_fails : f.sign ≢ Zero → KeepsSign p now.at None → IsFirstFailure (seen_by p) now f None
   never_fails some kept m i not_before = from_now m i not_before (λ later. kept now m refl here.form i.form (λ z. some (sym holds ∙ z)) later tt)
 
 -- a sign 0
 module _ (p : Quadratic) (now : Moment) (here : IsCanonical now.at) (holds : sign_at p now ≡ Zero) (f : Fact) (zero : f.sign ≡ Zero) where
-  pub zero_for_ever : IsZeroPolynomial p → IsFailure (seen_by p) now f None
+  pub zero_for_ever : IsZeroPolynomial p → IsFirstFailure (seen_by p) now f None
   zero_for_ever z m i not_before = zero_everywhere p z m i ∙ sym zero
 
   pub is_at : ¬ (IsZeroPolynomial p) → (q : Phase) → now.phase ≡ q → now.phase ≡ At
   is_at n At e = e
   is_at n After e = absurd (n (zero_after p now.at here.form (ap (λ (x : Phase). sign_at p (record { at = now.at; phase = x })) (sym e) ∙ holds)))
 
-  pub left_after : ¬ (IsZeroPolynomial p) → IsFailure (seen_by p) now f (Some (record { at = now.at; phase = After }))
+  pub left_after : ¬ (IsZeroPolynomial p) → IsFirstFailure (seen_by p) now f (Some (record { at = now.at; phase = After }))
   left_after n =
       let phase_is : now.phase ≡ At = is_at n now.phase refl in
       record {

@@ -21,8 +21,8 @@ use Rattle.kin_motion.specs.Scene.{scene_at}
 use Rattle.kin_motion.proofs.JournalLaws.{first_failure_is_one}
 use Rattle.kin_motion.proofs.AskableLaws.{live_facts_are_askable}
 use Rattle.kin_motion.proofs.PolynomialSizes.{polynomials_are_small}
-use Rattle.kin_cert.specs.Failures.{seen_by, IsFailure}
-use Rattle.kin_cert.specs.Laws.{IsRoot, FailuresAreAtRoots, BlocksAreAtRoots, FirstFailuresExist}
+use Rattle.kin_cert.specs.Failures.{seen_by, IsFirstFailure}
+use Rattle.kin_cert.specs.Laws.{IsProperRoot, FailuresAreAtRoots, BlocksAreAtRoots, FirstFailuresExist}
 use Rattle.kin_cert.proofs.Failing.{zero_everywhere, fails_at_root, never_fails, zero_for_ever, left_after, is_at}
 use Rattle.kin_cert.proofs.Seen.{holds-seen, failure-seen}
 
@@ -44,8 +44,8 @@ zero_or_not p = by_parts (nothing_or_some p.a) (nothing_or_some p.b) (nothing_or
 -- ---- the first failure, and that it is at a root
 record HasFirst (p : Quadratic) (now : Moment) (f : Fact) : Type 0 where
   later : Option Moment
-  failure : IsFailure (seen_by p) now f later
-  root : MatchOption later (Unit {0}) (λ m. IsRoot p m.at)
+  failure : IsFirstFailure (seen_by p) now f later
+  root : MatchOption later (Unit {0}) (λ m. IsProperRoot p m.at)
 
 module _ (p : Quadratic) (small : IsSmall p) (now : Moment) (here : IsCanonical now.at) (f : Fact) (holds : sign_at p now ≡ f.sign) where
   some_fails : f.sign ≢ Zero → HasFirst p now f
@@ -95,9 +95,9 @@ failures_are_at_roots ms now later f slow askable here fails =
     let h = has_first p (polynomials_are_small ms f.form slow askable) now here f (holds-seen ms f now holds) in
     by_first h.later (failure-seen ms f now h.later h.failure) h.root
   where
-    by_first : (o : Option Moment) → IsFailure (scene_at ms) now f o → MatchOption o (Unit {0}) (λ m. IsRoot (polynomial_of ms f.form) m.at) → IsRoot (polynomial_of ms f.form) later.at
+    by_first : (o : Option Moment) → IsFirstFailure (scene_at ms) now f o → MatchOption o (Unit {0}) (λ m. IsProperRoot (polynomial_of ms f.form) m.at) → IsProperRoot (polynomial_of ms f.form) later.at
     by_first None never r = absurd (fails.fails (never later fails.canonical (λ e. not_earlier_itself now (earlier_trans now later now here.form fails.canonical.form here.form fails.later_is_later e))))
-    by_first (Some m) first r = subst (λ (n : Moment). IsRoot (polynomial_of ms f.form) n.at) (first_failure_is_one (scene_at ms) now m later f here first fails) r
+    by_first (Some m) first r = subst (λ (n : Moment). IsProperRoot (polynomial_of ms f.form) n.at) (first_failure_is_one (scene_at ms) now m later f here first fails) r
 
 pub blocks_are_at_roots : BlocksAreAtRoots
 blocks_are_at_roots ms size keeps now b f slow small here next there =

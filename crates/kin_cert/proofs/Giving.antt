@@ -6,13 +6,13 @@ use Rattle.slab.proofs.SlabLemmas.{Contains-cons, Contains-cons_cases}
 use Rattle.kin_num.specs.declared.instant.Moment.{Moment}
 use Rattle.kin_motion.specs.Live.{Certificate}
 use Rattle.kin_cert.specs.declared.owned.Owned.{Owned}
-use Rattle.kin_cert.specs.Facts.{LiveFact, IsOnce, IsAt, certificate_of}
+use Rattle.kin_cert.specs.Facts.{LiveFact, NoneAlike, IsAt, certificate_of}
 use Rattle.kin_cert.specs.Taken.{NoneWaits}
 use Rattle.kin_cert.specs.Layout.{IsDue, HasGiven, IsGivenUpTo, owned_rank, is_rank}
 use Rattle.kin_cert.proofs.Changes.{once-same}
 use Rattle.kin_cert.proofs.Elements.{contained}
 use Rattle.kin_cert.proofs.Ranks.{rank_names, rank_same, rank_itself}
-use Rattle.kin_cert.specs.Rank.{rank_of}
+use Rattle.kin_cert.specs.Rank.{padded_rank}
 use Rattle.kin_cert.proofs.Slots.{Contains-head, Contains-nothing}
 
 pub Contains-push : {X : Type 0} (xs : List X) (x y : X) → Contains (xs ++ x ∷ []) y → Contains xs y ⊎ (x ≡ y)
@@ -72,10 +72,10 @@ renamed o p l r at =
     record { structure_is = at.structure_is ∙ sym n.structure; part_is = at.part_is ∙ sym n.part; form_is = at.form_is ∙ sym n.form }
 
 abbrev live_rank : LiveFact → List ℤ
-live_rank l = rank_of l.certificate.structure l.certificate.placed.part l.certificate.placed.fact.form
+live_rank l = padded_rank l.certificate.structure l.certificate.placed.part l.certificate.placed.fact.form
 
 -- two live facts are one or they are two
-same_or_not : (live : List LiveFact) → IsOnce live → (k l : LiveFact) → Contains live k → Contains live l → (k ≡ l) ⊎ ¬ (k ≡ l)
+same_or_not : (live : List LiveFact) → NoneAlike live → (k l : LiveFact) → Contains live k → Contains live l → (k ≡ l) ⊎ ¬ (k ≡ l)
 same_or_not live once k l a b =
     elim (is_rank (live_rank k) (live_rank l)) as (λ t. is_rank (live_rank k) (live_rank l) ≡ t → (k ≡ l) ⊎ ¬ (k ≡ l)) [
       | true ↦ λ t.
@@ -86,7 +86,7 @@ same_or_not live once k l a b =
       | false ↦ λ t. inr (λ e. let both : true ≡ false = sym (ap (λ (x : LiveFact). is_rank (live_rank k) (live_rank x)) (sym e) ∙ rank_itself (live_rank k)) ∙ t in absurd cc)
     ] refl
 
-pub given-more : (m : Moment) (old cur new : List LiveFact) (taken : List Owned) (o : Owned) (l : LiveFact) → IsGivenUpTo m old cur taken → IsOnce cur → HasGiven cur new l m → l.certificate ≡ certificate_of o → IsGivenUpTo m old new (taken ++ o ∷ [])
+pub given-more : (m : Moment) (old cur new : List LiveFact) (taken : List Owned) (o : Owned) (l : LiveFact) → IsGivenUpTo m old cur taken → NoneAlike cur → HasGiven cur new l m → l.certificate ≡ certificate_of o → IsGivenUpTo m old new (taken ++ o ∷ [])
 given-more m old cur new taken o l h once g l_is =
     let marked : LiveFact = record l { waits = true } in
     let there : Contains new marked = (g.exactly marked).1 (inr refl) in

@@ -11,15 +11,15 @@ use Rattle.kin_motion.specs.Agreements.{FitsSize}
 use Rattle.kin_motion.specs.Live.{Certificate, IsLiveFact, ListsLive, live_facts}
 use Rattle.kin_motion.specs.Scene.{IsReal, scene_at}
 use Rattle.kin_motion.specs.Journal as journal
-use Rattle.kin_motion.specs.Journal.{Setting, Failure, Block, IsNextBlock, NothingFails, IsJournal, failures_at, seen_in}
+use Rattle.kin_motion.specs.Journal.{Setting, Failure, Block, IsNextBlock, NothingFails, IsJournal, failures_at, seen_in, setting_of}
 use Rattle.kin_motion.proofs.AskableLaws.{live_facts_are_askable}
 use Rattle.kin_motion.proofs.FailureOrder.{failures_in_order}
 use Rattle.kin_motion.proofs.LiveFactLaws.{live_facts_agree, failures_agree}
 use Rattle.kin_motion.proofs.LiveFactsHold.{live_fact_holds}
 use Rattle.kin_motion.proofs.MotionScenes.{real_at, live_fits}
 use Rattle.kin_motion.proofs.SetLaws.{contains_none}
-use Rattle.kin_cert.specs.Failures.{IsFailure}
-use Rattle.kin_cert.specs.Laws.{setting_of, NextBlocksExist, JournalsExist}
+use Rattle.kin_cert.specs.Failures.{IsFirstFailure}
+use Rattle.kin_cert.specs.Laws.{NextBlocksExist, JournalsExist}
 use Rattle.kin_cert.proofs.FailureRoots.{first_failures_exist}
 use Rattle.kin_cert.proofs.LeastFailure.{NoneEverFails, IsLeast, least_failure}
 
@@ -38,7 +38,7 @@ module _ (t : Setting) (now : Moment) (real : IsReal (t.scene now)) (fits : Fits
     some_failure : journal.IsFailure t now m (seen_in (t.scene m) least.some)
     some_failure = record { live = (listed.each least.some).0 least.among; fails = least.fails.fails; sign = refl }
 
-    least_block : IsNextBlock t now (record { moment = m; failures = failures_at t now m })
+    pub least_block : IsNextBlock t now (record { moment = m; failures = failures_at t now m })
     least_block = record {
       canonical = least.fails.canonical;
       later = least.fails.later_is_later;
@@ -49,7 +49,7 @@ module _ (t : Setting) (now : Moment) (real : IsReal (t.scene now)) (fits : Fits
     }
 
   -- where each live fact has a first failure or none, so have all of them
-  next_block : ((c : Certificate) → IsLiveFact t.size t.keeps (t.scene now) c → (later : Option Moment) × IsFailure t.scene now c.placed.fact later)
+  next_block : ((c : Certificate) → IsLiveFact t.size t.keeps (t.scene now) c → (later : Option Moment) × IsFirstFailure t.scene now c.placed.fact later)
       → NothingFails t now ⊎ ((b : Block) × IsNextBlock t now b)
   unfolding NoneEverFails
   next_block first = at (least_failure t.scene now live (λ c there. first c ((listed.each c).0 there)))

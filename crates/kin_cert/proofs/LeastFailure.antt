@@ -10,7 +10,7 @@ use Rattle.kin_motion.specs.Live.{Certificate}
 use Rattle.kin_motion.specs.Moments.{HoldsUntil, FailsFirst}
 use Rattle.kin_motion.specs.Scene.{Scene}
 use Rattle.kin_motion.proofs.SetLaws.{contains_none, contains_head, contains_tail, contains_cases}
-use Rattle.kin_cert.specs.Failures.{NeverFails, IsFailure}
+use Rattle.kin_cert.specs.Failures.{NeverFails, IsFirstFailure}
 
 module _ (scene : Moment → Scene) (now : Moment) where
   -- none of these facts ever fails
@@ -54,7 +54,7 @@ module _ (scene : Moment → Scene) (now : Moment) where
   abbrev HasLeast : List Certificate → Type 0
   HasLeast cs = NoneEverFails cs ⊎ ((m : Moment) × IsLeast cs m)
 
-  one_more : (c : Certificate) (cs : List Certificate) (later : Option Moment) → IsFailure scene now c.placed.fact later → HasLeast cs → HasLeast (c ∷ cs)
+  one_more : (c : Certificate) (cs : List Certificate) (later : Option Moment) → IsFirstFailure scene now c.placed.fact later → HasLeast cs → HasLeast (c ∷ cs)
   unfolding NoneEverFails
   one_more c cs None never (inl none) = inl (of_each (λ d. NeverFails scene now d.placed.fact) c cs never none)
   one_more c cs None never (inr (m, least)) = inr (m, fails_behind c cs m (λ x u. never x u.canonical u.from) least)
@@ -66,7 +66,7 @@ module _ (scene : Moment → Scene) (now : Moment) where
       at (inr (inl later)) = inr (m, fails_behind c cs m (holds_sooner c.placed.fact m k least.fails.canonical fails.canonical later fails.holds_until) least)
       at (inr (inr same)) = inr (m, fails_behind c cs m (subst (λ (x : Moment). HoldsUntil scene now x c.placed.fact) same fails.holds_until) least)
 
-  pub least_failure : (cs : List Certificate) → ((c : Certificate) → Contains cs c → (later : Option Moment) × IsFailure scene now c.placed.fact later) → NoneEverFails cs ⊎ ((m : Moment) × IsLeast cs m)
+  pub least_failure : (cs : List Certificate) → ((c : Certificate) → Contains cs c → (later : Option Moment) × IsFirstFailure scene now c.placed.fact later) → NoneEverFails cs ⊎ ((m : Moment) × IsLeast cs m)
   unfolding NoneEverFails
   least_failure [] first = inl (λ c there. absurd (contains_none c there))
   least_failure (c ∷ cs) first = let f = first c (contains_head c cs) in one_more c cs f.0 f.1 (least_failure cs (λ d there. first d (contains_tail c d cs there)))

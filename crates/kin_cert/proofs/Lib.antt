@@ -12,3 +12,7 @@ pub mod Taking
 pub mod FailureRoots
 pub mod LeastFailure
 pub mod JournalExistence
+pub mod SamePlaced
+pub mod TellLaws
+pub mod ToldLaws
+pub mod NextLaws

@@ -6,13 +6,13 @@ use Rattle.kin_motion.specs.declared.fact.Fact.{Fact}
 use Rattle.kin_motion.specs.Course.{Course}
 use Rattle.kin_motion.specs.Forms.{sign_of_form, polynomial_of}
 use Rattle.kin_motion.specs.Scene.{scene_at, Holds}
-use Rattle.kin_cert.specs.Failures.{IsFailure, seen_by}
+use Rattle.kin_cert.specs.Failures.{IsFirstFailure, seen_by}
 
 pub holds-seen : (ms : List (Option Course)) (f : Fact) (m : Moment) → Holds (scene_at ms m) f → sign_at (polynomial_of ms f.form) m ≡ f.sign
 unfolding sign_of_form
 holds-seen ms f m h = h
 
-pub failure-seen : (ms : List (Option Course)) (f : Fact) (now : Moment) (o : Option Moment) → IsFailure (seen_by (polynomial_of ms f.form)) now f o → IsFailure (scene_at ms) now f o
+pub failure-seen : (ms : List (Option Course)) (f : Fact) (now : Moment) (o : Option Moment) → IsFirstFailure (seen_by (polynomial_of ms f.form)) now f o → IsFirstFailure (scene_at ms) now f o
 unfolding sign_of_form
 failure-seen ms f now None h = h
 failure-seen ms f now (Some m) h =

@@ -5,7 +5,7 @@ use Rattle.std.proofs.lemmas.List.Sums.{sum_by-cons}
 use Rattle.std.proofs.lemmas.List.Kept.{AllPairs-cons}
 use Rattle.slab.proofs.SlabLemmas.{Contains-cons, Contains-cons_cases}
 use Rattle.kin_cert.specs.declared.entry.Entry.{Entry}
-use Rattle.kin_cert.specs.Facts.{LiveFact, AreAlike, IsOnce}
+use Rattle.kin_cert.specs.Facts.{LiveFact, AreAlike, NoneAlike}
 use Rattle.kin_cert.specs.Layout.{live_fact, live_in, due_count}
 
 none_some : {A : Type 0} (x : A) → None ≡ Some x → ⊥
@@ -59,7 +59,7 @@ AreNamed slots = (i j : ℕ) (e f : Entry) → get_or slots i None ≡ Some e �
 fewer_named : (o : Option Entry) (slots : List (Option Entry)) → AreNamed (o ∷ slots) → AreNamed slots
 fewer_named o slots h i j e f a b c = let s : suc i ≡ suc j = h (suc i) (suc j) e f a b c in omega arith
 
-pub live-once : (slots : List (Option Entry)) → AreNamed slots → IsOnce (live_in slots)
+pub live-once : (slots : List (Option Entry)) → AreNamed slots → NoneAlike (live_in slots)
 live-once [] h = λ i j d lt within. absurd (omega (arith, within))
 live-once (None ∷ slots) h = live-once slots (fewer_named None slots h)
 live-once (Some e ∷ slots) h =

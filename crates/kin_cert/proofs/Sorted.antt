@@ -11,8 +11,8 @@ use Rattle.kin_motion.specs.declared.form.Form.TheVariants.{Line, Turn, Slope, D
 use Rattle.kin_motion.specs.Journal.{is_less_rank, form_rank}
 use Rattle.kin_motion.specs.Numbers.{IsChain}
 use Rattle.kin_cert.specs.declared.owned.Owned.{Owned}
-use Rattle.kin_cert.specs.Rank.{rank_of, padding}
-use Rattle.kin_cert.specs.Taken.{is_listed_before}
+use Rattle.kin_cert.specs.Rank.{padded_rank, padding}
+use Rattle.kin_cert.specs.Taken.{is_taken_before}
 use Rattle.kin_cert.specs.Layout.{owned_rank}
 
 is_less : (x y : ℤ) → x <ℤ y → (b : Bool) → int_lt x y ≡ b → b ≡ true
@@ -60,7 +60,7 @@ third_differs s s' p p' a b xs ys zs ws n h =
       | Greater ↦ λ e h3. absurd (cc)
     ] refl h2))
 
-pub listed : (s p : ℕ) (f : Form) (s' p' : ℕ) (f' : Form) → slice_cmp int_cmp (rank_of s p f) (rank_of s' p' f') ≡ Less → is_less_rank (pos s ∷ pos p ∷ form_rank f) (pos s' ∷ pos p' ∷ form_rank f') ≡ true
+pub listed : (s p : ℕ) (f : Form) (s' p' : ℕ) (f' : Form) → slice_cmp int_cmp (padded_rank s p f) (padded_rank s' p' f') ≡ Less → is_less_rank (pos s ∷ pos p ∷ form_rank f) (pos s' ∷ pos p' ∷ form_rank f') ≡ true
 listed s p (Line dx dy off i j) s' p' (Line dx' dy' off' i' j') h = equal_length (pos s ∷ pos p ∷ form_rank (Line dx dy off i j)) (pos s' ∷ pos p' ∷ form_rank (Line dx' dy' off' i' j')) (padding (Line dx dy off i j)) refl h
 listed s p (Line dx dy off i j) s' p' (Turn i' j' k') h = third_differs (pos s) (pos s') (pos p) (pos p') (pos 0) (pos 1) (dx ∷ dy ∷ off ∷ pos i ∷ pos j ∷ []) (pos i' ∷ pos j' ∷ pos k' ∷ pos 0 ∷ pos 0 ∷ []) (dx ∷ dy ∷ off ∷ pos i ∷ pos j ∷ []) (pos i' ∷ pos j' ∷ pos k' ∷ []) (λ e. absurd cc) h
 listed s p (Line dx dy off i j) s' p' (Slope i' j' k' l') h = third_differs (pos s) (pos s') (pos p) (pos p') (pos 0) (pos 2) (dx ∷ dy ∷ off ∷ pos i ∷ pos j ∷ []) (pos i' ∷ pos j' ∷ pos k' ∷ pos l' ∷ pos 0 ∷ []) (dx ∷ dy ∷ off ∷ pos i ∷ pos j ∷ []) (pos i' ∷ pos j' ∷ pos k' ∷ pos l' ∷ []) (λ e. absurd cc) h
@@ -94,12 +94,12 @@ equal_ranks (x ∷ xs) (y ∷ ys) e =
       | Greater ↦ λ c h. absurd cc
     ] refl e
 
-listed_pair : (o p : Owned) → is_lt (slice_cmp int_cmp (owned_rank p) (owned_rank o)) ≡ false → owned_rank o ≢ owned_rank p → IsTrue (is_listed_before o p)
+listed_pair : (o p : Owned) → is_lt (slice_cmp int_cmp (owned_rank p) (owned_rank o)) ≡ false → owned_rank o ≢ owned_rank p → IsTrue (is_taken_before o p)
 listed_pair o p sorted apart =
     listed o.structure o.part o.fact.form p.structure p.part p.fact.form
     (less_of (slice_cmp int_cmp (owned_rank o) (owned_rank p)) (ap is_lt (sym ((lists_total int_cmp_total).antisymm (owned_rank p) (owned_rank o))) ∙ sorted) (λ e. apart (equal_ranks (owned_rank o) (owned_rank p) e)))
 
-pub sorted-chain : (xs : List Owned) → IsSortedByKey owned_rank (slice_cmp int_cmp) xs → AllPairs (λ o p. owned_rank o ≢ owned_rank p) xs → IsChain is_listed_before xs
+pub sorted-chain : (xs : List Owned) → IsSortedByKey owned_rank (slice_cmp int_cmp) xs → AllPairs (λ o p. owned_rank o ≢ owned_rank p) xs → IsChain is_taken_before xs
 sorted-chain [] s a = tt
 sorted-chain (x ∷ []) s a = tt
 sorted-chain (x ∷ y ∷ xs) s a = (

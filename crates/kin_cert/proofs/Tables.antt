@@ -14,8 +14,8 @@ use Rattle.kin_num.specs.declared.instant.Moment.{Moment}
 use Rattle.kin_motion.specs.declared.form.Form.{Form}
 use Rattle.kin_queue.proofs.Entries.{same, same_is, same_itself, differ}
 use Rattle.kin_cert.specs.declared.entry.Entry.{Entry}
-use Rattle.kin_cert.specs.Facts.{LiveFact, IsAt, IsOnce}
-use Rattle.kin_cert.specs.Rank.{rank_of}
+use Rattle.kin_cert.specs.Facts.{LiveFact, IsAt, NoneAlike}
+use Rattle.kin_cert.specs.Rank.{padded_rank}
 use Rattle.kin_cert.specs.Layout.{IsTable, live_fact, live_in, entry_rank, queued_at, is_rank, with}
 use Rattle.kin_cert.proofs.Ranks.{rank_names, rank_same, rank_itself, rank_differs}
 use Rattle.kin_cert.proofs.Slots.{live-there, live-from, live-once, IsEntryOf}
@@ -27,13 +27,13 @@ pub some_none : {A : Type 0} (x : A) → Some x ≡ None → ⊥
 some_none x e = cc
 
 -- the rank of a fact at an owner and a form
-pub rank-at : (s p : ℕ) (f : Form) (e : Entry) → IsAt s p f (live_fact e) → entry_rank e ≡ rank_of s p f
+pub rank-at : (s p : ℕ) (f : Form) (e : Entry) → IsAt s p f (live_fact e) → entry_rank e ≡ padded_rank s p f
 rank-at s p f e at =
-    ap (λ (x : ℕ). rank_of x e.owned.part e.owned.fact.form) at.structure_is
-    ∙ ap (λ (x : ℕ). rank_of s x e.owned.fact.form) at.part_is
-    ∙ ap (λ (x : Form). rank_of s p x) at.form_is
+    ap (λ (x : ℕ). padded_rank x e.owned.part e.owned.fact.form) at.structure_is
+    ∙ ap (λ (x : ℕ). padded_rank s x e.owned.fact.form) at.part_is
+    ∙ ap (λ (x : Form). padded_rank s p x) at.form_is
 
-pub at-rank : (s p : ℕ) (f : Form) (e : Entry) → entry_rank e ≡ rank_of s p f → IsAt s p f (live_fact e)
+pub at-rank : (s p : ℕ) (f : Form) (e : Entry) → entry_rank e ≡ padded_rank s p f → IsAt s p f (live_fact e)
 at-rank s p f e h =
     let n = rank_names e.owned.structure e.owned.part e.owned.fact.form s p f h in
     record { structure_is = n.structure; part_is = n.part; form_is = n.form }
@@ -43,21 +43,21 @@ module _ {S : Type 0} (entries : Slab Entry) (ids : IndexMap (List ℤ) ℕ S) (
   one_slot i j e f a b r =
       same_some i j (sym (table.found i e a) ∙ ap (λ (x : List ℤ). look_up is_rank ids x) r ∙ table.found j f b)
 
-  pub table-once : IsOnce (live_in entries.slots)
+  pub table-once : NoneAlike (live_in entries.slots)
   table-once = live-once entries.slots (λ i j e f a b alike. one_slot i j e f a b (rank-at _ _ _ e alike))
 
   -- no id is known for an owner and a form without a live fact
-  pub unknown : (s p : ℕ) (f : Form) → ((l : LiveFact) → Contains (live_in entries.slots) l → ¬ (IsAt s p f l)) → look_up is_rank ids (rank_of s p f) ≡ None
+  pub unknown : (s p : ℕ) (f : Form) → ((l : LiveFact) → Contains (live_in entries.slots) l → ¬ (IsAt s p f l)) → look_up is_rank ids (padded_rank s p f) ≡ None
   unknown s p f none =
-      elim (look_up is_rank ids (rank_of s p f)) as (λ o. look_up is_rank ids (rank_of s p f) ≡ o → o ≡ None) [
+      elim (look_up is_rank ids (padded_rank s p f)) as (λ o. look_up is_rank ids (padded_rank s p f) ≡ o → o ≡ None) [
         | None ↦ λ e. refl
         | Some id ↦ λ e.
-            let k = table.known (rank_of s p f) id e in
+            let k = table.known (padded_rank s p f) id e in
             absurd (none (live_fact k.0) (live-there entries.slots id k.0 k.1) (at-rank s p f k.0 k.2))
       ] refl
 
   -- the slot of a live fact
-  pub slot-of : (s p : ℕ) (f : Form) (l : LiveFact) → Contains (live_in entries.slots) l → IsAt s p f l → (h : IsEntryOf entries.slots l) × (look_up is_rank ids (rank_of s p f) ≡ Some h.id)
+  pub slot-of : (s p : ℕ) (f : Form) (l : LiveFact) → Contains (live_in entries.slots) l → IsAt s p f l → (h : IsEntryOf entries.slots l) × (look_up is_rank ids (padded_rank s p f) ≡ Some h.id)
   slot-of s p f l c at =
       let h = live-from entries.slots l c in
       (h, ap (λ (x : List ℤ). look_up is_rank ids x) (sym (rank-at s p f h.entry (subst (λ (x : LiveFact). IsAt s p f x) (sym h.is) at))) ∙ table.found h.id h.entry h.there)
@@ -65,7 +65,7 @@ module _ {S : Type 0} (entries : Slab Entry) (ids : IndexMap (List ℤ) ℕ S) (
 -- a look-up by the rank of a live fact
 module _ {S : Type 0} (entries : Slab Entry) (ids : IndexMap (List ℤ) ℕ S) (moments : FinMap nat_cmp Moment) (table : IsTable entries ids moments)
     (s p : ℕ) (f : Form) (l : LiveFact) (live : Contains (live_in entries.slots) l) (at : IsAt s p f l)
-    (rank : List ℤ) (rank_is : rank ≡ rank_of s p f) (answer : Option ℕ) (answer_is : answer ≡ look_up is_rank ids rank) where
+    (rank : List ℤ) (rank_is : rank ≡ padded_rank s p f) (answer : Option ℕ) (answer_is : answer ≡ look_up is_rank ids rank) where
   pub slot : IsEntryOf entries.slots l
   slot = (slot-of entries ids moments table s p f l live at).0
 

@@ -7,7 +7,7 @@ use Rattle.kin_motion.specs.Kinetics.{AreDistinct}
 use Rattle.kin_motion.specs.Live.{owned_by}
 use Rattle.kin_motion.specs.Scene.{Scene}
 use Rattle.kin_motion.specs.Deltas.{Change}
-use Rattle.kin_cert.specs.Failures.{IsFailure}
+use Rattle.kin_cert.specs.Failures.{IsFirstFailure}
 use Rattle.kin_cert.specs.Facts.{LiveFact, IsAt}
 
 -- the live fact has the owner and the form of this one
@@ -27,20 +27,20 @@ abbrev pub IsAmong : ℕ → List Placed → LiveFact → Type 0
 IsAmong structure ps l = (p : Placed) × Contains ps p × IsOf structure p l
 
 -- different part or different form
-abbrev pub AreApart : Placed → Placed → Type 0
-AreApart p q = p.part ≡ q.part → p.fact.form ≡ q.fact.form → ⊥
+abbrev pub AreUnlike : Placed → Placed → Type 0
+AreUnlike p q = p.part ≡ q.part → p.fact.form ≡ q.fact.form → ⊥
 
 -- each dropped fact is live and stands once, and each born form is free once these are gone, and stands once in its part
 pub record MayApply (structure : ℕ) (change : Change) (live : List LiveFact) : Type 0 where
   pub dropped_live : All (IsLiveIn live structure) change.dropped
   pub dropped_once : AreDistinct change.dropped
   pub born_free : (l : LiveFact) → Contains live l → IsAmong structure change.born l → IsAmong structure change.dropped l
-  pub born_once : AllPairs AreApart change.born
+  pub born_once : AllPairs AreUnlike change.born
 
 -- the live fact is this born one, with its first failure
 pub record IsBorn (structure : ℕ) (scene : Moment → Scene) (now : Moment) (p : Placed) (l : LiveFact) : Type 0 where
   pub is : Is structure p l
-  pub fails : IsFailure scene now p.fact l.fails
+  pub fails : IsFirstFailure scene now p.fact l.fails
   pub waits_not : l.waits ≡ false
 
 -- exactly the dropped facts are gone and exactly the born ones are new

@@ -28,8 +28,8 @@ abbrev pub AreAlike : LiveFact → LiveFact → Type 0
 AreAlike k l = IsAt l.certificate.structure l.certificate.placed.part l.certificate.placed.fact.form k
 
 -- no owner has a form twice
-abbrev pub IsOnce : List LiveFact → Type 0
-IsOnce = AllPairs (λ k l. ¬ (AreAlike k l))
+abbrev pub NoneAlike : List LiveFact → Type 0
+NoneAlike = AllPairs (λ k l. ¬ (AreAlike k l))
 
 -- a fact with its owner, as the definition of the live facts has it
 abbrev pub certificate_of : Owned → Certificate

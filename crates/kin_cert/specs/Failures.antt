@@ -18,6 +18,6 @@ abbrev pub NeverFails : (Moment → Scene) → Moment → Fact → Type 0
 NeverFails scene now f = (m : Moment) → IsCanonical m.at → ¬ (IsEarlier m now) → HoldsAt scene m f
 
 -- the first failure seen from now, or none exactly where there is none
-abbrev pub IsFailure : (Moment → Scene) → Moment → Fact → Option Moment → Type 0
-IsFailure scene now f None = NeverFails scene now f
-IsFailure scene now f (Some later) = FailsFirst scene now later f
+abbrev pub IsFirstFailure : (Moment → Scene) → Moment → Fact → Option Moment → Type 0
+IsFirstFailure scene now f None = NeverFails scene now f
+IsFirstFailure scene now f (Some later) = FailsFirst scene now later f

@@ -15,11 +15,11 @@ use Rattle.kin_motion.specs.Forms.{IsAskable, polynomial_of}
 use Rattle.kin_motion.specs.Scene.{scene_at}
 use Rattle.kin_motion.specs.Live.{IsSmallKeep}
 use Rattle.kin_motion.specs.Moments.{HoldsAt, FailsFirst}
-use Rattle.kin_motion.specs.Journal.{Setting, Failure, Block, IsNextBlock, NothingFails, IsJournal}
-use Rattle.kin_cert.specs.Failures.{IsFailure}
+use Rattle.kin_motion.specs.Journal.{setting_of, Failure, Block, IsNextBlock, NothingFails, IsJournal}
+use Rattle.kin_cert.specs.Failures.{IsFirstFailure}
 
 -- the instant is a root of a polynomial that isn't 0 everywhere
-pub record IsRoot (p : Quadratic) (w : Shape) : Type 0 where
+pub record IsProperRoot (p : Quadratic) (w : Shape) : Type 0 where
   pub root : sign_at_instant p w ≡ Zero
   pub some : ¬ (IsZeroPolynomial p)
 
@@ -27,29 +27,25 @@ pub record IsRoot (p : Quadratic) (w : Shape) : Type 0 where
 abbrev pub FailuresAreAtRoots : Type 0
 FailuresAreAtRoots =
     (ms : List (Option Course)) (now later : Moment) (f : Fact) → AreSlow ms → IsAskable (live_of ms) f.form → IsCanonical now.at
-    → FailsFirst (scene_at ms) now later f → IsRoot (polynomial_of ms f.form) later.at
+    → FailsFirst (scene_at ms) now later f → IsProperRoot (polynomial_of ms f.form) later.at
 
 -- the next block is at or just after a root of the polynomial of each of its failures
 abbrev pub BlocksAreAtRoots : Type 0
 BlocksAreAtRoots =
     (ms : List (Option Course)) (size : ℕ) (keeps : List Keep) (now : Moment) (b : Block) (f : Failure) → AreSlow ms → All IsSmallKeep keeps → IsCanonical now.at
-    → IsNextBlock (record { size = size; keeps = keeps; scene = scene_at ms }) now b → Contains b.failures f → IsRoot (polynomial_of ms f.was.placed.fact.form) b.moment.at
+    → IsNextBlock (setting_of ms size keeps) now b → Contains b.failures f → IsProperRoot (polynomial_of ms f.was.placed.fact.form) b.moment.at
 
 -- a fact that holds now has a first failure, or never fails
 abbrev pub FirstFailuresExist : Type 0
 FirstFailuresExist =
     (ms : List (Option Course)) (now : Moment) (f : Fact) → AreSlow ms → IsAskable (live_of ms) f.form → IsCanonical now.at
-    → HoldsAt (scene_at ms) now f → (later : Option Moment) × IsFailure (scene_at ms) now f later
+    → HoldsAt (scene_at ms) now f → (later : Option Moment) × IsFirstFailure (scene_at ms) now f later
 
 -- the motions are slow, each number has a slot, and the kept directions are small
 pub record IsProper (ms : List (Option Course)) (size : ℕ) (keeps : List Keep) : Type 0 where
   pub slow : AreSlow ms
   pub slots : length ms ≡ 2 ^ size
   pub small : All IsSmallKeep keeps
-
--- what is kept, and what is seen at each moment as these motions go on
-abbrev pub setting_of : List (Option Course) → ℕ → List Keep → Setting
-setting_of ms size keeps = record { size = size; keeps = keeps; scene = scene_at ms }
 
 -- from each moment on nothing ever fails, or there is a next block
 abbrev pub NextBlocksExist : Type 0

@@ -15,7 +15,7 @@ use Rattle.kin_cert.specs.declared.entry.Entry.{Entry}
 use Rattle.kin_cert.specs.declared.owned.Owned.{Owned}
 use Rattle.kin_cert.specs.Facts.{LiveFact, certificate_of}
 use Rattle.kin_cert.specs.Applied.{IsBorn, IsOf}
-use Rattle.kin_cert.specs.Rank.{rank_of}
+use Rattle.kin_cert.specs.Rank.{padded_rank}
 
 abbrev pub live_fact : Entry → LiveFact
 live_fact e = record { certificate = certificate_of e.owned; fails = e.fails; waits = e.is_waiting }
@@ -26,10 +26,10 @@ live_in (None ∷ slots) = live_in slots
 live_in (Some e ∷ slots) = live_fact e ∷ live_in slots
 
 abbrev pub entry_rank : Entry → List ℤ
-entry_rank e = rank_of e.owned.structure e.owned.part e.owned.fact.form
+entry_rank e = padded_rank e.owned.structure e.owned.part e.owned.fact.form
 
 abbrev pub owned_rank : Owned → List ℤ
-owned_rank o = rank_of o.structure o.part o.fact.form
+owned_rank o = padded_rank o.structure o.part o.fact.form
 
 -- when the queue has the entry
 abbrev pub queued_at : Option Entry → Option Moment
@@ -73,7 +73,7 @@ pub record HasGiven (old new : List LiveFact) (c : LiveFact) (m : Moment) : Type
   pub exactly : (l : LiveFact) → Contains new l ↔ ((Contains old l × ¬ (l ≡ c)) ⊎ (l ≡ record c { waits = true }))
 
 -- a born fact is there beside all others
-pub record HasGained (structure : ℕ) (scene : Moment → Scene) (now : Moment) (p : Placed) (old new : List LiveFact) : Type 0 where
+pub record HasBorn (structure : ℕ) (scene : Moment → Scene) (now : Moment) (p : Placed) (old new : List LiveFact) : Type 0 where
   pub fact : LiveFact
   pub is_born : IsBorn structure scene now p fact
   pub exactly : (l : LiveFact) → Contains new l ↔ (Contains old l ⊎ (l ≡ fact))
@@ -87,15 +87,3 @@ pub record IsGivenUpTo (m : Moment) (old new : List LiveFact) (taken : List Owne
   pub stays : (l : LiveFact) → Contains old l → (k : LiveFact) × Contains new k × (k.certificate ≡ l.certificate) × (k.fails ≡ l.fails)
   pub only : (k : LiveFact) → Contains new k → (l : LiveFact) × Contains old l × (k.certificate ≡ l.certificate) × (k.fails ≡ l.fails)
   pub least : (l : LiveFact) (n : Moment) → Contains new l → IsDueAt l n → ¬ (IsEarlier n m)
-
--- the first n of these are dropped
-pub record AreDropped (structure : ℕ) (dropped : List Placed) (n : ℕ) (old new : List LiveFact) : Type 0 where
-  pub rest : (l : LiveFact) → Contains new l ↔ (Contains old l × ((j : ℕ) (p : Placed) → j < n → ¬ (IsOf structure (slice_index_or dropped j p) l)))
-  pub count : length new + n ≡ length old
-
--- the first n of these are born
-pub record AreBorn (structure : ℕ) (scene : Moment → Scene) (now : Moment) (born : List Placed) (n : ℕ) (old new : List LiveFact) : Type 0 where
-  pub kept : (l : LiveFact) → Contains old l → Contains new l
-  pub born_one : (j : ℕ) (p : Placed) → j < n → (l : LiveFact) × Contains new l × IsBorn structure scene now (slice_index_or born j p) l
-  pub only : (l : LiveFact) → Contains new l → Contains old l ⊎ ((j : ℕ) × (j < n) × ((p : Placed) → IsBorn structure scene now (slice_index_or born j p) l))
-  pub count : length new ≡ length old + n

@@ -6,3 +6,5 @@ pub mod Taken
 pub mod Blocks
 pub mod Layout
 pub mod Laws
+pub mod Told
+pub mod Remade

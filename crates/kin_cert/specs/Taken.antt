@@ -25,8 +25,8 @@ abbrev pub certificate_rank : Certificate → List ℤ
 certificate_rank c = pos c.structure ∷ pos c.placed.part ∷ form_rank c.placed.fact.form
 
 -- the journal lists the first before the second
-abbrev pub is_listed_before : Owned → Owned → Bool
-is_listed_before o p = is_less_rank (certificate_rank (certificate_of o)) (certificate_rank (certificate_of p))
+abbrev pub is_taken_before : Owned → Owned → Bool
+is_taken_before o p = is_less_rank (certificate_rank (certificate_of o)) (certificate_rank (certificate_of p))
 
 -- the same fact, which waits exactly where it fails at this moment
 pub record IsMarked (m : Moment) (old new : LiveFact) : Type 0 where
@@ -39,7 +39,7 @@ pub record HasTaken (old new : List LiveFact) (taken : List Owned) : Type 0 wher
   pub moment : Moment
   pub least : IsLeastFailure old moment
   pub each : (o : Owned) → Contains taken o ↔ ((l : LiveFact) × Contains old l × (l.fails ≡ Some moment) × (l.certificate ≡ certificate_of o))
-  pub in_order : IsChain is_listed_before taken
+  pub in_order : IsChain is_taken_before taken
   pub stays : (l : LiveFact) → Contains old l → (k : LiveFact) × Contains new k × IsMarked moment l k
   pub only : (k : LiveFact) → Contains new k → (l : LiveFact) × Contains old l × IsMarked moment l k
   pub count : length new ≡ length old

@@ -4,9 +4,9 @@ ghost use Rattle.std.specs.Prelude.{◌≡◌, ◌+◌, ◌↔◌, IsTrue};
 ghost use Rattle.kin_num.specs.Instants.{sign_at};
 ghost use Rattle.kin_motion.specs.declared.fact.Fact.{Fact as Known};
 ghost use Rattle.kin_instant.specs.Places.{IsZeroPolynomial};
-ghost use Rattle.kin_cert.specs.Failures.{IsFailure, seen_by};
+ghost use Rattle.kin_cert.specs.Failures.{IsFirstFailure, seen_by};
 
-use kin_instant::next::next_root;
+use kin_instant::next::next_root_from;
 use kin_motion::fact::Fact;
 use kin_num::{Moment, Phase, Poly, Sign, Steps};
 use std::sync::ledger::Ledger;
@@ -23,7 +23,7 @@ pub fn first_fail<L: Ledger>(
     steps: &mut Steps<L>,
 ) -> Option<Moment>
     requires holds { sign_at p.now now.now ≡ fact.now.sign }
-    ensures failure { IsFailure (seen_by p.now) now.now fact.now result }
+    ensures failure { IsFirstFailure (seen_by p.now) now.now fact.now result }
     ensures count { steps.new ≡ steps.old + 1 }
 {
     steps.tick();
@@ -31,7 +31,7 @@ pub fn first_fail<L: Ledger>(
     if let Sign::Zero = fact.sign {
         return left_zero(p, now);
     }
-    let Some(at) = next_root(p, &now.at) else {
+    let Some(at) = next_root_from(p, now, fact.sign) else {
         return None;
     };
     Some(Moment {
@@ -43,7 +43,7 @@ pub fn first_fail<L: Ledger>(
 // When a polynomial leaves the sign 0.
 fn left_zero(p: &Poly, now: &Moment) -> Option<Moment>
     requires { sign_at p.now now.now ≡ Sign.Zero }
-    ensures { (f : Known) → f.sign ≡ Sign.Zero → IsFailure (seen_by p.now) now.now f result }
+    ensures { (f : Known) → f.sign ≡ Sign.Zero → IsFirstFailure (seen_by p.now) now.now f result }
 {
     let _ = now.at.shape();
     if is_zero(p) {

@@ -18,5 +18,6 @@ pub mod now;
 pub mod owned;
 mod rank;
 pub mod table;
+mod tell;
 #[cfg(test)]
 mod tests;

@@ -8,7 +8,7 @@ use Rattle.kin_motion.specs.declared.fact.Placed.{Placed}
 use Rattle.kin_motion.specs.Deltas.{Change}
 use Rattle.kin_motion.specs.Kinetics.{AreDistinct, HasGained, HasChanged}
 use Rattle.kin_list.specs.declared.link.Link.{Link}
-use Rattle.kin_list.specs.Links.{fact_of, facts_of, facts_from}
+use Rattle.kin_list.specs.Links.{fact_of, link_facts, facts_from}
 use Rattle.kin_list.proofs.RowLaws.{get-set_same, get-set_other}
 use Rattle.kin_list.proofs.LinkLaws.{contains_from_get, get_from_contains, same_facts, has_fact, has_link}
 
@@ -142,7 +142,7 @@ module _ (dx dy : ℤ) where
     no_link : (A : Type 0) (o : Option Link) → o ≡ None → (m : Link) → o ≡ Some m → A
     no_link A o e m f = absurd (none-some m (sym e ∙ f))
 
-    dropped_all : (before after : List Placed) (o : Option Link) → old ≡ o → HasGained before after (λ p. Contains (facts first) p × ¬ (Contains (facts ls) p)) → HasGained before (after ++ facts_of dx dy i o) (λ p. Contains (facts first) p × ¬ (Contains (facts (set ls i new)) p))
+    dropped_all : (before after : List Placed) (o : Option Link) → old ≡ o → HasGained before after (λ p. Contains (facts first) p × ¬ (Contains (facts ls) p)) → HasGained before (after ++ link_facts dx dy i o) (λ p. Contains (facts first) p × ¬ (Contains (facts (set ls i new)) p))
     dropped_all before after None e gained = subst (λ l. HasGained before l (λ p. Contains (facts first) p × ¬ (Contains (facts (set ls i new)) p))) (sym (append-nil after))
         (gained_same before after _ _ gained (λ q. (
           dropped_kept q,
@@ -161,7 +161,7 @@ module _ (dx dy : ℤ) where
         dropped_kept
         (has_fact dx dy first i m (at_first ∙ ap (λ (o : Option Link). Some o) e), λ c. new_not_old m e (same_Some new (Some m) (sym at_new ∙ link_at (set ls i new) i m c)))
 
-    born_all : (before after : List Placed) (o : Option Link) → new ≡ o → HasGained before after (λ p. Contains (facts ls) p × ¬ (Contains (facts first) p)) → HasGained before (after ++ facts_of dx dy i o) (λ p. Contains (facts (set ls i new)) p × ¬ (Contains (facts first) p))
+    born_all : (before after : List Placed) (o : Option Link) → new ≡ o → HasGained before after (λ p. Contains (facts ls) p × ¬ (Contains (facts first) p)) → HasGained before (after ++ link_facts dx dy i o) (λ p. Contains (facts (set ls i new)) p × ¬ (Contains (facts first) p))
     born_all before after None e gained = subst (λ l. HasGained before l (λ p. Contains (facts (set ls i new)) p × ¬ (Contains (facts first) p))) (sym (append-nil after))
         (gained_same before after _ _ gained (λ q. (
           born_kept q,
@@ -180,7 +180,7 @@ module _ (dx dy : ℤ) where
         born_kept
         (has_fact dx dy (set ls i new) i m (at_new ∙ ap (λ (o : Option Link). Some o) e), λ c. new_not_old m (same_Some old (Some m) (sym at_first ∙ link_at first i m c)) e)
 
-    pub changed_at : (start now : Change) → HasChanged (facts first) (facts ls) start now → HasChanged (facts first) (facts (set ls i new)) start (record { dropped = now.dropped ++ facts_of dx dy i old; born = now.born ++ facts_of dx dy i new })
+    pub changed_at : (start now : Change) → HasChanged (facts first) (facts ls) start now → HasChanged (facts first) (facts (set ls i new)) start (record { dropped = now.dropped ++ link_facts dx dy i old; born = now.born ++ link_facts dx dy i new })
     changed_at start now changed = record {
       dropped = dropped_all start.dropped now.dropped old refl changed.dropped;
       born = born_all start.born now.born new refl changed.born;

@@ -18,3 +18,5 @@ pub mod ReportLaws
 pub mod SettleLaws
 pub mod BoundLaws
 pub mod WholeLaws
+pub mod VacantLaws
+pub mod LeavingLaws

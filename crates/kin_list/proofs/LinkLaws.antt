@@ -9,7 +9,6 @@ use Rattle.kin_motion.specs.Kinetics.{AreDistinct}
 use Rattle.kin_motion.specs.Numbers.{is_in}
 use Rattle.kin_list.specs.declared.link.Link.{Link}
 use Rattle.kin_list.specs.Links.{linked, link_for, fact_of, facts_from}
-use Rattle.kin_list.specs.Rows.{AreApart}
 use Rattle.kin_list.proofs.TestLaws.{eq_true, eq_false, neither}
 
 -- what stands in a list, by the place where it is found
@@ -73,7 +72,7 @@ module _ (dx dy : ℤ) where
   facts-distinct n (Some l ∷ ls) (suc i) (suc j) p a b = ap suc (facts-distinct (n + 1) ls i j p a b)
 
 -- the link of a number by its place
-pub link_for-at : (xs : List ℕ) (signs : List Sign) (p i : ℕ) → AreApart xs → slice_get xs p ≡ Some i → link_for xs signs i ≡ linked (slice_get xs (suc p)) (slice_get signs i)
+pub link_for-at : (xs : List ℕ) (signs : List Sign) (p i : ℕ) → AreDistinct xs → slice_get xs p ≡ Some i → link_for xs signs i ≡ linked (slice_get xs (suc p)) (slice_get signs i)
 link_for-at [] signs p i apart h = absurd cc
 link_for-at (x ∷ xs) signs zero i apart h = ap (λ b. cond b (linked (slice_get xs 0) (slice_get signs i)) (link_for xs signs i)) (eq_true i x (sym (same_Some x i h)))
 link_for-at (x ∷ xs) signs (suc p) i apart h =

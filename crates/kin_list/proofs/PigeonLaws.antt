@@ -4,7 +4,7 @@ use Rattle.std.specs.Prelude.{slice_get, remove}
 use Rattle.std.proofs.lemmas.Bool.{cases_order}
 use Rattle.std.proofs.lemmas.Option.{slice_get_within, same_Some}
 use Rattle.kin_motion.specs.Numbers.{numbers_from}
-use Rattle.kin_list.specs.Rows.{AreApart}
+use Rattle.kin_motion.specs.Sets.{AreDistinct}
 use Rattle.kin_list.proofs.RowLaws.{get-remove_below, get-remove_above, length-remove}
 
 -- where y stands after the thing at k is taken out
@@ -37,7 +37,7 @@ numbers-length : (a n : ℕ) → length (numbers_from a n) ≡ n
 numbers-length a zero = refl
 numbers-length a (suc n) = ap suc (numbers-length (a + 1) n)
 
-pub few_below : (xs : List ℕ) (n : ℕ) → AreApart xs → ((p x : ℕ) → slice_get xs p ≡ Some x → x < n) → length xs ≤ n
+pub few_below : (xs : List ℕ) (n : ℕ) → AreDistinct xs → ((p x : ℕ) → slice_get xs p ≡ Some x → x < n) → length xs ≤ n
 few_below xs n apart below =
     let l = no_longer xs (numbers_from 0 n) apart (λ p x a. (x, numbers-get 0 n x (below p x a) ∙ ap (λ (m : ℕ). Some m) (omega arith))) in
     let e = numbers-length 0 n in

@@ -8,7 +8,7 @@ use Rattle.kin_motion.specs.Deltas.{Change}
 use Rattle.kin_motion.specs.Kinetics.{HasChanged}
 use Rattle.kin_motion.specs.Numbers.{is_in}
 use Rattle.kin_list.specs.declared.link.Link.{Link}
-use Rattle.kin_list.specs.Links.{facts_of, facts_from}
+use Rattle.kin_list.specs.Links.{link_facts, facts_from}
 use Rattle.kin_list.proofs.ChangeLaws.{changed_at}
 use Rattle.kin_list.proofs.HeldLaws.{same_sign_or_not}
 use Rattle.kin_list.proofs.RowLaws.{get_within, get-set_same, get-set_other}
@@ -35,13 +35,13 @@ set_same (y ∷ ys) (suc i) x h = ap (λ zs. y ∷ zs) (set_same ys i x h)
 module _ (dx dy : ℤ) (first ls ls' : List (Option Link)) (i : ℕ) (new : Option Link) (written : ls' ≡ set ls i new) where
   pub renewed : (start now now' : Change) → (slice_get ls i ≡ slice_get first i) ⊎ (slice_get ls i ≡ Some new)
       → (length ls ≤ i → now' ≡ now) → (slice_get ls i ≡ Some new → now' ≡ now)
-      → ((old : Option Link) → slice_get ls i ≡ Some old → old ≢ new → now' ≡ record { dropped = now.dropped ++ facts_of dx dy i old; born = now.born ++ facts_of dx dy i new })
+      → ((old : Option Link) → slice_get ls i ≡ Some old → old ≢ new → now' ≡ record { dropped = now.dropped ++ link_facts dx dy i old; born = now.born ++ link_facts dx dy i new })
       → HasChanged (facts_from dx dy 0 first) (facts_from dx dy 0 ls) start now → HasChanged (facts_from dx dy 0 first) (facts_from dx dy 0 ls') start now'
   renewed start now now' each past kept changed before = elim (cases_lt i (length ls)) [
     | inl l ↦ (let g = get_within ls i l in elim (same_link_or_not g.0 new) [
       | inl e ↦ (let here : slice_get ls i ≡ Some new = g.1 ∙ ap (λ (o : Option Link). Some o) e in still (written ∙ set_same ls i new here) (kept here))
       | inr n ↦ subst (λ c. HasChanged (facts_from dx dy 0 first) (facts_from dx dy 0 ls') start c) (sym (changed g.0 g.1 n))
-          (subst (λ xs. HasChanged (facts_from dx dy 0 first) (facts_from dx dy 0 xs) start (record { dropped = now.dropped ++ facts_of dx dy i g.0; born = now.born ++ facts_of dx dy i new })) (sym written)
+          (subst (λ xs. HasChanged (facts_from dx dy 0 first) (facts_from dx dy 0 xs) start (record { dropped = now.dropped ++ link_facts dx dy i g.0; born = now.born ++ link_facts dx dy i new })) (sym written)
           (changed_at dx dy first ls i g.0 new (at_first g.0 g.1 n each) g.1 n start now before))
     ])
     | inr l ↦ still (written ∙ set_past ls i new l) (past l)

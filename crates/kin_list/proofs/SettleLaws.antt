@@ -14,13 +14,13 @@ use Rattle.kin_motion.proofs.FactLaws.{neighbour_facts-exact}
 use Rattle.kin_list.specs.declared.link.Link.{Link}
 use Rattle.kin_list.specs.Links.{linked, link_for, facts_from}
 use Rattle.kin_list.specs.Repairs.{IsHeld, IsKnown}
-use Rattle.kin_list.specs.Rows.{AreApart}
+use Rattle.kin_motion.specs.Sets.{AreDistinct}
 use Rattle.kin_list.proofs.TestLaws.{true_or_false, not_both}
 use Rattle.kin_list.proofs.RowLaws.{is_in_from_get, get_from_is_in}
 use Rattle.kin_list.proofs.LinkLaws.{contains_from_get, get_from_contains, has_fact, has_link, facts-distinct, link_for-at, link_for-absent}
 
 -- an order has no number twice
-pub apart_from_once : (xs : List ℕ) → IsOnce xs → AreApart xs
+pub apart_from_once : (xs : List ℕ) → IsOnce xs → AreDistinct xs
 apart_from_once [] once p q x a b = absurd cc
 apart_from_once (y ∷ ys) once zero zero x a b = refl
 apart_from_once (y ∷ ys) once zero (suc q) x a b = absurd (not_both (is_in_from_get ys q x b) (ap (λ n. is_in n ys) (sym (same_Some y x a)) ∙ once.0))
@@ -47,7 +47,7 @@ neighbour_from s dx dy (x ∷ []) k f h = absurd cc
 neighbour_from s dx dy (x ∷ y ∷ ys) zero f h = (x, y, refl, refl, sym (same_Some (placed_at s 0 (Line dx dy (pos 0) x y)) f h))
 neighbour_from s dx dy (x ∷ y ∷ ys) (suc k) f h = neighbour_from s dx dy (y ∷ ys) k f h
 
-module _ (s : Scene) (dx dy : ℤ) (items : List ℕ) (signs : List Sign) (touched : List ℕ) (apart : AreApart items) (before after : List (Option Link)) (same : length after ≡ length before) (fits : length before ≡ length signs)
+module _ (s : Scene) (dx dy : ℤ) (items : List ℕ) (signs : List Sign) (touched : List ℕ) (apart : AreDistinct items) (before after : List (Option Link)) (same : length after ≡ length before) (fits : length before ≡ length signs)
     (known : IsKnown s dx dy before items signs [] touched)
     (renewed : (i : ℕ) → i < length before → is_in i touched ≡ true → slice_get after i ≡ Some (link_for items signs i))
     (others : (i : ℕ) → is_in i touched ≡ false → slice_get after i ≡ slice_get before i) where

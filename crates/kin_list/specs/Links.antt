@@ -27,6 +27,6 @@ link_for [] signs i = None
 link_for (x ∷ xs) signs i = cond (nat_eq i x) (linked (slice_get xs 0) (slice_get signs i)) (link_for xs signs i)
 
 -- the fact of a link, if there is one
-abbrev pub facts_of : ℤ → ℤ → ℕ → Option Link → List Placed
-facts_of dx dy i None = []
-facts_of dx dy i (Some l) = fact_of dx dy i l ∷ []
+abbrev pub link_facts : ℤ → ℤ → ℕ → Option Link → List Placed
+link_facts dx dy i None = []
+link_facts dx dy i (Some l) = fact_of dx dy i l ∷ []

@@ -16,6 +16,7 @@ pub use mark::Mark;
 mod direction;
 mod doubts;
 mod enter;
+mod kept;
 mod leave;
 mod lineup;
 mod link;

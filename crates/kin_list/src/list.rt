@@ -5,7 +5,7 @@ ghost use Rattle.kin_motion.specs.Changes.{moved_pairs};
 ghost use Rattle.kin_motion.specs.Kinetics.{ListsFailing, HasChanged};
 ghost use Rattle.kin_motion.specs.Numbers.{is_in};
 ghost use Rattle.kin_motion.specs.Scene.{IsReal};
-ghost use Rattle.kin_list.specs.declared.mark.Mark.TheVariants.{Rest, Enters, Leaves};
+ghost use Rattle.kin_list.specs.declared.mark.Mark.TheVariants.{Rest, Enters, Leaves, Broken};
 ghost use Rattle.kin_list.specs.Listing.{IsAtRest, IsReadyListing, IsSettledListing, AreFewTests, names_leaving, staying, lasting};
 ghost use Rattle.kin_list.specs.Rows.{exchanged};
 
@@ -151,6 +151,7 @@ impl Kinetic for KinList {
         ensures rest { OnOk result (IsAtRest self.new) }
         ensures settled { OnOk result (IsSettledListing self.new (O.scene now.now)) }
         ensures delta { OnOk result (HasChanged self.old.facts self.new.facts out.old out.new) }
+        ensures broken { OnErr result (self.new.mark ≡ Broken) }
 
         // The exchanges lead from the old order to the new one, one for each moved pair.
         ensures exchanges { OnOk result (exchanged self.new.swaps (staying self.old.mark self.old.items) ≡ lasting self.old.mark self.new.items) }

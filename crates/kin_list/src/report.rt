@@ -4,7 +4,7 @@ ghost use Rattle.std.specs.Prelude.{◌≡◌, ◌≢◌, ℕ, ◌<◌, ◌≤�
 ghost use Rattle.kin_motion.specs.Kinetics.{HasChanged};
 ghost use Rattle.kin_motion.specs.Numbers.{is_in};
 ghost use Rattle.kin_list.specs.declared.link.Link.{Link as LinkValue};
-ghost use Rattle.kin_list.specs.Links.{link_for, facts_of, facts_from};
+ghost use Rattle.kin_list.specs.Links.{link_for, link_facts, facts_from};
 
 use crate::direction::Direction;
 use crate::lineup::Lineup;
@@ -28,7 +28,7 @@ fn link_of(lineup: &Lineup, no: u32) -> Option<Link>
 
 /// Tells that the fact of a link is gone, if there is one.
 fn drop_fact(out: &mut Delta, along: Direction, no: u32, link: Option<Link>) -> Result<(), NoMemory>
-    ensures { OnOk result (out.new ≡ record { dropped = out.old.dropped ++ facts_of along.dx along.dy no link; born = out.old.born }) }
+    ensures { OnOk result (out.new ≡ record { dropped = out.old.dropped ++ link_facts along.dx along.dy no link; born = out.old.born }) }
 {
     match link {
         Some(link) => out.report_dropped(along.fact(no, link)),
@@ -38,7 +38,7 @@ fn drop_fact(out: &mut Delta, along: Direction, no: u32, link: Option<Link>) -> 
 
 /// Tells that the fact of a link is new, if there is one.
 fn bear_fact(out: &mut Delta, along: Direction, no: u32, link: Option<Link>) -> Result<(), NoMemory>
-    ensures { OnOk result (out.new ≡ record { dropped = out.old.dropped; born = out.old.born ++ facts_of along.dx along.dy no link }) }
+    ensures { OnOk result (out.new ≡ record { dropped = out.old.dropped; born = out.old.born ++ link_facts along.dx along.dy no link }) }
 {
     match link {
         Some(link) => out.report_born(along.fact(no, link)),
@@ -58,7 +58,7 @@ fn renew(
     ensures links { OnOk result (links.new.items ≡ slice_set links.old.items no new) }
     ensures past { OnOk result (length links.old.items ≤ no → out.new ≡ out.old) }
     ensures kept { OnOk result (slice_get links.old.items no ≡ Some new → out.new ≡ out.old) }
-    ensures changed { OnOk result ((old : Option LinkValue) → slice_get links.old.items no ≡ Some old → old ≢ new → out.new ≡ record { dropped = out.old.dropped ++ facts_of along.dx along.dy no old; born = out.old.born ++ facts_of along.dx along.dy no new }) }
+    ensures changed { OnOk result ((old : Option LinkValue) → slice_get links.old.items no ≡ Some old → old ≢ new → out.new ≡ record { dropped = out.old.dropped ++ link_facts along.dx along.dy no old; born = out.old.born ++ link_facts along.dx along.dy no new }) }
 {
     let place = no as usize;
     if place >= links.len() {

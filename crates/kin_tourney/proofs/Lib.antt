@@ -11,3 +11,6 @@ pub mod Fresh
 pub mod Vacant
 pub mod Settled
 pub mod WholeTimes
+pub mod ExtremePoints
+pub mod EnterPoints
+pub mod LeavingPoints

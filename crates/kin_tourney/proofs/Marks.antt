@@ -53,11 +53,6 @@ mark_under size v marked e = at (mark_under_from size v 0 marked e)
     at : (k : ℕ) × (mark_in marked k ≡ true) × (is_under size v (0 + k) ≡ true) → (k : ℕ) × (mark_in marked k ≡ true) × (is_under size v k ≡ true)
     at (k, a, b) = let same : 0 + k ≡ k = omega arith in (k, a, subst (λ j. is_under size v j ≡ true) same b)
 
--- without marks no node is above one
-pub unmarked_spares_none : (size v i : ℕ) (marked : List Bool) → ((k : ℕ) → mark_in marked k ≡ false) → is_above_mark_from size v i marked ≡ false
-unmarked_spares_none size v i [] none = refl
-unmarked_spares_none size v i (m ∷ ms) none = ap (λ b. (b && is_under size v i) || is_above_mark_from size v (i + 1) ms) (none 0) ∙ unmarked_spares_none size v (i + 1) ms (λ k. none (suc k))
-
 abbrev one_if : Bool → ℕ
 one_if m = cond m 1 0
 

@@ -11,3 +11,5 @@ pub mod Bests
 pub mod Played
 pub mod Ready
 pub mod Determined
+pub mod Points
+pub mod PointLaws

@@ -18,6 +18,7 @@ pub mod along;
 mod doubt;
 mod entry;
 pub mod keyed;
+mod points;
 mod report;
 pub mod tourney;
 mod tree;

@@ -94,7 +94,7 @@ impl<K: Keyed> Tourney<K> {
 }
 
 impl<K: Keyed> Kinetic for Tourney<K> {
-    ghost use Rattle.std.specs.Prelude.{◌≡◌, ◌+◌, ◌*◌, ◌≤◌, OnOk, length};
+    ghost use Rattle.std.specs.Prelude.{◌≡◌, ◌+◌, ◌*◌, ◌≤◌, false, OnOk, OnErr, length};
     ghost use Rattle.kin_motion.specs.Scene.{IsReal};
     ghost use Rattle.kin_motion.specs.Kinetics.{ListsFailing, HasChanged};
     ghost use Rattle.kin_tourney.specs.Tournament.{IsAtRest, IsReady, IsSettled, is_above_mark, mark_count};
@@ -129,6 +129,7 @@ impl<K: Keyed> Kinetic for Tourney<K> {
         ensures rest { OnOk result (IsAtRest self.new) }
         ensures settled { OnOk result (IsSettled K.names (K.key self.new.key) self.new (O.scene now.now)) }
         ensures delta { OnOk result (HasChanged self.old.facts self.new.facts out.old out.new) }
+        ensures broken { OnErr result (self.new.whole ≡ false) }
         ensures same { OnOk result (self.new ≡ record self.old { marked = self.new.marked; winners = self.new.winners; facts = self.new.facts }) }
         ensures room { OnOk result (length self.new.marked ≡ length self.old.marked) }
         ensures cost { OnOk result (steps.new ≤ steps.old + self.old.size * (mark_count self.old.marked + length failed.now)) }

@@ -12,21 +12,21 @@ use Rattle.kin_motion.specs.Scene.{scene_at}
 use Rattle.kin_motion.proofs.SetLaws.{contains_map, contains_mapped}
 use Rattle.kin_cert.specs.Facts.{LiveFact, IsAt}
 use Rattle.kin_world.specs.declared.structure.Structure.{Structure}
+use Rattle.kin_world.specs.declared.upkeep.Upkeep.{Upkeep}
 use Rattle.kin_world.specs.Structures.{IsKept}
-use Rattle.kin_world.specs.Tables.{certificates_of}
-use Rattle.kin_world.specs.Upkeep.{IsSoundWorld}
+use Rattle.kin_cert.specs.Told.{certificates_of}
+use Rattle.kin_world.specs.Upkeep.{IsSound}
 use Rattle.kin_world.specs.Worlds.{certificate}
 
--- the structure of a keep is settled
-pub asked_kept : (size : ℕ) (keeps : List Keep) (motions : List (Option Course)) (m : Moment) (structures : List Structure) (live : List LiveFact) (made : ℕ) → IsSoundWorld size keeps motions m structures live made
-    → (s : ℕ) (kept : Keep) (st : Structure) → slice_get keeps s ≡ Some kept → st ≡ get_or structures s st → IsKept size kept (scene_at motions m) st
-asked_kept size keeps motions m structures live made sound s kept st is read =
-    let low : s < length structures = subst (λ n. s < n) (sym sound.upkept.matched.count) (slice_get_within keeps s kept is) in
-    (sound.upkept.kept s kept st is (slice_get_read structures _ s st refl low read)).0
+-- a kept structure is there
+pub asked_within : (u : Upkeep) (motions : List (Option Course)) (m : Moment) → IsSound u motions m → (s : ℕ) (keep : Keep) → slice_get u.keeps.items s ≡ Some keep → s < length u.structures.items
+asked_within u motions m sound s keep is = subst (λ n. s < n) (sym sound.upkept.count) (slice_get_within u.keeps.items s keep is)
 
-pub asked_within : (size : ℕ) (keeps : List Keep) (motions : List (Option Course)) (m : Moment) (structures : List Structure) (live : List LiveFact) (made : ℕ) → IsSoundWorld size keeps motions m structures live made
-    → (s : ℕ) (kept : Keep) → slice_get keeps s ≡ Some kept → s < length structures
-asked_within size keeps motions m structures live made sound s kept is = subst (λ n. s < n) (sym sound.upkept.matched.count) (slice_get_within keeps s kept is)
+-- the structure of a keep is settled
+pub asked_kept : (u : Upkeep) (motions : List (Option Course)) (m : Moment) → IsSound u motions m → (s : ℕ) (keep : Keep) (st : Structure) → slice_get u.keeps.items s ≡ Some keep → st ≡ get_or u.structures.items s st → IsKept u.size keep (scene_at motions m) st
+asked_kept u motions m sound s keep st is read =
+    let low : s < length u.structures.items = asked_within u motions m sound s keep is in
+    (sound.upkept.each s keep st is (slice_get_read u.structures.items _ s st refl low read)).fine
 
 -- the table has no fact of the owner and the form exactly where no certificate is of them
 pub no_certificate : (live : List LiveFact) (structure part : ℕ) (form : Form) (answer : Option Sign)

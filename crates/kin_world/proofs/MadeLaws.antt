@@ -1,19 +1,15 @@
 -- What was made adds up, if the structures are changed in turn.
-use Rattle.std.proofs.Common.{◌≡◌, ℕ, ◌+◌, ◌-◌, ◌^◌, ◌≤◌, ◌⊎◌, inl, inr, sym, ap, ◌∙◌, subst, arith, List, [], ◌++◌, length, map, length-append}
+use Rattle.std.proofs.Common.{◌≡◌, ℕ, ◌+◌, ◌-◌, ◌^◌, ◌≤◌, ◌⊎◌, inl, inr, sym, ap, ◌∙◌, subst, arith, List, [], ◌++◌, length, length-append}
 use Rattle.std.specs.Prelude.{◌≢◌, ◌↔◌, min, Contains}
-use Rattle.std.proofs.lemmas.List.{length-map}
 use Rattle.std.proofs.lemmas.Bool.{cases_eq}
-use Rattle.kin_num.specs.declared.instant.Moment.{Moment}
-use Rattle.kin_motion.specs.Deltas.{Change}
-use Rattle.kin_motion.specs.Live.{Certificate, owned_by}
-use Rattle.kin_motion.specs.Scene.{Scene}
+use Rattle.kin_motion.specs.Live.{Certificate}
 use Rattle.kin_motion.proofs.SetLaws.{contains_map, contains_mapped, exactly_none, exactly_both, exactly_in_words}
 use Rattle.kin_cert.specs.Facts.{LiveFact, Facts}
-use Rattle.kin_world.specs.Tables.{certificates_of, IsTold}
-use Rattle.kin_world.specs.Upkeep.{HasMade}
+use Rattle.kin_cert.specs.Told.{certificates_of}
+use Rattle.kin_world.specs.Upkeep.{HasTimedNew, HasComeTo, AreLeft}
 
 -- nothing is made where nothing changes
-pub made_none : (a : Facts) → a.made ≤ 2 ^ 64 - 1 → HasMade a a
+made_none : (a : Facts) → a.made ≤ 2 ^ 64 - 1 → HasTimedNew a a
 made_none a fits = record {
   born = [];
   exactly = exactly_none _ (λ x h. h.1 h.0);
@@ -52,7 +48,7 @@ module _ (a b c : List Certificate) (k : ℕ)
       at (inr not_k) = inl ((others x not_k).1 new.0, new.1)
 
 -- what is so of the other structures' live facts is so of their certificates
-pub others_listed : (k : ℕ) (old new : List LiveFact) → ((l : LiveFact) → l.certificate.structure ≢ k → Contains old l ↔ Contains new l)
+others_listed : (k : ℕ) (old new : List LiveFact) → AreLeft k old new
     → (x : Certificate) → x.structure ≢ k → Contains (certificates_of old) x ↔ Contains (certificates_of new) x
 others_listed k old new others x apart = (through old new (λ l not_k. (others l not_k).0), through new old (λ l not_k. (others l not_k).1))
   where
@@ -62,43 +58,37 @@ others_listed k old new others x apart = (through old new (λ l not_k. (others l
         let moved = each l.0 (λ is. apart (ap (λ (y : Certificate). y.structure) l.2 ∙ is)) l.1 in
         subst (λ (y : Certificate). Contains (certificates_of to) y) (sym l.2) (contains_map (λ (y : LiveFact). y.certificate) to l.0 moved)
 
--- the structures above k have the certificates that they had at the start
-pub ahead_more : (a b c : List Certificate) (k : ℕ)
-    → ((x : Certificate) → k ≤ x.structure → Contains a x ↔ Contains b x)
-    → ((x : Certificate) → x.structure ≢ k → Contains b x ↔ Contains c x)
-    → (x : Certificate) → k + 1 ≤ x.structure → Contains a x ↔ Contains c x
-ahead_more a b c k ahead others x above =
-    let first = ahead x (omega (arith, above)) in
-    let second = others x (λ e. omega (arith, above, e)) in
-    (λ there. second.0 (first.0 there), λ there. first.1 (second.1 there))
+-- at the start nothing has come
+pub come_first : (start : Facts) → start.made ≤ 2 ^ 64 - 1 → HasComeTo 0 start start
+come_first start fits = record { made = made_none start fits; ahead = λ c low. (λ h. h, λ h. h) }
 
--- what is made when one structure's change is told
-pub made_told : (k : ℕ) (change : Change) (scene : Moment → Scene) (now : Moment) (old new : Facts)
-    → IsTold k change scene now old.live new.live → new.made ≡ min (old.made + length change.born) (2 ^ 64 - 1) → HasMade old new
-made_told k change scene now old new told made = record {
-  born = map (owned_by k) change.born;
-  exactly = told.born;
-  count = made ∙ ap (λ n. min (old.made + n) (2 ^ 64 - 1)) (sym (length-map change.born (owned_by k)));
-}
-
--- what the structures below k have made, and then k
-pub made_more : (a b c : Facts) (k : ℕ)
-    → ((x : Certificate) → k ≤ x.structure → Contains (certificates_of a.live) x ↔ Contains (certificates_of b.live) x)
-    → ((x : Certificate) → x.structure ≢ k → Contains (certificates_of b.live) x ↔ Contains (certificates_of c.live) x)
-    → HasMade a b → HasMade b c → HasMade a c
-made_more a b c k ahead others first second = record {
-  born = first.born ++ second.born;
-  exactly =
-      exactly_in_words (first.born ++ second.born) _ _ (λ x. (new_in_either one two three k ahead others x, new_in_one one two three k ahead others x))
-      (exactly_both first.born second.born (IsNew one two) (IsNew two three) first.exactly second.exactly (λ x new later. later.1 new.0));
-  count = omega (arith, length-append first.born second.born, first.count, second.count);
+-- the structure k is told, after those below it
+pub come_on : (reached k : ℕ) (start b c : Facts) → reached ≤ k → HasComeTo reached start b → AreLeft k b.live c.live → HasTimedNew b c → HasComeTo (k + 1) start c
+come_on reached k start b c low come left made = record {
+  made = record {
+    born = come.made.born ++ made.born;
+    exactly =
+        exactly_in_words (come.made.born ++ made.born) _ _ (λ x. (new_in_either one two three k ahead others x, new_in_one one two three k ahead others x))
+        (exactly_both come.made.born made.born (IsNew one two) (IsNew two three) come.made.exactly made.exactly (λ x new later. later.1 new.0));
+    count = omega (arith, length-append come.made.born made.born, come.made.count, made.count);
+  };
+  ahead = λ x above.
+      let first = ahead x (omega (arith, above)) in
+      let second = others x (λ e. omega (arith, above, e)) in
+      (λ there. second.0 (first.0 there), λ there. first.1 (second.1 there));
 }
   where
     one : List Certificate
-    one = certificates_of a.live
+    one = certificates_of start.live
 
     two : List Certificate
     two = certificates_of b.live
 
     three : List Certificate
     three = certificates_of c.live
+
+    ahead : (x : Certificate) → k ≤ x.structure → Contains one x ↔ Contains two x
+    ahead x above = come.ahead x (omega (arith, low, above))
+
+    others : (x : Certificate) → x.structure ≢ k → Contains two x ↔ Contains three x
+    others = others_listed k b.live c.live left

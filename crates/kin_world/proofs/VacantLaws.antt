@@ -1,16 +1,18 @@
 -- Structures without members, where no number is live.
-use Rattle.std.proofs.Common.{◌≡◌, ◌⊎◌, inl, inr, refl, sym, ap, ◌∙◌, subst, arith, ℕ, zero, suc, ◌≤◌, List, [], ◌∷◌, ◌++◌, length}
+use Rattle.std.proofs.Common.{◌≡◌, ◌⊎◌, inl, inr, refl, sym, ap, ◌∙◌, subst, arith, ℕ, zero, suc, true, List, [], ◌∷◌, ◌++◌, length, Option}
 use Rattle.std.specs.Prelude.{slice_get, Some, Contains}
 use Rattle.kin_num.specs.declared.instant.Moment.{Moment}
 use Rattle.kin_motion.specs.declared.fact.Placed.{Placed}
 use Rattle.kin_motion.specs.declared.keep.Keep.{Keep}
-use Rattle.kin_motion.specs.Scene.{Scene}
+use Rattle.kin_motion.specs.Course.{Course, live_of}
+use Rattle.kin_motion.specs.Keeps.{are_few}
+use Rattle.kin_motion.specs.Scene.{scene_at}
 use Rattle.kin_motion.proofs.SetLaws.{contains_none}
 use Rattle.kin_cert.specs.Facts.{LiveFact}
 use Rattle.kin_world.specs.declared.structure.Structure.{Structure}
-use Rattle.kin_world.specs.Structures.{facts_of, IsKeepable, IsVacant}
-use Rattle.kin_world.specs.Tables.{HasFactsOf}
-use Rattle.kin_world.specs.Upkeep.{IsUpkept}
+use Rattle.kin_world.specs.Structures.{facts_of, IsKept, IsKeepable, IsVacant}
+use Rattle.kin_cert.specs.Told.{HasFactsOf, IsTimed}
+use Rattle.kin_world.specs.Upkeep.{AreInOrder}
 use Rattle.kin_world.proofs.Places.{one_item}
 
 -- each is that of its keep, without members
@@ -51,21 +53,16 @@ tabled_none j facts none p = (
 )
 
 -- so they are all kept where no number is live
-pub vacant_upkept : (size : ℕ) (keeps : List Keep) (scene : Moment → Scene) (m : Moment) (structures : List Structure) (live : List LiveFact)
-    → (scene m).live ≡ [] → live ≡ [] → length structures ≡ length keeps → length keeps ≤ 16
+pub vacant_in_order : (size : ℕ) (keeps : List Keep) (motions : List (Option Course)) (m : Moment) (structures : List Structure) → live_of motions ≡ [] → length structures ≡ length keeps → are_few keeps ≡ true
     → ((j : ℕ) (keep : Keep) → slice_get keeps j ≡ Some keep → IsKeepable keep) → AreVacant size keeps structures
-    → IsUpkept (record { size = size; keeps = keeps; scene = scene }) m structures live
-vacant_upkept size keeps scene m structures live nobody none count few small vacant =
-    subst (λ (ls : List LiveFact). IsUpkept (record { size = size; keeps = keeps; scene = scene }) m structures ls) (sym none) (record {
-      matched = record {
-        count = count;
-        few = few;
-        small = small;
-        once = λ i j d less within. absurd (omega (arith, within));
-        owned = λ l there. absurd (contains_none l there);
-      };
-      kept = λ j keep st kept there.
-          let v = vacant j keep st kept there in
-          (v.kept (scene m) nobody, tabled_none j (facts_of st) v.facts);
-      timed = λ l there. absurd (contains_none l there);
-    })
+    → AreInOrder (λ j keep st. IsKept size keep (scene_at motions m) st) (IsTimed (scene_at motions) m) keeps structures []
+vacant_in_order size keeps motions m structures nobody count few small vacant = record {
+  count = count;
+  few = few;
+  each = λ j keep st kept there.
+      let v = vacant j keep st kept there in
+      record { fine = v.kept (scene_at motions m) nobody; keepable = small j keep kept; tabled = tabled_none j (facts_of st) v.facts };
+  once = λ i j d less within. absurd (omega (arith, within));
+  owned = λ l there. absurd (contains_none l there);
+  timely = λ l there. absurd (contains_none l there);
+}

@@ -1,4 +1,4 @@
+pub mod Laws
 pub mod Structures
-pub mod Tables
 pub mod Upkeep
 pub mod Worlds

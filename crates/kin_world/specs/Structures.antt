@@ -1,21 +1,18 @@
 -- What is told of a kept structure, whatever its kind.
-use Rattle.std.specs.Prelude.{◌≡◌, ℕ, ◌^◌, ◌<◌, ◌≤◌, false, List, [], ◌∷◌, unsigned_abs}
+use Rattle.std.specs.Prelude.{◌≡◌, ℕ, ◌^◌, ◌<◌, List, []}
 use Rattle.kin_motion.specs.declared.fact.Placed.{Placed}
 use Rattle.kin_motion.specs.declared.keep.Keep.{Keep}
 use Rattle.kin_motion.specs.declared.keep.Keep.TheVariants as keep
-use Rattle.kin_motion.specs.Extremes.{along_key, point_slots}
 use Rattle.kin_motion.specs.Kinetics.{AllHold}
-use Rattle.kin_motion.specs.Numbers.{Lists, is_in}
+use Rattle.kin_motion.specs.Live.{IsSmallKeep}
+use Rattle.kin_motion.specs.Numbers.{HasEntered}
 use Rattle.kin_motion.specs.Scene.{Scene}
-use Rattle.kin_list.specs.Listing.{IsAtRest, IsSettledListing}
+use Rattle.kin_list.specs.Keeping as list
+use Rattle.kin_list.specs.Listing as listing
+use Rattle.kin_tourney.specs.Points as points
 use Rattle.kin_tourney.specs.Tournament as tournament
-use Rattle.kin_tourney.specs.Tournament.{Tournament}
 use Rattle.kin_world.specs.declared.structure.Structure.{Structure}
 use Rattle.kin_world.specs.declared.structure.Structure.TheVariants.{Order, Extreme}
-
--- the numbers that the item of a slot names: the point itself
-abbrev pub point_names : ℕ → List ℕ
-point_names i = i ∷ []
 
 -- its live facts, each in its part
 abbrev pub facts_of : Structure → List Placed
@@ -24,19 +21,18 @@ facts_of (Extreme t) = t.facts
 
 -- it is of the kind, the direction and the size of a keep
 abbrev pub IsFor : ℕ → Keep → Structure → Type 0
-IsFor size (keep.Order dx dy) (Order k) = (k.dx ≡ dx) × (k.dy ≡ dy) × (k.room ≡ 2 ^ size)
-IsFor size (keep.Extreme dx dy) (Extreme t) = (t.key.dx ≡ dx) × (t.key.dy ≡ dy) × (t.size ≡ size)
-IsFor size _ _ = ⊥
+IsFor size keep (Order k) = list.IsListFor k size keep
+IsFor size keep (Extreme t) = points.IsTournamentFor t size keep
 
 -- no mark stands, and its members are these numbers
 abbrev pub HasMembers : List ℕ → Structure → Type 0
-HasMembers live (Order k) = IsAtRest k × Lists k.items live
-HasMembers live (Extreme t) = tournament.IsAtRest t × (t.slots ≡ point_slots t.size live)
+HasMembers live (Order k) = listing.IsAtRest k × list.HasMembers k live
+HasMembers live (Extreme t) = tournament.IsAtRest t × points.HasPoints t live
 
 -- its content and its facts are the definition's in the scene
 abbrev pub IsSettledIn : Scene → Structure → Type 0
-IsSettledIn s (Order k) = IsSettledListing k s
-IsSettledIn s (Extreme t) = tournament.IsSettled point_names (along_key t.key.dx t.key.dy) t s
+IsSettledIn s (Order k) = listing.IsSettledListing k s
+IsSettledIn s (Extreme t) = points.IsSettledAlong t s
 
 -- it is the structure of the keep, settled in the scene over the live numbers
 pub record IsKept (size : ℕ) (keep : Keep) (s : Scene) (st : Structure) : Type 0 where
@@ -55,11 +51,6 @@ pub record IsKeptUpTo (size : ℕ) (keep : Keep) (s : Scene) (st : Structure) : 
   pub members : HasMembers s.live st
   pub settled : AllHold s (facts_of st) → IsSettledIn s st
 
--- the second list has one number more
-pub record HasEntered (entering : ℕ) (before after : List ℕ) : Type 0 where
-  pub absent : is_in entering before ≡ false
-  pub lists : Lists (entering ∷ before) after
-
 -- a number may enter the structure in this scene: it is settled in one without the number, and all its facts hold
 pub record MayEnter (entering : ℕ) (st : Structure) (s : Scene) : Type 0 where
   pub size : ℕ
@@ -70,8 +61,12 @@ pub record MayEnter (entering : ℕ) (st : Structure) (s : Scene) : Type 0 where
   pub entered : HasEntered entering before.live s.live
   pub hold : AllHold s (facts_of st)
 
--- a keep that a world can have: of a kind that is built, with a direction in -16..16
+-- a kind of structure that is built
+abbrev pub IsBuilt : Keep → Type 0
+IsBuilt (keep.Order dx dy) = Unit {0}
+IsBuilt (keep.Extreme dx dy) = Unit {0}
+IsBuilt _ = ⊥
+
+-- a keep that a world can have: of a kind that is built, with a small direction
 abbrev pub IsKeepable : Keep → Type 0
-IsKeepable (keep.Order dx dy) = (unsigned_abs dx ≤ 16) × (unsigned_abs dy ≤ 16)
-IsKeepable (keep.Extreme dx dy) = (unsigned_abs dx ≤ 16) × (unsigned_abs dy ≤ 16)
-IsKeepable _ = ⊥
+IsKeepable keep = IsSmallKeep keep × IsBuilt keep

@@ -8,10 +8,11 @@ use Rattle.kin_num.specs.Canonical.{IsCanonical}
 use Rattle.kin_num.specs.Order.{IsEarlier}
 use Rattle.kin_motion.specs.declared.form.Form.{Form}
 use Rattle.kin_motion.specs.declared.keep.Keep.{Keep}
-use Rattle.kin_motion.specs.Course.{Course}
-use Rattle.kin_motion.specs.Journal.{Setting, Block, AllHoldUntil, IsNextBlock, IsJournal}
+use Rattle.kin_motion.specs.Course.{Course, AreSlow}
+use Rattle.kin_motion.specs.Journal.{Setting, setting_of, Failure, Block, IsNextBlock, IsJournal}
+use Rattle.kin_motion.specs.Keeps.{are_few}
 use Rattle.kin_motion.specs.Live.{Certificate, IsLiveFact, ListsLive}
-use Rattle.kin_motion.specs.Moments.{HoldsAt, FailsFirst}
+use Rattle.kin_motion.specs.Moments.{FailsFirst}
 use Rattle.kin_motion.specs.Scene.{Scene, scene_at}
 use Rattle.kin_motion.specs.Sets.{ListsExactly}
 use Rattle.kin_world.specs.Structures.{IsKeepable}
@@ -27,8 +28,8 @@ pub record World : Type 0 where
   pub whole : Bool
 
 -- what is kept, and what is seen at each moment
-abbrev pub setting_of : World → Setting
-setting_of w = record { size = w.size; keeps = w.keeps; scene = scene_at w.motions }
+abbrev pub world_setting : World → Setting
+world_setting w = setting_of w.motions w.size w.keeps
 
 -- what is seen now
 abbrev pub scene_of : World → Scene
@@ -38,18 +39,19 @@ scene_of w = scene_at w.motions w.moment
 abbrev pub certificate : ℕ → ℕ → Form → Sign → Certificate
 certificate structure part form sign = record { structure = structure; placed = record { part = part; fact = record { form = form; sign = sign } } }
 
--- a world may keep these: at most 16 structures, each of a kind that is built, with a small direction
+-- a world may keep these: few enough, and each of a kind that is built, with a small direction
 pub record AreKeepable (keeps : List Keep) : Type 0 where
-  pub few : length keeps ≤ 16
+  pub few : IsTrue (are_few keeps)
   pub small : (j : ℕ) (keep : Keep) → slice_get keeps j ≡ Some keep → IsKeepable keep
 
--- the live facts are exactly those of the definition, at a canonical moment
+-- the live facts are exactly those of the definition, over slow motions, at a canonical moment
 pub record IsWhole (w : World) : Type 0 where
   pub whole : IsTrue w.whole
   pub low : 1 ≤ w.size
   pub high : w.size ≤ 12
   pub keepable : AreKeepable w.keeps
   pub room : length w.motions ≡ 2 ^ w.size
+  pub slow : AreSlow w.motions
   pub canonical : IsCanonical w.moment.at
   pub live : ListsLive w.size w.keeps (scene_of w) w.live
 
@@ -83,7 +85,7 @@ pub record HasInserted (entering : ℕ) (motion : Course) (old new : World) : Ty
 
 -- the moment is that of the next block, which isn't after the limit, and nothing else changed but the facts
 pub record HasPassed (limit : Moment) (b : Block) (old new : World) : Type 0 where
-  pub next : IsNextBlock (setting_of old) old.moment b
+  pub next : IsNextBlock (world_setting old) old.moment b
   pub within : ¬ (IsEarlier limit b.moment)
   pub state : new ≡ with_facts_of (record old { moment = b.moment }) new
   pub whole : IsWhole new
@@ -91,7 +93,7 @@ pub record HasPassed (limit : Moment) (b : Block) (old new : World) : Type 0 whe
 
 -- no live fact fails up to the limit, and nothing but the moment changed
 pub record HasMoved (limit : Moment) (old new : World) : Type 0 where
-  pub nothing : IsJournal (setting_of old) old.moment limit []
+  pub nothing : IsJournal (world_setting old) old.moment limit []
   pub state : new ≡ record old { moment = limit }
   pub whole : IsWhole new
 
@@ -100,12 +102,10 @@ abbrev pub HasStepped : Moment → Option Block → World → World → Type 0
 HasStepped limit None old new = HasMoved limit old new
 HasStepped limit (Some b) old new = HasPassed limit b old new
 
--- the first moment after now at which some live fact doesn't hold: that of the next block
+-- the moment of the next block, which has these failures
 pub record IsNextMoment (t : Setting) (now m : Moment) : Type 0 where
-  pub canonical : IsCanonical m.at
-  pub later : IsEarlier now m
-  pub some : (c : Certificate) × IsLiveFact t.size t.keeps (t.scene now) c × ¬ (HoldsAt t.scene m c.placed.fact)
-  pub hold_before : AllHoldUntil t now m
+  pub failures : List Failure
+  pub next : IsNextBlock t now (record { moment = m; failures = failures })
 
 -- a live fact fails at or before the limit
 pub record FailsWithin (limit : Moment) (w : World) : Type 0 where

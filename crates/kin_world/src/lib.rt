@@ -10,10 +10,10 @@
 pub use world::World;
 
 mod failures;
+pub mod laws;
 #[cfg(test)]
 mod scripts;
 mod structure;
-mod tell;
 #[cfg(test)]
 mod tests;
 mod upkeep;

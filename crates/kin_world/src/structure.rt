@@ -3,8 +3,8 @@
 //! This is the one place where a structure is told of failures and of a number that enters. What all
 //! kinds meet is said once, in `specs/Structures`.
 
-ghost use Rattle.std.specs.Prelude.{◌≡◌, ◌≤◌, ℕ, ℤ, List, [], Contains, IfOk, OnOk, IsSomeAnd, unsigned_abs};
-ghost use Rattle.kin_motion.specs.declared.keep.Keep.{Keep as Kept};
+ghost use Rattle.std.specs.Prelude.{◌≡◌, ◌≤◌, ℕ, ℤ, List, [], Contains, IfOk, OnOk, IsSomeAnd};
+ghost use Rattle.kin_motion.specs.declared.keep.Keep.{Keep as Kind};
 ghost use Rattle.kin_motion.specs.declared.keep.Keep.TheVariants.{Order as KeepOrder, Extreme as KeepExtreme};
 ghost use Rattle.kin_motion.specs.Agreements.{FitsSize};
 ghost use Rattle.kin_motion.specs.Extremes.{IsExtremePoint};
@@ -12,11 +12,11 @@ ghost use Rattle.kin_motion.specs.Orders.{IsOrder};
 ghost use Rattle.kin_motion.specs.Kinetics.{HasChanged};
 ghost use Rattle.kin_motion.specs.Sets.{ListsExactly};
 ghost use Rattle.kin_motion.specs.Scene.{Scene, IsReal, Holds};
-ghost use Rattle.kin_world.specs.declared.structure.Structure.TheVariants.{Order, Extreme};
 ghost use Rattle.kin_world.specs.Structures.{facts_of, IsFor, HasMembers, IsKept, MayEnter, IsKeepable};
 
 use kin_list::KinList;
-use kin_motion::{Delta, Keep, Kinetic, Placed, Signs};
+use kin_motion::kept::{Kept, enter, repair};
+use kin_motion::{Delta, Keep, Placed, Signs};
 use kin_num::{NoMemory, Steps};
 use kin_tourney::{Along, Tourney};
 use std::alloc::Global;
@@ -40,11 +40,8 @@ impl Structure {
         ensures facts { IfOk result (λ st. facts_of st ≡ []) }
     {
         match *keep {
-            Keep::Order { dx, dy } => Ok(Structure::Order(KinList::new(alloc, dx, dy, size)?)),
-            Keep::Extreme { dx, dy } => {
-                let along = Along { dx, dy };
-                Ok(Structure::Extreme(Tourney::new(alloc, along, size)?))
-            }
+            Keep::Order { .. } => Ok(Structure::Order(KinList::vacant(alloc, keep, size)?)),
+            Keep::Extreme { .. } => Ok(Structure::Extreme(Tourney::vacant(alloc, keep, size)?)),
             Keep::Hull | Keep::Closest | Keep::Range => unreachable!(),
         }
     }
@@ -61,12 +58,12 @@ impl Structure {
         requires real { IsReal (O.scene now.now) }
         requires members { HasMembers (O.scene now.now).live self.old }
         requires failing { ListsExactly failed.now (λ p. Contains (facts_of self.old) p × ¬ (Holds (O.scene now.now) p.fact)) }
-        ensures kept { OnOk result ((size : ℕ) (keep : Kept) → IsFor size keep self.old → IsKept size keep (O.scene now.now) self.new) }
+        ensures kept { OnOk result ((size : ℕ) (keep : Kind) → IsFor size keep self.old → IsKept size keep (O.scene now.now) self.new) }
         ensures delta { OnOk result (HasChanged (facts_of self.old) (facts_of self.new) out.old out.new) }
     {
         match self {
-            Structure::Order(list) => settle_list(list, now, failed, out, steps),
-            Structure::Extreme(points) => settle_points(points, now, failed, out, steps),
+            Structure::Order(list) => repair(list, now, failed, out, steps),
+            Structure::Extreme(points) => repair(points, now, failed, out, steps),
         }
     }
 
@@ -80,12 +77,12 @@ impl Structure {
     ) -> Result<(), NoMemory>
         requires real { IsReal (O.scene now.now) }
         requires may_enter { MayEnter entering self.old (O.scene now.now) }
-        ensures kept { OnOk result ((size : ℕ) (keep : Kept) → IsFor size keep self.old → IsKept size keep (O.scene now.now) self.new) }
+        ensures kept { OnOk result ((size : ℕ) (keep : Kind) → IsFor size keep self.old → IsKept size keep (O.scene now.now) self.new) }
         ensures delta { OnOk result (HasChanged (facts_of self.old) (facts_of self.new) out.old out.new) }
     {
         match self {
-            Structure::Order(list) => enter_list(list, entering, now, out, steps),
-            Structure::Extreme(points) => enter_points(points, entering, now, out, steps),
+            Structure::Order(list) => enter(list, entering, now, out, steps),
+            Structure::Extreme(points) => enter(points, entering, now, out, steps),
         }
     }
 
@@ -108,75 +105,7 @@ impl Structure {
     {
         match self {
             Structure::Order(_) => None,
-            Structure::Extreme(points) => points.winner(1),
+            Structure::Extreme(points) => points.extreme(),
         }
     }
-}
-
-/// Repairs a list.
-fn settle_list<O: Signs, L: Ledger>(
-    list: &mut KinList,
-    now: &O,
-    failed: &[Placed],
-    out: &mut Delta,
-    steps: &mut Steps<L>,
-) -> Result<(), NoMemory>
-    requires real { IsReal (O.scene now.now) }
-    requires members { HasMembers (O.scene now.now).live (Order list.old) }
-    requires failing { ListsExactly failed.now (λ p. Contains list.old.facts p × ¬ (Holds (O.scene now.now) p.fact)) }
-    ensures kept { OnOk result ((size : ℕ) (keep : Kept) → IsFor size keep (Order list.old) → IsKept size keep (O.scene now.now) (Order list.new)) }
-    ensures delta { OnOk result (HasChanged list.old.facts list.new.facts out.old out.new) }
-{
-    list.settle(now, failed, out, steps)
-}
-
-/// Repairs a tournament.
-fn settle_points<O: Signs, L: Ledger>(
-    points: &mut Tourney<Along>,
-    now: &O,
-    failed: &[Placed],
-    out: &mut Delta,
-    steps: &mut Steps<L>,
-) -> Result<(), NoMemory>
-    requires real { IsReal (O.scene now.now) }
-    requires members { HasMembers (O.scene now.now).live (Extreme points.old) }
-    requires failing { ListsExactly failed.now (λ p. Contains points.old.facts p × ¬ (Holds (O.scene now.now) p.fact)) }
-    ensures kept { OnOk result ((size : ℕ) (keep : Kept) → IsFor size keep (Extreme points.old) → IsKept size keep (O.scene now.now) (Extreme points.new)) }
-    ensures delta { OnOk result (HasChanged points.old.facts points.new.facts out.old out.new) }
-{
-    points.settle(now, failed, out, steps)
-}
-
-/// Takes a number into a list.
-fn enter_list<O: Signs, L: Ledger>(
-    list: &mut KinList,
-    entering: u32,
-    now: &O,
-    out: &mut Delta,
-    steps: &mut Steps<L>,
-) -> Result<(), NoMemory>
-    requires real { IsReal (O.scene now.now) }
-    requires may_enter { MayEnter entering (Order list.old) (O.scene now.now) }
-    ensures kept { OnOk result ((size : ℕ) (keep : Kept) → IsFor size keep (Order list.old) → IsKept size keep (O.scene now.now) (Order list.new)) }
-    ensures delta { OnOk result (HasChanged list.old.facts list.new.facts out.old out.new) }
-{
-    list.insert(entering)?;
-    list.settle(now, &[], out, steps)
-}
-
-/// Takes a number into a tournament.
-fn enter_points<O: Signs, L: Ledger>(
-    points: &mut Tourney<Along>,
-    entering: u32,
-    now: &O,
-    out: &mut Delta,
-    steps: &mut Steps<L>,
-) -> Result<(), NoMemory>
-    requires real { IsReal (O.scene now.now) }
-    requires may_enter { MayEnter entering (Extreme points.old) (O.scene now.now) }
-    ensures kept { OnOk result ((size : ℕ) (keep : Kept) → IsFor size keep (Extreme points.old) → IsKept size keep (O.scene now.now) (Extreme points.new)) }
-    ensures delta { OnOk result (HasChanged points.old.facts points.new.facts out.old out.new) }
-{
-    points.set(entering, entering);
-    points.settle(now, &[], out, steps)
 }

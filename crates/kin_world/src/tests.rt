@@ -1,5 +1,6 @@
-ghost use Rattle.std.specs.Prelude.{◌≡◌, ◌≤◌, ◌<◌, IsTrue, unsigned_abs};
+ghost use Rattle.std.specs.Prelude.{◌≡◌, ◌≤◌, ◌<◌, IsTrue};
 ghost use Rattle.kin_num.specs.Order.{IsEarlier};
+ghost use Rattle.kin_motion.specs.Live.{IsSmallDirection};
 ghost use Rattle.kin_world.specs.Structures.{IsKeepable};
 ghost use Rattle.kin_world.specs.Worlds.{AreKeepable};
 
@@ -8,6 +9,7 @@ use crate::world::World;
 use kin_cert::Failure;
 use kin_instant::order::compare_moments;
 use kin_instant::ratio::ratio;
+use kin_motion::keep::are_few;
 use kin_motion::{Form, Keep, Motion};
 use kin_num::{Moment, NoMemory, Steps};
 use std::alloc::Global;
@@ -17,7 +19,7 @@ use std::sync::ledger::{Blank, Ledger};
 use std::test::Fail;
 
 fn is_small_direction(dx: i32, dy: i32) -> bool
-    ensures { IsTrue result → (unsigned_abs dx ≤ 16) × (unsigned_abs dy ≤ 16) }
+    ensures { IsTrue result → IsSmallDirection dx dy }
 {
     dx.unsigned_abs() <= 16 && dy.unsigned_abs() <= 16
 }
@@ -40,7 +42,7 @@ fn are_keepable(keeps: &[Keep]) -> bool
             return false;
         }
     }
-    keeps.len() <= 16
+    are_few(keeps)
 }
 
 fn motion(m: [i32; 4]) -> Option<Motion> {

@@ -1,20 +1,21 @@
 //! The structures, the table of their facts, and the repair of both.
 
-ghost use Rattle.std.specs.Prelude.{◌≡◌, ◌≢◌, ◌+◌, ◌<◌, ◌≤◌, ◌^◌, ◌-◌, ℕ, IsTrue, [], ◌∷◌, ◌++◌, Some, false, length, slice_get, Contains, ◌↔◌, OnOk, IfOk};
+ghost use Rattle.std.specs.Prelude.{◌≡◌, ◌+◌, ◌<◌, ◌≤◌, ◌^◌, ◌-◌, ℕ, IsTrue, List, Option, [], ◌∷◌, ◌++◌, Some, false, length, slice_get, Contains, OnOk, IfOk};
 ghost use Rattle.kin_num.specs.declared.instant.Moment.{Moment as Instance};
 ghost use Rattle.kin_num.specs.Canonical.{IsCanonical};
 ghost use Rattle.kin_motion.specs.declared.keep.Keep.{Keep as Kept};
+ghost use Rattle.kin_motion.specs.Course.{Course, live_of};
 ghost use Rattle.kin_motion.specs.Journal.{IsNextBlock};
+ghost use Rattle.kin_motion.specs.Keeps.{are_few};
 ghost use Rattle.kin_motion.specs.Scene.{Scene};
 ghost use Rattle.kin_cert.specs.Facts.{LiveFact};
 ghost use Rattle.kin_cert.specs.Taken.{IsLeastFailure};
 ghost use Rattle.kin_world.specs.declared.structure.Structure.{Structure as Kind};
 ghost use Rattle.kin_world.specs.Structures.{IsKeepable, IsVacant};
-ghost use Rattle.kin_world.specs.Upkeep.{IsUpkept, IsUnderRepair, IsEntering, ListsWaiting, AreWaiting, GoesOn, HasMade, placed_of, setting_with};
+ghost use Rattle.kin_world.specs.Upkeep.{IsUpkept, IsUnderRepair, IsEntering, ListsWaiting, AreWaiting, AreLeft, IsGathered, GoesOn, HasTimedNew, setting_with};
 
 use crate::failures::block_of;
 use crate::structure::Structure;
-use crate::tell::tell;
 use kin_cert::{Block, Now, Owned, Table};
 use kin_motion::{Delta, Keep, Motions, Placed};
 use kin_num::{Moment, NoMemory, Steps};
@@ -39,13 +40,13 @@ impl Upkeep {
     pub fn new(alloc: Global, size: u32, keeps: &[Keep]) -> Result<Upkeep, NoMemory>
         requires low { 1 ≤ size }
         requires high { size ≤ 12 }
-        requires few { length keeps.now ≤ 16 }
+        requires few { IsTrue (are_few keeps.now) }
         requires small { (j : ℕ) (keep : Kept) → slice_get keeps.now j ≡ Some keep → IsKeepable keep }
         ensures size { IfOk result (λ u. u.size ≡ size) }
         ensures keeps { IfOk result (λ u. u.keeps.items ≡ keeps.now) }
         ensures live { IfOk result (λ u. u.table.live ≡ []) }
         ensures made { IfOk result (λ u. u.table.made ≡ 0) }
-        ensures upkept { IfOk result (λ u. (scene : Instance → Scene) (m : Instance) → (scene m).live ≡ [] → IsUpkept (record { size = size; keeps = keeps.now; scene = scene }) m u.structures.items u.table.live) }
+        ensures upkept { IfOk result (λ u. (motions : List (Option Course)) (m : Instance) → live_of motions ≡ [] → IsUpkept motions m u) }
     {
         let mut upkeep = Upkeep {
             size,
@@ -85,34 +86,18 @@ impl Upkeep {
     ) -> Result<(), NoMemory>
         requires canonical { IsCanonical moment.now.at }
         requires within { k < length self.old.structures.items }
-        requires repair { IsUnderRepair (setting_with self.old motions.now) moment.now self.old.structures.items self.old.table.live }
+        requires repair { IsUnderRepair motions.now moment.now self.old }
         requires failed { ListsWaiting k self.old.table.live self.old.failed.items }
-        ensures repair { OnOk result (IsUnderRepair (setting_with self.old motions.now) moment.now self.new.structures.items self.new.table.live) }
-        ensures others { OnOk result ((l : LiveFact) → l.certificate.structure ≢ k → Contains self.old.table.live l ↔ Contains self.new.table.live l) }
+        ensures repair { OnOk result (IsUnderRepair motions.now moment.now self.new) }
+        ensures others { OnOk result (AreLeft k self.old.table.live self.new.table.live) }
         ensures own { OnOk result ((l : LiveFact) → Contains self.new.table.live l → l.certificate.structure ≡ k → l.waits ≡ false) }
-        ensures made { OnOk result (HasMade self.old.table self.new.table) }
-        ensures same { OnOk result ((self.new.size ≡ self.old.size) × (self.new.keeps ≡ self.old.keeps)) }
-        ensures gathered { OnOk result (self.new.failed.items ≡ []) }
+        ensures made { OnOk result (HasTimedNew self.old.table self.new.table) }
+        ensures same { (self.new.size ≡ self.old.size) × (self.new.keeps ≡ self.old.keeps) }
     {
         let now = Now { motions, moment };
         self.delta.clear();
         self.structures[k as usize].settle(&now, &self.failed, &mut self.delta, steps)?;
-        tell(&mut self.table, k, &self.delta, motions, moment, steps)?;
-        self.failed.clear();
-        Ok(())
-    }
-
-    // Gathers a failed fact.
-    fn gather(&mut self, owned: &Owned) -> Result<(), NoMemory>
-        ensures gathered { OnOk result (self.new.failed.items ≡ self.old.failed.items ++ placed_of owned.now ∷ []) }
-        ensures same { self.new ≡ record self.old { failed = self.new.failed } }
-    {
-        let placed = Placed {
-            part: owned.part,
-            fact: owned.fact,
-        };
-        self.failed.push(placed).map_err(|_| NoMemory)?;
-        Ok(())
+        self.table.tell(k, &self.delta, motions, moment, steps)
     }
 
     /// Repairs each structure of which facts were given out. `taken` lists these in the journal's
@@ -125,21 +110,18 @@ impl Upkeep {
         steps: &mut Steps<L>,
     ) -> Result<(), NoMemory>
         requires canonical { IsCanonical moment.now.at }
-        requires repair { IsUnderRepair (setting_with self.old motions.now) moment.now self.old.structures.items self.old.table.live }
+        requires repair { IsUnderRepair motions.now moment.now self.old }
         requires waiting { AreWaiting self.old.table.live taken.now }
         requires counted { self.old.table.made ≤ 2 ^ 64 - 1 }
-        ensures upkept { OnOk result (IsUpkept (setting_with self.old motions.now) moment.now self.new.structures.items self.new.table.live) }
-        ensures made { OnOk result (HasMade self.old.table self.new.table) }
-        ensures same { OnOk result ((self.new.size ≡ self.old.size) × (self.new.keeps ≡ self.old.keeps)) }
+        ensures upkept { OnOk result (IsUpkept motions.now moment.now self.new) }
+        ensures made { OnOk result (HasTimedNew self.old.table self.new.table) }
+        ensures same { (self.new.size ≡ self.old.size) × (self.new.keeps ≡ self.old.keeps) }
     {
-        self.failed.clear();
         let mut rest = taken;
-        while let Some((first, tail)) = rest.split_first() {
-            rest = tail;
-            self.gather(first)?;
-            if !goes_on(first.structure, rest) {
-                self.repair(first.structure, motions, moment, steps)?;
-            }
+        while let Some((first, _)) = rest.split_first() {
+            let k = first.structure;
+            rest = gather(&mut self.failed, k, rest)?;
+            self.repair(k, motions, moment, steps)?;
         }
         Ok(())
     }
@@ -152,14 +134,14 @@ impl Upkeep {
         moment: &Moment,
         steps: &mut Steps<L>,
     ) -> Result<Block, NoMemory>
-        requires upkept { (now : Instance) × IsCanonical now.at × IsUpkept (setting_with self.old motions.now) now self.old.structures.items self.old.table.live }
+        requires upkept { (now : Instance) × IsCanonical now.at × IsUpkept motions.now now self.old }
         requires failing { IsLeastFailure self.old.table.live moment.now }
         requires counted { self.old.table.made ≤ 2 ^ 64 - 1 }
-        ensures block { IfOk result (λ b. (now : Instance) → IsCanonical now.at → IsUpkept (setting_with self.old motions.now) now self.old.structures.items self.old.table.live → IsNextBlock (setting_with self.old motions.now) now b) }
+        ensures block { IfOk result (λ b. (now : Instance) → IsCanonical now.at → IsUpkept motions.now now self.old → IsNextBlock (setting_with self.old motions.now) now b) }
         ensures moment { IfOk result (λ b. b.moment ≡ moment.now) }
-        ensures upkept { OnOk result (IsUpkept (setting_with self.old motions.now) moment.now self.new.structures.items self.new.table.live) }
-        ensures made { OnOk result (HasMade self.old.table self.new.table) }
-        ensures same { OnOk result ((self.new.size ≡ self.old.size) × (self.new.keeps ≡ self.old.keeps)) }
+        ensures upkept { OnOk result (IsUpkept motions.now moment.now self.new) }
+        ensures made { OnOk result (HasTimedNew self.old.table self.new.table) }
+        ensures same { (self.new.size ≡ self.old.size) × (self.new.keeps ≡ self.old.keeps) }
     {
         let taken = self.table.take_failing(steps)?;
         let block = block_of(alloc, &taken, motions, moment, steps)?;
@@ -177,10 +159,10 @@ impl Upkeep {
     ) -> Result<(), NoMemory>
         requires canonical { IsCanonical moment.now.at }
         requires counted { self.old.table.made ≤ 2 ^ 64 - 1 }
-        requires entering { (before : Scene) × IsEntering entering 0 before (setting_with self.old motions.now) moment.now self.old.structures.items self.old.table.live }
-        ensures upkept { OnOk result (IsUpkept (setting_with self.old motions.now) moment.now self.new.structures.items self.new.table.live) }
-        ensures made { OnOk result (HasMade self.old.table self.new.table) }
-        ensures same { OnOk result ((self.new.size ≡ self.old.size) × (self.new.keeps ≡ self.old.keeps)) }
+        requires entering { (before : Scene) × IsEntering entering 0 before motions.now moment.now self.old }
+        ensures upkept { OnOk result (IsUpkept motions.now moment.now self.new) }
+        ensures made { OnOk result (HasTimedNew self.old.table self.new.table) }
+        ensures same { (self.new.size ≡ self.old.size) × (self.new.keeps ≡ self.old.keeps) }
     {
         for k in 0..self.structures.len() {
             self.enter_one(k as u32, entering, motions, moment, steps)?;
@@ -199,25 +181,36 @@ impl Upkeep {
     ) -> Result<(), NoMemory>
         requires canonical { IsCanonical moment.now.at }
         requires within { k < length self.old.structures.items }
-        requires entering { (before : Scene) × IsEntering entering k before (setting_with self.old motions.now) moment.now self.old.structures.items self.old.table.live }
-        ensures entering { OnOk result ((before : Scene) → IsEntering entering k before (setting_with self.old motions.now) moment.now self.old.structures.items self.old.table.live → IsEntering entering (k + 1) before (setting_with self.old motions.now) moment.now self.new.structures.items self.new.table.live) }
-        ensures others { OnOk result ((l : LiveFact) → l.certificate.structure ≢ k → Contains self.old.table.live l ↔ Contains self.new.table.live l) }
-        ensures made { OnOk result (HasMade self.old.table self.new.table) }
-        ensures same { OnOk result ((self.new.size ≡ self.old.size) × (self.new.keeps ≡ self.old.keeps)) }
+        requires entering { (before : Scene) × IsEntering entering k before motions.now moment.now self.old }
+        ensures entering { OnOk result ((before : Scene) → IsEntering entering k before motions.now moment.now self.old → IsEntering entering (k + 1) before motions.now moment.now self.new) }
+        ensures others { OnOk result (AreLeft k self.old.table.live self.new.table.live) }
+        ensures made { OnOk result (HasTimedNew self.old.table self.new.table) }
+        ensures same { (self.new.size ≡ self.old.size) × (self.new.keeps ≡ self.old.keeps) }
     {
         let now = Now { motions, moment };
         self.delta.clear();
         self.structures[k as usize].enter(entering, &now, &mut self.delta, steps)?;
-        tell(&mut self.table, k, &self.delta, motions, moment, steps)
+        self.table.tell(k, &self.delta, motions, moment, steps)
     }
 }
 
-// Whether the first of these facts is of the structure `k`.
-fn goes_on(k: u32, rest: &[Owned]) -> bool
-    ensures { IsTrue result ↔ GoesOn k rest.now }
+// Gathers the facts of the structure `k` that come first, and gives the rest.
+fn gather<'a>(failed: &mut Vec<Placed>, k: u32, taken: &'a [Owned]) -> Result<&'a [Owned], NoMemory>
+    ensures gathered { IfOk result (λ rest. IsGathered k taken.now rest.now failed.new.items) }
+    ensures ends { IfOk result (λ rest. ¬ (GoesOn k rest.now)) }
 {
-    match rest.first() {
-        Some(owned) => owned.structure == k,
-        None => false,
+    failed.clear();
+    let mut rest = taken;
+    while let Some((owned, tail)) = rest.split_first() {
+        if owned.structure != k {
+            return Ok(rest);
+        }
+        let placed = Placed {
+            part: owned.part,
+            fact: owned.fact,
+        };
+        failed.push(placed).map_err(|_| NoMemory)?;
+        rest = tail;
     }
+    Ok(rest)
 }

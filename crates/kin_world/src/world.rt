@@ -9,7 +9,7 @@ ghost use Rattle.kin_motion.specs.Course.{is_live, motion_of};
 ghost use Rattle.kin_motion.specs.Extremes.{IsExtremePoint};
 ghost use Rattle.kin_motion.specs.Journal.{NothingFails};
 ghost use Rattle.kin_motion.specs.Orders.{IsOrder};
-ghost use Rattle.kin_world.specs.Worlds.{AreKeepable, IsNextMoment, IsWhole, HasInserted, HasStepped, FailsWithin, certificate, empty, setting_of, scene_of};
+ghost use Rattle.kin_world.specs.Worlds.{AreKeepable, IsNextMoment, IsWhole, HasInserted, HasStepped, FailsWithin, certificate, empty, world_setting, scene_of};
 
 use crate::upkeep::Upkeep;
 use kin_cert::Block;
@@ -37,15 +37,14 @@ pub struct World {
 
 impl Model for World {
     ghost use Rattle.std.specs.Prelude.{IsTrue};
-    ghost use Rattle.kin_world.specs.Tables.{certificates_of};
     ghost use Rattle.kin_world.specs.Worlds.{World as Meaning};
-    ghost use Rattle.kin_world.specs.Upkeep.{IsSoundWorld};
+    ghost use Rattle.kin_world.specs.Upkeep.{IsSound, seen};
 
     ghost Value = { Meaning };
 
-    ghost view = { λ w. record { size = w.upkeep.size; keeps = w.upkeep.keeps.items; motions = w.motions; moment = w.moment; live = certificates_of w.upkeep.table.live; made = w.upkeep.table.made; whole = w.whole } };
+    ghost view = { λ w. seen w.upkeep w.motions w.moment w.whole };
 
-    ghost invariant = { λ w. IsTrue w.whole → IsSoundWorld w.upkeep.size w.upkeep.keeps.items w.motions w.moment w.upkeep.structures.items w.upkeep.table.live w.upkeep.table.made };
+    ghost invariant = { λ w. IsTrue w.whole → IsSound w.upkeep w.motions w.moment };
 }
 
 impl World {
@@ -108,6 +107,7 @@ impl World {
         requires free { IsFalse (is_live self.old.motions no) }
         ensures inserted { OnOk result (HasInserted no m self.old self.new) }
         ensures broken { OnErr result (self.new.whole ≡ false) }
+        ensures keeps { OnErr result (self.new.keeps ≡ self.old.keeps) }
     {
         self.whole = false;
         self.motions.set(no, m);
@@ -132,6 +132,7 @@ impl World {
         ensures stepped { IfOk result (λ block. HasStepped limit.now block self.old self.new) }
         ensures fewer { IfOk result (λ block. IsSome block → moments_left self.new.moment < moments_left self.old.moment) }
         ensures broken { OnErr result (self.new.whole ≡ false) }
+        ensures keeps { OnErr result (self.new.keeps ≡ self.old.keeps) }
         ensures cause { OnErr result (FailsWithin limit.now self.old) }
     {
         // An instant tells that it is canonical where its shape is asked.
@@ -162,8 +163,8 @@ impl World {
     /// The moment of the next block, or `None` exactly where no live fact ever fails.
     pub fn next(&self) -> Option<Moment>
         requires { IsTrue self.now.whole }
-        ensures some { IfSome result (λ m. IsNextMoment (setting_of self.now) self.now.moment m) }
-        ensures none { IsNone result ↔ NothingFails (setting_of self.now) self.now.moment }
+        ensures some { IfSome result (λ m. IsNextMoment (world_setting self.now) self.now.moment m) }
+        ensures none { IsNone result ↔ NothingFails (world_setting self.now) self.now.moment }
     {
         self.upkeep.table.failing()
     }

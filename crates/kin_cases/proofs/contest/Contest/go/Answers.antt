@@ -5,4 +5,4 @@ pub invariant_of-result : goal.invariant_of-result
 invariant_of-result g c =
     let stays = c.in_ok-tourney.ensures.stays in
     held_after c.self.inside.size c.self.inside.motions c.self.inside.slots.items c.self.inside.marks.items c.in_ok-marks.marks.items c.self.inside.is_settled c.self.inside.tourney c.in_ok-tourney.tourney
-    c.self.invariant stays.0 stays.1 stays.2 c.in_ok-tourney.ensures.rest c.in_ok-marks.ensures
+    c.self.invariant stays.size stays.slots stays.room c.in_ok-tourney.ensures.rest c.in_ok-marks.ensures

@@ -13,4 +13,4 @@ pub settle-requires-clause-ready : goal.settle-requires-clause-ready
 settle-requires-clause-ready g c =
     let free : is_live c.self.inside.motions c.args.no ≡ false = ap is_some (sym c.get.ensures.motion) ∙ sym c.is_some.ensures ∙ c.if-is_some.false in
     let within : c.args.no < length c.self.inside.motions = search rules in
-    ready_to_enter c.self.inside.motions c.set.new.self c.args.moment.now c.self.inside.list c.in_ok-list.list c.args.no c.args.motion within free c.self.invariant.members c.set.ensures c.in_ok-list.ensures
+    ready_to_enter c.self.inside.motions c.set.new.self c.args.moment.now c.self.inside.list c.in_ok-list.list c.args.no c.args.motion within free c.self.invariant.members c.set.ensures.value c.in_ok-list.ensures

@@ -1,7 +1,8 @@
 use Rattle.std.proofs.Common.{◌≡◌, ◌∙◌, List, refl, sym, ap, subst, arith}
 use Rattle.kin_motion.specs.Scene.{scene_at}
 use Rattle.kin_cert.specs.Facts.{Facts, LiveFact}
-use Rattle.kin_cert.specs.Layout.{AreBorn, live_in}
+use Rattle.kin_cert.specs.Layout.{live_in}
+use Rattle.kin_cert.proofs.Changes.{AreBorn}
 use Rattle.kin_cert.proofs.Tables.{table-once}
 use Rattle.kin_cert.proofs.Changes.{born-none, born-free, born-more, born-all, born-only}
 use Rattle.kin_cert.proofs.table.Table.bear_each.Goals as goal

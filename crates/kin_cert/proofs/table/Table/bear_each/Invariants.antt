@@ -1,6 +1,6 @@
 use Rattle.std.proofs.Common.{◌≡◌}
 use Rattle.kin_motion.specs.Scene.{scene_at}
-use Rattle.kin_cert.specs.Layout.{AreBorn}
+use Rattle.kin_cert.proofs.Changes.{AreBorn}
 use Rattle.kin_cert.proofs.table.Table.bear_each.Given as goal
 
 abbrev pub invariant-loop-placed : goal.invariant-loop-placed

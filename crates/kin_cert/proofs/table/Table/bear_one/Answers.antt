@@ -7,7 +7,7 @@ use Rattle.kin_num.specs.Instants.{sign_at}
 use Rattle.kin_motion.specs.Scene.{scene_at}
 use Rattle.kin_cert.specs.declared.entry.Entry.{Entry}
 use Rattle.kin_cert.specs.Facts.{Facts, LiveFact}
-use Rattle.kin_cert.specs.Failures.{IsFailure, seen_by}
+use Rattle.kin_cert.specs.Failures.{IsFirstFailure, seen_by}
 use Rattle.kin_cert.specs.Layout.{live_in, live_fact, is_rank, entry_rank, with}
 use Rattle.kin_cert.proofs.Seen.{holds-seen, failure-seen}
 use Rattle.kin_cert.proofs.Slots.{live-count}
@@ -48,9 +48,9 @@ returns-clause-gained g c =
     let changes : (q : List ℤ) → look_up is_rank c.insert.new.self q ≡ cond (is_rank (entry_rank e) q) (Some c.vacant_key-id.result) (look_up is_rank c.reserve-2.new.self q) =
     λ q. c.in-Ok.ensures.updates.0 q ∙ ap (λ (r : List ℤ). cond (is_rank r q) (Some c.vacant_key-id.result) (look_up is_rank c.reserve-2.new.self q)) c.rank.ensures in
     let more : c.enqueue.new.queue.moments ≡ with c.self.inside.queue.moments c.vacant_key-id.result e.fails = c.in_ok-enqueue.ensures.ok in
-    let failure : IsFailure (scene_at c.args.motions.now) c.args.now.now c.args.placed.fact c.first_fail-fails.result =
+    let failure : IsFirstFailure (scene_at c.args.motions.now) c.args.now.now c.args.placed.fact c.first_fail-fails.result =
     failure-seen c.args.motions.now c.args.placed.fact c.args.now.now c.first_fail-fails.result
-    (subst (λ (q : Quadratic). IsFailure (seen_by q) c.args.now.now c.args.placed.fact c.first_fail-fails.result) c.poly_of.ensures c.first_fail-fails.ensures.failure) in
+    (subst (λ (q : Quadratic). IsFirstFailure (seen_by q) c.args.now.now c.args.placed.fact c.first_fail-fails.result) c.poly_of.ensures c.first_fail-fails.ensures.failure) in
     record {
       fact = live_fact e;
       is_born = record { is = refl; fails = failure; waits_not = refl };

@@ -1,5 +1,5 @@
 use Rattle.std.proofs.Common.{◌≡◌}
-use Rattle.kin_cert.specs.Layout.{AreDropped}
+use Rattle.kin_cert.proofs.Changes.{AreDropped}
 use Rattle.kin_cert.proofs.table.Table.drop_each.Given as goal
 
 abbrev pub invariant-loop-placed : goal.invariant-loop-placed

@@ -5,7 +5,7 @@ use Rattle.slab.proofs.SlabLemmas.{Updates-with_value}
 use Rattle.kin_num.specs.declared.instant.Moment.{Moment}
 use Rattle.kin_num.specs.Order.{IsEarlier}
 use Rattle.kin_queue.specs.Agenda.{IsNext, without}
-use Rattle.kin_cert.specs.Facts.{Facts, IsOnce}
+use Rattle.kin_cert.specs.Facts.{Facts, NoneAlike}
 use Rattle.kin_cert.specs.Layout.{HasGiven, IsDue, NoneDue, live_fact, live_in, due_count}
 use Rattle.kin_cert.proofs.Slots.{waiting, live-set-count, live-set-due}
 use Rattle.kin_cert.proofs.Tables.{table-once}
@@ -19,7 +19,7 @@ returns-in_default-clause-none g c =
     λ l there due. none l c.args.moment.now there due
 
 pub returns-in_default-clause-once : goal.returns-in_default-clause-once
-returns-in_default-clause-once g c = subst (λ (t : Facts). IsOnce t.live) c.self.view_is (table-once c.self.inside.entries c.self.inside.ids c.self.inside.queue.moments c.self.invariant)
+returns-in_default-clause-once g c = subst (λ (t : Facts). NoneAlike t.live) c.self.view_is (table-once c.self.inside.entries c.self.inside.ids c.self.inside.queue.moments c.self.invariant)
 
 not-equal : (r : Ordering) (A B : Type 0) → (r ≡ Less → A) → (r ≡ Greater → B) → ¬ A → ¬ B → (r ≡ Equal → ⊥) → ⊥
 not-equal Less A B f h na nb ne = na (f refl)
@@ -39,7 +39,7 @@ returns-in_default-compare_moments g c =
       count = refl;
       fewer = tt;
       made = refl;
-      once = subst (λ (t : Facts). IsOnce t.live) c.self.view_is (table-once c.self.inside.entries c.self.inside.ids c.self.inside.queue.moments c.self.invariant);
+      once = subst (λ (t : Facts). NoneAlike t.live) c.self.view_is (table-once c.self.inside.entries c.self.inside.ids c.self.inside.queue.moments c.self.invariant);
     }
 
 pub invariant_of-self : goal.invariant_of-self
@@ -81,4 +81,4 @@ returns-clause-fewer g c =
     live-set-due c.self.inside.entries.slots c.in-Some.next.0 e there due.waits_not ∙ ap (λ (t : Facts). due_count t.live) c.self.view_is
 
 pub returns-clause-once : goal.returns-clause-once
-returns-clause-once g c = subst (λ (t : Facts). IsOnce t.live) c.self.view_is (table-once c.self.inside.entries c.self.inside.ids c.self.inside.queue.moments c.self.invariant)
+returns-clause-once g c = subst (λ (t : Facts). NoneAlike t.live) c.self.view_is (table-once c.self.inside.entries c.self.inside.ids c.self.inside.queue.moments c.self.invariant)

@@ -1,5 +1,5 @@
 use Rattle.std.proofs.Common.{length, subst, sym, ap, ◌∙◌}
-use Rattle.kin_cert.specs.Facts.{Facts, IsOnce}
+use Rattle.kin_cert.specs.Facts.{Facts, NoneAlike}
 use Rattle.kin_cert.proofs.Slots.{live-count}
 use Rattle.kin_cert.proofs.Tables.{table-once}
 use Rattle.kin_cert.proofs.table.Table.live.Goals as goal
@@ -8,4 +8,4 @@ pub returns-clause-count : goal.returns-clause-count
 returns-clause-count c = c.len.ensures ∙ sym (live-count c.self.inside.entries.slots) ∙ ap (λ (t : Facts). length t.live) c.self.view_is
 
 pub returns-clause-once : goal.returns-clause-once
-returns-clause-once c = subst (λ (t : Facts). IsOnce t.live) c.self.view_is (table-once c.self.inside.entries c.self.inside.ids c.self.inside.queue.moments c.self.invariant)
+returns-clause-once c = subst (λ (t : Facts). NoneAlike t.live) c.self.view_is (table-once c.self.inside.entries c.self.inside.ids c.self.inside.queue.moments c.self.invariant)

@@ -3,7 +3,7 @@ use Rattle.std.specs.List.{Contains}
 use Rattle.slab.specs.Slab.{get}
 use Rattle.indexmap.specs.IndexMap.{get as look_up}
 use Rattle.kin_cert.specs.Facts.{Facts}
-use Rattle.kin_cert.specs.Rank.{rank_of}
+use Rattle.kin_cert.specs.Rank.{padded_rank}
 use Rattle.kin_cert.specs.Layout.{is_rank, live_fact, entry_rank}
 use Rattle.kin_cert.proofs.Slots.{live-there}
 use Rattle.kin_cert.proofs.Tables.{slot-of, some_none, same_some, at-rank}
@@ -13,7 +13,7 @@ pub returns-in_default-clause-none : goal.returns-in_default-clause-none
 returns-in_default-clause-none c = (
   (λ e l there at.
       let slot = slot-of c.self.inside.entries c.self.inside.ids c.self.inside.queue.moments c.self.invariant c.args.structure c.args.part c.args.form.now l (subst (λ (t : Facts). Contains t.live l) (sym c.self.view_is) there) at in
-      let none : look_up is_rank c.self.inside.ids (rank_of c.args.structure c.args.part c.args.form.now) ≡ None = ap (look_up is_rank c.self.inside.ids) (sym c.rank.ensures) ∙ sym c.in_default.ensures.value in
+      let none : look_up is_rank c.self.inside.ids (padded_rank c.args.structure c.args.part c.args.form.now) ≡ None = ap (look_up is_rank c.self.inside.ids) (sym c.rank.ensures) ∙ sym c.in_default.ensures.value in
       some_none _ (sym slot.1 ∙ none)),
   λ n. refl,
 )

@@ -1,45 +1,39 @@
-use Rattle.std.proofs.Common.{refl, subst, arith, ◌<◌, length}
-use Rattle.std.proofs.lemmas.Option.{slice_get_read}
+use Rattle.std.proofs.Common.{subst, arith}
 use Rattle.std.proofs.lemmas.Result.{on_ok_weaker}
 use Rattle.kin_motion.specs.Deltas.{Change}
-use Rattle.kin_motion.specs.Journal.{Setting}
 use Rattle.kin_motion.specs.Kinetics.{HasChanged}
 use Rattle.kin_motion.specs.Scene.{scene_at}
 use Rattle.kin_world.specs.Structures.{facts_of}
-use Rattle.kin_world.proofs.Places.{item_at}
-use Rattle.kin_world.proofs.EnterLaws.{may_enter, may_tell, entered_one}
+use Rattle.kin_cert.specs.Told.{IsTimed}
+use Rattle.kin_world.specs.Upkeep.{HasTakenIn}
+use Rattle.kin_world.proofs.InOrder.{standing_read, may_tell}
+use Rattle.kin_world.proofs.EnterLaws.{may_enter, entered_one}
 use Rattle.kin_world.proofs.upkeep.Upkeep.enter_one.Goals as goal
 
 pub enter-requires-clause-may_enter : goal.enter-requires-clause-may_enter
 enter-requires-clause-may_enter g c =
-    let t : Setting = record { size = c.args.self.now.size; keeps = c.args.self.now.keeps.items; scene = scene_at c.args.motions.now } in
-    let entering = c.requires.entering in
-    let keep = item_at t.keeps c.args.k (subst (λ n. c.args.k < n) entering.1.matched.count c.requires.within) in
-    let here = slice_get_read c.args.self.now.structures.items (length c.args.self.now.structures.items) c.args.k c.index_mut.result.now refl c.requires.within c.index_mut.ensures.value in
-    may_enter t c.args.moment.now c.requires.canonical c.args.self.now.structures.items c.args.self.now.table.live c.args.entering c.args.k keep.0 c.index_mut.result.now keep.1 here entering.0 entering.1
+    let u = c.args.self.now in
+    let s = standing_read (HasTakenIn u.size c.args.k c.requires.entering.0 (scene_at c.args.motions.now c.args.moment.now)) (IsTimed (scene_at c.args.motions.now) c.args.moment.now) u.keeps.items u.structures.items u.table.live c.requires.entering.1.in_order c.args.k c.index_mut.result.now c.requires.within c.index_mut.ensures.value in
+    may_enter c.args.motions.now c.args.moment.now u c.args.entering c.args.k c.requires.entering.0 c.requires.entering.1 s.0 c.index_mut.result.now s.1 s.2 c.requires.canonical
 
 pub tell-requires : goal.tell-requires
 tell-requires g c =
-    let t : Setting = record { size = c.args.self.now.size; keeps = c.args.self.now.keeps.items; scene = scene_at c.args.motions.now } in
-    let entering = c.requires.entering in
-    let st = c.index_mut.result.now in
-    let keep = item_at t.keeps c.args.k (subst (λ n. c.args.k < n) entering.1.matched.count c.requires.within) in
-    let here = slice_get_read c.args.self.now.structures.items (length c.args.self.now.structures.items) c.args.k st refl c.requires.within c.index_mut.ensures.value in
-    let stands = (entering.1.ahead c.args.k keep.0 st keep.1 here).0 (omega arith) in
-    may_tell t c.args.moment.now c.requires.canonical c.args.self.now.structures.items c.args.self.now.table.live c.args.entering c.args.k keep.0 st keep.1 here entering.0 entering.1
-    c.enter.new.self (c.in_ok-enter.ensures.kept t.size keep.0 stands.kind) c.enter.new.out
-    (subst (λ (d : Change). HasChanged (facts_of st) (facts_of c.enter.new.self) d c.enter.new.out) c.clear.ensures c.in_ok-enter.ensures.delta)
+    let u = c.args.self.now in
+    let s = standing_read (HasTakenIn u.size c.args.k c.requires.entering.0 (scene_at c.args.motions.now c.args.moment.now)) (IsTimed (scene_at c.args.motions.now) c.args.moment.now) u.keeps.items u.structures.items u.table.live c.requires.entering.1.in_order c.args.k c.index_mut.result.now c.requires.within c.index_mut.ensures.value in
+    let changed = subst (λ (d : Change). HasChanged (facts_of c.index_mut.result.now) (facts_of c.enter.new.self) d c.enter.new.out) c.clear.ensures c.in_ok-enter.ensures.delta in
+    may_tell (HasTakenIn u.size c.args.k c.requires.entering.0 (scene_at c.args.motions.now c.args.moment.now)) (IsTimed (scene_at c.args.motions.now) c.args.moment.now) u.keeps.items u.structures.items u.table.live c.requires.entering.1.in_order
+    u.size c.args.k (scene_at c.args.motions.now c.args.moment.now) s.0 c.index_mut.result.now c.enter.new.self c.enter.new.out s.3 (c.in_ok-enter.ensures.kept u.size s.0 (s.3.fine.ahead (omega arith)).kind) changed
 
 pub returns-clause-entering : goal.returns-clause-entering
 returns-clause-entering g c =
-    let t : Setting = record { size = c.args.self.now.size; keeps = c.args.self.now.keeps.items; scene = scene_at c.args.motions.now } in
-    let st = c.index_mut.result.now in
-    let keep = item_at t.keeps c.args.k (subst (λ n. c.args.k < n) c.requires.entering.1.matched.count c.requires.within) in
-    let here = slice_get_read c.args.self.now.structures.items (length c.args.self.now.structures.items) c.args.k st refl c.requires.within c.index_mut.ensures.value in
-    let stands = (c.requires.entering.1.ahead c.args.k keep.0 st keep.1 here).0 (omega arith) in
-    let changed = subst (λ (d : Change). HasChanged (facts_of st) (facts_of c.enter.new.self) d c.enter.new.out) c.clear.ensures c.in_ok-enter.ensures.delta in
+    let u = c.args.self.now in
+    let s = standing_read (HasTakenIn u.size c.args.k c.requires.entering.0 (scene_at c.args.motions.now c.args.moment.now)) (IsTimed (scene_at c.args.motions.now) c.args.moment.now) u.keeps.items u.structures.items u.table.live c.requires.entering.1.in_order c.args.k c.index_mut.result.now c.requires.within c.index_mut.ensures.value in
+    let changed = subst (λ (d : Change). HasChanged (facts_of c.index_mut.result.now) (facts_of c.enter.new.self) d c.enter.new.out) c.clear.ensures c.in_ok-enter.ensures.delta in
     on_ok_weaker c.tell.result
-    (λ told before entering.
-    entered_one t c.args.moment.now c.requires.canonical c.args.self.now.structures.items c.args.self.now.table.live c.args.entering c.args.k keep.0 st keep.1 here before entering
-    c.enter.new.self (c.in_ok-enter.ensures.kept t.size keep.0 stands.kind) c.enter.new.out changed c.tell.new.table.live told c.requires.within)
+    (λ told before entering. record {
+      in_order = entered_one c.args.motions.now c.args.moment.now u c.args.entering c.args.k before entering s.0 c.index_mut.result.now s.1 s.2
+          c.enter.new.self (c.in_ok-enter.ensures.kept u.size s.0 (s.3.fine.ahead (omega arith)).kind) c.enter.new.out changed c.tell.new.self.live told;
+      room = entering.room;
+      entered = entering.entered;
+    })
     c.tell.ensures.told

@@ -1,11 +1,15 @@
 use Rattle.std.proofs.Common.{◌≡◌, sym, ap, ◌∙◌, subst, arith, ◌+◌, ◌++◌, ◌∷◌, [], List, length}
 use Rattle.std.specs.Prelude.{Some, pos, slice_get, slice_index_or}
-use Rattle.std.proofs.lemmas.List.{length_push, take_more}
+use Rattle.std.proofs.lemmas.List.{length_push, take_more, take_all}
 use Rattle.std.proofs.lemmas.Option.{slice_get-get_or}
 use Rattle.kin_motion.specs.declared.keep.Keep.{Keep}
 use Rattle.kin_motion.specs.declared.keep.Keep.TheVariants.{Order}
-use Rattle.kin_world.specs.Structures.{IsVacant}
-use Rattle.kin_world.proofs.VacantLaws.{vacant_more, vacant_upkept}
+use Rattle.kin_motion.specs.Scene.{scene_at}
+use Rattle.kin_cert.specs.Facts.{LiveFact}
+use Rattle.kin_world.specs.Structures.{IsKept, IsVacant}
+use Rattle.kin_cert.specs.Told.{IsTimed}
+use Rattle.kin_world.specs.Upkeep.{AreInOrder}
+use Rattle.kin_world.proofs.VacantLaws.{vacant_more, vacant_in_order}
 use Rattle.kin_world.proofs.upkeep.Upkeep.new.Goals as goal
 
 pub loop-keep-preserved : goal.loop-keep-preserved
@@ -28,8 +32,16 @@ loop-keep-preserved c =
       made = ap (λ t. t.made) c.keep.ensures.same.1 ∙ h.made;
     }
 
+pub keep-requires-clause-small : goal.keep-requires-clause-small
+keep-requires-clause-small c = c.requires.small c.loop-keep.keep-index _ (slice_get-get_or c.args.keeps.now c.loop-keep.keep-index _ c.loop-keep-test.true)
+
 pub returns-clause-upkept : goal.returns-clause-upkept
 returns-clause-upkept c =
     let h = c.loop-keep.invariant in
-    let count : length c.loop-keep.upkeep.structures.items ≡ length c.args.keeps.now = omega (arith, h.count, c.loop-keep-test.false, c.loop-keep.auto.keep-index-end) in
-    λ scene m nobody. vacant_upkept c.args.size c.args.keeps.now scene m c.loop-keep.upkeep.structures.items c.loop-keep.upkeep.table.live nobody h.live count c.requires.few c.requires.small h.vacant
+    let u = c.loop-keep.upkeep in
+    let all : u.keeps.items ≡ c.args.keeps.now = h.keeps ∙ take_all c.loop-keep.keep-index c.args.keeps.now (omega (arith, c.loop-keep-test.false)) in
+    λ motions m nobody.
+    subst (λ (live : List LiveFact). AreInOrder (λ j keep st. IsKept u.size keep (scene_at motions m) st) (IsTimed (scene_at motions) m) u.keeps.items u.structures.items live) (sym h.live)
+    (subst (λ n. AreInOrder (λ j keep st. IsKept n keep (scene_at motions m) st) (IsTimed (scene_at motions) m) u.keeps.items u.structures.items []) (sym h.size)
+    (subst (λ (keeps : List Keep). AreInOrder (λ j keep st. IsKept c.args.size keep (scene_at motions m) st) (IsTimed (scene_at motions) m) keeps u.structures.items []) (sym all)
+    (vacant_in_order c.args.size c.args.keeps.now motions m u.structures.items nobody (omega (arith, h.count, c.loop-keep-test.false, c.loop-keep.auto.keep-index-end)) c.requires.few c.requires.small h.vacant)))

@@ -1,11 +1,10 @@
 use Rattle.std.proofs.Common.{◌≡◌, length}
-use Rattle.kin_motion.specs.Scene.{scene_at}
-use Rattle.kin_world.specs.Upkeep.{IsGathering}
+use Rattle.kin_world.specs.Upkeep.{IsRepairing}
 use Rattle.kin_world.proofs.upkeep.Upkeep.repair_each.Given as goal
 
 abbrev pub invariant-loop-first : goal.invariant-loop-first
 invariant-loop-first g l = record {
-  gathering : IsGathering (record { size = l.fn.self.size; keeps = l.fn.self.keeps.items; scene = scene_at l.motions }) l.moment l.fn.self.table l.self.table l.self.structures.items l.self.failed.items l.rest;
+  repairing : IsRepairing l.motions l.moment l.fn.self.table l.self l.rest;
   size : l.self.size ≡ l.fn.self.size;
   keeps : l.self.keeps ≡ l.fn.self.keeps;
 }

@@ -1,9 +1,10 @@
-use Rattle.std.proofs.Common.{◌≡◌, ap, ◌∙◌, subst, Option, Some, None, refl}
+use Rattle.std.proofs.Common.{◌≡◌, subst, Option, Some, None, refl}
 use Rattle.std.specs.Prelude.{IfSome, IsNone, ◌↔◌}
 use Rattle.kin_num.specs.declared.instant.Moment.{Moment}
 use Rattle.kin_motion.specs.Journal.{NothingFails}
-use Rattle.kin_world.specs.Worlds.{World, IsNextMoment, setting_of}
+use Rattle.kin_world.specs.Worlds.{World, IsNextMoment, world_setting}
 use Rattle.kin_world.proofs.StepLaws.{never_fails, next_moment}
+use Rattle.kin_world.proofs.WholeLaws.{sound_seen}
 use Rattle.kin_world.proofs.world.World.next.Goals as goal
 
 for_some : {P Q : Moment → Type 0} (answer : Option Moment) → ((m : Moment) → P m → Q m) → IfSome answer P → IfSome answer Q
@@ -16,23 +17,20 @@ none_when (Some m) h = (λ x. absurd cc, λ n. let e : Some m ≡ None = h.1 n i
 
 pub failing-requires : goal.failing-requires
 failing-requires c = λ l there.
-    let sound = c.self.invariant (ap (λ (v : World). v.whole) c.self.view_is ∙ c.requires) in
-    (sound.upkept.timed l there).waits_not
+    let w = c.self.inside in
+    let s = sound_seen w.upkeep w.motions w.moment w.whole c.args.self.now c.self.view_is c.self.invariant c.requires in
+    (s.0.upkept.timely l there).waits_not
 
 pub returns-clause-some : goal.returns-clause-some
 returns-clause-some c =
     let w = c.self.inside in
-    let sound = c.self.invariant (ap (λ (v : World). v.whole) c.self.view_is ∙ c.requires) in
-    for_some c.failing.result
-    (λ m least. subst (λ (v : World). IsNextMoment (setting_of v) v.moment m) c.self.view_is
-    (next_moment w.upkeep.size w.upkeep.keeps.items w.motions w.moment w.upkeep.structures.items w.upkeep.table sound m least))
-    c.failing.ensures.least
+    let s = sound_seen w.upkeep w.motions w.moment w.whole c.args.self.now c.self.view_is c.self.invariant c.requires in
+    for_some c.failing.result (λ m least. subst (λ (v : World). IsNextMoment (world_setting v) v.moment m) s.1 (next_moment w.upkeep w.motions w.moment s.0 m least)) c.failing.ensures.least
 
 pub returns-clause-none : goal.returns-clause-none
 returns-clause-none c =
     let w = c.self.inside in
-    let sound = c.self.invariant (ap (λ (v : World). v.whole) c.self.view_is ∙ c.requires) in
+    let s = sound_seen w.upkeep w.motions w.moment w.whole c.args.self.now c.self.view_is c.self.invariant c.requires in
     let tell = none_when c.failing.result c.failing.ensures.none in
-    let all = never_fails w.upkeep.size w.upkeep.keeps.items w.motions w.moment w.upkeep.structures.items w.upkeep.table sound in
-    subst (λ (v : World). IsNone c.failing.result ↔ NothingFails (setting_of v) v.moment) c.self.view_is
-    (λ h. all.0 (tell.0 h), λ h. tell.1 (all.1 h))
+    let all = never_fails w.upkeep w.motions w.moment s.0 in
+    subst (λ (v : World). IsNone c.failing.result ↔ NothingFails (world_setting v) v.moment) s.1 (λ h. all.0 (tell.0 h), λ h. tell.1 (all.1 h))

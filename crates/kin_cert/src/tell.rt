@@ -1,0 +1,29 @@
+//! What a structure has changed is told to the table.
+
+ghost use Rattle.std.specs.Prelude.{◌≡◌, ◌+◌, ◌-◌, ◌^◌, length, min, OnOk};
+ghost use Rattle.kin_motion.specs.Scene.{scene_at, IsReal};
+ghost use Rattle.kin_cert.specs.Told.{MayTell, IsTold};
+
+use crate::table::Table;
+use kin_motion::{Delta, Motions};
+use kin_num::{Moment, NoMemory, Steps};
+use std::sync::ledger::Ledger;
+
+impl Table {
+    /// Tells the table what structure `k`, whose facts it has, has dropped and born at the moment
+    /// now: it has the structure's new facts then. Those of the others stay.
+    pub fn tell<L: Ledger>(
+        &mut self,
+        k: u32,
+        delta: &Delta,
+        motions: &Motions,
+        now: &Moment,
+        steps: &mut Steps<L>,
+    ) -> Result<(), NoMemory>
+        requires { MayTell k delta.now (scene_at motions.now now.now) self.old.live }
+        ensures told { OnOk result (IsTold k delta.now (scene_at motions.now) now.now self.old.live self.new.live) }
+        ensures made { OnOk result (self.new.made ≡ min (self.old.made + length delta.now.born) (2 ^ 64 - 1)) }
+    {
+        self.apply(k, delta, motions, now, steps)
+    }
+}

@@ -1,0 +1,26 @@
+use Rattle.std.proofs.Common.{◌≡◌, ◌≢◌, ◌⊎◌, inl, inr, refl, sym, ◌∙◌, subst, arith, ℕ, ◌+◌, ◌<◌, List, length, get_or}
+use Rattle.std.specs.Prelude.{Some, slice_get, IsTrue}
+use Rattle.std.proofs.lemmas.Bool.{cases_eq}
+use Rattle.std.proofs.lemmas.Option.{slice_get-get_or, slice_get_within}
+use Rattle.kin_motion.specs.declared.keep.Keep.{Keep}
+use Rattle.kin_world.specs.Structures.{IsKeepable}
+use Rattle.kin_world.proofs.Places.{one_item}
+use Rattle.kin_world.proofs.tests.are_keepable.Goals as goal
+
+-- one keep more may be kept
+more : (keeps : List Keep) (i : ℕ) (d : Keep) → i < length keeps → IsKeepable (get_or keeps i d) → ((j : ℕ) (keep : Keep) → j < i → slice_get keeps j ≡ Some keep → IsKeepable keep)
+    → (j : ℕ) (keep : Keep) → j < i + 1 → slice_get keeps j ≡ Some keep → IsKeepable keep
+more keeps i d low own before j keep less there = at (cases_eq j i)
+  where
+    at : (j ≡ i) ⊎ (j ≢ i) → IsKeepable keep
+    at (inl e) = subst IsKeepable (one_item (sym (slice_get-get_or keeps i d low) ∙ subst (λ n. slice_get keeps n ≡ Some keep) e there)) own
+    at (inr apart) = before j keep (omega (arith, less, apart)) there
+
+pub loop-keep-preserved : goal.loop-keep-preserved
+loop-keep-preserved c = record { small = more c.args.keeps.now c.loop-keep.keep-index _ c.loop-keep-test.true (c.if-not-is_small.ensures refl) c.loop-keep.invariant.small }
+
+pub returns : goal.returns
+returns c = λ few. record {
+  few = subst IsTrue c.are_few.ensures few;
+  small = λ j keep there. c.loop-keep.invariant.small j keep (let low = slice_get_within c.args.keeps.now j keep there in omega (arith, low, c.loop-keep-test.false)) there;
+}
