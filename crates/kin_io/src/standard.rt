@@ -130,18 +130,21 @@ mod tests {
         Ok(())
     }
 
-    /// Takes a few bytes, and then none. Counts its flushes.
+    /// Takes five bytes, two at a time, and then none. Keeps them, and counts its flushes.
     #[derive(Drop)]
     struct Narrow {
-        room: usize,
+        held: Vec<u8>,
         flushes: u32,
     }
 
     impl Write for Narrow {
         fn write(&mut self, buf: &[u8]) -> io::Result<usize> {
-            let count = buf.len().min(self.room).min(2);
-            self.room -= count;
-            Ok(count)
+            let room = 5usize.saturating_sub(self.held.len());
+            let count = buf.len().min(room).min(2);
+            match self.held.extend_from_slice(&buf[..count]) {
+                Ok(()) => Ok(count),
+                Err(_) => Err(io::Error::from(io::ErrorKind::OutOfMemory)),
+            }
         }
 
         fn flush(&mut self) -> io::Result<()> {
@@ -153,12 +156,14 @@ mod tests {
     #[test]
     fn each_write_is_flushed_and_an_empty_one_fails(rt: HostRuntime) -> Result<(), Fail> {
         let mut sink = StdSink::new(Narrow {
-            room: 5,
+            held: Vec::new(rt.alloc()),
             flushes: 0,
         });
         assert!(rt; write_all(&mut sink, b"0 1\n").is_ok());
+        assert!(rt; sink.inner.held.as_slice() == b"0 1\n".as_slice());
         assert!(rt; sink.inner.flushes == 2);
-        assert!(rt; write_all(&mut sink, b"0 1\n").is_err());
+        assert!(rt; write_all(&mut sink, b"1 0\n").is_err());
+        assert!(rt; sink.inner.held.as_slice() == b"0 1\n1".as_slice());
         assert!(rt; sink.faults == 1);
         Ok(())
     }

@@ -9,7 +9,8 @@ use Rattle.kin_motion.specs.declared.form.Form.{Form}
 use Rattle.kin_motion.specs.declared.form.Form.TheVariants.{Line, Turn, Slope, Dist}
 use Rattle.kin_motion.specs.Journal.{Failure}
 use Rattle.kin_script.specs.Printed.{moment_text}
-use Rattle.kin_script.specs.PrintedJournal.{sign_text, line_text, kind_text, points_of, form_text, failure_line}
+use Rattle.kin_script.specs.PrintedJournal.{sign_text, line_text, kind_text, form_text, failure_line}
+use Rattle.kin_motion.specs.Forms.{numbers_of}
 use Rattle.kin_print.specs.Pieces.{spaced, owner_piece, signs_piece}
 
 not_zero : (z : ℤ) → (z ≡ pos 0 → ⊥) → (unsigned_abs z == 0) ≡ false
@@ -25,7 +26,7 @@ pub line_pieces : (dx dy off : ℤ) (x y z : List ℕ)
 line_pieces dx dy off x y z p q r other = rw (p, q, r, not_zero off other) (line_joined (codes "line(") (signed_decimal dx) (codes ",") (signed_decimal dy) (signed_decimal off) (codes ")"))
 
 -- behind its kind the numbers of a form stand behind a space each
-pub form_pieces : (f : Form) → kind_text f ++ flat_map spaced (points_of f) ≡ form_text f
+pub form_pieces : (f : Form) → kind_text f ++ flat_map spaced (numbers_of f) ≡ form_text f
 form_pieces (Line dx dy off i j) = sym (append_assoc (line_text dx dy off) (codes " ") (join_by decimal (codes " ") (i ∷ j ∷ [])))
 form_pieces (Turn i j k) = sym (append_assoc (codes "turn") (codes " ") (join_by decimal (codes " ") (i ∷ j ∷ k ∷ [])))
 form_pieces (Slope i j k l) = sym (append_assoc (codes "slope") (codes " ") (join_by decimal (codes " ") (i ∷ j ∷ k ∷ l ∷ [])))

@@ -5,7 +5,8 @@ ghost use Rattle.std.specs.Fmt.{decimal};
 ghost use Rattle.std.specs.List.{flat_map};
 ghost use Rattle.kin_cert.specs.Blocks.{failure_of};
 ghost use Rattle.kin_script.specs.Printed.{PutsFront};
-ghost use Rattle.kin_script.specs.PrintedJournal.{sign_text, line_text, kind_text, points_of, form_text, failure_line};
+ghost use Rattle.kin_script.specs.PrintedJournal.{sign_text, line_text, kind_text, form_text, failure_line};
+ghost use Rattle.kin_motion.specs.Forms.{numbers_of};
 ghost use Rattle.kin_print.specs.Pieces.{spaced, owner_piece, signs_piece};
 
 use crate::list::put_each;
@@ -97,8 +98,8 @@ fn put_line(out: &mut Vec<u8>, dx: i32, dy: i32, off: i32) -> Result<(), NoMemor
 
 /// Appends the numbers of a form, each behind a space.
 fn put_points(out: &mut Vec<u8>, form: &Form) -> Result<(), NoMemory>
-    ensures ok { OnOk result (out.new.items ≡ out.old.items ++ flat_map spaced (points_of form.now)) }
-    ensures err { OnErr result (PutsFront out.old.items out.new.items (flat_map spaced (points_of form.now))) }
+    ensures ok { OnOk result (out.new.items ≡ out.old.items ++ flat_map spaced (numbers_of form.now)) }
+    ensures err { OnErr result (PutsFront out.old.items out.new.items (flat_map spaced (numbers_of form.now))) }
 {
     match *form {
         Form::Line { i, j, .. } => put_each(out, &[i, j]),

@@ -14,7 +14,7 @@ use Rattle.kin_num.specs.Order.{IsLess}
 use Rattle.kin_num.proofs.LowerFractions.{not_less_itself}
 use Rattle.kin_instant.specs.declared.roots.Roots.{Roots}
 use Rattle.kin_instant.specs.declared.roots.Roots.TheVariants.{Nowhere, One, Two, All}
-use Rattle.kin_instant.specs.Roots.{quadratic, AreRootsOf, count_by}
+use Rattle.kin_instant.specs.Roots.{quadratic, AreRootsOf, count_by_signs}
 use Rattle.kin_instant.proofs.Existence.{ratio_exists, roots_exist}
 use Rattle.kin_script.specs.Ranges.{IsRatioInRange, IsRootInRange}
 use Rattle.kin_script.specs.Replay.{IsRootOf, IsNamedRoot}
@@ -30,7 +30,7 @@ ratio_asked n d range =
     positive d h = omega (arith, ints)
 
 -- where a quadratic has no root, its discriminant is negative
-none_counted : (a b c d : Sign) → a ≢ Zero → Some 0 ≡ count_by a b c d → d ≡ Minus
+none_counted : (a b c d : Sign) → a ≢ Zero → Some 0 ≡ count_by_signs a b c d → d ≡ Minus
 none_counted Zero b c d some e = absurd (some refl)
 none_counted Minus b c Minus some e = refl
 none_counted Minus b c Zero some e = absurd cc
@@ -39,7 +39,7 @@ none_counted Plus b c Minus some e = refl
 none_counted Plus b c Zero some e = absurd cc
 none_counted Plus b c Plus some e = absurd cc
 
-all_counted : (a b c d : Sign) → a ≢ Zero → None ≡ count_by a b c d → ⊥
+all_counted : (a b c d : Sign) → a ≢ Zero → None ≡ count_by_signs a b c d → ⊥
 all_counted Zero b c d some e = some refl
 all_counted Minus b c Minus some e = absurd cc
 all_counted Minus b c Zero some e = absurd cc

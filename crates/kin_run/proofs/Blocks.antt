@@ -6,16 +6,16 @@ use Rattle.kin_num.specs.declared.instant.Shape.{Shape}
 use Rattle.kin_num.specs.Canonical.{IsCanonical}
 use Rattle.kin_num.specs.Order.{IsEarlier}
 use Rattle.kin_num.proofs.MomentOrder.{not_earlier_itself, earlier_trans}
-use Rattle.kin_motion.specs.Journal.{Setting, Failure, Block, IsNextBlock, NothingFails}
+use Rattle.kin_motion.specs.Journal.{Setting, Failure, Block, IsNextBlock, NothingFails, IsJournal}
 use Rattle.kin_motion.proofs.JournalLaws.{next_block_is_one, journal_is_one}
 use Rattle.kin_motion.proofs.SetLaws.{contains_head}
 use Rattle.kin_script.specs.PrintedJournal.{block_lines, journal_lines, now_line}
-use Rattle.kin_script.specs.Replay.{State, at, setting_of, LeadsToNext}
+use Rattle.kin_script.specs.Replay.{State, at, state_setting, LeadsToNext}
 use Rattle.kin_script.specs.Text.{IsPassedText, IsNextText}
 
 pub one_passed : (on : Bool) (s : State) (w : Shape) (x y : List ℕ) → IsCanonical s.moment.at → IsCanonical w → IsPassedText on s w x → IsPassedText on s w y → x ≡ y
 one_passed false s w x y now asked p q = p ∙ sym q
-one_passed true s w x y now asked p q = p.2 ∙ ap journal_lines (journal_is_one (setting_of s) s.moment (at w) p.0 q.0 now asked p.1 q.1) ∙ sym q.2
+one_passed true s w x y now asked p q = p.2 ∙ ap journal_lines (journal_is_one (state_setting s) s.moment (at w) p.0 q.0 now asked p.1 q.1) ∙ sym q.2
 
 some_failure : (fs : List Failure) → fs ≢ [] → (f : Failure) × Contains fs f
 some_failure [] some = absurd (some refl)
@@ -32,16 +32,23 @@ not_nothing t now b canonical n never =
     let fails = (n.exact f.0).0 f.1 in
     fails.fails (never f.0.was fails.live b.moment n.canonical (not_back now b.moment canonical n.canonical n.later))
 
+-- where a block's moment is reached, it is passed
+pub not_reached : (t : Setting) (now : Moment) (b : Block) → IsNextBlock t now b → IsJournal t now b.moment [] → ⊥
+not_reached t now b n nothing =
+    let f = some_failure b.failures n.some in
+    let fails = (n.exact f.0).0 f.1 in
+    fails.fails (nothing.1 f.0.was fails.live)
+
 pub one_next : (s : State) (x y : List ℕ) → IsCanonical s.moment.at → IsNextText s x → IsNextText s y → x ≡ y
 one_next s x y canonical (inl p) (inl q) =
-    p.2 ∙ ap (λ (b : Block). (if s.journal then block_lines b else []) ++ now_line b.moment) (next_block_is_one (setting_of s) s.moment p.0 q.0 canonical p.1 q.1) ∙ sym q.2
-one_next s x y canonical (inl p) (inr q) = absurd (not_nothing (setting_of s) s.moment p.0 canonical p.1 q.0)
-one_next s x y canonical (inr p) (inl q) = absurd (not_nothing (setting_of s) s.moment q.0 canonical q.1 p.0)
+    p.2 ∙ ap (λ (b : Block). (if s.journal then block_lines b else []) ++ now_line b.moment) (next_block_is_one (state_setting s) s.moment p.0 q.0 canonical p.1 q.1) ∙ sym q.2
+one_next s x y canonical (inl p) (inr q) = absurd (not_nothing (state_setting s) s.moment p.0 canonical p.1 q.0)
+one_next s x y canonical (inr p) (inl q) = absurd (not_nothing (state_setting s) s.moment q.0 canonical q.1 p.0)
 one_next s x y canonical (inr p) (inr q) = p.1 ∙ sym q.1
 
 pub one_lead : (s t u : State) → IsCanonical s.moment.at → LeadsToNext s t → LeadsToNext s u → t ≡ u
 one_lead s t u canonical (inl p) (inl q) =
-    p.2 ∙ ap (λ (b : Block). record s { moment = b.moment }) (next_block_is_one (setting_of s) s.moment p.0 q.0 canonical p.1 q.1) ∙ sym q.2
-one_lead s t u canonical (inl p) (inr q) = absurd (not_nothing (setting_of s) s.moment p.0 canonical p.1 q.0)
-one_lead s t u canonical (inr p) (inl q) = absurd (not_nothing (setting_of s) s.moment q.0 canonical q.1 p.0)
+    p.2 ∙ ap (λ (b : Block). record s { moment = b.moment }) (next_block_is_one (state_setting s) s.moment p.0 q.0 canonical p.1 q.1) ∙ sym q.2
+one_lead s t u canonical (inl p) (inr q) = absurd (not_nothing (state_setting s) s.moment p.0 canonical p.1 q.0)
+one_lead s t u canonical (inr p) (inl q) = absurd (not_nothing (state_setting s) s.moment q.0 canonical q.1 p.0)
 one_lead s t u canonical (inr p) (inr q) = p.1 ∙ sym q.1

@@ -1,88 +1,47 @@
--- Which commands are allowed, and which are refused.
-use Rattle.std.proofs.Common.{rules, true, ap, inl, inr, ◌≡◌, ℕ, Bool, subst, Some, IsTrue, refl, arith}
-use Rattle.std.specs.Prelude.{ℤ, pos, slice_get}
+-- Which deeds are allowed, and what they leave as it is.
+use Rattle.std.proofs.Common.{rules, ap, inl, inr, ◌≡◌, ℕ, Bool, subst, IsTrue, refl, sym, arith}
+use Rattle.std.specs.Prelude.{pos}
 use Rattle.kin_num.specs.declared.instant.Shape.{Shape}
 use Rattle.kin_num.specs.declared.instant.Shape.TheVariants.{Ratio}
 use Rattle.kin_num.specs.Canonical.{IsCanonical}
 use Rattle.kin_num.specs.Order.{IsEarlier}
-use Rattle.kin_motion.specs.declared.keep.Keep.TheVariants as keep
 use Rattle.kin_motion.specs.Course.{Course, is_live}
 use Rattle.std.proofs.lemmas.Nat.Gcd.{IsGcd-swap, IsGcd-from_zero}
-use Rattle.kin_num.specs.Instants.{line}
-use Rattle.kin_run.proofs.NamedRoots.{one_named_root, named_root_of, has_root}
-use Rattle.kin_script.specs.declared.command.Command.{Command}
-use Rattle.kin_script.specs.declared.command.Command.TheVariants.{Insert, AtRatio, AtRoot, Next, Order, Extreme, Hull, Closest, Inside, Live}
-use Rattle.kin_script.specs.declared.refusal.Refusal.TheVariants.{Taken, NotKept, NoRoot, Past}
-use Rattle.kin_script.specs.Replay.{State, at, Asks, IsNamedRoot, IsAllowed, LeadsTo}
+use Rattle.kin_num.specs.Quadratic.{Quadratic}
+use Rattle.kin_run.proofs.NamedRoots.{one_named_root, named_root_of, named_canonical, has_root}
+use Rattle.kin_script.specs.declared.refusal.Refusal.{Refusal}
+use Rattle.kin_script.specs.Deeds.{Deed, Question, puts, goes_to, goes_on, asks}
+use Rattle.kin_script.specs.Replay.{State, at, IsNamedRoot, IsKept, IsRefused, LeadsTo}
 
-pub allowed_insert : (s : State) (number : ℕ) (m : Course) → (IsTrue (is_live s.motions number) → ⊥) → IsAllowed s (Insert number m)
-allowed_insert s number m dead Taken h = dead h
-allowed_insert s number m dead NotKept h = h
-allowed_insert s number m dead NoRoot h = h
-allowed_insert s number m dead Past h = h.1
+abbrev pub NotRefused : State → Deed → Type 0
+NotRefused s d = (r : Refusal) → ¬ (IsRefused s d r)
 
-pub allowed_ratio : (s : State) (n d : ℤ) (w : Shape) → IsNamedRoot true (line n d) w → (IsEarlier (at w) s.moment → ⊥) → IsAllowed s (AtRatio n d)
-allowed_ratio s n d w asked later Taken h = h
-allowed_ratio s n d w asked later NotKept h = h
-allowed_ratio s n d w asked later NoRoot h = h
-allowed_ratio s n d w asked later Past h = later (subst (λ (v : Shape). IsEarlier (at v) s.moment) (one_named_root true _ h.0 w h.1 asked) h.2)
+pub puts_allowed : (s : State) (number : ℕ) (m : Course) → (IsTrue (is_live s.motions number) → ⊥) → NotRefused s (puts number m)
+puts_allowed s number m dead r h = dead h.1
 
-pub allowed_root : (s : State) (a b c : ℤ) (upper : Bool) (w : Shape) → IsNamedRoot upper (record { a = a; b = b; c = c }) w → (IsEarlier (at w) s.moment → ⊥) → IsAllowed s (AtRoot a b c upper)
-allowed_root s a b c upper w asked later Taken h = h
-allowed_root s a b c upper w asked later NotKept h = h
-allowed_root s a b c upper w asked later NoRoot h = has_root a b c w (named_root_of upper _ w asked) h
-allowed_root s a b c upper w asked later Past h = later (subst (λ (v : Shape). IsEarlier (at v) s.moment) (one_named_root upper _ h.0 w h.1 asked) h.2)
+-- it goes to an instant which isn't before now
+pub goes_allowed : (s : State) (upper : Bool) (p : Quadratic) (w : Shape) → IsNamedRoot upper p w → (IsEarlier (at w) s.moment → ⊥) → NotRefused s (goes_to upper p)
+goes_allowed s upper p w named later r (inl h) = has_root p.a p.b p.c w (named_root_of upper p w named) h.1
+goes_allowed s upper p w named later r (inr h) = later (subst (λ (v : Shape). IsEarlier (at v) s.moment) (one_named_root upper p h.1.0 w h.1.1 named) h.1.2)
 
--- a command that asks for an instant which isn't before now
-pub allowed_at : (s : State) (c : Command) (w : Shape) → Asks c w → (IsEarlier (at w) s.moment → ⊥) → IsAllowed s c
-allowed_at s (AtRatio n d) w asked later = allowed_ratio s n d w asked later
-allowed_at s (AtRoot a b c upper) w asked later = allowed_root s a b c upper w asked later
-allowed_at s (Insert number m) w asked later = absurd asked
-allowed_at s Next w asked later = absurd asked
-allowed_at s (Order k) w asked later = absurd asked
-allowed_at s (Extreme k) w asked later = absurd asked
-allowed_at s Hull w asked later = absurd asked
-allowed_at s Closest w asked later = absurd asked
-allowed_at s (Inside r) w asked later = absurd asked
-allowed_at s Live w asked later = absurd asked
-
-pub allowed_order : (s : State) (k : ℕ) (dx dy : ℤ) → slice_get s.keeps k ≡ Some (keep.Order dx dy) → IsAllowed s (Order k)
-allowed_order s k dx dy kept Taken h = h
-allowed_order s k dx dy kept NotKept h = h dx dy kept
-allowed_order s k dx dy kept NoRoot h = h
-allowed_order s k dx dy kept Past h = h.1
-
-pub allowed_extreme : (s : State) (k : ℕ) (dx dy : ℤ) → slice_get s.keeps k ≡ Some (keep.Extreme dx dy) → IsAllowed s (Extreme k)
-allowed_extreme s k dx dy kept Taken h = h
-allowed_extreme s k dx dy kept NotKept h = h dx dy kept
-allowed_extreme s k dx dy kept NoRoot h = h
-allowed_extreme s k dx dy kept Past h = h.1
-
-pub allowed_next : (s : State) → IsAllowed s Next
-allowed_next s Taken h = h
-allowed_next s NotKept h = h
-allowed_next s NoRoot h = h
-allowed_next s Past h = h.1
-
-pub allowed_live : (s : State) → IsAllowed s Live
-allowed_live s Taken h = h
-allowed_live s NotKept h = h
-allowed_live s NoRoot h = h
-allowed_live s Past h = h.1
+pub asks_allowed : (s : State) (q : Question) → IsKept s q → NotRefused s (asks q)
+asks_allowed s q kept r h = h.1 kept
 
 -- the size stays
-pub same_size : (s : State) (c : Command) (t : State) → LeadsTo s c t → t.size ≡ s.size
-same_size s (Insert n m) t e = ap (λ (u : State). u.size) e
-same_size s (AtRatio n d) t e = ap (λ (u : State). u.size) e.2
-same_size s (AtRoot a b c upper) t e = ap (λ (u : State). u.size) e.2
-same_size s Next t (inl e) = ap (λ (u : State). u.size) e.2
-same_size s Next t (inr e) = ap (λ (u : State). u.size) e.1
-same_size s (Order k) t e = ap (λ (u : State). u.size) e
-same_size s (Extreme k) t e = ap (λ (u : State). u.size) e
-same_size s Hull t e = ap (λ (u : State). u.size) e
-same_size s Closest t e = ap (λ (u : State). u.size) e
-same_size s (Inside r) t e = ap (λ (u : State). u.size) e
-same_size s Live t e = ap (λ (u : State). u.size) e
+pub same_size : (s : State) (d : Deed) (t : State) → LeadsTo s d t → t.size ≡ s.size
+same_size s (puts n m) t e = ap (λ (u : State). u.size) e
+same_size s (goes_to upper p) t e = ap (λ (u : State). u.size) e.2
+same_size s goes_on t (inl e) = ap (λ (u : State). u.size) e.2
+same_size s goes_on t (inr e) = ap (λ (u : State). u.size) e.1
+same_size s (asks q) t e = ap (λ (u : State). u.size) e
+
+-- every state of a run stands at a canonical instant
+pub stays_canonical : (s : State) (d : Deed) (t : State) → IsCanonical s.moment.at → LeadsTo s d t → IsCanonical t.moment.at
+stays_canonical s (puts n m) t canonical e = subst (λ (u : State). IsCanonical u.moment.at) (sym e) canonical
+stays_canonical s (goes_to upper p) t canonical e = subst (λ (u : State). IsCanonical u.moment.at) (sym e.2) (named_canonical upper p e.0 e.1)
+stays_canonical s goes_on t canonical (inl e) = subst (λ (u : State). IsCanonical u.moment.at) (sym e.2) e.1.canonical
+stays_canonical s goes_on t canonical (inr e) = subst (λ (u : State). IsCanonical u.moment.at) (sym e.1) canonical
+stays_canonical s (asks q) t canonical e = subst (λ (u : State). IsCanonical u.moment.at) (sym e) canonical
 
 -- the instant 0
 pub start_canonical : IsCanonical (Ratio (pos 0) (pos 1))

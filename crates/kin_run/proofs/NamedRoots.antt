@@ -19,7 +19,7 @@ use Rattle.kin_instant.proofs.RootsOf.{fraction_zeros}
 use Rattle.kin_instant.proofs.Zeros.{instant-negative}
 use Rattle.kin_instant.specs.declared.roots.Roots.{Roots}
 use Rattle.kin_instant.specs.declared.roots.Roots.TheVariants.{Two}
-use Rattle.kin_instant.specs.Roots.{IsFraction, Lists}
+use Rattle.kin_instant.specs.Roots.{IsFraction, HasRoot}
 use Rattle.kin_script.specs.Replay.{IsRootOf, IsNamedRoot, at}
 
 -- two named roots are one
@@ -37,7 +37,7 @@ named_root_of false p w h = h.0
 
 -- what the answer of the roots says
 abbrev pub IsExact : Quadratic → Roots → Type 0
-IsExact p answer = (w : Shape) → IsCanonicalForm w → (sign_at_instant p w ≡ Zero) ↔ Lists answer w
+IsExact p answer = (w : Shape) → IsCanonicalForm w → (sign_at_instant p w ≡ Zero) ↔ HasRoot answer w
 
 -- a fraction is the only root of its line
 pub ratio_named : (n d : ℤ) (r : Shape) → pos 0 <ℤ d → IsFraction n d r → IsCanonical r → IsNamedRoot true (line n d) r

@@ -8,7 +8,7 @@ use Rattle.kin_num.specs.Canonical.{IsCanonical}
 use Rattle.kin_num.specs.Order.{IsEarlier}
 use Rattle.kin_motion.specs.Journal.{Setting, Block, IsNextBlock, IsJournal}
 use Rattle.kin_script.specs.Printed.{PutsFront}
-use Rattle.kin_script.specs.Replay.{State, at, setting_of}
+use Rattle.kin_script.specs.Replay.{State, at, state_setting}
 use Rattle.kin_script.specs.Text.{IsPassedText}
 use Rattle.kin_world.specs.Worlds.{World, HasPassed, HasMoved}
 use Rattle.kin_run.specs.declared.write.Stop.TheVariants.{Fault, NoMemory}
@@ -25,7 +25,7 @@ use Rattle.kin_run.proofs.Passing.{ArePassed, one_more_passed, none_passed, line
 pub record IsOnTheWay (journal : Bool) (start : World) (w : Shape) (now : World) (a : Bytes) (p : List ℕ) (b : Bytes) (q : List ℕ) : Type 0 where
   pub blocks : List Block
   pub state : state_of journal now ≡ record (state_of journal start) { moment = now.moment }
-  pub passed : ArePassed (setting_of (state_of journal start)) start.moment now.moment (at w) blocks
+  pub passed : ArePassed (state_setting (state_of journal start)) start.moment now.moment (at w) blocks
   pub printed : Gains a p b q (lines_if journal blocks)
   pub later : ¬ (IsEarlier (at w) now.moment)
 
@@ -33,7 +33,7 @@ pub sets_out : (journal : Bool) (start : World) (w : Shape) (a : Bytes) (p : Lis
 sets_out journal start w a p later = record {
   blocks = [];
   state = refl;
-  passed = none_passed (setting_of (state_of journal start)) start.moment (at w);
+  passed = none_passed (state_setting (state_of journal start)) start.moment (at w);
   printed = gains_put a p p (lines_if journal []) (at_first journal);
   later = later;
 }
@@ -51,14 +51,14 @@ module _ (journal : Bool) (start : World) (w : Shape) (canonical : IsCanonical w
   breaks_here = (lines_if journal on.blocks, on.printed, cut_on_the_way journal S now.moment w on.blocks on.passed)
 
   -- the setting has not changed
-  same_setting : setting_of (state_of journal now) ≡ setting_of S
-  same_setting = ap setting_of on.state
+  same_setting : state_setting (state_of journal now) ≡ state_setting S
+  same_setting = ap state_setting on.state
 
   module _ (new : World) (block : Block) (h : HasPassed (at w) block now new) where
-    more_passed : ArePassed (setting_of S) start.moment block.moment (at w) (on.blocks ++ block ∷ [])
+    more_passed : ArePassed (state_setting S) start.moment block.moment (at w) (on.blocks ++ block ∷ [])
     more_passed =
-        let next : IsNextBlock (setting_of S) now.moment block = subst (λ (t : Setting). IsNextBlock t now.moment block) same_setting h.next in
-        one_more_passed (setting_of S) start.moment now.moment (at w) on.blocks block here canonical on.passed next h.within
+        let next : IsNextBlock (state_setting S) now.moment block = subst (λ (t : Setting). IsNextBlock t now.moment block) same_setting h.next in
+        one_more_passed (state_setting S) start.moment now.moment (at w) on.blocks block here canonical on.passed next h.within
 
     more_cut : IsCutOf (IsPassedText journal S w) (lines_if journal on.blocks ++ printed_if journal block)
     more_cut = subst (IsCutOf (IsPassedText journal S w)) (lines_behind journal on.blocks block) (cut_on_the_way journal S block.moment w (on.blocks ++ block ∷ []) more_passed)
@@ -88,7 +88,7 @@ module _ (journal : Bool) (start : World) (w : Shape) (canonical : IsCanonical w
     goes_on r c x e flushed = record {
       blocks = on.blocks ++ block ∷ [];
       state = ap (state_of journal) h.state ∙ ap (λ (s : State). record s { moment = block.moment }) on.state ∙ ap (λ (m : Moment). record S { moment = m }) (sym at_block);
-      passed = subst (λ (m : Moment). ArePassed (setting_of S) start.moment m (at w) (on.blocks ++ block ∷ [])) (sym at_block) more_passed;
+      passed = subst (λ (m : Moment). ArePassed (state_setting S) start.moment m (at w) (on.blocks ++ block ∷ [])) (sym at_block) more_passed;
       printed = subst (Gains a p c x) (append-nil (lines_if journal on.blocks ++ printed_if journal block) ∙ sym (lines_behind journal on.blocks block))
           (gains_through a b c p r x (lines_if journal on.blocks ++ printed_if journal block) [] (put_through r e) flushed);
       later = subst (λ (m : Moment). ¬ (IsEarlier (at w) m)) (sym at_block) h.within;
@@ -101,7 +101,7 @@ module _ (journal : Bool) (start : World) (w : Shape) (canonical : IsCanonical w
   pub arrives : (new : World) → HasMoved (at w) now new → (text : List ℕ) × Gains a p b q text × IsPassedText journal S w text
   arrives new h =
       let rest = subst (λ (t : Setting). IsJournal t now.moment (at w) []) same_setting h.nothing in
-      let whole = subst (λ (bs : List Block). IsJournal (setting_of S) start.moment (at w) bs) (append-nil on.blocks) (on.passed.forth [] rest) in
+      let whole = subst (λ (bs : List Block). IsJournal (state_setting S) start.moment (at w) bs) (append-nil on.blocks) (on.passed.forth [] rest) in
       (lines_if journal on.blocks, on.printed, is_text journal S w on.blocks whole)
 
   pub arrived : (new : World) → HasMoved (at w) now new → state_of journal new ≡ record S { moment = at w }

@@ -1,15 +1,14 @@
 -- An input has one text, and one status with it.
-use Rattle.std.proofs.Common.{true, ◌≡◌, ℕ, ◌≤◌, ◌<◌, ◌^◌, Bool, List, [], ◌∷◌, ◌++◌, length, Option, Some, None, Ok, Err, refl, sym, ap, ◌∙◌, subst, arith, ◌⊎◌, inl, inr, length-append}
+use Rattle.std.proofs.Common.{◌≡◌, ℕ, ◌≤◌, ◌<◌, ◌^◌, Bool, List, [], ◌∷◌, ◌++◌, length, Option, Some, None, Ok, Err, refl, sym, ap, ◌∙◌, subst, arith, ◌⊎◌, inl, inr, length-append}
 use Rattle.std.proofs.lemmas.List.{append-nil}
 use Rattle.std.proofs.lemmas.Option.{same_Some}
 use Rattle.std.specs.Io.KnownBytes.{Consumes, IsAtEnd}
 use Rattle.kin_num.specs.Canonical.{IsCanonical}
 use Rattle.kin_script.specs.declared.script.Script.{Script}
-use Rattle.kin_script.specs.declared.command.Command.{Command}
-use Rattle.kin_script.specs.declared.command.Command.TheVariants.{Insert, AtRatio, AtRoot, Next, Order, Extreme, Hull, Closest, Inside, Live}
 use Rattle.kin_script.specs.declared.refusal.Refusal.{Refusal}
 use Rattle.kin_script.specs.Grammar.{script_of}
-use Rattle.kin_script.specs.Replay.{State, start, LeadsToNext, LeadsTo}
+use Rattle.kin_script.specs.Deeds.{deed_of}
+use Rattle.kin_script.specs.Replay.{State, start}
 use Rattle.kin_script.specs.Text.{Text, Ending, bad_line}
 use Rattle.kin_run.specs.declared.write.Stop.{Stop}
 use Rattle.kin_run.specs.declared.write.Stop.TheVariants.{Fault, NoMemory}
@@ -18,27 +17,9 @@ use Rattle.kin_run.specs.Written.{IsPrefix}
 use Rattle.kin_run.specs.declared.status.Status.{Status}
 use Rattle.kin_run.specs.declared.status.Status.TheVariants as status
 use Rattle.kin_run.specs.Headline.{IsAnswer, IsCut, IsTextOf, Writes, Answers, status_of_stop, IsBrokenOff, TakesWhole, OneAnswer}
-use Rattle.kin_run.proofs.Commands.{start_canonical}
-use Rattle.kin_run.proofs.NamedRoots.{named_canonical}
+use Rattle.kin_run.proofs.Commands.{start_canonical, stays_canonical}
 use Rattle.kin_run.proofs.Determined.{one_step}
 use Rattle.kin_run.proofs.Playing.{Line, allowed_goes_on, text_refused}
-
-next_canonical : (s t : State) → IsCanonical s.moment.at → LeadsToNext s t → IsCanonical t.moment.at
-next_canonical s t canonical (inl p) = subst (λ (u : State). IsCanonical u.moment.at) (sym p.2) p.1.canonical
-next_canonical s t canonical (inr p) = subst (λ (u : State). IsCanonical u.moment.at) (sym p.1) canonical
-
--- every state of a run stands at a canonical instant
-stays_canonical : (s : State) (c : Command) (t : State) → IsCanonical s.moment.at → LeadsTo s c t → IsCanonical t.moment.at
-stays_canonical s (Insert n m) t canonical e = subst (λ (u : State). IsCanonical u.moment.at) (sym e) canonical
-stays_canonical s (AtRatio n d) t canonical e = subst (λ (u : State). IsCanonical u.moment.at) (sym e.2) (named_canonical true _ e.0 e.1)
-stays_canonical s (AtRoot a b c upper) t canonical e = subst (λ (u : State). IsCanonical u.moment.at) (sym e.2) (named_canonical upper _ e.0 e.1)
-stays_canonical s Next t canonical e = next_canonical s t canonical e
-stays_canonical s (Order k) t canonical e = subst (λ (u : State). IsCanonical u.moment.at) (sym e) canonical
-stays_canonical s (Extreme k) t canonical e = subst (λ (u : State). IsCanonical u.moment.at) (sym e) canonical
-stays_canonical s Hull t canonical e = subst (λ (u : State). IsCanonical u.moment.at) (sym e) canonical
-stays_canonical s Closest t canonical e = subst (λ (u : State). IsCanonical u.moment.at) (sym e) canonical
-stays_canonical s (Inside r) t canonical e = subst (λ (u : State). IsCanonical u.moment.at) (sym e) canonical
-stays_canonical s Live t canonical e = subst (λ (u : State). IsCanonical u.moment.at) (sym e) canonical
 
 pub one_text : (s : State) (cs : List Line) (x y : List ℕ) (e f : Ending) → IsCanonical s.moment.at → Text s cs x e → Text s cs y f → (x ≡ y) × (e ≡ f)
 one_text s [] x y e f canonical p q = (p.0 ∙ sym q.0, p.1 ∙ sym q.1)
@@ -48,7 +29,7 @@ one_text s (c ∷ cs) x y e f canonical (inl p) q =
 one_text s (c ∷ cs) x y e f canonical (inr a) q =
     let b = allowed_goes_on s c cs y f a.3.allowed q in
     let same = one_step s c.1 a.0 b.0 a.2 b.2 canonical a.3 b.3 in
-    let tails = one_text b.2 cs a.1 b.1 e f (stays_canonical s c.1 b.2 canonical b.3.leads) (subst (λ (t : State). Text t cs a.1 e) same.1 a.4) b.4 in
+    let tails = one_text b.2 cs a.1 b.1 e f (stays_canonical s (deed_of c.1) b.2 canonical b.3.leads) (subst (λ (t : State). Text t cs a.1 e) same.1 a.4) b.4 in
     (a.5 ∙ ap (λ (v : List ℕ). v ++ a.1) same.0 ∙ ap (λ (w : List ℕ). b.0 ++ w) tails.0 ∙ sym b.5, tails.1)
 
 -- the script, and then the text, of two answers to one input

@@ -13,7 +13,7 @@ use Rattle.kin_motion.proofs.JournalLaws.{next_block_is_one, block_is_listed}
 use Rattle.kin_cert.specs.declared.owned.Failure.{Failure as Failed}
 use Rattle.kin_cert.specs.Blocks.{failure_of}
 use Rattle.kin_script.specs.PrintedJournal.{failure_line, block_lines, journal_lines}
-use Rattle.kin_script.specs.Replay.{State, at, setting_of}
+use Rattle.kin_script.specs.Replay.{State, at, state_setting}
 use Rattle.kin_script.specs.Text.{IsPassedText}
 use Rattle.kin_run.specs.Performed.{IsCutOf}
 use Rattle.kin_run.specs.States.{printed_if}
@@ -53,13 +53,13 @@ pub lines_behind : (journal : Bool) (bs : List Block) (b : Block) → lines_if j
 lines_behind false bs b = refl
 lines_behind true bs b = flat_map-append block_lines bs (b ∷ []) ∙ ap (λ (w : List ℕ). journal_lines bs ++ w) (append-nil (block_lines b))
 
-pub is_text : (journal : Bool) (s : State) (w : Shape) (bs : List Block) → IsJournal (setting_of s) s.moment (at w) bs → IsPassedText journal s w (lines_if journal bs)
+pub is_text : (journal : Bool) (s : State) (w : Shape) (bs : List Block) → IsJournal (state_setting s) s.moment (at w) bs → IsPassedText journal s w (lines_if journal bs)
 is_text false s w bs j = refl
 is_text true s w bs j = (bs, j, refl)
 
 -- what was printed on the way is a front of all that there is to print
 pub cut_on_the_way : (journal : Bool) (s : State) (now : Moment) (w : Shape) (bs : List Block)
-    → ArePassed (setting_of s) s.moment now (at w) bs → IsCutOf (IsPassedText journal s w) (lines_if journal bs)
+    → ArePassed (state_setting s) s.moment now (at w) bs → IsCutOf (IsPassedText journal s w) (lines_if journal bs)
 cut_on_the_way false s now w bs p text e = record { more = []; joined = e }
 cut_on_the_way true s now w bs p text e =
     let x = p.back e.0 e.1 in

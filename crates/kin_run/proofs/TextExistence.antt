@@ -10,6 +10,7 @@ use Rattle.kin_motion.specs.Live.{IsSmallKeep}
 use Rattle.kin_script.specs.declared.script.Script.{Script}
 use Rattle.kin_script.specs.Grammar.{script_of}
 use Rattle.kin_script.specs.Ranges.{IsKeepInRange, IsCommandInRange, IsWithin}
+use Rattle.kin_script.specs.Deeds.{deed_of}
 use Rattle.kin_script.specs.Replay.{State, start}
 use Rattle.kin_script.specs.Text.{Text, Ending, bad_line, refused_line}
 use Rattle.kin_script.proofs.ScriptRanges.{script_within}
@@ -31,11 +32,11 @@ text_exists (c ∷ cs) s sound range = by_end (command_ends s sound c.1 (All-hea
     rest_range : (t : State) → t.size ≡ s.size → All (λ d. IsCommandInRange t.size d.1) cs
     rest_range t e = subst (λ (size : ℕ). All (λ d. IsCommandInRange size d.1) cs) (sym e) (All-tail (λ d. IsCommandInRange s.size d.1) c cs range)
 
-    by_end : Ends s c.1 → ((t : State) → IsSound t → All (λ d. IsCommandInRange t.size d.1) cs → HasText t cs) → HasText s (c ∷ cs)
+    by_end : Ends s (deed_of c.1) → ((t : State) → IsSound t → All (λ d. IsCommandInRange t.size d.1) cs → HasText t cs) → HasText s (c ∷ cs)
     by_end (inl (r, refused)) rest = (refused_line c.0 r, Some (c.0, r), inl (r, refused, refl, refl))
     by_end (inr steps) rest =
         let more = rest steps.next steps.sound (rest_range steps.next steps.size) in
-        (steps.text ++ more.0, more.1, inr (steps.text, more.0, steps.next, steps.step, more.2, refl))
+        (steps.text ++ more.0, more.1, inr (steps.text, more.0, steps.next, record { allowed = steps.allowed; prints = steps.prints; leads = steps.leads }, more.2, refl))
 
 -- ---- the state at the start
 none_moves : (n i : ℕ) → motion_of (replicate n None) i ≡ None

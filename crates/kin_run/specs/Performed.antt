@@ -3,8 +3,10 @@ use Rattle.std.specs.Prelude.{◌≡◌, ℕ, List, ◌++◌, Option, Some, Resu
 use Rattle.std.specs.Io.KnownBytes.{Appends}
 use Rattle.kin_io.specs.Ends.{AppendsPrefix}
 use Rattle.kin_script.specs.declared.command.Command.{Command}
-use Rattle.kin_script.specs.Replay.{State, Refuses, IsAllowed}
-use Rattle.kin_script.specs.Text.{Step, Text, Ending, refused_line}
+use Rattle.kin_script.specs.declared.refusal.Refusal.TheVariants.{NotKept}
+use Rattle.kin_script.specs.Deeds.{Question}
+use Rattle.kin_script.specs.Replay.{State, IsKept, Refuses, IsAllowed}
+use Rattle.kin_script.specs.Text.{Step, Text, Ending, IsAnswerLine, refused_line}
 use Rattle.kin_run.specs.declared.perform.Halt.{Halt}
 use Rattle.kin_run.specs.declared.perform.Halt.TheVariants.{Refused, Broken}
 use Rattle.kin_run.specs.declared.write.Stop.{Stop}
@@ -32,6 +34,13 @@ abbrev pub PutsText : {E : Type 0} → (List ℕ → Type 0) → Result E Stop �
 PutsText IsText (Ok x) before pending now still = (text : List ℕ) × Gains before pending now still text × IsText text
 PutsText IsText (Err stop) before pending now still = BreaksOff (IsCutOf IsText) stop before pending now still
 
+-- what came of a question: its line was put behind what was there; or what it asks for is not kept, and nothing was put; or memory ran out at a front of its line
+abbrev pub AnswersTo : {E : Type 0} → State → Question → Result E Halt → List ℕ → List ℕ → Type 0
+AnswersTo s q (Ok x) before now = IsKept s q × ((text : List ℕ) × (now ≡ before ++ text) × IsAnswerLine s q text)
+AnswersTo s q (Err (Refused r)) before now = (r ≡ NotKept) × ¬ (IsKept s q) × (now ≡ before)
+AnswersTo s q (Err (Broken NoMemory)) before now = IsKept s q × ((front : List ℕ) × (now ≡ before ++ front) × IsCutOf (IsAnswerLine s q) front)
+AnswersTo s q (Err (Broken Fault)) before now = ⊥
+
 -- a front of whatever the command prints
 abbrev pub IsCutOfStep : State → Command → List ℕ → Type 0
 IsCutOfStep s c front = (text : List ℕ) (t : State) → Step s c text t → IsPrefix front text
@@ -41,6 +50,12 @@ abbrev pub Performs : {E : Type 0} → State → Command → Result E Halt → O
 Performs s c (Ok x) before pending now still t = (text : List ℕ) × Gains before pending now still text × Step s c text t
 Performs s c (Err (Refused r)) before pending now still t = Refuses s c r × (now ≡ before) × (still ≡ pending) × (t ≡ s)
 Performs s c (Err (Broken stop)) before pending now still t = IsAllowed s c × BreaksOff (IsCutOfStep s c) stop before pending now still
+
+-- where the command was refused
+abbrev pub OnRefused : {E : Type 0} → Result E Halt → Type 0 → Type 0
+OnRefused (Ok x) P = Unit {0}
+OnRefused (Err (Refused r)) P = P
+OnRefused (Err (Broken stop)) P = Unit {0}
 
 -- a front of whatever the commands print
 abbrev pub IsCutOfText : State → List (ℕ × Command) → List ℕ → Type 0

@@ -1,4 +1,4 @@
-//! The failures on the way to an instant, each block printed before the next is computed.
+//! The failures on the way to an instant, each block written before the next is computed.
 
 ghost use Rattle.std.specs.Prelude.{◌≡◌, ◌≤◌, ◌++◌, OnOk, OnErr, IsErrOf};
 ghost use Rattle.kin_io.specs.Causes.{Rose};
@@ -13,7 +13,7 @@ ghost use Rattle.kin_run.specs.declared.write.Stop.TheVariants.{Fault as FaultOf
 ghost use Rattle.kin_run.specs.Performed.{PutsText};
 ghost use Rattle.kin_run.specs.States.{state_of, printed_if};
 
-use crate::write::{Stop, flush_if_much};
+use crate::write::{Stop, flush_if_due};
 use kin_cert::Block;
 use kin_io::sink::Sink;
 use kin_num::{Instant, Moment, NoMemory, Phase, Steps};
@@ -43,8 +43,8 @@ pub fn put_if_on(out: &mut Vec<u8>, journal: bool, block: &Block) -> Result<(), 
     Ok(())
 }
 
-/// Passes all failures up to the asked instant, which isn't before now, and prints them where the
-/// journal is on.
+/// Passes all failures up to the asked instant, which isn't before now. Where the journal is on,
+/// the sink is given each block before the next is computed.
 pub fn pass<K: Sink, L: Ledger>(
     world: &mut World,
     journal: bool,
@@ -68,7 +68,7 @@ pub fn pass<K: Sink, L: Ledger>(
     };
     while let Some(block) = world.step(&limit, steps)? {
         put_if_on(out, journal, &block)?;
-        flush_if_much(out, sink)?;
+        flush_if_due(journal, out, sink)?;
     }
     Ok(())
 }

@@ -4,13 +4,15 @@ ghost use Rattle.std.specs.Prelude.{◌≡◌, ◌≢◌, ◌≤◌, ◌<◌, �
 ghost use Rattle.kin_io.specs.Causes.{Rose};
 ghost use Rattle.kin_num.specs.Canonical.{IsCanonical};
 ghost use Rattle.kin_script.specs.declared.command.Command.{Command as CommandOf};
-ghost use Rattle.kin_script.specs.declared.command.Command.TheVariants.{Insert as InsertOf, Next as NextOf, Order as OrderOf, Extreme as ExtremeOf, Live as LiveOf};
+ghost use Rattle.kin_script.specs.declared.command.Command.TheVariants.{Insert as InsertOf, Next as NextOf};
+ghost use Rattle.kin_script.specs.Deeds.{deed_of, goes_to, order_along, farthest_along, live_facts};
 ghost use Rattle.kin_script.specs.Ranges.{IsCommandInRange};
-ghost use Rattle.kin_script.specs.Replay.{Asks};
+ghost use Rattle.kin_num.specs.Quadratic.{Quadratic};
+ghost use Rattle.kin_script.specs.Replay.{IsNamedRoot};
 ghost use Rattle.kin_world.specs.Worlds.{IsWhole};
 ghost use Rattle.kin_run.specs.declared.perform.Halt.TheVariants.{Broken as BrokenOff};
 ghost use Rattle.kin_run.specs.declared.write.Stop.TheVariants.{Fault as FaultOf, NoMemory as WantOfMemory};
-ghost use Rattle.kin_run.specs.Performed.{Performs};
+ghost use Rattle.kin_run.specs.Performed.{Performs, AnswersTo, OnRefused};
 ghost use Rattle.kin_run.specs.States.{state_of};
 
 use crate::answer::{put_extreme, put_live, put_next, put_order};
@@ -59,6 +61,7 @@ fn insert<L: Ledger>(
     requires whole { IsWhole world.old }
     requires room { no < 2 ^ world.old.size }
     ensures performs { (journal : Bool) (held : Option (List ℕ)) (out : List ℕ) → Performs (state_of journal world.old) (InsertOf no m) result held out held out (state_of journal world.new) }
+    ensures refused { OnRefused result (world.new ≡ world.old) }
     ensures whole { OnOk result (IsWhole world.new) }
     ensures no_fault { IfErr result (λ halt. halt ≢ BrokenOff FaultOf) }
 {
@@ -80,7 +83,8 @@ fn move_to<K: Sink, L: Ledger>(
 ) -> Result<(), Halt>
     requires whole { IsWhole world.old }
     requires canonical { IsCanonical asked }
-    ensures performs { (c : CommandOf) → Asks c asked → Performs (state_of journal world.old) c result (K.held sink.old) out.old.items (K.held sink.new) out.new.items (state_of journal world.new) }
+    ensures performs { (c : CommandOf) (upper : Bool) (p : Quadratic) → deed_of c ≡ goes_to upper p → IsNamedRoot upper p asked → Performs (state_of journal world.old) c result (K.held sink.old) out.old.items (K.held sink.new) out.new.items (state_of journal world.new) }
+    ensures refused { OnRefused result (world.new ≡ world.old) }
     ensures whole { OnOk result (IsWhole world.new) }
     ensures later { K.faults sink.old ≤ K.faults sink.new }
     ensures cause { IsErrOf result (BrokenOff FaultOf) → Rose (K.faults sink.old) (K.faults sink.new) }
@@ -101,6 +105,7 @@ fn move_to_next<L: Ledger>(
 ) -> Result<(), Halt>
     requires whole { IsWhole world.old }
     ensures performs { (held : Option (List ℕ)) → Performs (state_of journal world.old) NextOf result held out.old.items held out.new.items (state_of journal world.new) }
+    ensures refused { OnRefused result (world.new ≡ world.old) }
     ensures whole { OnOk result (IsWhole world.new) }
     ensures no_fault { IfErr result (λ halt. halt ≢ BrokenOff FaultOf) }
 {
@@ -111,7 +116,7 @@ fn move_to_next<L: Ledger>(
 /// Appends the line with the number of live facts.
 fn answer_live(world: &World, out: &mut Vec<u8>) -> Result<(), Halt>
     requires { IsWhole world.now }
-    ensures performs { (journal : Bool) (held : Option (List ℕ)) → Performs (state_of journal world.now) LiveOf result held out.old.items held out.new.items (state_of journal world.now) }
+    ensures answers { (journal : Bool) → AnswersTo (state_of journal world.now) live_facts result out.old.items out.new.items }
     ensures no_fault { IfErr result (λ halt. halt ≢ BrokenOff FaultOf) }
 {
     put_live(world, out)?;
@@ -121,7 +126,7 @@ fn answer_live(world: &World, out: &mut Vec<u8>) -> Result<(), Halt>
 /// Appends the line of a kept order.
 fn answer_order(world: &World, s: u32, out: &mut Vec<u8>) -> Result<(), Halt>
     requires { IsWhole world.now }
-    ensures performs { (journal : Bool) (held : Option (List ℕ)) → Performs (state_of journal world.now) (OrderOf s) result held out.old.items held out.new.items (state_of journal world.now) }
+    ensures answers { (journal : Bool) → AnswersTo (state_of journal world.now) (order_along s) result out.old.items out.new.items }
     ensures no_fault { IfErr result (λ halt. halt ≢ BrokenOff FaultOf) }
 {
     match world.keep(s) {
@@ -136,7 +141,7 @@ fn answer_order(world: &World, s: u32, out: &mut Vec<u8>) -> Result<(), Halt>
 /// Appends the line of a kept extreme point.
 fn answer_extreme(world: &World, s: u32, out: &mut Vec<u8>) -> Result<(), Halt>
     requires { IsWhole world.now }
-    ensures performs { (journal : Bool) (held : Option (List ℕ)) → Performs (state_of journal world.now) (ExtremeOf s) result held out.old.items held out.new.items (state_of journal world.now) }
+    ensures answers { (journal : Bool) → AnswersTo (state_of journal world.now) (farthest_along s) result out.old.items out.new.items }
     ensures no_fault { IfErr result (λ halt. halt ≢ BrokenOff FaultOf) }
 {
     match world.keep(s) {
@@ -148,7 +153,7 @@ fn answer_extreme(world: &World, s: u32, out: &mut Vec<u8>) -> Result<(), Halt>
     }
 }
 
-/// Carries out a command, and appends what it prints. A refused one changes nothing.
+/// Carries out a command, and appends what it prints. A refused one leaves the world as it was.
 pub fn perform<K: Sink, L: Ledger>(
     world: &mut World,
     journal: bool,
@@ -160,6 +165,7 @@ pub fn perform<K: Sink, L: Ledger>(
     requires whole { IsWhole world.old }
     requires range { IsCommandInRange world.old.size command.now }
     ensures performs { Performs (state_of journal world.old) command.now result (K.held sink.old) out.old.items (K.held sink.new) out.new.items (state_of journal world.new) }
+    ensures refused { OnRefused result (world.new ≡ world.old) }
     ensures whole { OnOk result (IsWhole world.new) }
     ensures later { K.faults sink.old ≤ K.faults sink.new }
     ensures cause { IsErrOf result (BrokenOff FaultOf) → Rose (K.faults sink.old) (K.faults sink.new) }

@@ -15,7 +15,7 @@ ghost use Rattle.kin_run.specs.Written.{Wrote};
 
 use crate::perform::{Halt, perform};
 use crate::text::put_refused;
-use crate::write::{Stop, flush, flush_if_much};
+use crate::write::{Stop, flush, flush_if_due};
 use kin_io::sink::Sink;
 use kin_num::Steps;
 use kin_script::command::Command;
@@ -71,6 +71,11 @@ fn stop_at<K: Sink>(
     }
 }
 
+/// Whether the command printed a block that the sink hasn't been given. `at` gives each of its own.
+fn prints_block(journal: bool, command: &Command) -> bool {
+    journal && matches!(command, Command::Next)
+}
+
 /// Carries out commands in turn, up to the first that is refused, and writes what they print.
 /// Answers the line and the refusal of that one.
 pub fn play<K: Sink, L: Ledger>(
@@ -91,7 +96,7 @@ pub fn play<K: Sink, L: Ledger>(
     let mut out = Vec::new(alloc);
     for (line, command) in lines {
         match perform(world, journal, command, &mut out, sink, steps) {
-            Ok(()) => flush_if_much(&mut out, sink)?,
+            Ok(()) => flush_if_due(prints_block(journal, command), &mut out, sink)?,
             Err(halt) => return stop_at(halt, *line, &mut out, sink),
         }
     }

@@ -136,7 +136,7 @@ fn run_input<S: Source, K: Sink>(alloc: Global, source: &mut S, sink: &mut K) ->
 /// Reads the words, takes the whole input, holds it against the grammar and runs its commands up
 /// to the first that is refused. Nothing is written before the whole input is known to be in the
 /// grammar or not; then the bytes are written in pieces of some 64 KiB, each command's text behind
-/// that of the one before.
+/// that of the one before. With the journal on, each block is written before the next is computed.
 pub fn run<S: Source, K: Sink>(
     alloc: Global,
     words: &[String],

@@ -5,6 +5,7 @@ ghost use Rattle.std.specs.Prelude.{◌<◌};
 use crate::run::run;
 use crate::status::{Side, Status};
 use kin_io::memory::{MemSink, MemSource};
+use kin_io::source::read_all;
 use kin_script::refusal::Refusal;
 use std::alloc::Global;
 use std::test::Fail;
@@ -19,8 +20,42 @@ const THREE: &str =
 const THREE_TEXT: &str =
     "! 5 0/0 line(1,0) 0 1 + 0\n! 5 0/0 line(1,0) 1 2 + 0\n0 1 2\n! 5+ 0/0 line(1,0) 0 1 0 -\n! 5+ 0/0 line(1,0) 1 2 0 -\n2 1 0\n";
 
+/// A point meets two others, one after the other, with the question `live` behind.
+const MEETINGS: &str =
+    "size 2\nkeep order 1 0\njournal on\ninsert 0 0 0 1 0\ninsert 1 10 0 -1 0\ninsert 2 30 0 -1 0\nat 20\nlive\n";
+
+const MEETINGS_WHOLE: &str =
+    "! 5 0/0 line(1,0) 0 1 + 0\n! 5+ 0/0 line(1,0) 0 1 0 -\n! 15 0/0 line(1,0) 0 2 + 0\n! 15+ 0/0 line(1,0) 0 2 0 -\n2\n";
+
+/// The same, going from failure to failure.
+const MEETINGS_BY_NEXT: &str =
+    "size 2\nkeep order 1 0\njournal on\ninsert 0 0 0 1 0\ninsert 1 10 0 -1 0\ninsert 2 30 0 -1 0\nnext\nnext\nnext\nnext\nlive\n";
+
+const MEETINGS_BY_NEXT_WHOLE: &str =
+    "! 5 0/0 line(1,0) 0 1 + 0\nnow 5\n! 5+ 0/0 line(1,0) 0 1 0 -\nnow 5+\n! 15 0/0 line(1,0) 0 2 + 0\nnow 15\n! 15+ 0/0 line(1,0) 0 2 0 -\nnow 15+\n2\n";
+
+/// What is written of the first one before a call that fails, by the number of that call.
+const MEETINGS_TEXT: [&str; 6] = [
+    "",
+    "! 5 0/0 line(1,0) 0 1 + 0\n",
+    "! 5 0/0 line(1,0) 0 1 + 0\n! 5+ 0/0 line(1,0) 0 1 0 -\n",
+    "! 5 0/0 line(1,0) 0 1 + 0\n! 5+ 0/0 line(1,0) 0 1 0 -\n! 15 0/0 line(1,0) 0 2 + 0\n",
+    "! 5 0/0 line(1,0) 0 1 + 0\n! 5+ 0/0 line(1,0) 0 1 0 -\n! 15 0/0 line(1,0) 0 2 + 0\n! 15+ 0/0 line(1,0) 0 2 0 -\n",
+    MEETINGS_WHOLE,
+];
+
+/// And of the second one, whose last write is that of `live`.
+const MEETINGS_BY_NEXT_TEXT: [&str; 6] = [
+    "",
+    "! 5 0/0 line(1,0) 0 1 + 0\nnow 5\n",
+    "! 5 0/0 line(1,0) 0 1 + 0\nnow 5\n! 5+ 0/0 line(1,0) 0 1 0 -\nnow 5+\n",
+    "! 5 0/0 line(1,0) 0 1 + 0\nnow 5\n! 5+ 0/0 line(1,0) 0 1 0 -\nnow 5+\n! 15 0/0 line(1,0) 0 2 + 0\nnow 15\n",
+    "! 5 0/0 line(1,0) 0 1 + 0\nnow 5\n! 5+ 0/0 line(1,0) 0 1 0 -\nnow 5+\n! 15 0/0 line(1,0) 0 2 + 0\nnow 15\n! 15+ 0/0 line(1,0) 0 2 0 -\nnow 15+\n",
+    MEETINGS_BY_NEXT_WHOLE,
+];
+
 /// Scripts with their texts and statuses.
-const WORKED: [(&str, &str, Status); 26] = [
+const WORKED: [(&str, &str, Status); 28] = [
     (CROSSING, "0 1\n0 1\n1 0\n", Status::Done),
     // The same with the journal.
     (
@@ -34,6 +69,8 @@ const WORKED: [(&str, &str, Status); 26] = [
         Status::Done,
     ),
     (THREE, THREE_TEXT, Status::Done),
+    (MEETINGS, MEETINGS_WHOLE, Status::Done),
+    (MEETINGS_BY_NEXT, MEETINGS_BY_NEXT_WHOLE, Status::Done),
     // An extreme point with a tie.
     (
         "size 1\nkeep extreme 1 0\njournal on\ninsert 0 0 0 1 0\ninsert 1 10 0 -1 0\nat 4\nextreme 0\nat 5\nextreme 0\nat 6\nextreme 0\n",
@@ -204,6 +241,54 @@ fn a_sink_without_room_holds_a_front(rt: HostRuntime) -> Result<(), Fail> {
     Ok(())
 }
 
+/// Each block is a write of its own, so that the sink has all blocks before the one whose write
+/// fails, or for which there is no room, and none behind it. Answers are gathered.
+#[test]
+fn each_block_is_written_before_the_next(rt: HostRuntime) -> Result<(), Fail> {
+    let words = word(&rt)?;
+    for (script, texts) in [
+        (MEETINGS, MEETINGS_TEXT),
+        (MEETINGS_BY_NEXT, MEETINGS_BY_NEXT_TEXT),
+    ] {
+        for call in 0..5 {
+            let text = texts[call];
+            let failing = vec![in rt.alloc(); call as u64]?;
+            let mut source = source_of(rt.alloc(), script, 64, Vec::new(rt.alloc()))?;
+            let mut sink = MemSink::new(rt.alloc(), 200, failing)?;
+            let found = run(rt.alloc(), &words, &mut source, &mut sink);
+            assert!(rt; found == Status::Fault(Side::Write), "call {call}");
+            assert!(rt; sink.held() == text.as_bytes(), "call {call}");
+
+            let mut source = source_of(rt.alloc(), script, 64, Vec::new(rt.alloc()))?;
+            let mut sink = MemSink::new(rt.alloc(), text.len() as u64, Vec::new(rt.alloc()))?;
+            let found = run(rt.alloc(), &words, &mut source, &mut sink);
+            assert!(rt; found == Status::Fault(Side::Write), "room for {call}");
+            assert!(rt; sink.held() == text.as_bytes(), "room for {call}");
+        }
+    }
+    Ok(())
+}
+
+/// A source of a script that is so many bytes long: a line with the size, and a comment.
+fn source_of_length(alloc: Global, length: usize) -> Result<MemSource, Fail> {
+    let mut bytes = Vec::from_slice(alloc, b"size 1\n#")?;
+    bytes.resize(length, b'x')?;
+    Ok(MemSource::new(bytes, 1 << 16, Vec::new(alloc)))
+}
+
+#[test]
+fn the_longest_script_runs_and_a_longer_one_does_not(rt: HostRuntime) -> Result<(), Fail> {
+    let words = word(&rt)?;
+    for (length, status) in [(1 << 20, Status::Done), ((1 << 20) + 1, Status::TooLong)] {
+        let mut source = source_of_length(rt.alloc(), length)?;
+        let mut sink = MemSink::new(rt.alloc(), 100, Vec::new(rt.alloc()))?;
+        let found = run(rt.alloc(), &words, &mut source, &mut sink);
+        assert!(rt; found == status, "{length} bytes");
+        assert!(rt; sink.held().is_empty(), "{length} bytes");
+    }
+    Ok(())
+}
+
 #[test]
 fn a_write_that_fails_is_told(rt: HostRuntime) -> Result<(), Fail> {
     let words = word(&rt)?;
@@ -229,6 +314,8 @@ fn other_words_touch_nothing(rt: HostRuntime) -> Result<(), Fail> {
         let found = run(rt.alloc(), form, &mut source, &mut sink);
         assert!(rt; found == Status::Words);
         assert!(rt; sink.held().is_empty());
+        let left = read_all(rt.alloc(), &mut source, 100)?;
+        assert!(rt; left.as_slice() == CROSSING.as_bytes());
     }
     Ok(())
 }

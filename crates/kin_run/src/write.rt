@@ -49,13 +49,13 @@ pub fn flush<K: Sink>(out: &mut Vec<u8>, sink: &mut K) -> Result<(), Failed>
     Ok(())
 }
 
-/// Writes what was gathered, once it is much.
-pub fn flush_if_much<K: Sink>(out: &mut Vec<u8>, sink: &mut K) -> Result<(), Failed>
+/// Writes what was gathered, at once or once it is much.
+pub fn flush_if_due<K: Sink>(at_once: bool, out: &mut Vec<u8>, sink: &mut K) -> Result<(), Failed>
     ensures gained { OnOk result (Gains (K.held sink.old) out.old.items (K.held sink.new) out.new.items []) }
     ensures front { OnErr result (AppendsPrefix (K.held sink.old) (K.held sink.new) out.old.items) }
     ensures cause { HasCause (K.faults sink.old) (K.faults sink.new) result }
 {
-    if out.len() >= BLOCK {
+    if at_once || out.len() >= BLOCK {
         return flush(out, sink);
     }
     Ok(())

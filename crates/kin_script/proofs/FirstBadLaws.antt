@@ -3,10 +3,10 @@ use Rattle.std.proofs.Common.{◌≡◌, inl, inr, ℕ, false, List, [], ◌∷�
 use Rattle.std.specs.Prelude.{◌⊎◌, unwrap_or}
 use Rattle.kin_script.specs.declared.command.Command.{Command}
 use Rattle.kin_script.specs.declared.script.Script.{Script}
-use Rattle.kin_script.specs.declared.line.Setting.{Setting}
+use Rattle.kin_script.specs.declared.line.HeaderLine.{HeaderLine}
 use Rattle.kin_script.specs.Left.{Numbered}
-use Rattle.kin_script.specs.Commands.{command_of, size_of, setting_of}
-use Rattle.kin_script.specs.Grammar.{◌>>◌, at_line, by_setting, Header, commands_of, with_commands, with_setting, behind_size, script_of_lines}
+use Rattle.kin_script.specs.Commands.{command_of, size_of, header_line_of}
+use Rattle.kin_script.specs.Grammar.{◌>>◌, at_line, by_header_line, Header, commands_of, with_commands, with_header_line, behind_size, script_of_lines}
 use Rattle.kin_script.specs.Written.{IsWritten, IsFirstBad}
 use Rattle.kin_script.proofs.WrittenLaws.{whole, first_header, is_written, written_is}
 
@@ -73,18 +73,18 @@ begins : (before behind more : List Numbered) (bad l : Numbered) (ls : List Numb
 begins [] behind more bad l ls e = (more, cc)
 begins (b ∷ bs) behind more bad l ls e = (bs ++ bad ∷ more, cc)
 
-no_setting : (h : Header) (l : Numbered) (ls all : List Numbered) → setting_of l.1 ≡ None → all ≡ l ∷ ls → behind_size h all ≡ with_commands h all
+no_header_line : (h : Header) (l : Numbered) (ls all : List Numbered) → header_line_of l.1 ≡ None → all ≡ l ∷ ls → behind_size h all ≡ with_commands h all
 unfolding behind_size
-no_setting h l ls all none e = rw (e, none) refl
+no_header_line h l ls all none e = rw (e, none) refl
 
-before_no_setting : (h : Header) (l : Numbered) (ls before behind : List Numbered) (bad : Numbered) → setting_of l.1 ≡ None → l ∷ ls ≡ before ++ bad ∷ behind → behind_size h before ≡ with_commands h before
+before_no_header_line : (h : Header) (l : Numbered) (ls before behind : List Numbered) (bad : Numbered) → header_line_of l.1 ≡ None → l ∷ ls ≡ before ++ bad ∷ behind → behind_size h before ≡ with_commands h before
 unfolding behind_size
-before_no_setting h l ls [] behind bad none e = refl
-before_no_setting h l ls (b ∷ bs) behind bad none e =
+before_no_header_line h l ls [] behind bad none e = refl
+before_no_header_line h l ls (b ∷ bs) behind bad none e =
     let same : l ≡ b = cc in
-    no_setting h l bs (b ∷ bs) none (ap (λ (k : Numbered). k ∷ bs) (sym same))
+    no_header_line h l bs (b ∷ bs) none (ap (λ (k : Numbered). k ∷ bs) (sym same))
 
-among_commands : (h : Header) (n : ℕ) (l : Numbered) (ls : List Numbered) → setting_of l.1 ≡ None → Stops (commands_of h.size) (l ∷ ls) n → Stops (behind_size h) (l ∷ ls) n
+among_commands : (h : Header) (n : ℕ) (l : Numbered) (ls : List Numbered) → header_line_of l.1 ≡ None → Stops (commands_of h.size) (l ∷ ls) n → Stops (behind_size h) (l ∷ ls) n
 among_commands h n l ls none p = record {
   before = p.before;
   bad = p.bad;
@@ -93,14 +93,14 @@ among_commands h n l ls none p = record {
   number = p.number;
   good = (
     record { size = h.size; keeps = h.keeps; journal = unwrap_or h.journal false; lines = p.good.0 },
-    before_no_setting h l ls p.before p.behind p.bad none p.parts ∙ rw p.good.1 refl,
+    before_no_header_line h l ls p.before p.behind p.bad none p.parts ∙ rw p.good.1 refl,
   );
   outside = λ more.
       let b = begins p.before p.behind more p.bad l ls p.parts in
-      no_setting h l b.0 (p.before ++ p.bad ∷ more) none b.1 ∙ rw (p.outside more) refl;
+      no_header_line h l b.0 (p.before ++ p.bad ∷ more) none b.1 ∙ rw (p.outside more) refl;
 }
 
-no_room : (h : Header) (n : ℕ) (l : Numbered) (ls : List Numbered) (x : Setting) → setting_of l.1 ≡ Some x → with_setting h x ≡ None → l.0 ≡ n → Stops (behind_size h) (l ∷ ls) n
+no_room : (h : Header) (n : ℕ) (l : Numbered) (ls : List Numbered) (x : HeaderLine) → header_line_of l.1 ≡ Some x → with_header_line h x ≡ None → l.0 ≡ n → Stops (behind_size h) (l ∷ ls) n
 unfolding behind_size commands_of
 no_room h n l ls x is none same = record {
   before = [];
@@ -112,7 +112,7 @@ no_room h n l ls x is none same = record {
   outside = λ more. rw (is, none, same) refl;
 }
 
-in_header : (h g : Header) (n : ℕ) (l : Numbered) (ls : List Numbered) (x : Setting) → setting_of l.1 ≡ Some x → with_setting h x ≡ Some g → Stops (behind_size g) ls n → Stops (behind_size h) (l ∷ ls) n
+in_header : (h g : Header) (n : ℕ) (l : Numbered) (ls : List Numbered) (x : HeaderLine) → header_line_of l.1 ≡ Some x → with_header_line h x ≡ Some g → Stops (behind_size g) ls n → Stops (behind_size h) (l ∷ ls) n
 unfolding behind_size
 in_header h g n l ls x is some p = record {
   before = l ∷ p.before;
@@ -127,22 +127,22 @@ in_header h g n l ls x is some p = record {
 stops_behind_size : (h : Header) (n : ℕ) (ls : List Numbered) → behind_size h ls ≡ Err n → Stops (behind_size h) ls n
 unfolding behind_size commands_of
 stops_behind_size h n [] e = absurd cc
-stops_behind_size h n (l ∷ ls) e = at (setting_of l.1) refl e (λ g. stops_behind_size g n ls)
+stops_behind_size h n (l ∷ ls) e = at (header_line_of l.1) refl e (λ g. stops_behind_size g n ls)
   where
-    sets : (x : Setting) (o : Option Header) → setting_of l.1 ≡ Some x → with_setting h x ≡ o → (at_line l.0 o >> λ g. behind_size g ls) ≡ Err n
+    sets : (x : HeaderLine) (o : Option Header) → header_line_of l.1 ≡ Some x → with_header_line h x ≡ o → (at_line l.0 o >> λ g. behind_size g ls) ≡ Err n
         → ((g : Header) → behind_size g ls ≡ Err n → Stops (behind_size g) ls n) → Stops (behind_size h) (l ∷ ls) n
     sets x None is q e rest = no_room h n l ls x is q (cc)
     sets x (Some g) is q e rest = in_header h g n l ls x is q (rest g e)
 
-    commands : (read : Result Commands ℕ) → setting_of l.1 ≡ None → commands_of h.size (l ∷ ls) ≡ read
+    commands : (read : Result Commands ℕ) → header_line_of l.1 ≡ None → commands_of h.size (l ∷ ls) ≡ read
         → (read >> λ cs. whole (record { size = h.size; keeps = h.keeps; journal = unwrap_or h.journal false; lines = cs })) ≡ Err n → Stops (behind_size h) (l ∷ ls) n
     commands (Ok cs) is q e = absurd cc
     commands (Err m) is q e = let same : m ≡ n = cc in among_commands h n l ls is (stops_at_command h.size n (l ∷ ls) (q ∙ ap (λ (k : ℕ). none_read k) same))
 
-    at : (o : Option Setting) → setting_of l.1 ≡ o → by_setting o (λ x. at_line l.0 (with_setting h x) >> λ g. behind_size g ls) (with_commands h (l ∷ ls)) ≡ Err n
+    at : (o : Option HeaderLine) → header_line_of l.1 ≡ o → by_header_line o (λ x. at_line l.0 (with_header_line h x) >> λ g. behind_size g ls) (with_commands h (l ∷ ls)) ≡ Err n
         → ((g : Header) → behind_size g ls ≡ Err n → Stops (behind_size g) ls n) → Stops (behind_size h) (l ∷ ls) n
     at None is e rest = commands (commands_of h.size (l ∷ ls)) is refl e
-    at (Some x) is e rest = sets x (with_setting h x) is refl e rest
+    at (Some x) is e rest = sets x (with_header_line h x) is refl e rest
 
 -- ---- the whole script
 

@@ -12,3 +12,5 @@ pub mod FirstBadLaws
 pub mod Theorems
 pub mod EachGiven
 pub mod ScriptRanges
+pub mod PrintedNumbers
+pub mod TextsTell

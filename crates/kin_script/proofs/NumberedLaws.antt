@@ -5,12 +5,12 @@ use Rattle.std.specs.List.{slice_split, onto_first}
 use Rattle.std.proofs.lemmas.List.Elements.{All-nil, All-cons, All-weaker}
 use Rattle.std.proofs.lemmas.List.Kept.{AllPairs-cons}
 use Rattle.kin_script.specs.declared.command.Command.{Command}
-use Rattle.kin_script.specs.declared.line.Setting.{Setting}
+use Rattle.kin_script.specs.declared.line.HeaderLine.{HeaderLine}
 use Rattle.kin_script.specs.declared.script.Script.{Script}
 use Rattle.kin_script.specs.Lines.{is_line_feed, without_empty_end, lines_of, words_of, is_nil}
 use Rattle.kin_script.specs.Left.{Numbered, numbered}
-use Rattle.kin_script.specs.Commands.{command_of, size_of, setting_of}
-use Rattle.kin_script.specs.Grammar.{◌>>◌, at_line, by_setting, Header, commands_of, with_commands, with_setting, behind_size, script_of_lines, script_of}
+use Rattle.kin_script.specs.Commands.{command_of, size_of, header_line_of}
+use Rattle.kin_script.specs.Grammar.{◌>>◌, at_line, by_header_line, Header, commands_of, with_commands, with_header_line, behind_size, script_of_lines, script_of}
 
 -- the numbers are from low on and below high, and they rise
 abbrev pub Rises : {A : Type 0} → ℕ → ℕ → List (ℕ × A) → Type 0
@@ -69,16 +69,16 @@ behind_size-rises : (h : Header) (low high : ℕ) (ls : List Numbered) (s : Scri
 unfolding behind_size
 behind_size-rises h low high [] s e r = with_commands-rise h low high [] s e r
 behind_size-rises h low high (l ∷ ls) s e r =
-    at (setting_of l.1) e (λ g q. wider (l.0 + 1) low high s.lines (omega arith) (behind_size-rises g (l.0 + 1) high ls s q r.2))
+    at (header_line_of l.1) e (λ g q. wider (l.0 + 1) low high s.lines (omega arith) (behind_size-rises g (l.0 + 1) high ls s q r.2))
   where
     sets : (o : Option Header) → (at_line l.0 o >> λ g. behind_size g ls) ≡ Ok s → ((g : Header) → behind_size g ls ≡ Ok s → Rises low high s.lines) → Rises low high s.lines
     sets None e rest = absurd cc
     sets (Some g) e rest = rest g e
 
-    at : (o : Option Setting) → by_setting o (λ x. at_line l.0 (with_setting h x) >> λ g. behind_size g ls) (with_commands h (l ∷ ls)) ≡ Ok s
+    at : (o : Option HeaderLine) → by_header_line o (λ x. at_line l.0 (with_header_line h x) >> λ g. behind_size g ls) (with_commands h (l ∷ ls)) ≡ Ok s
         → ((g : Header) → behind_size g ls ≡ Ok s → Rises low high s.lines) → Rises low high s.lines
     at None e rest = with_commands-rise h low high (l ∷ ls) s e r
-    at (Some x) e rest = sets (with_setting h x) e rest
+    at (Some x) e rest = sets (with_header_line h x) e rest
 
 script_of_lines-rises : (after high : ℕ) (ls : List Numbered) (s : Script) → script_of_lines after ls ≡ Ok s → Rises 1 high ls → Rises 2 high s.lines
 unfolding script_of_lines

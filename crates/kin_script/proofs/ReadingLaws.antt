@@ -4,14 +4,14 @@ use Rattle.std.specs.Prelude.{unwrap_or, ◌==◌, OnOk}
 use Rattle.std.proofs.lemmas.Bool.Decides.{nat_tests}
 use Rattle.kin_script.specs.declared.command.Command.{Command}
 use Rattle.kin_script.specs.declared.script.Script.{Script}
-use Rattle.kin_script.specs.declared.line.Setting.{Setting}
+use Rattle.kin_script.specs.declared.line.HeaderLine.{HeaderLine}
 use Rattle.kin_script.specs.declared.read.Draft.{Draft}
 use Rattle.kin_script.specs.declared.read.ReadError.{ReadError}
 use Rattle.kin_script.specs.declared.read.ReadError.TheVariants.{BadLine, NoMemory}
 use Rattle.kin_script.specs.Lines.{Word}
 use Rattle.kin_script.specs.Left.{Numbered}
-use Rattle.kin_script.specs.Commands.{command_of, setting_of}
-use Rattle.kin_script.specs.Grammar.{◌>>◌, Header, commands_of, with_commands, with_setting, behind_size}
+use Rattle.kin_script.specs.Commands.{command_of, header_line_of}
+use Rattle.kin_script.specs.Grammar.{◌>>◌, Header, commands_of, with_commands, with_header_line, behind_size}
 use Rattle.kin_script.specs.Gives.{IfBadLine}
 use Rattle.kin_script.specs.Reading.{header, finished, reads, Continues}
 
@@ -29,25 +29,25 @@ at_front d ls e = rw e refl
 
 -- ---- a line of the header
 
-sets : (h g : Header) (n : ℕ) (ws : List Word) (ls : List Numbered) (s : Setting)
-    → Some s ≡ setting_of ws → with_setting h s ≡ Some g → behind_size h ((n, ws) ∷ ls) ≡ behind_size g ls
+sets : (h g : Header) (n : ℕ) (ws : List Word) (ls : List Numbered) (s : HeaderLine)
+    → Some s ≡ header_line_of ws → with_header_line h s ≡ Some g → behind_size h ((n, ws) ∷ ls) ≡ behind_size g ls
 unfolding behind_size
 sets h g n ws ls s e w = rw (← e, w) refl
 
-pub takes_setting : (d e : Draft) (n : ℕ) (ws : List Word) (ls : List Numbered) (s : Setting)
-    → d.commands ≡ [] → e.commands ≡ d.commands → Some s ≡ setting_of ws → with_setting (header d) s ≡ Some (header e)
+pub takes_header_line : (d e : Draft) (n : ℕ) (ws : List Word) (ls : List Numbered) (s : HeaderLine)
+    → d.commands ≡ [] → e.commands ≡ d.commands → Some s ≡ header_line_of ws → with_header_line (header d) s ≡ Some (header e)
     → reads d ((n, ws) ∷ ls) ≡ reads e ls
-takes_setting d e n ws ls s front same is w =
+takes_header_line d e n ws ls s front same is w =
     at_front d ((n, ws) ∷ ls) front ∙ sets (header d) (header e) n ws ls s is w ∙ sym (at_front e ls (same ∙ front))
 
-refuses : (h : Header) (n : ℕ) (ws : List Word) (ls : List Numbered) (s : Setting)
-    → Some s ≡ setting_of ws → with_setting h s ≡ None → behind_size h ((n, ws) ∷ ls) ≡ Err n
+refuses : (h : Header) (n : ℕ) (ws : List Word) (ls : List Numbered) (s : HeaderLine)
+    → Some s ≡ header_line_of ws → with_header_line h s ≡ None → behind_size h ((n, ws) ∷ ls) ≡ Err n
 unfolding behind_size
 refuses h n ws ls s e w = rw (← e, w) refl
 
-pub refuses_setting : (d : Draft) (n m : ℕ) (ws : List Word) (ls : List Numbered) (s : Setting)
-    → d.commands ≡ [] → Some s ≡ setting_of ws → (with_setting (header d) s ≡ None) × (m ≡ n) → reads d ((n, ws) ∷ ls) ≡ Err m
-refuses_setting d n m ws ls s front is w =
+pub refuses_header_line : (d : Draft) (n m : ℕ) (ws : List Word) (ls : List Numbered) (s : HeaderLine)
+    → d.commands ≡ [] → Some s ≡ header_line_of ws → (with_header_line (header d) s ≡ None) × (m ≡ n) → reads d ((n, ws) ∷ ls) ≡ Err m
+refuses_header_line d n m ws ls s front is w =
     at_front d ((n, ws) ∷ ls) front ∙ refuses (header d) n ws ls s is w.0 ∙ ap outside (sym w.1)
 
 -- ---- a command
@@ -64,12 +64,12 @@ regroup d front c (Ok cs) = ap (λ (xs : Commands). whole (script_with d xs)) (s
 regroup d front c (Err n) = refl
 
 -- the header ends at a line that doesn't belong to it
-ends : (h : Header) (n : ℕ) (ws : List Word) (ls : List Numbered) → None ≡ setting_of ws → behind_size h ((n, ws) ∷ ls) ≡ with_commands h ((n, ws) ∷ ls)
+ends : (h : Header) (n : ℕ) (ws : List Word) (ls : List Numbered) → None ≡ header_line_of ws → behind_size h ((n, ws) ∷ ls) ≡ with_commands h ((n, ws) ∷ ls)
 unfolding behind_size
 ends h n ws ls e = rw (← e) refl
 
 -- behind a command, and at a line that doesn't belong to the header, commands are read
-reads_commands-first : (d : Draft) (n : ℕ) (ws : List Word) (ls : List Numbered) → d.commands ≡ [] → None ≡ setting_of ws
+reads_commands-first : (d : Draft) (n : ℕ) (ws : List Word) (ls : List Numbered) → d.commands ≡ [] → None ≡ header_line_of ws
     → reads d ((n, ws) ∷ ls) ≡ behind d d.commands (commands_of d.size ((n, ws) ∷ ls))
 reads_commands-first d n ws ls front e = at_front d ((n, ws) ∷ ls) front ∙ ends (header d) n ws ls e ∙ rw front refl
 
@@ -118,14 +118,14 @@ empty : {A : Type 0} (xs : List A) → (length xs == 0) ≡ true → xs ≡ []
 empty [] e = refl
 empty (x ∷ xs) e = absurd (grind (arith, nat_tests))
 
-pub follows_setting : (d e : Draft) (n : ℕ) (ws : List Word) (s : Setting) (r : Result (Unit {0}) ReadError)
-    → (length d.commands == 0) ≡ true → Some s ≡ setting_of ws
-    → OnOk r (with_setting (header d) s ≡ Some (header e)) → IfBadLine r (λ m. (with_setting (header d) s ≡ None) × (m ≡ n)) → e.commands ≡ d.commands
+pub follows_header_line : (d e : Draft) (n : ℕ) (ws : List Word) (s : HeaderLine) (r : Result (Unit {0}) ReadError)
+    → (length d.commands == 0) ≡ true → Some s ≡ header_line_of ws
+    → OnOk r (with_header_line (header d) s ≡ Some (header e)) → IfBadLine r (λ m. (with_header_line (header d) s ≡ None) × (m ≡ n)) → e.commands ≡ d.commands
     → (ls : List Numbered) → Continues r (reads d ((n, ws) ∷ ls)) (reads e ls)
-follows_setting d e n ws s (Ok x) front is ok bad same ls = takes_setting d e n ws ls s (empty d.commands front) same is ok
-follows_setting d e n ws s (Err (BadLine m)) front is ok bad same ls = refuses_setting d n m ws ls s (empty d.commands front) is bad
-follows_setting d e n ws s (Err NoMemory) front is ok bad same ls = tt
+follows_header_line d e n ws s (Ok x) front is ok bad same ls = takes_header_line d e n ws ls s (empty d.commands front) same is ok
+follows_header_line d e n ws s (Err (BadLine m)) front is ok bad same ls = refuses_header_line d n m ws ls s (empty d.commands front) is bad
+follows_header_line d e n ws s (Err NoMemory) front is ok bad same ls = tt
 
-pub reads_commands-front : (d : Draft) (n : ℕ) (ws : List Word) (ls : List Numbered) → (length d.commands == 0) ≡ true → None ≡ setting_of ws
+pub reads_commands-front : (d : Draft) (n : ℕ) (ws : List Word) (ls : List Numbered) → (length d.commands == 0) ≡ true → None ≡ header_line_of ws
     → reads d ((n, ws) ∷ ls) ≡ behind d d.commands (commands_of d.size ((n, ws) ∷ ls))
 reads_commands-front d n ws ls front e = reads_commands-first d n ws ls (empty d.commands front) e

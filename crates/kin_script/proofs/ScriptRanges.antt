@@ -11,16 +11,16 @@ use Rattle.kin_motion.specs.declared.keep.Keep.TheVariants as keep
 use Rattle.kin_motion.specs.Course.{IsSlow}
 use Rattle.kin_script.specs.declared.command.Command.{Command}
 use Rattle.kin_script.specs.declared.command.Command.TheVariants.{AtRatio, AtRoot, Next, Hull, Closest, Live}
-use Rattle.kin_script.specs.declared.line.Setting.{Setting}
-use Rattle.kin_script.specs.declared.line.Setting.TheVariants as setting
+use Rattle.kin_script.specs.declared.line.HeaderLine.{HeaderLine}
+use Rattle.kin_script.specs.declared.line.HeaderLine.TheVariants as header_line
 use Rattle.kin_script.specs.declared.script.Script.{Script}
 use Rattle.kin_script.specs.Lines.{Word}
 use Rattle.kin_script.specs.Left.{Numbered}
 use Rattle.kin_script.specs.Numbers.{up_to, at_least, starts_with_minus, numeral_of, natural_of, integer_of, ratio_limit, ratio_at_slash, ratio_of}
-use Rattle.kin_script.specs.Commands.{natural_at, integer_at, motion_at, insert_of, side_at, quadratic_at, root_of, at_of, order_of, extreme_of, box_of, command_of, size_of, direction_of, keep_of, journal_of, setting_of}
+use Rattle.kin_script.specs.Commands.{natural_at, integer_at, motion_at, insert_of, side_at, quadratic_at, root_of, at_of, order_of, extreme_of, box_of, command_of, size_of, direction_of, keep_of, journal_of, header_line_of}
 use Rattle.kin_script.specs.Grammar.{IsScript}
-use Rattle.kin_script.specs.Ranges.{IsDirection, IsKeepInRange, IsSettingInRange, IsRootInRange, IsCommandInRange, IsWithin}
-use Rattle.kin_script.specs.Written.{SaysSetting, SaysCommand, keeps_of, worded_lines, IsWritten}
+use Rattle.kin_script.specs.Ranges.{IsDirection, IsKeepInRange, IsHeaderLineInRange, IsRootInRange, IsCommandInRange, IsWithin}
+use Rattle.kin_script.specs.Written.{SaysHeaderLine, SaysCommand, keeps_of, worded_lines, IsWritten}
 use Rattle.kin_script.proofs.EachGiven.{Each, each_none, each_one, each_way, each_unless, each_last, each_map, each_then}
 use Rattle.kin_script.proofs.Theorems.{scripts_are_written}
 
@@ -185,20 +185,20 @@ keep_range (kind ∷ ws) =
     each_way _ _ _ _ (each_map _ (λ d. keep.Order d.0 d.1) _ (direction_range ws))
     (each_way _ _ _ _ (each_map _ (λ d. keep.Extreme d.0 d.1) _ (direction_range ws)) (each_none _))
 
-setting_range : (ws : List Word) → Each IsSettingInRange (setting_of ws)
-unfolding setting_of
-setting_range [] = each_none _
-setting_range (name ∷ ws) =
-    each_way _ (bytes_eq name (codes "keep")) _ _ (each_map _ (λ k. setting.Keep k) _ (keep_range ws))
-    (each_way _ (bytes_eq name (codes "journal")) _ _ (each_map _ (λ on. setting.Journal on) (journal_of ws) (λ on e. tt)) (each_none _))
+header_line_range : (ws : List Word) → Each IsHeaderLineInRange (header_line_of ws)
+unfolding header_line_of
+header_line_range [] = each_none _
+header_line_range (name ∷ ws) =
+    each_way _ (bytes_eq name (codes "keep")) _ _ (each_map _ (λ k. header_line.Keep k) _ (keep_range ws))
+    (each_way _ (bytes_eq name (codes "journal")) _ _ (each_map _ (λ on. header_line.Journal on) (journal_of ws) (λ on e. tt)) (each_none _))
 
 -- ---- the script
-keeps_range : (ls : List Numbered) (ss : List Setting) → AllZip SaysSetting ls ss → All IsKeepInRange (keeps_of ss)
+keeps_range : (ls : List Numbered) (ss : List HeaderLine) → AllZip SaysHeaderLine ls ss → All IsKeepInRange (keeps_of ss)
 keeps_range [] [] z = All-nil IsKeepInRange
 keeps_range [] (s ∷ ss) z = absurd z
 keeps_range (l ∷ ls) [] z = absurd z
-keeps_range (l ∷ ls) (setting.Keep k ∷ ss) z = All-cons IsKeepInRange k (keeps_of ss) (setting_range l.1 (setting.Keep k) z.0) (keeps_range ls ss z.1)
-keeps_range (l ∷ ls) (setting.Journal on ∷ ss) z = keeps_range ls ss z.1
+keeps_range (l ∷ ls) (header_line.Keep k ∷ ss) z = All-cons IsKeepInRange k (keeps_of ss) (header_line_range l.1 (header_line.Keep k) z.0) (keeps_range ls ss z.1)
+keeps_range (l ∷ ls) (header_line.Journal on ∷ ss) z = keeps_range ls ss z.1
 
 commands_range : (size : ℕ) (ls : List Numbered) (cs : List (ℕ × Command)) → AllZip (SaysCommand size) ls cs → All (λ c. IsCommandInRange size c.1) cs
 commands_range size [] [] z = All-nil (λ c. IsCommandInRange size c.1)
@@ -213,7 +213,7 @@ written_within ls s w =
       size_low = size.0;
       size_high = size.1;
       few_keeps = w.few_keeps;
-      keeps = subst (All IsKeepInRange) (sym w.keeps) (keeps_range w.header w.settings w.header_says);
+      keeps = subst (All IsKeepInRange) (sym w.keeps) (keeps_range w.header w.header_lines w.header_says);
       commands = commands_range s.size w.commands s.lines w.commands_say;
     }
 

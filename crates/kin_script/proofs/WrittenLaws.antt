@@ -1,5 +1,5 @@
 -- The grammar's function and its relation are the same.
-use Rattle.std.proofs.Common.{◌≡◌, ℕ, ◌≤◌, Bool, true, false, cond, nat_lt, List, [], ◌∷◌, ◌++◌, length, Option, Some, None, Result, Ok, Err, refl, sym, ap, subst, ◌∙◌, append_assoc, length-append, arith}
+use Rattle.std.proofs.Common.{IsTrue, ◌≡◌, ℕ, ◌≤◌, Bool, true, false, cond, nat_lt, List, [], ◌∷◌, ◌++◌, length, Option, Some, None, Result, Ok, Err, refl, sym, ap, subst, ◌∙◌, append_assoc, length-append, arith}
 use Rattle.std.specs.Prelude.{unwrap_or, is_some, codes, option_map}
 use Rattle.std.specs.List.{AllZip}
 use Rattle.std.specs.Str.{bytes_eq}
@@ -7,15 +7,17 @@ use Rattle.std.proofs.lemmas.Slice.Eq.{bytes_eq-Decides}
 use Rattle.std.proofs.lemmas.Bool.Decides.{nat_tests}
 use Rattle.std.proofs.lemmas.List.{append-nil}
 use Rattle.kin_motion.specs.declared.keep.Keep.{Keep}
+use Rattle.kin_motion.specs.Keeps.{are_few}
+use Rattle.kin_motion.proofs.KeepLaws.{few_before}
 use Rattle.kin_script.specs.declared.command.Command.{Command}
 use Rattle.kin_script.specs.declared.script.Script.{Script}
-use Rattle.kin_script.specs.declared.line.Setting.{Setting}
-use Rattle.kin_script.specs.declared.line.Setting.TheVariants as setting
+use Rattle.kin_script.specs.declared.line.HeaderLine.{HeaderLine}
+use Rattle.kin_script.specs.declared.line.HeaderLine.TheVariants as header_line
 use Rattle.kin_script.specs.Lines.{Word}
 use Rattle.kin_script.specs.Left.{Numbered}
-use Rattle.kin_script.specs.Commands.{command_of, size_of, keep_of, journal_of, setting_of}
-use Rattle.kin_script.specs.Grammar.{◌>>◌, at_line, by_setting, Header, commands_of, with_commands, with_setting, behind_size, script_of_lines}
-use Rattle.kin_script.specs.Written.{keeps_of, journals_of, IsJournal, SaysSetting, SaysCommand, IsWritten}
+use Rattle.kin_script.specs.Commands.{command_of, size_of, keep_of, journal_of, header_line_of}
+use Rattle.kin_script.specs.Grammar.{◌>>◌, at_line, by_header_line, Header, commands_of, with_commands, with_header_line, behind_size, script_of_lines}
+use Rattle.kin_script.specs.Written.{keeps_of, journals_of, IsJournal, SaysHeaderLine, SaysCommand, IsWritten}
 
 abbrev Commands : Type 0
 Commands = List (ℕ × Command)
@@ -63,21 +65,21 @@ journal_lines (Some on) = on ∷ []
 -- what is behind the size line, from a header that is partly read
 pub record Parts (h : Header) (ls : List Numbered) (s : Script) : Type 0 where
   pub header : List Numbered
-  pub settings : List Setting
+  pub header_lines : List HeaderLine
   pub commands : List Numbered
   pub parts : ls ≡ header ++ commands
   pub size : s.size ≡ h.size
-  pub header_says : AllZip SaysSetting header settings
-  pub keeps : s.keeps ≡ h.keeps ++ keeps_of settings
-  pub few_keeps : length s.keeps ≤ 16
-  pub journal : IsJournal (journal_lines h.journal ++ journals_of settings) s.journal
+  pub header_says : AllZip SaysHeaderLine header header_lines
+  pub keeps : s.keeps ≡ h.keeps ++ keeps_of header_lines
+  pub few_keeps : IsTrue (are_few s.keeps)
+  pub journal : IsJournal (journal_lines h.journal ++ journals_of header_lines) s.journal
   pub commands_say : AllZip (SaysCommand h.size) commands s.lines
 
 journal_stands : (journal : Option Bool) → IsJournal (journal_lines journal ++ []) (unwrap_or journal false)
 journal_stands None = refl
 journal_stands (Some on) = refl
 
-behind_header : (h : Header) (ls : List Numbered) (s : Script) → length h.keeps ≤ 16 → with_commands h ls ≡ Ok s → Parts h ls s
+behind_header : (h : Header) (ls : List Numbered) (s : Script) → are_few h.keeps ≡ true → with_commands h ls ≡ Ok s → Parts h ls s
 behind_header h ls s few e = at (commands_of h.size ls) refl e
   where
     at : (read : Result Commands ℕ) → commands_of h.size ls ≡ read
@@ -87,7 +89,7 @@ behind_header h ls s few e = at (commands_of h.size ls) refl e
         let this : record { size = h.size; keeps = h.keeps; journal = unwrap_or h.journal false; lines = cs } ≡ s = cc in
         subst (λ (t : Script). Parts h ls t) this (record {
           header = [];
-          settings = [];
+          header_lines = [];
           commands = ls;
           parts = refl;
           size = refl;
@@ -99,26 +101,26 @@ behind_header h ls s few e = at (commands_of h.size ls) refl e
         })
 
 -- one more line of the header
-keep_line : (h : Header) (l : Numbered) (ls : List Numbered) (s : Script) (k : Keep) → setting_of l.1 ≡ Some (setting.Keep k)
+keep_line : (h : Header) (l : Numbered) (ls : List Numbered) (s : Script) (k : Keep) → header_line_of l.1 ≡ Some (header_line.Keep k)
     → Parts (record h { keeps = h.keeps ++ k ∷ [] }) ls s → Parts h (l ∷ ls) s
 keep_line h l ls s k is p = record {
   header = l ∷ p.header;
-  settings = setting.Keep k ∷ p.settings;
+  header_lines = header_line.Keep k ∷ p.header_lines;
   commands = p.commands;
   parts = ap (λ (xs : List Numbered). l ∷ xs) p.parts;
   size = p.size;
   header_says = (is, p.header_says);
-  keeps = p.keeps ∙ append_assoc h.keeps (k ∷ []) (keeps_of p.settings);
+  keeps = p.keeps ∙ append_assoc h.keeps (k ∷ []) (keeps_of p.header_lines);
   few_keeps = p.few_keeps;
   journal = p.journal;
   commands_say = p.commands_say;
 }
 
-journal_line : (h : Header) (l : Numbered) (ls : List Numbered) (s : Script) (on : Bool) → h.journal ≡ None → setting_of l.1 ≡ Some (setting.Journal on)
+journal_line : (h : Header) (l : Numbered) (ls : List Numbered) (s : Script) (on : Bool) → h.journal ≡ None → header_line_of l.1 ≡ Some (header_line.Journal on)
     → Parts (record h { journal = Some on }) ls s → Parts h (l ∷ ls) s
 journal_line h l ls s on none is p = record {
   header = l ∷ p.header;
-  settings = setting.Journal on ∷ p.settings;
+  header_lines = header_line.Journal on ∷ p.header_lines;
   commands = p.commands;
   parts = ap (λ (xs : List Numbered). l ∷ xs) p.parts;
   size = p.size;
@@ -129,32 +131,29 @@ journal_line h l ls s on none is p = record {
   commands_say = p.commands_say;
 }
 
-one_longer : (keeps : List Keep) (k : Keep) → nat_lt (length keeps) 16 ≡ true → length (keeps ++ k ∷ []) ≤ 16
-one_longer keeps k room = grind (arith, nat_tests, length-append)
-
 -- from the function to the relation
-parts_of : (h : Header) (ls : List Numbered) (s : Script) → length h.keeps ≤ 16 → behind_size h ls ≡ Ok s → Parts h ls s
+parts_of : (h : Header) (ls : List Numbered) (s : Script) → are_few h.keeps ≡ true → behind_size h ls ≡ Ok s → Parts h ls s
 unfolding behind_size
 parts_of h [] s few e = behind_header h [] s few e
-parts_of h (l ∷ ls) s few e = at (setting_of l.1) refl e (λ g. parts_of g ls s)
+parts_of h (l ∷ ls) s few e = at (header_line_of l.1) refl e (λ g. parts_of g ls s)
   where
-    keeps : (k : Keep) (room : Bool) → nat_lt (length h.keeps) 16 ≡ room → setting_of l.1 ≡ Some (setting.Keep k)
+    keeps : (k : Keep) (room : Bool) → are_few (h.keeps ++ k ∷ []) ≡ room → header_line_of l.1 ≡ Some (header_line.Keep k)
         → (at_line l.0 (cond room (Some (record h { keeps = h.keeps ++ k ∷ [] })) None) >> λ g. behind_size g ls) ≡ Ok s
-        → ((g : Header) → length g.keeps ≤ 16 → behind_size g ls ≡ Ok s → Parts g ls s) → Parts h (l ∷ ls) s
+        → ((g : Header) → are_few g.keeps ≡ true → behind_size g ls ≡ Ok s → Parts g ls s) → Parts h (l ∷ ls) s
     keeps k false q is e rest = absurd cc
-    keeps k true q is e rest = keep_line h l ls s k is (rest (record h { keeps = h.keeps ++ k ∷ [] }) (one_longer h.keeps k q) e)
+    keeps k true q is e rest = keep_line h l ls s k is (rest (record h { keeps = h.keeps ++ k ∷ [] }) q e)
 
-    journals : (on : Bool) (journal : Option Bool) → h.journal ≡ journal → setting_of l.1 ≡ Some (setting.Journal on)
+    journals : (on : Bool) (journal : Option Bool) → h.journal ≡ journal → header_line_of l.1 ≡ Some (header_line.Journal on)
         → (at_line l.0 (cond (is_some journal) None (Some (record h { journal = Some on }))) >> λ g. behind_size g ls) ≡ Ok s
-        → ((g : Header) → length g.keeps ≤ 16 → behind_size g ls ≡ Ok s → Parts g ls s) → Parts h (l ∷ ls) s
+        → ((g : Header) → are_few g.keeps ≡ true → behind_size g ls ≡ Ok s → Parts g ls s) → Parts h (l ∷ ls) s
     journals on (Some b) q is e rest = absurd cc
     journals on None q is e rest = journal_line h l ls s on q is (rest (record h { journal = Some on }) few e)
 
-    at : (o : Option Setting) → setting_of l.1 ≡ o → by_setting o (λ x. at_line l.0 (with_setting h x) >> λ g. behind_size g ls) (with_commands h (l ∷ ls)) ≡ Ok s
-        → ((g : Header) → length g.keeps ≤ 16 → behind_size g ls ≡ Ok s → Parts g ls s) → Parts h (l ∷ ls) s
+    at : (o : Option HeaderLine) → header_line_of l.1 ≡ o → by_header_line o (λ x. at_line l.0 (with_header_line h x) >> λ g. behind_size g ls) (with_commands h (l ∷ ls)) ≡ Ok s
+        → ((g : Header) → are_few g.keeps ≡ true → behind_size g ls ≡ Ok s → Parts g ls s) → Parts h (l ∷ ls) s
     at None is e rest = behind_header h (l ∷ ls) s few e
-    at (Some (setting.Keep k)) is e rest = keeps k (nat_lt (length h.keeps) 16) refl is e rest
-    at (Some (setting.Journal on)) is e rest = journals on h.journal refl is e rest
+    at (Some (header_line.Keep k)) is e rest = keeps k (are_few (h.keeps ++ k ∷ [])) refl is e rest
+    at (Some (header_line.Journal on)) is e rest = journals on h.journal refl is e rest
 
 -- ---- from the relation to the function
 
@@ -173,13 +172,13 @@ unfolding command_of
 no_journal_command size ws = refl
 
 -- a line that says a command says nothing of the header
-apart : (size : ℕ) (ws : List Word) (c : Command) → command_of size ws ≡ Some c → setting_of ws ≡ None
-unfolding setting_of
+apart : (size : ℕ) (ws : List Word) (c : Command) → command_of size ws ≡ Some c → header_line_of ws ≡ None
+unfolding header_line_of
 apart size [] c e = refl
 apart size (name ∷ ws) c e = at (bytes_eq name (codes "keep")) (bytes_eq name (codes "journal")) refl refl
   where
     at : (k j : Bool) → bytes_eq name (codes "keep") ≡ k → bytes_eq name (codes "journal") ≡ j
-        → cond k (option_map (λ x. setting.Keep x) (keep_of ws)) (cond j (option_map (λ on. setting.Journal on) (journal_of ws)) None) ≡ None
+        → cond k (option_map (λ x. header_line.Keep x) (keep_of ws)) (cond j (option_map (λ on. header_line.Journal on) (journal_of ws)) None) ≡ None
     at true j p q = absurd (no_command size name (codes "keep") ws c p (no_keep_command size ws) e)
     at false true p q = absurd (no_command size name (codes "journal") ws c q (no_journal_command size ws) e)
     at false false p q = refl
@@ -195,8 +194,8 @@ journal_is : (journal : Option Bool) (on : Bool) → IsJournal (journal_lines jo
 journal_is None on j = j
 journal_is (Some b) on j = j
 
-has_room-of : (keeps more : List Keep) (k : Keep) → length (keeps ++ k ∷ more) ≤ 16 → nat_lt (length keeps) 16 ≡ true
-has_room-of keeps more k few = grind (arith, nat_tests, length-append)
+room_for : (keeps more : List Keep) (k : Keep) → are_few (keeps ++ k ∷ more) ≡ true → are_few (keeps ++ k ∷ []) ≡ true
+room_for keeps more k few = few_before (keeps ++ k ∷ []) more (ap are_few (append_assoc keeps (k ∷ []) more) ∙ few)
 
 no_journal_yet : (journal : Option Bool) (on later : Bool) (js : List Bool) → IsJournal (journal_lines journal ++ on ∷ js) later → journal ≡ None
 no_journal_yet None on later js j = refl
@@ -210,9 +209,9 @@ with_these : (h : Header) (ls : List Numbered) (s : Script) → s.size ≡ h.siz
     → commands_of h.size ls ≡ Ok s.lines → with_commands h ls ≡ Ok s
 with_these h ls s size keeps journal e = rw e (ap (λ (t : Script). whole t) (assembled h s size keeps journal))
 
-written_behind : (h : Header) (header : List Numbered) (settings : List Setting) (commands : List Numbered) (s : Script)
-    → AllZip SaysSetting header settings → s.size ≡ h.size → s.keeps ≡ h.keeps ++ keeps_of settings → length s.keeps ≤ 16
-    → IsJournal (journal_lines h.journal ++ journals_of settings) s.journal → AllZip (SaysCommand h.size) commands s.lines
+written_behind : (h : Header) (header : List Numbered) (header_lines : List HeaderLine) (commands : List Numbered) (s : Script)
+    → AllZip SaysHeaderLine header header_lines → s.size ≡ h.size → s.keeps ≡ h.keeps ++ keeps_of header_lines → are_few s.keeps ≡ true
+    → IsJournal (journal_lines h.journal ++ journals_of header_lines) s.journal → AllZip (SaysCommand h.size) commands s.lines
     → behind_size h (header ++ commands) ≡ Ok s
 unfolding behind_size
 written_behind h [] [] commands s z size keeps few j says =
@@ -220,11 +219,11 @@ written_behind h [] [] commands s z size keeps few j says =
     ∙ with_these h commands s size (keeps ∙ append-nil h.keeps) (journal_is h.journal s.journal j) (said h.size commands s.lines says)
 written_behind h [] (x ∷ xs) commands s z size keeps few j says = absurd z
 written_behind h (l ∷ ls) [] commands s z size keeps few j says = absurd z
-written_behind h (l ∷ ls) (setting.Keep k ∷ xs) commands s z size keeps few j says =
-    let room = has_room-of h.keeps (keeps_of xs) k (subst (λ (ks : List Keep). length ks ≤ 16) keeps few) in
+written_behind h (l ∷ ls) (header_line.Keep k ∷ xs) commands s z size keeps few j says =
+    let room = room_for h.keeps (keeps_of xs) k (ap are_few (sym keeps) ∙ few) in
     rw (z.0, room)
     (written_behind (record h { keeps = h.keeps ++ k ∷ [] }) ls xs commands s z.1 size (keeps ∙ sym (append_assoc h.keeps (k ∷ []) (keeps_of xs))) few j says)
-written_behind h (l ∷ ls) (setting.Journal on ∷ xs) commands s z size keeps few j says =
+written_behind h (l ∷ ls) (header_line.Journal on ∷ xs) commands s z size keeps few j says =
     let none = no_journal_yet h.journal on s.journal (journals_of xs) j in
     rw (z.0, none)
     (written_behind (record h { journal = Some on }) ls xs commands s z.1 size keeps few (rw none at j) says)
@@ -242,11 +241,11 @@ is_written after (l ∷ ls) s e = at (size_of l.1) refl e
     at : (o : Option ℕ) → size_of l.1 ≡ o → (at_line l.0 o >> λ size. behind_size (first_header size) ls) ≡ Ok s → IsWritten (l ∷ ls) s
     at None is e = absurd cc
     at (Some size) is e =
-        let p = parts_of (first_header size) ls s (omega arith) e in
+        let p = parts_of (first_header size) ls s refl e in
         record {
           first = l;
           header = p.header;
-          settings = p.settings;
+          header_lines = p.header_lines;
           commands = p.commands;
           parts = ap (λ (xs : List Numbered). l ∷ xs) p.parts;
           size = is ∙ ap (λ (k : ℕ). found k) (sym p.size);
@@ -261,4 +260,4 @@ pub written_is : (after : ℕ) (ls : List Numbered) (s : Script) → IsWritten l
 unfolding script_of_lines
 written_is after ls s w =
     rw (w.parts, w.size)
-    (written_behind (first_header s.size) w.header w.settings w.commands s w.header_says refl w.keeps w.few_keeps w.journal w.commands_say)
+    (written_behind (first_header s.size) w.header w.header_lines w.commands s w.header_says refl w.keeps w.few_keeps w.journal w.commands_say)

@@ -6,8 +6,8 @@ use Rattle.kin_motion.specs.declared.keep.Keep.TheVariants as keep
 use Rattle.kin_motion.specs.Course.{Course}
 use Rattle.kin_script.specs.declared.command.Command.{Command}
 use Rattle.kin_script.specs.declared.command.Command.TheVariants.{Insert, AtRatio, AtRoot, Next, Order, Extreme, Hull, Closest, Inside, Live}
-use Rattle.kin_script.specs.declared.line.Setting.{Setting}
-use Rattle.kin_script.specs.declared.line.Setting.TheVariants as setting
+use Rattle.kin_script.specs.declared.line.HeaderLine.{HeaderLine}
+use Rattle.kin_script.specs.declared.line.HeaderLine.TheVariants as header_line
 use Rattle.kin_script.specs.Lines.{Word, is_nil}
 use Rattle.kin_script.specs.Numbers.{◌>>=◌, natural_of, integer_of, ratio_of}
 
@@ -137,9 +137,9 @@ journal_of (word ∷ ws) =
     else None
 
 -- a line of the header behind the size line
-unfoldable pub setting_of : List Word → Option Setting
-setting_of [] = None
-setting_of (name ∷ ws) =
-    if bytes_eq name (codes "keep") then option_map (λ k. setting.Keep k) (keep_of ws)
-    else if bytes_eq name (codes "journal") then option_map (λ on. setting.Journal on) (journal_of ws)
+unfoldable pub header_line_of : List Word → Option HeaderLine
+header_line_of [] = None
+header_line_of (name ∷ ws) =
+    if bytes_eq name (codes "keep") then option_map (λ k. header_line.Keep k) (keep_of ws)
+    else if bytes_eq name (codes "journal") then option_map (λ on. header_line.Journal on) (journal_of ws)
     else None

@@ -1,13 +1,14 @@
 -- Which bytes are a script, and which line is the first outside the grammar.
-use Rattle.std.specs.Prelude.{◌≡◌, ℕ, Bool, false, nat_lt, List, [], ◌∷◌, ◌++◌, length, Option, Some, None, is_some, unwrap_or, Result, Ok, Err, if◌then◌else◌}
+use Rattle.std.specs.Prelude.{◌≡◌, ℕ, Bool, false, List, [], ◌∷◌, ◌++◌, Option, Some, None, is_some, unwrap_or, Result, Ok, Err, if◌then◌else◌}
 use Rattle.kin_motion.specs.declared.keep.Keep.{Keep}
+use Rattle.kin_motion.specs.Keeps.{are_few}
 use Rattle.kin_script.specs.declared.script.Script.{Script}
 use Rattle.kin_script.specs.declared.command.Command.{Command}
-use Rattle.kin_script.specs.declared.line.Setting.{Setting}
-use Rattle.kin_script.specs.declared.line.Setting.TheVariants as setting
+use Rattle.kin_script.specs.declared.line.HeaderLine.{HeaderLine}
+use Rattle.kin_script.specs.declared.line.HeaderLine.TheVariants as header_line
 use Rattle.kin_script.specs.Lines.{lines_of}
 use Rattle.kin_script.specs.Left.{Numbered, Left, with_words, after}
-use Rattle.kin_script.specs.Commands.{command_of, size_of, setting_of}
+use Rattle.kin_script.specs.Commands.{command_of, size_of, header_line_of}
 
 infixl 10 ◌>>◌
 -- what was read, handed on, or the first line outside
@@ -35,25 +36,21 @@ pub record Header : Type 0 where
 abbrev pub with_commands : Header → List Numbered → Result Script ℕ
 with_commands h ls = commands_of h.size ls >> λ cs. Ok (record { size = h.size; keeps = h.keeps; journal = unwrap_or h.journal false; lines = cs })
 
--- whether one more structure may be kept: at most 16 are
-abbrev pub has_room : List Keep → Keep → Bool
-has_room keeps k = nat_lt (length keeps) 16
-
 -- a further line of the header, where its place allows it
-abbrev pub with_setting : Header → Setting → Option Header
-with_setting h (setting.Keep k) = if has_room h.keeps k then Some (record h { keeps = h.keeps ++ k ∷ [] }) else None
-with_setting h (setting.Journal on) = if is_some h.journal then None else Some (record h { journal = Some on })
+abbrev pub with_header_line : Header → HeaderLine → Option Header
+with_header_line h (header_line.Keep k) = if are_few (h.keeps ++ k ∷ []) then Some (record h { keeps = h.keeps ++ k ∷ [] }) else None
+with_header_line h (header_line.Journal on) = if is_some h.journal then None else Some (record h { journal = Some on })
 
 -- by whether a line belongs to the header
-abbrev pub by_setting : Option Setting → (Setting → Result Script ℕ) → Result Script ℕ → Result Script ℕ
-by_setting (Some s) inside behind = inside s
-by_setting None inside behind = behind
+abbrev pub by_header_line : Option HeaderLine → (HeaderLine → Result Script ℕ) → Result Script ℕ → Result Script ℕ
+by_header_line (Some s) inside behind = inside s
+by_header_line None inside behind = behind
 
 -- the lines of the header, in any order, and then the commands
 unfoldable pub behind_size : Header → List Numbered → Result Script ℕ
 behind_size h [] = with_commands h []
-behind_size h (l ∷ ls) = by_setting (setting_of l.1)
-    (λ s. at_line l.0 (with_setting h s) >> λ g. behind_size g ls)
+behind_size h (l ∷ ls) = by_header_line (header_line_of l.1)
+    (λ s. at_line l.0 (with_header_line h s) >> λ g. behind_size g ls)
     (with_commands h (l ∷ ls))
 
 -- the size line is the first with words; with none, the line after the last is outside

@@ -9,5 +9,6 @@ pub mod Reading
 pub mod Printed
 pub mod PrintedJournal
 pub mod Written
+pub mod Deeds
 pub mod Replay
 pub mod Text

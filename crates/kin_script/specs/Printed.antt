@@ -7,6 +7,7 @@ use Rattle.kin_num.specs.declared.instant.Shape.TheVariants.{Ratio, Root}
 use Rattle.kin_num.specs.declared.instant.Phase.{Phase}
 use Rattle.kin_num.specs.declared.instant.Phase.TheVariants.{At, After}
 use Rattle.kin_num.specs.declared.instant.Moment.{Moment}
+use Rattle.kin_num.specs.Canonical.{IsCanonical}
 use Rattle.kin_script.specs.declared.refusal.Refusal.{Refusal}
 use Rattle.kin_script.specs.declared.refusal.Refusal.TheVariants.{Taken, NotKept, NoRoot, Past}
 
@@ -41,6 +42,14 @@ phase_text After = codes "+"
 -- an instant, and a + behind it for just after
 abbrev pub moment_text : Moment → List ℕ
 moment_text m = instant_text m.at ++ phase_text m.phase
+
+-- canonical instants with the same printed text are the same
+abbrev pub TextsTellInstants : Type 0
+TextsTellInstants = (v w : Shape) → IsCanonical v → IsCanonical w → instant_text v ≡ instant_text w → v ≡ w
+
+-- canonical moments with the same printed text are the same
+abbrev pub TextsTellMoments : Type 0
+TextsTellMoments = (m n : Moment) → IsCanonical m.at → IsCanonical n.at → moment_text m ≡ moment_text n → m ≡ n
 
 -- numbers separated by one space, or the word none, as a line
 abbrev pub list_line : List ℕ → List ℕ

@@ -7,6 +7,7 @@ use Rattle.kin_algebra.specs.declared.sign.Sign.TheVariants.{Minus, Zero, Plus}
 use Rattle.kin_num.specs.declared.instant.Moment.{Moment}
 use Rattle.kin_motion.specs.declared.form.Form.{Form}
 use Rattle.kin_motion.specs.declared.form.Form.TheVariants.{Line, Turn, Slope, Dist}
+use Rattle.kin_motion.specs.Forms.{numbers_of}
 use Rattle.kin_motion.specs.Live.{Certificate}
 use Rattle.kin_motion.specs.Journal.{Failure, Block}
 use Rattle.kin_script.specs.Printed.{moment_text}
@@ -31,16 +32,9 @@ kind_text (Turn i j k) = codes "turn"
 kind_text (Slope i j k l) = codes "slope"
 kind_text (Dist i j k l) = codes "dist"
 
--- the numbers of the points that a form names
-abbrev pub points_of : Form → List ℕ
-points_of (Line dx dy off i j) = i ∷ j ∷ []
-points_of (Turn i j k) = i ∷ j ∷ k ∷ []
-points_of (Slope i j k l) = i ∷ j ∷ k ∷ l ∷ []
-points_of (Dist i j k l) = i ∷ j ∷ k ∷ l ∷ []
-
 -- a form, as line(1,0) 0 1
 abbrev pub form_text : Form → List ℕ
-form_text f = kind_text f ++ codes " " ++ join_by decimal (codes " ") (points_of f)
+form_text f = kind_text f ++ codes " " ++ join_by decimal (codes " ") (numbers_of f)
 
 -- whose a fact is: its structure and its part, as 0/4
 abbrev pub owner_text : Certificate → List ℕ

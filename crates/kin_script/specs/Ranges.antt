@@ -1,13 +1,14 @@
 -- The ranges of what a script holds.
-use Rattle.std.specs.Prelude.{ℕ, ◌+◌, ◌<◌, ◌≤◌, ◌^◌, ℤ, pos, ◌≤ℤ◌, unsigned_abs, length, All, AllPairs}
+use Rattle.std.specs.Prelude.{ℕ, ◌+◌, ◌<◌, ◌≤◌, ◌^◌, ℤ, pos, ◌≤ℤ◌, unsigned_abs, IsTrue, All, AllPairs}
 use Rattle.kin_motion.specs.declared.keep.Keep.{Keep}
 use Rattle.kin_motion.specs.declared.keep.Keep.TheVariants as keep
-use Rattle.kin_motion.specs.declared.keep.Rect.{Rect}
 use Rattle.kin_motion.specs.Course.{IsSlow}
+use Rattle.kin_motion.specs.Keeps.{are_few}
+use Rattle.kin_motion.specs.Boxes.{IsRectInRange}
 use Rattle.kin_script.specs.declared.command.Command.{Command}
 use Rattle.kin_script.specs.declared.command.Command.TheVariants.{Insert, AtRatio, AtRoot, Next, Order, Extreme, Hull, Closest, Inside, Live}
-use Rattle.kin_script.specs.declared.line.Setting.{Setting}
-use Rattle.kin_script.specs.declared.line.Setting.TheVariants as setting
+use Rattle.kin_script.specs.declared.line.HeaderLine.{HeaderLine}
+use Rattle.kin_script.specs.declared.line.HeaderLine.TheVariants as header_line
 use Rattle.kin_script.specs.declared.script.Script.{Script}
 
 -- both parts are in -16..16, and one is not 0
@@ -22,9 +23,10 @@ IsKeepInRange (keep.Order dx dy) = IsDirection dx dy
 IsKeepInRange (keep.Extreme dx dy) = IsDirection dx dy
 IsKeepInRange _ = ⊥
 
-abbrev pub IsSettingInRange : Setting → Type 0
-IsSettingInRange (setting.Keep k) = IsKeepInRange k
-IsSettingInRange (setting.Journal on) = Unit {0}
+-- the numbers of a header line are in range
+abbrev pub IsHeaderLineInRange : HeaderLine → Type 0
+IsHeaderLineInRange (header_line.Keep k) = IsKeepInRange k
+IsHeaderLineInRange (header_line.Journal on) = Unit {0}
 
 -- the numbers of a fraction as a script writes it, in lowest terms or not
 pub record IsRatioInRange (n d : ℤ) : Type 0 where
@@ -39,13 +41,6 @@ pub record IsRootInRange (a b c : ℤ) : Type 0 where
   pub a_not_zero : 0 < unsigned_abs a
   pub b_small : unsigned_abs b ≤ 2 ^ 29
   pub c_small : unsigned_abs c ≤ 2 ^ 28
-
--- the border of a rectangle is in -2^24..2^24
-pub record IsRectInRange (r : Rect) : Type 0 where
-  pub x1_small : unsigned_abs r.x1 ≤ 2 ^ 24
-  pub x2_small : unsigned_abs r.x2 ≤ 2 ^ 24
-  pub y1_small : unsigned_abs r.y1 ≤ 2 ^ 24
-  pub y2_small : unsigned_abs r.y2 ≤ 2 ^ 24
 
 -- the numbers of a command, where the points have numbers below 2^size
 abbrev pub IsCommandInRange : ℕ → Command → Type 0
@@ -64,7 +59,7 @@ IsCommandInRange size Live = Unit {0}
 pub record IsWithin (s : Script) : Type 0 where
   pub size_low : 1 ≤ s.size
   pub size_high : s.size ≤ 12
-  pub few_keeps : length s.keeps ≤ 16
+  pub few_keeps : IsTrue (are_few s.keeps)
   pub keeps : All IsKeepInRange s.keeps
   pub commands : All (λ l. IsCommandInRange s.size l.1) s.lines
 

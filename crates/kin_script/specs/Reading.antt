@@ -1,5 +1,6 @@
 -- How far the reader has come. Only its own functions cite this.
-use Rattle.std.specs.Prelude.{◌≡◌, ℕ, ◌≤◌, false, List, [], ◌∷◌, ◌++◌, length, All, unwrap_or, Result, Ok, Err}
+use Rattle.std.specs.Prelude.{◌≡◌, ℕ, ◌≤◌, false, List, [], ◌∷◌, ◌++◌, IsTrue, All, unwrap_or, Result, Ok, Err}
+use Rattle.kin_motion.specs.Keeps.{are_few}
 use Rattle.kin_script.specs.declared.command.Command.{Command}
 use Rattle.kin_script.specs.declared.script.Script.{Script}
 use Rattle.kin_script.specs.declared.read.Draft.{Draft}
@@ -35,6 +36,6 @@ Continues (Err NoMemory) before now = Unit {0}
 pub record IsDraftInRange (d : Draft) : Type 0 where
   pub size_low : 1 ≤ d.size
   pub size_high : d.size ≤ 12
-  pub few_keeps : length d.keeps ≤ 16
+  pub few_keeps : IsTrue (are_few d.keeps)
   pub keeps : All IsKeepInRange d.keeps
   pub commands : All (λ l. IsCommandInRange d.size l.1) d.commands

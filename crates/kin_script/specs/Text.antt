@@ -7,12 +7,12 @@ use Rattle.kin_motion.specs.Extremes.{IsExtremePoint}
 use Rattle.kin_motion.specs.Live.{IsLiveCount}
 use Rattle.kin_motion.specs.Journal.{Block, IsNextBlock, IsJournal, NothingFails}
 use Rattle.kin_script.specs.declared.command.Command.{Command}
-use Rattle.kin_script.specs.declared.command.Command.TheVariants.{Insert, AtRatio, AtRoot, Next, Order, Extreme, Hull, Closest, Inside, Live}
+use Rattle.kin_script.specs.Deeds.{Deed, Question, puts, goes_to, goes_on, asks, order_along, farthest_along, live_facts, deed_of}
 use Rattle.kin_script.specs.declared.refusal.Refusal.{Refusal}
 use Rattle.std.specs.Fmt.{decimal}
 use Rattle.kin_script.specs.Printed.{list_line, name_of}
 use Rattle.kin_script.specs.PrintedJournal.{block_lines, journal_lines, now_line, none_line, count_line, one_line}
-use Rattle.kin_script.specs.Replay.{State, at, scene_of, setting_of, Asks, Refuses, IsAllowed, LeadsTo}
+use Rattle.kin_script.specs.Replay.{State, at, scene_of, state_setting, IsNamedRoot, Refuses, IsAllowed, LeadsTo}
 
 -- the line that names the first line outside the grammar
 abbrev pub bad_line : ℕ → List ℕ
@@ -43,35 +43,36 @@ pub record IsExtremeLine (s : State) (k : ℕ) (text : List ℕ) : Type 0 where
 -- the lines of the journal from now to the asked instant; where the journal is off, nothing
 abbrev pub IsPassedText : Bool → State → Shape → List ℕ → Type 0
 IsPassedText false s w text = text ≡ []
-IsPassedText true s w text = (bs : List Block) × IsJournal (setting_of s) s.moment (at w) bs × (text ≡ journal_lines bs)
+IsPassedText true s w text = (bs : List Block) × IsJournal (state_setting s) s.moment (at w) bs × (text ≡ journal_lines bs)
 
 -- the lines of the next block where the journal is on, and its moment; where no live fact ever fails, none
 abbrev pub IsNextText : State → List ℕ → Type 0
-IsNextText s text = ((b : Block) × IsNextBlock (setting_of s) s.moment b × (text ≡ (if s.journal then block_lines b else []) ++ now_line b.moment))
-    ⊎ (NothingFails (setting_of s) s.moment × (text ≡ none_line))
+IsNextText s text = ((b : Block) × IsNextBlock (state_setting s) s.moment b × (text ≡ (if s.journal then block_lines b else []) ++ now_line b.moment))
+    ⊎ (NothingFails (state_setting s) s.moment × (text ≡ none_line))
 
 -- the line with the number of live facts
 abbrev pub IsLiveLine : State → List ℕ → Type 0
 IsLiveLine s text = (n : ℕ) × IsLiveCount s.size s.keeps (scene_of s) n × (text ≡ count_line n)
 
--- what a command that is not refused prints
-abbrev pub Prints : State → Command → List ℕ → Type 0
-Prints s (Insert number m) text = text ≡ []
-Prints s (AtRatio n d) text = (w : Shape) × Asks (AtRatio n d) w × IsPassedText s.journal s w text
-Prints s (AtRoot a b c upper) text = (w : Shape) × Asks (AtRoot a b c upper) w × IsPassedText s.journal s w text
-Prints s Next text = IsNextText s text
-Prints s (Order k) text = IsOrderLine s k text
-Prints s (Extreme k) text = IsExtremeLine s k text
-Prints s Hull text = ⊥
-Prints s Closest text = ⊥
-Prints s (Inside rect) text = ⊥
-Prints s Live text = IsLiveLine s text
+-- the line that answers a question
+abbrev pub IsAnswerLine : State → Question → List ℕ → Type 0
+IsAnswerLine s (order_along k) text = IsOrderLine s k text
+IsAnswerLine s (farthest_along k) text = IsExtremeLine s k text
+IsAnswerLine s live_facts text = IsLiveLine s text
+IsAnswerLine s _ text = ⊥
+
+-- what a deed that is not refused prints
+abbrev pub Prints : State → Deed → List ℕ → Type 0
+Prints s (puts number m) text = text ≡ []
+Prints s (goes_to upper p) text = (w : Shape) × IsNamedRoot upper p w × IsPassedText s.journal s w text
+Prints s goes_on text = IsNextText s text
+Prints s (asks q) text = IsAnswerLine s q text
 
 -- a command that is not refused, from a state to a state
 pub record Step (s : State) (c : Command) (text : List ℕ) (t : State) : Type 0 where
   pub allowed : IsAllowed s c
-  pub prints : Prints s c text
-  pub leads : LeadsTo s c t
+  pub prints : Prints s (deed_of c) text
+  pub leads : LeadsTo s (deed_of c) t
 
 -- the line and the refusal in which a run ends, if a command is refused
 abbrev pub Ending : Type 0

@@ -1,27 +1,28 @@
 -- A script and its lines, as a relation: which line says what, and which line is the first that may not stand there.
-use Rattle.std.specs.Prelude.{◌≡◌, ◌⊎◌, ◌↔◌, ℕ, ◌+◌, ◌≤◌, Bool, false, List, [], ◌∷◌, ◌++◌, length, Some}
+use Rattle.std.specs.Prelude.{◌≡◌, ◌⊎◌, ◌↔◌, ℕ, ◌+◌, ◌≤◌, Bool, false, List, [], ◌∷◌, ◌++◌, Some, length, IsTrue}
 use Rattle.std.specs.List.{AllZip}
 use Rattle.kin_motion.specs.declared.keep.Keep.{Keep}
+use Rattle.kin_motion.specs.Keeps.{are_few}
 use Rattle.kin_script.specs.declared.command.Command.{Command}
 use Rattle.kin_script.specs.declared.script.Script.{Script}
-use Rattle.kin_script.specs.declared.line.Setting.{Setting}
-use Rattle.kin_script.specs.declared.line.Setting.TheVariants as setting
+use Rattle.kin_script.specs.declared.line.HeaderLine.{HeaderLine}
+use Rattle.kin_script.specs.declared.line.HeaderLine.TheVariants as header_line
 use Rattle.kin_script.specs.Lines.{lines_of}
 use Rattle.kin_script.specs.Left.{Numbered, numbered}
-use Rattle.kin_script.specs.Commands.{command_of, size_of, setting_of}
+use Rattle.kin_script.specs.Commands.{command_of, size_of, header_line_of}
 use Rattle.kin_script.specs.Grammar.{IsScript, IsFirstOutside}
 
 -- the kept structures of the header, in the order of their lines
-abbrev pub keeps_of : List Setting → List Keep
+abbrev pub keeps_of : List HeaderLine → List Keep
 keeps_of [] = []
-keeps_of (setting.Keep k ∷ ss) = k ∷ keeps_of ss
-keeps_of (setting.Journal on ∷ ss) = keeps_of ss
+keeps_of (header_line.Keep k ∷ ss) = k ∷ keeps_of ss
+keeps_of (header_line.Journal on ∷ ss) = keeps_of ss
 
 -- the journal lines of the header
-abbrev pub journals_of : List Setting → List Bool
+abbrev pub journals_of : List HeaderLine → List Bool
 journals_of [] = []
-journals_of (setting.Keep k ∷ ss) = journals_of ss
-journals_of (setting.Journal on ∷ ss) = on ∷ journals_of ss
+journals_of (header_line.Keep k ∷ ss) = journals_of ss
+journals_of (header_line.Journal on ∷ ss) = on ∷ journals_of ss
 
 -- at most one line says it, and without one it is off
 abbrev pub IsJournal : List Bool → Bool → Type 0
@@ -30,8 +31,8 @@ IsJournal (b ∷ []) on = on ≡ b
 IsJournal (b ∷ c ∷ bs) on = ⊥
 
 -- a line of the header says this
-abbrev pub SaysSetting : Numbered → Setting → Type 0
-SaysSetting l s = setting_of l.1 ≡ Some s
+abbrev pub SaysHeaderLine : Numbered → HeaderLine → Type 0
+SaysHeaderLine l s = header_line_of l.1 ≡ Some s
 
 -- a line behind the header says this command
 abbrev pub SaysCommand : ℕ → Numbered → ℕ × Command → Type 0
@@ -41,14 +42,14 @@ SaysCommand size l c = (l.0 ≡ c.0) × (command_of size l.1 ≡ Some c.1)
 pub record IsWritten (lines : List Numbered) (s : Script) : Type 0 where
   pub first : Numbered
   pub header : List Numbered
-  pub settings : List Setting
+  pub header_lines : List HeaderLine
   pub commands : List Numbered
   pub parts : lines ≡ first ∷ (header ++ commands)
   pub size : size_of first.1 ≡ Some s.size
-  pub header_says : AllZip SaysSetting header settings
-  pub keeps : s.keeps ≡ keeps_of settings
-  pub few_keeps : length s.keeps ≤ 16
-  pub journal : IsJournal (journals_of settings) s.journal
+  pub header_says : AllZip SaysHeaderLine header header_lines
+  pub keeps : s.keeps ≡ keeps_of header_lines
+  pub few_keeps : IsTrue (are_few s.keeps)
+  pub journal : IsJournal (journals_of header_lines) s.journal
   pub commands_say : AllZip (SaysCommand s.size) commands s.lines
 
 -- a line of these that may not stand where it stands, and has this number: the lines before it write a script, unless there are none, and with it they write none, however they go on

@@ -1,5 +1,6 @@
-//! What holds of the grammar. Each function's contract is one law; none of them does anything.
+//! What holds of the grammar and of the printed text. Each function's contract is one law; none of them does anything.
 
+ghost use Rattle.kin_script.specs.Printed.{TextsTellInstants, TextsTellMoments};
 ghost use Rattle.kin_script.specs.Written.{ScriptsAreWritten, FirstOutsideIsFirst};
 
 /// Bytes are a script exactly where their lines write it: the size line first, then the lines of
@@ -12,4 +13,14 @@ pub fn scripts_are_written()
 /// before it write a script, and with it they write none, however they go on.
 pub fn first_outside_is_first()
     ensures { FirstOutsideIsFirst }
+{}
+
+/// Instants with the same printed text are the same.
+pub fn texts_tell_instants()
+    ensures { TextsTellInstants }
+{}
+
+/// Moments with the same printed text are the same.
+pub fn texts_tell_moments()
+    ensures { TextsTellMoments }
 {}

@@ -2,8 +2,8 @@
 
 ghost use Rattle.std.specs.Prelude.{◌≡◌, ℕ, ◌≤◌, IfSome, option_map};
 ghost use Rattle.kin_script.specs.declared.command.Command.TheVariants.{AtRoot};
-ghost use Rattle.kin_script.specs.Commands.{insert_of, quadratic_at, root_of, at_of, order_of, extreme_of, box_of, command_of, size_of, direction_of, keep_of, journal_of, setting_of};
-ghost use Rattle.kin_script.specs.Ranges.{IsCommandInRange, IsRootInRange, IsKeepInRange, IsDirection, IsSettingInRange};
+ghost use Rattle.kin_script.specs.Commands.{insert_of, quadratic_at, root_of, at_of, order_of, extreme_of, box_of, command_of, size_of, direction_of, keep_of, journal_of, header_line_of};
+ghost use Rattle.kin_script.specs.Ranges.{IsCommandInRange, IsRootInRange, IsKeepInRange, IsDirection, IsHeaderLineInRange};
 
 use crate::command::Command;
 use crate::number::ratio;
@@ -11,7 +11,7 @@ use crate::words::Words;
 use kin_motion::{Keep, Rect};
 
 /// A line of the header, behind the size line.
-pub enum Setting {
+pub enum HeaderLine {
     Keep(Keep),
     Journal(bool),
 }
@@ -204,16 +204,16 @@ fn journal(words: &mut Words<'_>) -> Option<bool>
 }
 
 /// What a line of the header says, behind the size line.
-#[tactic(auto, unfolding(crate::specs::Commands::setting_of))]
-pub fn setting_of(mut words: Words<'_>) -> Option<Setting>
-    ensures value { result ≡ setting_of words.entry }
-    ensures range { IfSome result IsSettingInRange }
+#[tactic(auto, unfolding(crate::specs::Commands::header_line_of))]
+pub fn header_line_of(mut words: Words<'_>) -> Option<HeaderLine>
+    ensures value { result ≡ header_line_of words.entry }
+    ensures range { IfSome result IsHeaderLineInRange }
 {
     let name = words.next()?;
     if name == b"keep".as_slice() {
-        Some(Setting::Keep(keep(&mut words)?))
+        Some(HeaderLine::Keep(keep(&mut words)?))
     } else if name == b"journal".as_slice() {
-        Some(Setting::Journal(journal(&mut words)?))
+        Some(HeaderLine::Journal(journal(&mut words)?))
     } else {
         None
     }

@@ -3,14 +3,15 @@
 ghost use Rattle.std.specs.Prelude.{◌≡◌, ◌≤◌, ◌<◌, ◌^◌, ◌==◌, [], ◌∷◌, List, length, IfOk, OnOk, Some, None, MatchResult};
 ghost use Rattle.kin_script.specs.declared.read.ReadError.TheVariants.{NoMemory};
 ghost use Rattle.kin_script.specs.Left.{Numbered, with_words, after};
-ghost use Rattle.kin_script.specs.Grammar.{script_of, script_of_lines, behind_size, with_setting};
+ghost use Rattle.kin_script.specs.Grammar.{script_of, script_of_lines, behind_size, with_header_line};
 ghost use Rattle.kin_script.specs.Gives.{Gives, IfBadLine};
-ghost use Rattle.kin_script.specs.Ranges.{IsInRange, IsWithin, IsSettingInRange};
+ghost use Rattle.kin_script.specs.Ranges.{IsInRange, IsWithin, IsHeaderLineInRange};
 ghost use Rattle.kin_script.specs.Reading.{reads, header, finished, Continues, IsDraftInRange};
 
-use crate::line::{Setting, command_of, setting_of, size_of};
+use crate::line::{HeaderLine, command_of, header_line_of, size_of};
 use crate::lines::{Line, Lines};
 use crate::script::{Commands, Keeps, Script};
+use kin_motion::keep::has_room;
 use std::alloc::{AllocError, Global};
 
 /// Why there is no script.
@@ -28,9 +29,6 @@ impl From<AllocError> for ReadError {
         ReadError::NoMemory
     }
 }
-
-/// The most structures that a script keeps.
-const KEEPS: usize = 16;
 
 /// What is read so far.
 #[derive(Drop)]
@@ -66,22 +64,22 @@ impl Draft {
     }
 
     /// Takes a line of the header.
-    fn set(&mut self, number: u32, setting: Setting) -> Result<(), ReadError>
-        requires setting { IsSettingInRange setting }
+    fn set(&mut self, number: u32, header_line: HeaderLine) -> Result<(), ReadError>
+        requires header_line { IsHeaderLineInRange header_line }
         requires range { IsDraftInRange self.old }
-        ensures ok { OnOk result (with_setting (header self.old) setting ≡ Some (header self.new)) }
-        ensures bad { IfBadLine result (λ n. (with_setting (header self.old) setting ≡ None) × (n ≡ number)) }
+        ensures ok { OnOk result (with_header_line (header self.old) header_line ≡ Some (header self.new)) }
+        ensures bad { IfBadLine result (λ n. (with_header_line (header self.old) header_line ≡ None) × (n ≡ number)) }
         ensures commands { self.new.commands ≡ self.old.commands }
         ensures range { IsDraftInRange self.new }
     {
-        match setting {
-            Setting::Keep(keep) => {
-                if self.keeps.len() == KEEPS {
+        match header_line {
+            HeaderLine::Keep(keep) => {
+                if !has_room(self.keeps.as_slice(), &keep) {
                     return Err(ReadError::BadLine(number));
                 }
                 self.keeps.push(keep)?;
             }
-            Setting::Journal(on) => {
+            HeaderLine::Journal(on) => {
                 if self.journal.is_some() {
                     return Err(ReadError::BadLine(number));
                 }
@@ -98,8 +96,8 @@ impl Draft {
         ensures range { IsDraftInRange self.new }
     {
         if self.is_in_header() {
-            if let Some(setting) = setting_of(line.words.again()) {
-                return self.set(line.number, setting);
+            if let Some(header_line) = header_line_of(line.words.again()) {
+                return self.set(line.number, header_line);
             }
         }
         match command_of(self.size, line.words) {

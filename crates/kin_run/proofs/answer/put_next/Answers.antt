@@ -4,9 +4,9 @@ use Rattle.std.proofs.lemmas.Result.{err_from_is_err_and, on_err_weaker}
 use Rattle.kin_script.specs.PrintedJournal.{none_line, now_line}
 use Rattle.kin_script.specs.Text.{IsNextText}
 use Rattle.kin_print.proofs.Fronts.{nothing}
-use Rattle.kin_world.specs.Worlds.{HasPassed}
+use Rattle.kin_world.specs.Worlds.{HasMoved, HasPassed}
 use Rattle.kin_run.specs.States.{state_of, printed_if}
-use Rattle.kin_run.proofs.Blocks.{one_next, not_back}
+use Rattle.kin_run.proofs.Blocks.{one_next, not_back, not_reached}
 use Rattle.kin_run.proofs.Fronts.{prefix_nil}
 use Rattle.kin_run.proofs.Lines.{puts_known, on_ok}
 use Rattle.kin_run.proofs.answer.put_next.Goals as goal
@@ -22,8 +22,14 @@ returns-in_default-clause-line g c =
 
 pub step-requires-clause-later : goal.step-requires-clause-later
 step-requires-clause-later g c =
-    let n = c.in-Some.ensures.some in
+    let n = c.in-Some.ensures.some.next in
     not_back c.args.world.now.moment c.in-Some.moment c.requires.whole.canonical n.canonical n.later
+
+pub unreachable-requires : goal.unreachable-requires
+unreachable-requires g c =
+    let n = c.in-Some.ensures.some in
+    let moved : HasMoved c.in-Some.moment c.args.world.now c.step.new.self = rw c.in-None.is at c.in_ok-block.ensures.stepped in
+    not_reached _ _ (record { moment = c.in-Some.moment; failures = n.failures }) n.next moved.nothing
 
 pub returns-in_err-block-clause-line : goal.returns-in_err-block-clause-line
 returns-in_err-block-clause-line g c =

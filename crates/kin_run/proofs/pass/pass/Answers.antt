@@ -28,14 +28,14 @@ returns-in_err-put_if_on-clause-text g c =
     (breaks_within c.args.journal c.args.world.now c.args.asked c.requires.canonical l.world l.invariant.whole.canonical (g.K.Sink.held c.args.sink.now) c.args.out.now.items (g.K.Sink.held l.sink) l.out.items l.invariant.on
     c.step.new.self c.in-Some.block h c.put_if_on.new.out.items c.in_err-put_if_on.ensures.err)
 
-pub returns-in_err-flush_if_much-clause-text : goal.returns-in_err-flush_if_much-clause-text
-returns-in_err-flush_if_much-clause-text g c =
-    let e = err_from_is_err_and c.from_residual-in_err-flush_if_much.result c.from_residual-in_err-flush_if_much.ensures.1 in
+pub returns-in_err-flush_if_due-clause-text : goal.returns-in_err-flush_if_due-clause-text
+returns-in_err-flush_if_due-clause-text g c =
+    let e = err_from_is_err_and c.from_residual-in_err-flush_if_due.result c.from_residual-in_err-flush_if_due.ensures.1 in
     let l = c.loop-block in
     let h : HasPassed (at c.args.asked) c.in-Some.block l.world c.step.new.self = rw c.in-Some.is at c.in_ok-block.ensures.stepped in
     rw (e.1, e.2)
     (faults_behind c.args.journal c.args.world.now c.args.asked c.requires.canonical l.world l.invariant.whole.canonical (g.K.Sink.held c.args.sink.now) c.args.out.now.items (g.K.Sink.held l.sink) l.out.items l.invariant.on
-    c.step.new.self c.in-Some.block h c.put_if_on.new.out.items (g.K.Sink.held c.flush_if_much.new.sink) c.flush_if_much.new.out.items c.in_ok-put_if_on.ensures.ok c.in_err-flush_if_much.ensures.front)
+    c.step.new.self c.in-Some.block h c.put_if_on.new.out.items (g.K.Sink.held c.flush_if_due.new.sink) c.flush_if_due.new.out.items c.in_ok-put_if_on.ensures.ok c.in_err-flush_if_due.ensures.front)
 
 pub loop-block-preserved : goal.loop-block-preserved
 loop-block-preserved g c =
@@ -43,9 +43,9 @@ loop-block-preserved g c =
     let h : HasPassed (at c.args.asked) c.in-Some.block l.world c.step.new.self = rw c.in-Some.is at c.in_ok-block.ensures.stepped in
     record {
       on = goes_on c.args.journal c.args.world.now c.args.asked c.requires.canonical l.world l.invariant.whole.canonical (g.K.Sink.held c.args.sink.now) c.args.out.now.items (g.K.Sink.held l.sink) l.out.items l.invariant.on
-          c.step.new.self c.in-Some.block h c.put_if_on.new.out.items (g.K.Sink.held c.flush_if_much.new.sink) c.flush_if_much.new.out.items c.in_ok-put_if_on.ensures.ok c.in_ok-flush_if_much.ensures.gained;
+          c.step.new.self c.in-Some.block h c.put_if_on.new.out.items (g.K.Sink.held c.flush_if_due.new.sink) c.flush_if_due.new.out.items c.in_ok-put_if_on.ensures.ok c.in_ok-flush_if_due.ensures.gained;
       whole = h.whole;
-      later = omega (arith, l.invariant.later, c.flush_if_much.ensures.cause.later);
+      later = omega (arith, l.invariant.later, c.flush_if_due.ensures.cause.later);
     }
 
 pub returns-clause-text : goal.returns-clause-text

@@ -1,6 +1,7 @@
 use Rattle.std.proofs.Common.{List, ℕ, drop, subst, arith, None, ◌∙◌}
 use Rattle.std.proofs.lemmas.Result.{err_from_is_err_and}
 use Rattle.std.proofs.lemmas.List.{drop_all}
+use Rattle.kin_script.specs.Deeds.{deed_of}
 use Rattle.kin_script.specs.Text.{Text}
 use Rattle.kin_run.specs.States.{state_of}
 use Rattle.kin_run.proofs.Commands.{same_size}
@@ -9,8 +10,8 @@ use Rattle.kin_run.proofs.Playing.{Line, IsSoFar, completes, at_item}
 use Rattle.kin_run.proofs.Stepping.{gathers_step, stopped, flush_cut, flush_kept}
 use Rattle.kin_run.proofs.play.play.Goals as goal
 
-pub returns-in_err-flush_if_much-in-Ok-clause-cut : goal.returns-in_err-flush_if_much-in-Ok-clause-cut
-returns-in_err-flush_if_much-in-Ok-clause-cut g c =
+pub returns-in_err-flush_if_due-in-Ok-clause-cut : goal.returns-in_err-flush_if_due-in-Ok-clause-cut
+returns-in_err-flush_if_due-in-Ok-clause-cut g c =
     let e = err_from_is_err_and c.from_residual.result c.from_residual.ensures.1 in
     let s = state_of c.args.journal c.args.world.now in
     let all = c.args.lines.now in
@@ -21,7 +22,7 @@ returns-in_err-flush_if_much-in-Ok-clause-cut g c =
     let here = at_item all i item c.loop-line-test.true c.loop-line-item.is in
     let done = c.in-Ok.ensures.performs in
     let gathered = gathers_step _ _ s all t i item here _ c.loop-line.out.items c.perform.new.out.items done.0 u c.loop-line.invariant.whole.canonical done.1 done.2 c.loop-line.invariant.gathered in
-    rw e.1 (flush_cut _ _ _ s all u _ c.perform.new.out.items c.in_err-flush_if_much-in-Ok.ensures.front gathered)
+    rw e.1 (flush_cut _ _ _ s all u _ c.perform.new.out.items c.in_err-flush_if_due-in-Ok.ensures.front gathered)
 
 pub returns-in-Err-clause-ok : goal.returns-in-Err-clause-ok
 returns-in-Err-clause-ok g c =
@@ -53,10 +54,10 @@ loop-line-preserved g c =
     let done = c.in-Ok.ensures.performs in
     let gathered = gathers_step _ _ s all t i item here _ c.loop-line.out.items c.perform.new.out.items done.0 u c.loop-line.invariant.whole.canonical done.1 done.2 c.loop-line.invariant.gathered in
     record {
-      gathered = flush_kept _ _ _ s all u _ c.perform.new.out.items c.flush_if_much.new.out.items c.in_ok-flush_if_much-in-Ok.ensures.gained gathered;
+      gathered = flush_kept _ _ _ s all u _ c.perform.new.out.items c.flush_if_due.new.out.items c.in_ok-flush_if_due-in-Ok.ensures.gained gathered;
       whole = c.in-Ok.ensures.whole;
-      size = same_size t item.1 u done.2.leads ∙ c.loop-line.invariant.size;
-      later = omega (arith, c.perform.ensures.later, c.flush_if_much.ensures.cause.later, c.loop-line.invariant.later);
+      size = same_size t (deed_of item.1) u done.2.leads ∙ c.loop-line.invariant.size;
+      later = omega (arith, c.perform.ensures.later, c.flush_if_due.ensures.cause.later, c.loop-line.invariant.later);
     }
 
 pub returns-in_err-flush-clause-cut : goal.returns-in_err-flush-clause-cut

@@ -1,0 +1,5 @@
+use Rattle.kin_script.proofs.TextsTell.{texts_tell_instants}
+use Rattle.kin_script.proofs.laws.texts_tell_instants.Goals as goal
+
+pub returns : goal.returns
+returns c = texts_tell_instants
