@@ -2,6 +2,7 @@
 use Rattle.std.proofs.Common.{◌≡◌, ℕ, zero, suc, ◌+◌, Bool, true, false, cond, ◌&&◌, List, [], ◌∷◌, refl, sym, ◌∙◌, ap, ap₂, arith}
 use Rattle.std.specs.Prelude.{ℤ, pos, negsuc, ◌+ℤ◌, ◌*ℤ◌, nat_eq}
 use Rattle.std.proofs.lemmas.Bool.Decides.{nat_tests}
+use Rattle.std.proofs.lemmas.Bool.{and_parts}
 use Rattle.kin_algebra.proofs.Rings.{CommutativeRing, plus_left, times_four, zero_plus, one_times, plus_times, zero_times, times_zero, minus_one_times, equal_by_difference}
 
 infixl 6 ◌⊕◌ ◌⊖◌
@@ -79,16 +80,12 @@ abbrev pub agree : Expr → Expr → Bool
 agree l r = all_zero (monomials (l ⊖ r))
 
 -- ---- tests and what they say
-and_true : (a b : Bool) → a && b ≡ true → (a ≡ true) × (b ≡ true)
-and_true true b h = (refl, h)
-and_true false b h = absurd cc
-
 same_powers-true : (m n : List ℕ) → same_powers m n ≡ true → m ≡ n
 same_powers-true [] [] h = refl
 same_powers-true [] (f ∷ fs) h = absurd cc
 same_powers-true (e ∷ es) [] h = absurd cc
 same_powers-true (e ∷ es) (f ∷ fs) h =
-    let p = and_true (nat_eq e f) (same_powers es fs) h in
+    let p = and_parts (nat_eq e f) (same_powers es fs) h in
     let q : e ≡ f = grind (arith, nat_tests, p.0) in
     let r : es ≡ fs = same_powers-true es fs p.1 in
     cc
@@ -210,7 +207,7 @@ module _ {R : Type 0} (r : CommutativeRing R) where
   all_zero-is : (p : List Monomial) (xs : List R) → all_zero p ≡ true → value_of_sum p xs ≡ r.whole (pos 0)
   all_zero-is [] xs h = refl
   all_zero-is (t ∷ p) xs h =
-      let q = and_true (is_zero t.factor) (all_zero p) h in
+      let q = and_parts (is_zero t.factor) (all_zero p) h in
       nothing t.factor (product_of_powers t.powers xs) (value_of_sum p xs) (is_zero-true t.factor q.0) (all_zero-is p xs q.1)
 
   -- two expressions with the same monomials have one value

@@ -10,6 +10,9 @@ use Rattle.kin_algebra.proofs.OrderedRings.{dominate}
 use Rattle.kin_algebra.proofs.IntegerSigns.{ordered_integers, sign_of-plus, sign_of-times, sign_of-negative}
 use Rattle.kin_algebra.proofs.Radicals.{Radical, by_norm, pair_sign, whole_of_plus, root_of_minus, norm_form}
 
+pub norm_of-negative : (u v d : ℤ) → norm_of (neg_ℤ u) (neg_ℤ v) d ≡ norm_of u v d
+norm_of-negative u v d = by_ring (u ∷ v ∷ d ∷ []) _ _ (search quotes depth 20) (search quotes depth 20) refl
+
 module _ (d : ℤ) (r : Radical d) where
   -- a square times a number of sign +
   square_times : (k n : ℤ) → sign_of n ≡ Plus → sign_of ((k *ℤ k) *ℤ n) ≡ product_of (sign_of k) (sign_of k)
@@ -101,13 +104,10 @@ module _ (d : ℤ) (r : Radical d) where
   by_norm-opposite Zero s t = refl
   by_norm-opposite Plus s t = refl
 
-  norm_of-negative : (u v : ℤ) → norm_of (neg_ℤ u) (neg_ℤ v) d ≡ norm_of u v d
-  norm_of-negative u v = by_ring (u ∷ v ∷ d ∷ []) _ _ (search quotes depth 20) (search quotes depth 20) refl
-
   pub pair_sign-negative : (u v : ℤ) → pair_sign d r (neg_ℤ u) (neg_ℤ v) ≡ opposite_of (pair_sign d r u v)
   pair_sign-negative u v =
       norm_form d r (neg_ℤ u) (neg_ℤ v)
-      ∙ ap (λ n. by_norm n (sign_of (neg_ℤ u)) (sign_of (neg_ℤ v))) (ap sign_of (norm_of-negative u v))
+      ∙ ap (λ n. by_norm n (sign_of (neg_ℤ u)) (sign_of (neg_ℤ v))) (ap sign_of (norm_of-negative u v d))
       ∙ ap₂ (by_norm (sign_of (norm_of u v d))) (sign_of-negative u) (sign_of-negative v)
       ∙ by_norm-opposite (sign_of (norm_of u v d)) (sign_of u) (sign_of v)
       ∙ ap opposite_of (sym (norm_form d r u v))

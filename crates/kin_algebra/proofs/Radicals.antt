@@ -4,7 +4,7 @@ use lib.IntN.{+ℤ_comm}
 use Rattle.kin_algebra.specs.declared.sign.Sign.{Sign}
 use Rattle.kin_algebra.specs.declared.sign.Sign.TheVariants.{Minus, Zero, Plus}
 use Rattle.kin_algebra.specs.Signs.{sign_of, opposite_of, product_of, sum_sign_of, norm_of}
-use Rattle.kin_algebra.proofs.Signs.{code, product-Plus}
+use Rattle.kin_algebra.proofs.Signs.{code, product-Plus, sum_sign-single}
 use Rattle.kin_algebra.proofs.IntegerSigns.{sign_of-plus, sign_of-times, sign_of-negative, zero_of}
 
 -- d is positive and no square, not even of a fraction
@@ -98,10 +98,5 @@ module _ (d : ℤ) (r : Radical d) where
       go Zero f g = r.alone u v (zero_of (norm_of u v d) f)
       go Plus f g = absurd (whole_of_plus u v f g)
 
-  whole_cases : (s n : Sign) → sum_sign_of s Zero n ≡ s
-  whole_cases Minus n = refl
-  whole_cases Zero n = refl
-  whole_cases Plus n = refl
-
   pub pair_sign-whole : (k : ℤ) → pair_sign k (pos 0) ≡ sign_of k
-  pair_sign-whole k = whole_cases (sign_of k) (sign_of (norm_of k (pos 0) d))
+  pair_sign-whole k = sum_sign-single (sign_of k) (sign_of (norm_of k (pos 0) d))

@@ -1,8 +1,8 @@
 -- The algebra of three signs.
-use Rattle.std.proofs.Common.{◌≡◌, ◌≢◌, ◌⊎◌, inl, inr, sym, refl, ◌∙◌, subst}
+use Rattle.std.proofs.Common.{◌≡◌, ◌≢◌, ◌⊎◌, inl, inr, sym, refl, ap, ◌∙◌, subst}
 use Rattle.kin_algebra.specs.declared.sign.Sign.{Sign}
 use Rattle.kin_algebra.specs.declared.sign.Sign.TheVariants.{Minus, Zero, Plus}
-use Rattle.kin_algebra.specs.Signs.{opposite_of, product_of, first_of}
+use Rattle.kin_algebra.specs.Signs.{opposite_of, product_of, first_of, sum_sign_of, SumMayBe}
 
 -- what an equation of signs says: equal signs, or nothing at all
 abbrev pub Code : Sign → Sign → Type 0
@@ -28,6 +28,22 @@ pub opposite-opposite : (s : Sign) → opposite_of (opposite_of s) ≡ s
 opposite-opposite Minus = refl
 opposite-opposite Zero = refl
 opposite-opposite Plus = refl
+
+pub zero_from_opposite : (s : Sign) → s ≡ opposite_of s → s ≡ Zero
+zero_from_opposite Minus e = absurd (code e)
+zero_from_opposite Zero e = refl
+zero_from_opposite Plus e = absurd (code e)
+
+pub equal_or_not : (s t : Sign) → (s ≡ t) ⊎ (s ≢ t)
+equal_or_not Minus Minus = inl refl
+equal_or_not Minus Zero = inr (λ e. code e)
+equal_or_not Minus Plus = inr (λ e. code e)
+equal_or_not Zero Minus = inr (λ e. code e)
+equal_or_not Zero Zero = inl refl
+equal_or_not Zero Plus = inr (λ e. code e)
+equal_or_not Plus Minus = inr (λ e. code e)
+equal_or_not Plus Zero = inr (λ e. code e)
+equal_or_not Plus Plus = inl refl
 
 pub product-Plus : (s : Sign) → product_of s Plus ≡ s
 product-Plus Minus = refl
@@ -97,3 +113,29 @@ pub first_of-opposite : (s t : Sign) → first_of (opposite_of s) (opposite_of t
 first_of-opposite Minus t = refl
 first_of-opposite Zero t = refl
 first_of-opposite Plus t = refl
+
+-- what is said of two sums is said of the first that isn't 0
+pub first_of-sum : (s t r s' t' r' : Sign) → SumMayBe s t r → SumMayBe s' t' r' → SumMayBe (first_of s s') (first_of t t') (first_of r r')
+first_of-sum Zero Zero r s' t' r' a b = subst (λ x. SumMayBe s' t' (first_of x r')) (sym a) b
+first_of-sum Zero Plus r Minus t' r' a b = tt
+first_of-sum Zero Plus r Zero t' r' a b = ap (λ x. first_of x r') a
+first_of-sum Zero Plus r Plus t' r' a b = ap (λ x. first_of x r') a
+first_of-sum Zero Minus r Minus t' r' a b = ap (λ x. first_of x r') a
+first_of-sum Zero Minus r Zero t' r' a b = ap (λ x. first_of x r') a
+first_of-sum Zero Minus r Plus t' r' a b = tt
+first_of-sum Plus Plus r s' t' r' a b = ap (λ x. first_of x r') a
+first_of-sum Plus Zero r s' Minus r' a b = tt
+first_of-sum Plus Zero r s' Zero r' a b = ap (λ x. first_of x r') a
+first_of-sum Plus Zero r s' Plus r' a b = ap (λ x. first_of x r') a
+first_of-sum Plus Minus r s' t' r' a b = tt
+first_of-sum Minus Plus r s' t' r' a b = tt
+first_of-sum Minus Zero r s' Minus r' a b = ap (λ x. first_of x r') a
+first_of-sum Minus Zero r s' Zero r' a b = ap (λ x. first_of x r') a
+first_of-sum Minus Zero r s' Plus r' a b = tt
+first_of-sum Minus Minus r s' t' r' a b = ap (λ x. first_of x r') a
+
+-- nothing but the first number is added
+pub sum_sign-single : (s n : Sign) → sum_sign_of s Zero n ≡ s
+sum_sign-single Minus n = refl
+sum_sign-single Zero n = refl
+sum_sign-single Plus n = refl

@@ -4,12 +4,13 @@ use Rattle.kin_algebra.specs.declared.sign.Sign.{Sign}
 use Rattle.kin_algebra.specs.declared.sign.Sign.TheVariants.{Minus, Zero, Plus}
 use Rattle.kin_algebra.specs.Signs.{opposite_of, first_of, SumMayBe}
 use Rattle.kin_algebra.proofs.Ring.{by_identity, quotes_in}
-use Rattle.kin_algebra.proofs.Signs.{code, first_of-opposite}
+use Rattle.kin_algebra.proofs.Signs.{code, first_of-opposite, first_of-sum}
 use Rattle.kin_algebra.proofs.OrderedRings.{OrderedRing, sum_may_be}
+use Rattle.kin_motion.specs.Numbers.{IsIn}
+use Rattle.kin_motion.proofs.Members.{in_head, in_tail, in_cases}
 use Rattle.kin_chain.proofs.Comparisons.{way, AtMost, Below, Level, turned, two_steps, not_both, level_turned, most_or_below}
 use Rattle.kin_chain.proofs.Planes.{Places}
 use Rattle.kin_chain.proofs.Geometry.{Direction, up, straight, middle}
-use Rattle.kin_chain.proofs.Members.{In, in_head, in_tail, in_cases}
 use Rattle.kin_chain.proofs.Stays.{Stays}
 
 -- + where the second is better, and 0 where both are as good
@@ -17,30 +18,11 @@ pub record IsComparison (c : ℕ → ℕ → Sign) : Type 0 where
   pub opposite : (i j : ℕ) → c j i ≡ opposite_of (c i j)
   pub through : (i j k : ℕ) → SumMayBe (c i j) (c j k) (c i k)
 
-first_sum : (t u r t' u' r' : Sign) → SumMayBe t u r → SumMayBe t' u' r' → SumMayBe (first_of t t') (first_of u u') (first_of r r')
-first_sum Minus Minus r t' u' r' a b = ap (λ x. first_of x r') a
-first_sum Minus Zero r t' Minus r' a b = ap (λ x. first_of x r') a
-first_sum Minus Zero r t' Zero r' a b = ap (λ x. first_of x r') a
-first_sum Minus Zero r t' Plus r' a b = tt
-first_sum Minus Plus r t' u' r' a b = tt
-first_sum Zero Minus r Minus u' r' a b = ap (λ x. first_of x r') a
-first_sum Zero Minus r Zero u' r' a b = ap (λ x. first_of x r') a
-first_sum Zero Minus r Plus u' r' a b = tt
-first_sum Zero Zero r t' u' r' a b = subst (λ x. SumMayBe t' u' (first_of x r')) (sym a) b
-first_sum Zero Plus r Minus u' r' a b = tt
-first_sum Zero Plus r Zero u' r' a b = ap (λ x. first_of x r') a
-first_sum Zero Plus r Plus u' r' a b = ap (λ x. first_of x r') a
-first_sum Plus Minus r t' u' r' a b = tt
-first_sum Plus Zero r t' Minus r' a b = tt
-first_sum Plus Zero r t' Zero r' a b = ap (λ x. first_of x r') a
-first_sum Plus Zero r t' Plus r' a b = ap (λ x. first_of x r') a
-first_sum Plus Plus r t' u' r' a b = ap (λ x. first_of x r') a
-
 -- by the first comparison, and where that is 0 by the second
 pub one_after_other : {c d : ℕ → ℕ → Sign} → IsComparison c → IsComparison d → IsComparison (λ i j. first_of (c i j) (d i j))
 one_after_other {c} {d} p q = record {
   opposite = λ i j. ap₂ first_of (p.opposite i j) (q.opposite i j) ∙ first_of-opposite (c i j) (d i j);
-  through = λ i j k. first_sum (c i j) (c j k) (c i k) (d i j) (d j k) (d i k) (p.through i j k) (q.through i j k);
+  through = λ i j k. first_of-sum (c i j) (c j k) (c i k) (d i j) (d j k) (d i k) (p.through i j k) (q.through i j k);
 }
 
 -- the lesser number is better
@@ -88,8 +70,8 @@ less_is_better (suc i) (suc j) lt = less_is_better i j (omega (arith, lt))
 -- ---- the best of a list
 -- b is of the list, and none of it is better
 pub record IsBest (c : ℕ → ℕ → Sign) (set : List ℕ) (b : ℕ) : Type 0 where
-  pub inside : In b set
-  pub none_better : (q : ℕ) → In q set → c b q ≡ Plus → ⊥
+  pub inside : IsIn b set
+  pub none_better : (q : ℕ) → IsIn q set → c b q ≡ Plus → ⊥
 
 module _ (c : ℕ → ℕ → Sign) (is : IsComparison c) where
   own_best : (i : ℕ) → c i i ≡ Plus → ⊥
@@ -103,9 +85,9 @@ module _ (c : ℕ → ℕ → Sign) (is : IsComparison c) where
       at s = subst (λ t. SumMayBe Plus t (c b q)) f s
 
   pub best : (x : ℕ) (xs : List ℕ) → (b : ℕ) × IsBest c (x ∷ xs) b
-  best x [] = (x, record { inside = in_head x []; none_better = λ q i e. only q e (in_cases x q [] i) })
+  best x [] = (x, record { inside = in_head x []; none_better = λ q i e. only q e (in_cases q x [] i) })
     where
-      only : (q : ℕ) → c x q ≡ Plus → (q ≡ x) ⊎ In q [] → ⊥
+      only : (q : ℕ) → c x q ≡ Plus → (q ≡ x) ⊎ IsIn q [] → ⊥
       only q e (inl f) = own_best x (ap (c x) (sym f) ∙ e)
       only q e (inr k) = absurd cc
   best x (y ∷ ys) = at (best y ys)
@@ -114,22 +96,22 @@ module _ (c : ℕ → ℕ → Sign) (is : IsComparison c) where
       at (b, r) = by_sign (c b x) refl
         where
           other : (t : Sign) → c b x ≡ t → (t ≡ Plus → ⊥) → IsBest c (x ∷ y ∷ ys) b
-          other t e n = record { inside = in_tail x b (y ∷ ys) r.inside; none_better = λ q i f. cases q f (in_cases x q (y ∷ ys) i) }
+          other t e n = record { inside = in_tail b x (y ∷ ys) r.inside; none_better = λ q i f. cases q f (in_cases q x (y ∷ ys) i) }
             where
-              cases : (q : ℕ) → c b q ≡ Plus → (q ≡ x) ⊎ In q (y ∷ ys) → ⊥
+              cases : (q : ℕ) → c b q ≡ Plus → (q ≡ x) ⊎ IsIn q (y ∷ ys) → ⊥
               cases q f (inl g) = n (sym e ∙ ap (c b) (sym g) ∙ f)
               cases q f (inr k) = r.none_better q k f
 
           by_sign : (t : Sign) → c b x ≡ t → (b : ℕ) × IsBest c (x ∷ y ∷ ys) b
           by_sign Minus e = (b, other Minus e (λ f. code f))
           by_sign Zero e = (b, other Zero e (λ f. code f))
-          by_sign Plus e = (x, record { inside = in_head x (y ∷ ys); none_better = λ q i f. cases q f (in_cases x q (y ∷ ys) i) })
+          by_sign Plus e = (x, record { inside = in_head x (y ∷ ys); none_better = λ q i f. cases q f (in_cases q x (y ∷ ys) i) })
             where
-              cases : (q : ℕ) → c x q ≡ Plus → (q ≡ x) ⊎ In q (y ∷ ys) → ⊥
+              cases : (q : ℕ) → c x q ≡ Plus → (q ≡ x) ⊎ IsIn q (y ∷ ys) → ⊥
               cases q f (inl g) = own_best x (ap (c x) (sym g) ∙ f)
               cases q f (inr k) = still_best x b q e (r.none_better q k) f
 
-  pub best_of_some : (x : ℕ) (set : List ℕ) → In x set → (b : ℕ) × IsBest c set b
+  pub best_of_some : (x : ℕ) (set : List ℕ) → IsIn x set → (b : ℕ) × IsBest c set b
   best_of_some x [] i = absurd cc
   best_of_some x (y ∷ ys) i = best y ys
 
@@ -158,7 +140,7 @@ module _ {R : Type 0} (o : OrderedRing R) (ps : Places o) where
     compared = one_after_other (by_value (up o ps e)) (one_after_other (by_value leftwards) numbers_compared)
 
     module _ {b : ℕ} (r : IsBest compare set b) where
-      best_high : (q : ℕ) → In q set → AtMost o (up o ps e) q b
+      best_high : (q : ℕ) → IsIn q set → AtMost o (up o ps e) q b
       unfolding compare
       best_high q i = at (most_or_below o (up o ps e) q b)
         where
@@ -167,7 +149,7 @@ module _ {R : Type 0} (o : OrderedRing R) (ps : Places o) where
           at (inr k) = absurd (r.none_better q i (ap (λ t. first_of t (first_of (o.sign (way o leftwards b q)) (by_number b q))) k.is))
 
       -- none is as high and farther left
-      none_left : (q : ℕ) → In q set → Level o (up o ps e) b q → Below o ps.x q b → ⊥
+      none_left : (q : ℕ) → IsIn q set → Level o (up o ps e) b q → Below o ps.x q b → ⊥
       unfolding compare
       none_left q i level left =
           r.none_better q i
@@ -186,5 +168,5 @@ module _ {R : Type 0} (o : OrderedRing R) (ps : Places o) where
       }
 
     -- best point: it is at least as high as all others, and stays
-    pub best_point : (x : ℕ) → In x set → (b : ℕ) × In b set × Stays o ps set b × ((q : ℕ) → In q set → AtMost o (up o ps e) q b)
+    pub best_point : (x : ℕ) → IsIn x set → (b : ℕ) × IsIn b set × Stays o ps set b × ((q : ℕ) → IsIn q set → AtMost o (up o ps e) q b)
     best_point x i = let r = best_of_some compare compared x set i in (r.0, r.1.inside, best_stays r.1, best_high r.1)

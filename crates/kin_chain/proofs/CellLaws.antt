@@ -1,16 +1,17 @@
 -- Every cell of a merge is supported at both ends, and its signs say which current point is higher there.
 use Rattle.std.proofs.Common.{◌≡◌, inl, refl, sym, ◌∙◌, subst, List, [], ◌∷◌, ℕ, Bool, true, false}
 use Rattle.std.specs.Prelude.{Option, Some, None}
+use Rattle.kin_basics.proofs.Members.{contains_none}
 use Rattle.kin_algebra.specs.declared.sign.Sign.{Sign}
 use Rattle.kin_algebra.proofs.OrderedRings.{OrderedRing}
 use Rattle.kin_motion.specs.Scene.{Scene}
 use Rattle.kin_motion.specs.Merges.{Half.{B}, Breakpoint, current_after}
 use Rattle.kin_motion.specs.Cells.{Cell, above_at, above_left, above_right, is_narrow, cells_from, cells_of}
-use Rattle.kin_motion.proofs.SetLaws.{contains_none}
+use Rattle.kin_motion.specs.Numbers.{IsIn}
+use Rattle.kin_motion.proofs.Members.{in_head}
 use Rattle.kin_chain.proofs.Comparisons.{AtMost}
 use Rattle.kin_chain.proofs.Planes.{Places}
 use Rattle.kin_chain.proofs.Geometry.{Direction, Steep, Steeper, steeper_steep, up, parallel}
-use Rattle.kin_chain.proofs.Members.{In, in_head}
 use Rattle.kin_chain.proofs.Outer.{own_steep}
 use Rattle.kin_chain.proofs.Sides.{Falls, own_in_chain, support}
 use Rattle.kin_chain.proofs.Stays.{Comes}
@@ -21,12 +22,12 @@ use Rattle.kin_chain.proofs.Nexts.{ahead, next}
 module _ {R : Type 0} (o : OrderedRing R) (ps : Places o) (s : Scene) (m : Merging o ps s) where
   -- between ends of the directions l and r both current points are supported, and the signs say which is higher
   pub record Sound (l r : Direction o) (c : Cell) : Type 0 where
-    pub a_in : In c.a (m.a ∷ m.as')
-    pub b_in : In c.b (m.b ∷ m.bs)
-    pub a_left : (q : ℕ) → In q m.left → AtMost o (up o ps l) q c.a
-    pub a_right : (q : ℕ) → In q m.left → AtMost o (up o ps r) q c.a
-    pub b_left : (q : ℕ) → In q m.right → AtMost o (up o ps l) q c.b
-    pub b_right : (q : ℕ) → In q m.right → AtMost o (up o ps r) q c.b
+    pub a_in : IsIn c.a (m.a ∷ m.as')
+    pub b_in : IsIn c.b (m.b ∷ m.bs)
+    pub a_left : (q : ℕ) → IsIn q m.left → AtMost o (up o ps l) q c.a
+    pub a_right : (q : ℕ) → IsIn q m.left → AtMost o (up o ps r) q c.a
+    pub b_left : (q : ℕ) → IsIn q m.right → AtMost o (up o ps l) q c.b
+    pub b_right : (q : ℕ) → IsIn q m.right → AtMost o (up o ps r) q c.b
     pub steep : Steep o l r
     pub left_sign : c.left ≡ higher o ps s m (up o ps l) c.a c.b
     pub right_sign : c.right ≡ higher o ps s m (up o ps r) c.a c.b

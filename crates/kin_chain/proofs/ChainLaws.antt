@@ -10,15 +10,17 @@ use Rattle.kin_motion.specs.Chains.{IsUpperChain}
 use Rattle.kin_motion.specs.Merges.{last_of}
 use Rattle.kin_motion.proofs.RealLaws.{real_turn_laws}
 use Rattle.kin_motion.proofs.MergeLaws.{turns_right}
+use Rattle.kin_motion.specs.Numbers.{IsIn}
+use Rattle.kin_motion.proofs.Members.{in_head}
+use Rattle.kin_motion.proofs.MergeFormLaws.{last_in}
 use Rattle.kin_chain.specs.Upper.{StaysIn, IsAsHigh, DifferentX, TurningRight, SmallerSet, BestPoint, EndPoints}
 use Rattle.kin_chain.proofs.Comparisons.{AtMost, Below, Level, own_most, most_most, below_most, level_most}
 use Rattle.kin_chain.proofs.Planes.{step, height}
 use Rattle.kin_chain.proofs.Geometry.{up, along}
-use Rattle.kin_chain.proofs.Members.{In, in_head}
 use Rattle.kin_chain.proofs.Stays.{apart, bare_stays, left_is}
 use Rattle.kin_chain.proofs.Outer.{Outer, outer}
 use Rattle.kin_chain.proofs.OuterSigns.{left_sign, right_sign}
-use Rattle.kin_chain.proofs.ChainEnds.{first_left, last_right, last_in}
+use Rattle.kin_chain.proofs.ChainEnds.{first_left, last_right}
 use Rattle.kin_chain.proofs.RealPlanes.{here, places, shown}
 use Rattle.kin_chain.proofs.ChainsOfChains.{bare_in_part}
 use Rattle.kin_chain.proofs.MergedChain.{Bare, chain_of}
@@ -62,20 +64,20 @@ module _ (s : Scene) (real : IsReal s) where
     abbrev pub ends : Outer (here s real) (places s real) set
     ends = outer (here s real) (places s real) set
 
-    pub inside : (c : ℕ) → In c (p ∷ ps) → In c set
+    pub inside : (c : ℕ) → IsIn c (p ∷ ps) → IsIn c set
     inside = (chain_of s real u).inside
 
-    pub first_highest : (q : ℕ) → In q set → AtMost (here s real) (up (here s real) (places s real) ends.left) q p
+    pub first_highest : (q : ℕ) → IsIn q set → AtMost (here s real) (up (here s real) (places s real) ends.left) q p
     first_highest q i = let b = (chain_of s real u).best ends.left q i in most_most (here s real) b.2 (at b.0 (inside b.0 b.1) (first_left (here s real) (places s real) s (shown s real) p ps u.rising b.0 b.1))
       where
-        at : (c : ℕ) → In c set → (c ≡ p) ⊎ Below (here s real) (places s real).x p c → AtMost (here s real) (up (here s real) (places s real) ends.left) c p
+        at : (c : ℕ) → IsIn c set → (c ≡ p) ⊎ Below (here s real) (places s real).x p c → AtMost (here s real) (up (here s real) (places s real) ends.left) c p
         at c k (inl e) = subst (λ n. AtMost (here s real) (up (here s real) (places s real) ends.left) n p) (sym e) (own_most (here s real) (up (here s real) (places s real) ends.left) p)
         at c k (inr b) = below_most (here s real) (ends.by_left p c (inside p (in_head p ps)) k b)
 
-    pub last_highest : (q : ℕ) → In q set → AtMost (here s real) (up (here s real) (places s real) ends.right) q (last_of p ps)
+    pub last_highest : (q : ℕ) → IsIn q set → AtMost (here s real) (up (here s real) (places s real) ends.right) q (last_of p ps)
     last_highest q i = let b = (chain_of s real u).best ends.right q i in most_most (here s real) b.2 (at b.0 (inside b.0 b.1) (last_right (here s real) (places s real) s (shown s real) p ps u.rising b.0 b.1))
       where
-        at : (c : ℕ) → In c set → (c ≡ last_of p ps) ⊎ Below (here s real) (places s real).x c (last_of p ps) → AtMost (here s real) (up (here s real) (places s real) ends.right) c (last_of p ps)
+        at : (c : ℕ) → IsIn c set → (c ≡ last_of p ps) ⊎ Below (here s real) (places s real).x c (last_of p ps) → AtMost (here s real) (up (here s real) (places s real) ends.right) c (last_of p ps)
         at c k (inl e) = subst (λ n. AtMost (here s real) (up (here s real) (places s real) ends.right) n (last_of p ps)) (sym e) (own_most (here s real) (up (here s real) (places s real) ends.right) (last_of p ps))
         at c k (inr b) = below_most (here s real) (ends.by_right c (last_of p ps) k (inside (last_of p ps) (last_in p ps)) b)
 

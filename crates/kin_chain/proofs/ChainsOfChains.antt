@@ -1,53 +1,39 @@
 -- The upper chain of two sets together, and the facts of their merge, are those of their two chains.
-use Rattle.std.proofs.Common.{◌≡◌, refl, sym, ap, ap₂, ◌∙◌, subst, arith, List, [], ◌∷◌, ◌++◌, ℕ, Bool, true, false, not, ◌&&◌, ◌||◌}
+use Rattle.std.proofs.Common.{◌≡◌, refl, sym, ap, ◌∙◌, subst, List, ◌++◌, ℕ, Bool, true, false, not, ◌&&◌}
 use Rattle.std.specs.List.{list_any}
-use Rattle.std.proofs.lemmas.Bool.Decides.{nat_tests}
+use Rattle.std.proofs.lemmas.Bool.{and_parts, not-true}
+use Rattle.kin_basics.proofs.Tests.{three_parts, three_from}
 use Rattle.kin_motion.specs.Numbers.{is_in}
 use Rattle.kin_motion.specs.Scene.{Scene, IsReal}
 use Rattle.kin_motion.specs.Chains.{is_double, is_above, is_under_segment, is_bare, IsUpperChain}
 use Rattle.kin_motion.specs.Merges.{IsBreakpointList, breakpoint_list, IsMergeForm, IsMergeFact}
 use Rattle.kin_motion.specs.Cells.{merged_chain}
-use Rattle.kin_motion.proofs.AgreementLaws.{halves, none_passes}
+use Rattle.kin_motion.proofs.AgreementLaws.{none_passes}
 use Rattle.kin_motion.proofs.BreakpointLaws.{breakpoints_agree, one_breakpoint_list}
-use Rattle.kin_motion.proofs.ChainLaws.{one_upper_chain}
+use Rattle.kin_motion.proofs.ChainLaws.{one_upper_chain, chain_within}
 use Rattle.kin_motion.proofs.RealLaws.{real_line_laws, real_turn_laws}
 use Rattle.kin_motion.proofs.SlopeLaws.{real_slope_laws}
 use Rattle.kin_chain.specs.Merging.{AreTold, OneBreakpointList, ChainOfChains, FactsOfChains}
 use Rattle.kin_chain.proofs.MergedChain.{merged_is_chain}
-use Rattle.kin_chain.proofs.MergeFacts.{chain_within}
+use Rattle.kin_chain.proofs.Stays.{none_in}
 
 -- ---- smaller set
 -- what no member of a set passes no member of a part of it passes
 none_of_part : (test : ℕ → Bool) (set xs : List ℕ) → ((i : ℕ) → is_in i xs ≡ true → is_in i set ≡ true) → list_any test set ≡ false → list_any test xs ≡ false
-none_of_part test set [] within none = refl
-none_of_part test set (x ∷ xs) within none =
-    ap₂ (λ b c. b || c)
-    (none_passes test set x none (within x (grind (arith, nat_tests))))
-    (none_of_part test set xs (λ i h. within i (grind (arith, nat_tests, h))) none)
+none_of_part test set xs within none = none_in test xs (λ i h. none_passes test set i none (within i h))
 
 module _ (s : Scene) where
   pub bare_in_part : (set xs : List ℕ) (p : ℕ) → ((i : ℕ) → is_in i xs ≡ true → is_in i set ≡ true) → is_bare s set p ≡ true → is_bare s xs p ≡ true
   bare_in_part set xs p within bare =
-      at (list_any (is_double s p) set) refl (list_any (is_above s p) set) refl (list_any (λ q. list_any (is_under_segment s p q) set) set) refl bare
-    where
-      rows : (xs' : List ℕ) → ((i : ℕ) → is_in i xs' ≡ true → is_in i set ≡ true) → list_any (λ q. list_any (is_under_segment s p q) set) set ≡ false → list_any (λ q. list_any (is_under_segment s p q) xs) xs' ≡ false
-      rows [] w n = refl
-      rows (x ∷ xs') w n =
-          ap₂ (λ b c. b || c)
-          (none_of_part (is_under_segment s p x) set xs within (none_passes (λ q. list_any (is_under_segment s p q) set) set x n (w x (grind (arith, nat_tests)))))
-          (rows xs' (λ i h. w i (grind (arith, nat_tests, h))) n)
-
-      at : (a : Bool) → list_any (is_double s p) set ≡ a → (b : Bool) → list_any (is_above s p) set ≡ b → (c : Bool) → list_any (λ q. list_any (is_under_segment s p q) set) set ≡ c → not a && not b && not c ≡ true → is_bare s xs p ≡ true
-      at false d false e false f h =
-          ap₂ (λ x y. not x && not y && not (list_any (λ q. list_any (is_under_segment s p q) xs) xs)) (none_of_part (is_double s p) set xs within d) (none_of_part (is_above s p) set xs within e)
-          ∙ ap not (rows xs within f)
-      at true d b e c f h = absurd cc
-      at false d true e c f h = absurd cc
-      at false d false e true f h = absurd cc
+      let parts = three_parts (not (list_any (is_double s p) set)) (not (list_any (is_above s p) set)) (not (list_any (λ q. list_any (is_under_segment s p q) set) set)) bare in
+      three_from (not (list_any (is_double s p) xs)) (not (list_any (is_above s p) xs)) (not (list_any (λ q. list_any (is_under_segment s p q) xs) xs))
+      (ap not (none_of_part (is_double s p) set xs within (not-true _ parts.0)))
+      (ap not (none_of_part (is_above s p) set xs within (not-true _ parts.1)))
+      (ap not (none_in (λ q. list_any (is_under_segment s p q) xs) xs (λ q i. none_of_part (is_under_segment s p q) set xs within (none_passes (λ t. list_any (is_under_segment s p t) set) set q (not-true _ parts.2) (within q i)))))
 
   -- an upper chain is that of its own members
   pub chain_of_itself : (set xs : List ℕ) → IsUpperChain s set xs → IsUpperChain s xs xs
-  chain_of_itself set xs u = record { members = λ p. own (is_in p xs) (is_bare s xs p) (λ h. bare_in_part set xs p (chain_within s set xs u) (halves (is_in p set) (is_bare s set p) (sym (u.members p) ∙ h)).1); rising = u.rising }
+  chain_of_itself set xs u = record { members = λ p. own (is_in p xs) (is_bare s xs p) (λ h. bare_in_part set xs p (chain_within s set xs u) (and_parts (is_in p set) (is_bare s set p) (sym (u.members p) ∙ h)).1); rising = u.rising }
     where
       own : (a b : Bool) → (a ≡ true → b ≡ true) → a ≡ a && b
       own true b f = sym (f refl)

@@ -4,7 +4,7 @@ use Rattle.kin_algebra.specs.declared.sign.Sign.{Sign}
 use Rattle.kin_algebra.specs.declared.sign.Sign.TheVariants.{Minus, Zero, Plus}
 use Rattle.kin_algebra.specs.Signs.{opposite_of, SumMayBe}
 use Rattle.kin_algebra.proofs.Ring.{by_identity, quotes_in}
-use Rattle.kin_algebra.proofs.Signs.{AtLeast, code}
+use Rattle.kin_algebra.proofs.Signs.{AtLeast, code, zero_from_opposite}
 use Rattle.kin_algebra.proofs.OrderedRings.{OrderedRing, positive_sum, nonnegative_sum, sum_may_be}
 
 module _ {R : Type 0} (o : OrderedRing R) where
@@ -34,13 +34,8 @@ module _ {R : Type 0} (o : OrderedRing R) where
   pub turned : (v : ℕ → R) (i j : ℕ) → o.sign (way v j i) ≡ opposite_of (o.sign (way v i j))
   turned v i j = ap o.sign (turned_step (v i) (v j)) ∙ o.sign_negative (way v i j)
 
-  own_opposite : (t : Sign) → t ≡ opposite_of t → t ≡ Zero
-  own_opposite Minus e = absurd (code e)
-  own_opposite Zero e = refl
-  own_opposite Plus e = absurd (code e)
-
   pub level_own : (v : ℕ → R) (i : ℕ) → Level v i i
-  level_own v i = record { is = own_opposite (o.sign (way v i i)) (turned v i i) }
+  level_own v i = record { is = zero_from_opposite (o.sign (way v i i)) (turned v i i) }
 
   pub level_most : {v : ℕ → R} {i j : ℕ} → Level v i j → AtMost v i j
   level_most {v} {i} {j} e = record { is = inr e.is }

@@ -1,10 +1,9 @@
 -- Five lemmas on directions, each one use of one identity of three vectors.
 use Rattle.std.proofs.Common.{◌≡◌, inl, [], ◌∷◌, sym, refl, ap, ◌∙◌, subst}
-use Rattle.kin_algebra.specs.declared.sign.Sign.{Sign}
-use Rattle.kin_algebra.specs.declared.sign.Sign.TheVariants.{Minus, Zero, Plus}
+use Rattle.kin_algebra.specs.declared.sign.Sign.TheVariants.{Zero, Plus}
 use Rattle.kin_algebra.specs.Signs.{product_of}
 use Rattle.kin_algebra.proofs.Ring.{by_identity, quotes_in}
-use Rattle.kin_algebra.proofs.Signs.{AtLeast}
+use Rattle.kin_algebra.proofs.Signs.{AtLeast, product-Zero}
 use Rattle.kin_algebra.proofs.OrderedRings.{OrderedRing, scale, nonnegative_sum, sum_zero, nonnegative_product}
 
 -- a pair of values: a step, or a place
@@ -51,13 +50,8 @@ module _ {R : Type 0} (o : OrderedRing R) where
   pub no_terms : (a b c : Vector R) → o.sign c.x ≡ Plus → AtLeast (o.sign (cross a b)) → o.sign a.x ≡ Plus → AtLeast (o.sign (cross b c)) → o.sign (cross a c) ≡ Zero → (o.sign (cross a b) ≡ Zero) × (o.sign (cross b c) ≡ Zero)
   no_terms a b c c_right ab a_right bc e = (sym (scale o (cross a b) c_right) ∙ zeros.0, sym (scale o (cross b c) a_right) ∙ zeros.1)
     where
-      none : (t : Sign) → product_of t Zero ≡ Zero
-      none Minus = refl
-      none Zero = refl
-      none Plus = refl
-
       sum : o.sign ((c.x · cross a b) ⊕ (a.x · cross b c)) ≡ Zero
-      sum = sym (ap o.sign (three a b c)) ∙ o.sign_times b.x (cross a c) ∙ ap (product_of (o.sign b.x)) e ∙ none (o.sign b.x)
+      sum = sym (ap o.sign (three a b c)) ∙ o.sign_times b.x (cross a c) ∙ ap (product_of (o.sign b.x)) e ∙ product-Zero (o.sign b.x)
 
       zeros : (o.sign (c.x · cross a b) ≡ Zero) × (o.sign (a.x · cross b c) ≡ Zero)
       zeros = sum_zero o (nonnegative_product o {a = c.x} (inl c_right) ab) (nonnegative_product o {a = a.x} (inl a_right) bc) sum

@@ -1,9 +1,9 @@
 -- Points and directions: who is high along which direction, and what that says of x and of segments.
-use Rattle.std.proofs.Common.{◌≡◌, inl, inr, ℕ, sym, refl, ap, ◌∙◌, subst}
+use Rattle.std.proofs.Common.{◌≡◌, inl, inr, ℕ, sym, ap, ◌∙◌, subst}
 use Rattle.kin_algebra.specs.declared.sign.Sign.{Sign}
 use Rattle.kin_algebra.specs.declared.sign.Sign.TheVariants.{Minus, Zero, Plus}
 use Rattle.kin_algebra.specs.Signs.{opposite_of, product_of, SumMayBe}
-use Rattle.kin_algebra.proofs.Signs.{AtLeast, code, product-Plus, product-Zero}
+use Rattle.kin_algebra.proofs.Signs.{AtLeast, code, product-Plus, product-Zero, zero_from_opposite}
 use Rattle.kin_algebra.proofs.OrderedRings.{OrderedRing, scale, nonnegative_sum, nonnegative_product, sum_may_be}
 use Rattle.kin_chain.proofs.Comparisons.{way, AtMost, Below, Level, level_most, level_turned, both_most}
 use Rattle.kin_chain.proofs.Directions.{Vector, cross, anti, three, two_terms, no_terms}
@@ -64,12 +64,7 @@ module _ {R : Type 0} (o : OrderedRing R) where
 
     -- both ends of a step are level along it
     pub level_ends : (i j : ℕ) → Level o (height o ps (step o ps i j)) i j
-    level_ends i j = record { is = ap o.sign (rise o ps (step o ps i j) i j) ∙ own (o.sign (cross o (step o ps i j) (step o ps i j))) (ap o.sign (anti o (step o ps i j) (step o ps i j)) ∙ o.sign_negative (cross o (step o ps i j) (step o ps i j))) }
-      where
-        own : (t : Sign) → t ≡ opposite_of t → t ≡ Zero
-        own Minus e = absurd (code e)
-        own Zero e = refl
-        own Plus e = absurd (code e)
+    level_ends i j = record { is = ap o.sign (rise o ps (step o ps i j) i j) ∙ zero_from_opposite (o.sign (cross o (step o ps i j) (step o ps i j))) (ap o.sign (anti o (step o ps i j) (step o ps i j)) ∙ o.sign_negative (cross o (step o ps i j) (step o ps i j))) }
 
     -- a point to the right that is as high along the steeper direction is as high along the flatter one
     pub flatter : {l r : Direction} {c p : ℕ} → Steep l r → AtMost o ps.x c p → AtMost o (up l) c p → AtMost o (up r) c p

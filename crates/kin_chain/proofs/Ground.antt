@@ -1,25 +1,24 @@
 -- The merge of two chains in terms of places: what is known, and the state of a walk along the breakpoint list.
 use Rattle.std.proofs.Common.{◌≡◌, ◌⊎◌, inl, inr, refl, sym, ap, ◌∙◌, subst, ◌<◌, List, ◌∷◌, ◌++◌, ℕ, Bool, true, false, not, ◌&&◌}
 use Rattle.std.specs.Prelude.{Contains, Option, Some, None}
+use Rattle.kin_basics.proofs.Members.{contains_head, contains_cases}
 use Rattle.kin_algebra.specs.declared.sign.Sign.{Sign}
 use Rattle.kin_algebra.specs.declared.sign.Sign.TheVariants.{Minus, Zero, Plus}
 use Rattle.kin_algebra.specs.Signs.{opposite_of}
 use Rattle.kin_algebra.proofs.Signs.{AtLeast}
 use Rattle.kin_algebra.proofs.OrderedRings.{OrderedRing}
-use Rattle.kin_motion.specs.Numbers.{IsChain}
+use Rattle.kin_motion.specs.Numbers.{IsChain, IsIn}
 use Rattle.kin_motion.specs.Scene.{Scene}
 use Rattle.kin_motion.specs.Chains.{is_zero}
 use Rattle.kin_motion.specs.Laws.{HasSlopeLaws}
 use Rattle.kin_motion.specs.Merges.{Half, Half.{A, B}, Breakpoint, is_of, slope_form, goes_first, point_of, IsBreakpointList}
 use Rattle.kin_motion.specs.Cells.{is_narrow}
-use Rattle.kin_motion.proofs.SetLaws.{contains_head, contains_cases}
 use Rattle.kin_motion.proofs.JournalLaws.{first_of_chain}
 use Rattle.kin_motion.proofs.BreakpointLaws.{comes, right_signs, comes_never, comes_through}
 use Rattle.kin_chain.proofs.Comparisons.{way, AtMost, Below, Level, below_most, level_most, level_turned}
 use Rattle.kin_chain.proofs.Directions.{cross, anti}
 use Rattle.kin_chain.proofs.Planes.{Places, Shows, step, height, fall}
 use Rattle.kin_chain.proofs.Geometry.{Direction, Steep, Steeper, up, along, steep_along, falls_steeper, level_ends}
-use Rattle.kin_chain.proofs.Members.{In}
 use Rattle.kin_chain.proofs.Outer.{Outer}
 use Rattle.kin_chain.proofs.Sides.{ChainOf, Falls, Side}
 
@@ -36,11 +35,11 @@ module _ {R : Type 0} (o : OrderedRing R) (ps : Places o) (s : Scene) where
     pub bs : List ℕ
     pub a_known : ChainOf o ps left (a ∷ as')
     pub b_known : ChainOf o ps right (b ∷ bs)
-    pub less : (i j : ℕ) → In i left → In j right → i < j
+    pub less : (i j : ℕ) → IsIn i left → IsIn j right → i < j
     pub breakpoints : List Breakpoint
     pub list : IsBreakpointList s (a ∷ as') (b ∷ bs) breakpoints
     pub rights : (f : Breakpoint) → Contains breakpoints f → Below o ps.x f.left f.right
-    pub ends : (f : Breakpoint) → Contains breakpoints f → In f.left (left ++ right) × In f.right (left ++ right)
+    pub ends : (f : Breakpoint) → Contains breakpoints f → IsIn f.left (left ++ right) × IsIn f.right (left ++ right)
     pub sorted : IsChain (comes s slopes) breakpoints
     pub outer : Outer o ps (left ++ right)
 
@@ -74,7 +73,7 @@ module _ {R : Type 0} (o : OrderedRing R) (ps : Places o) (s : Scene) where
     pub record Behind (l : Direction o) (d : Breakpoint) (a b : ℕ) (es : List Breakpoint) : Type 0 where
       pub right : Below o ps.x d.left d.right
       pub vector : l.vector ≡ step o ps d.left d.right
-      pub inside : In d.left both
+      pub inside : IsIn d.left both
       pub placed : IsChain (comes s m.slopes) (d ∷ es)
       pub point : point_of d.half a b ≡ d.right
 

@@ -8,16 +8,12 @@ use Rattle.kin_motion.specs.Chains.{is_plus, IsUpperChain}
 use Rattle.kin_motion.specs.Merges.{Half, Half.{A, B}, Breakpoint, is_of, breakpoints_of, slope_form, goes_first, is_placed_before, own_of, IsInterleaving, IsBreakpointList}
 use Rattle.kin_motion.specs.Laws.{HasTurnLaws}
 use Rattle.kin_motion.proofs.MergeLaws.{Falls, upper_falls}
+use Rattle.kin_motion.proofs.ListChains.{chain_tail}
 use Rattle.kin_chain.specs.Merging.{is_in_place}
 
 either : (a b : Bool) → a || b ≡ true → a ≡ false → b ≡ true
 either true b e f = absurd cc
 either false b e f = e
-
--- the tail of a chain is a chain
-pub tail_of_chain : {X : Type 0} (lt : X → X → Bool) (x : X) (xs : List X) → IsChain lt (x ∷ xs) → IsChain lt xs
-tail_of_chain {X} lt x [] c = tt
-tail_of_chain {X} lt x (y ∷ ys) c = c.1
 
 module _ (s : Scene) where
   -- the first is steeper
@@ -34,7 +30,7 @@ module _ (s : Scene) where
   own_behind h e es c = at (is_of h e.half) c
     where
       at : (b : Bool) → IsChain falls (cond b (e ∷ own_of h es) (own_of h es)) → IsChain falls (own_of h es)
-      at true c = tail_of_chain falls e (own_of h es) c
+      at true c = chain_tail falls e (own_of h es) c
       at false c = c
 
   steeper_first : (e f : Breakpoint) → falls e f ≡ true → is_placed_before s e f ≡ true

@@ -2,7 +2,6 @@ pub mod Comparisons
 pub mod Directions
 pub mod Planes
 pub mod Geometry
-pub mod Members
 pub mod Stays
 pub mod ChainEnds
 pub mod Highest

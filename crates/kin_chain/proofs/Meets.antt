@@ -2,10 +2,10 @@
 use Rattle.std.proofs.Common.{◌⊎◌, inl, inr, subst, List, ℕ}
 use Rattle.kin_algebra.proofs.Signs.{AtLeast}
 use Rattle.kin_algebra.proofs.OrderedRings.{OrderedRing}
+use Rattle.kin_motion.specs.Numbers.{IsIn}
 use Rattle.kin_chain.proofs.Comparisons.{AtMost, Below, Level, most_most, level_most, level_turned, most_or_below, both_most}
 use Rattle.kin_chain.proofs.Planes.{Places}
 use Rattle.kin_chain.proofs.Geometry.{Direction, up, along, straight, under, level_ends}
-use Rattle.kin_chain.proofs.Members.{In}
 use Rattle.kin_chain.proofs.Stays.{Stays}
 
 module _ {R : Type 0} (o : OrderedRing R) (ps : Places o) where
@@ -24,11 +24,11 @@ module _ {R : Type 0} (o : OrderedRing R) (ps : Places o) where
   -- a point that stays, and another
   pub record Pair (all : List ℕ) (p q : ℕ) : Type 0 where
     pub stays : Stays o ps all p
-    pub other : In q all
+    pub other : IsIn q all
 
   module _ {all : List ℕ} {p q : ℕ} (pair : Pair all p q) where
     -- at the end where p becomes current, behind i
-    pub enters_step : (i : ℕ) → In i all → (r : Below o ps.x i p) → Enters (along o ps i p r) p q
+    pub enters_step : (i : ℕ) → IsIn i all → (r : Below o ps.x i p) → Enters (along o ps i p r) p q
     enters_step i k r = by_height (most_or_below o (up o ps (along o ps i p r)) p q)
       where
         by_x : AtMost o (up o ps (along o ps i p r)) p q → AtMost o ps.x q p ⊎ Below o ps.x p q → Enters (along o ps i p r) p q
@@ -40,7 +40,7 @@ module _ {R : Type 0} (o : OrderedRing R) (ps : Places o) where
         by_height (inr b) = inr b
 
     -- at the end where p is left for j
-    pub leaves_step : (j : ℕ) → In j all → (r : Below o ps.x p j) → Leaves (along o ps p j r) p q
+    pub leaves_step : (j : ℕ) → IsIn j all → (r : Below o ps.x p j) → Leaves (along o ps p j r) p q
     leaves_step j k r = by_height (most_or_below o (up o ps (along o ps p j r)) p q)
       where
         by_x : AtMost o (up o ps (along o ps p j r)) p q → AtMost o ps.x p q ⊎ Below o ps.x q p → Leaves (along o ps p j r) p q
@@ -52,7 +52,7 @@ module _ {R : Type 0} (o : OrderedRing R) (ps : Places o) where
         by_height (inr b) = inr b
 
     -- at an end where q is left for j: the cell is the last one that matters, or j isn't farther right than p
-    pub passes : (j : ℕ) → In j all → (r : Below o ps.x q j) → Leaves (along o ps q j r) p q ⊎ AtMost o ps.x j p
+    pub passes : (j : ℕ) → IsIn j all → (r : Below o ps.x q j) → Leaves (along o ps q j r) p q ⊎ AtMost o ps.x j p
     passes j k r = by_height (most_or_below o (up o ps (along o ps q j r)) p q)
       where
         by_next : AtMost o (up o ps (along o ps q j r)) p q → Below o ps.x q p → AtMost o ps.x j p ⊎ Below o ps.x p j → Leaves (along o ps q j r) p q ⊎ AtMost o ps.x j p

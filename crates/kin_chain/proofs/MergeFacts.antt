@@ -1,38 +1,28 @@
 -- The facts of a merge are listed exactly, from its two upper chains and their breakpoint list.
-use Rattle.std.proofs.Common.{◌≡◌, refl, sym, ap, ◌∙◌, arith, subst, List, [], ◌∷◌, ℕ, ◌<◌, Bool, true, false, ◌||◌, nat_eq, map, pos}
+use Rattle.std.proofs.Common.{◌≡◌, refl, ap, arith, List, [], ◌∷◌, ℕ, ◌<◌, Bool, true, false, map, pos}
 use Rattle.std.specs.Prelude.{Contains, ◌↔◌}
-use Rattle.std.proofs.lemmas.Bool.Decides.{nat_tests}
 use Rattle.kin_motion.specs.declared.form.Form.{Form}
 use Rattle.kin_motion.specs.declared.fact.Placed.{Placed}
 use Rattle.kin_motion.specs.Numbers.{is_in, IsOnce, IsChain}
 use Rattle.kin_motion.specs.Sets.{ListsExactly}
 use Rattle.kin_motion.specs.Scene.{Scene, IsReal, x_sign, placed_at}
-use Rattle.kin_motion.specs.Chains.{is_left, is_bare, IsUpperChain}
+use Rattle.kin_motion.specs.Chains.{is_left}
 use Rattle.kin_motion.specs.Merges.{Breakpoint, IsBreakpointList, forms_of_merge, IsMergeForm, IsMergeFact}
 use Rattle.kin_motion.specs.Laws.{HasLineLaws}
-use Rattle.kin_motion.proofs.AgreementLaws.{halves}
-use Rattle.kin_motion.proofs.ChainLaws.{never_left, left_through}
+use Rattle.kin_motion.proofs.ChainLaws.{never_left, left_through, chain_within}
 use Rattle.kin_motion.proofs.HullFactLaws.{AreDisjoint, forms_exact}
 use Rattle.kin_motion.proofs.JournalLaws.{first_of_chain}
 use Rattle.kin_motion.proofs.RealLaws.{real_line_laws}
-use Rattle.kin_motion.proofs.SetLaws.{contains_head, contains_tail, exactly_in_words, exactly_mapped}
+use Rattle.kin_motion.proofs.SetLaws.{exactly_in_words, exactly_mapped}
+use Rattle.kin_motion.proofs.Members.{contains_from_in}
+use Rattle.kin_motion.proofs.ListChains.{chain_tail}
 use Rattle.kin_chain.specs.Merging.{AreTold}
-use Rattle.kin_chain.proofs.InPlace.{tail_of_chain}
-
--- a member stands at a place
-at_place : (p : ℕ) (xs : List ℕ) → is_in p xs ≡ true → Contains xs p
-at_place p [] e = absurd cc
-at_place p (x ∷ xs) e = at (nat_eq p x) refl e (at_place p xs)
-  where
-    at : (b : Bool) → nat_eq p x ≡ b → b || is_in p xs ≡ true → (is_in p xs ≡ true → Contains xs p) → Contains (x ∷ xs) p
-    at true f e rest = let same : x ≡ p = grind (arith, nat_tests, f) in subst (λ n. Contains (x ∷ xs) n) same (contains_head x xs)
-    at false f e rest = contains_tail x p xs (rest e)
 
 module _ (s : Scene) where
   -- no number stands twice in a list that rises by x
   pub rising_once : HasLineLaws s → (xs : List ℕ) → IsChain (is_left s) xs → IsOnce xs
   rising_once lines [] c = tt
-  rising_once lines (x ∷ xs) c = (not_again (is_in x xs) (at_place x xs), rising_once lines xs (tail_of_chain (is_left s) x xs c))
+  rising_once lines (x ∷ xs) c = (not_again (is_in x xs) (contains_from_in xs x), rising_once lines xs (chain_tail (is_left s) x xs c))
     where
       never : (i : ℕ) → is_left s i i ≡ true → ⊥
       never i = never_left (x_sign s i i) (lines.opposite (pos 1) (pos 0) i i)
@@ -44,12 +34,9 @@ module _ (s : Scene) where
       not_again true f = absurd (never x (first_of_chain (is_left s) never through x xs c x (f refl)))
       not_again false f = refl
 
-  pub chain_within : (set xs : List ℕ) → IsUpperChain s set xs → (i : ℕ) → is_in i xs ≡ true → is_in i set ≡ true
-  chain_within set xs u i h = (halves (is_in i set) (is_bare s set i) (sym (u.members i) ∙ h)).0
-
   told_apart : (left right a b : List ℕ) → AreTold s left right a b → AreDisjoint a b
   unfolding AreDisjoint
-  told_apart left right a b told i h k = let less : i < i = told.less i i (chain_within left a told.a_chain i h) (chain_within right b told.b_chain i k) in omega (arith, less)
+  told_apart left right a b told i h k = let less : i < i = told.less i i (chain_within s left a told.a_chain i h) (chain_within s right b told.b_chain i k) in omega (arith, less)
 
   pub facts_exact : IsReal s → (left right a b : List ℕ) (es : List Breakpoint) (part : ℕ) → AreTold s left right a b → IsBreakpointList s a b es
       → ListsExactly (map (placed_at s part) (forms_of_merge s a b es)) (IsMergeFact s left right part)

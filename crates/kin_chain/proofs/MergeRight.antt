@@ -1,6 +1,7 @@
 -- One theorem for both laws of a merge: where the told chains are upper chains and what was seen is so, the merge is right.
 use Rattle.std.proofs.Common.{◌≡◌, refl, ap, ap₂, ◌∙◌, subst, List, [], ◌∷◌, ◌++◌, ℕ, Bool, true, false, cond, ◌||◌, map}
 use Rattle.std.specs.Prelude.{Contains, flat_map, None}
+use Rattle.kin_basics.proofs.Members.{contains_head, contains_tail}
 use Rattle.kin_motion.specs.declared.form.Form.{Form}
 use Rattle.kin_motion.specs.declared.fact.Placed.{Placed}
 use Rattle.kin_motion.specs.Numbers.{IsChain}
@@ -10,7 +11,6 @@ use Rattle.kin_motion.specs.Sets.{ListsExactly}
 use Rattle.kin_motion.specs.Merges.{Half, Half.{A, B}, Breakpoint, is_of, own_of, is_placed_before, IsBreakpointList, forms_of_merge, IsMergeFact}
 use Rattle.kin_motion.specs.Cells.{Cell, given_by, changes_of, merged_chain}
 use Rattle.kin_motion.proofs.RealLaws.{real_turn_laws}
-use Rattle.kin_motion.proofs.SetLaws.{contains_head, contains_tail}
 use Rattle.kin_chain.specs.Merging.{is_in_place, IsKept, MergeIsRight, MergeIsSettled}
 use Rattle.kin_chain.proofs.MergedChain.{merge_gives_chain}
 use Rattle.kin_chain.proofs.InPlace.{list_in_place}

@@ -5,13 +5,15 @@ use Rattle.kin_algebra.proofs.OrderedRings.{OrderedRing}
 use Rattle.kin_motion.specs.Scene.{Scene}
 use Rattle.kin_motion.specs.Merges.{Half, Half.{A, B}, Breakpoint, own_of, other, point_of, current_after}
 use Rattle.kin_motion.specs.Cells.{above_at}
+use Rattle.kin_motion.specs.Numbers.{IsIn}
+use Rattle.kin_motion.proofs.Members.{in_head, in_tail}
+use Rattle.kin_motion.proofs.BreakpointLaws.{own_with}
 use Rattle.kin_chain.specs.Supports.{list_of}
 use Rattle.kin_chain.proofs.Planes.{Places}
 use Rattle.kin_chain.proofs.Geometry.{Direction, up, along}
-use Rattle.kin_chain.proofs.Members.{In, in_head, in_tail}
 use Rattle.kin_chain.proofs.Stays.{Comes}
 use Rattle.kin_chain.proofs.Ground.{Merging, both, At, goes_right}
-use Rattle.kin_chain.proofs.Walks.{IsNext, next_of, own_with}
+use Rattle.kin_chain.proofs.Walks.{IsNext, next_of}
 use Rattle.kin_chain.proofs.Steps.{a_inside, b_inside, behind_a, behind_b, higher, above_at_a, above_at_b, above_behind_a, above_behind_b}
 
 -- the points that are current, a of A and b of B, and what comes behind them in both chains
@@ -53,7 +55,7 @@ module _ {R : Type 0} (o : OrderedRing R) (ps : Places o) (s : Scene) (m : Mergi
     pub b_is : now.b ≡ current_after B d c.b
     pub comes_a : Comes o ps c.a now.a
     pub comes_b : Comes o ps c.b now.b
-    pub inside : In d.right (both o ps s m)
+    pub inside : IsIn d.right (both o ps s m)
     pub above : above_at s c.a c.b d ≡ higher o ps s m (up o ps r) c.a c.b
     pub above_now : above_at s c.a c.b d ≡ higher o ps s m (up o ps r) now.a now.b
     pub step : (h : Half) → IsOwnStep h d c now ⊎ IsOtherStep h d c now
@@ -71,7 +73,7 @@ module _ {R : Type 0} (o : OrderedRing R) (ps : Places o) (s : Scene) (m : Mergi
     b_is = refl;
     comes_a = inr (goes_right o ps s m (record { half = A; left = a; right = j }) at);
     comes_b = inl refl;
-    inside = a_inside o ps s m j (at.a_side.part j (in_tail a j (j ∷ as') (in_head j as')));
+    inside = a_inside o ps s m j (at.a_side.part j (in_tail j a (j ∷ as') (in_head j as')));
     above = above_at_a o ps s m a j b;
     above_now = above_behind_a o ps s m a j b;
     step = steps;
@@ -91,7 +93,7 @@ module _ {R : Type 0} (o : OrderedRing R) (ps : Places o) (s : Scene) (m : Mergi
     b_is = refl;
     comes_a = inl refl;
     comes_b = inr (goes_right o ps s m (record { half = B; left = b; right = j }) at);
-    inside = b_inside o ps s m j (at.b_side.part j (in_tail b j (j ∷ bs) (in_head j bs)));
+    inside = b_inside o ps s m j (at.b_side.part j (in_tail j b (j ∷ bs) (in_head j bs)));
     above = above_at_b o ps s m a b j;
     above_now = above_behind_b o ps s m a b j;
     step = steps;

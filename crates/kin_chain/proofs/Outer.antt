@@ -4,11 +4,12 @@ use Rattle.kin_algebra.specs.declared.sign.Sign.TheVariants.{Minus, Zero, Plus}
 use Rattle.kin_algebra.specs.Signs.{opposite_of}
 use Rattle.kin_algebra.proofs.Ring.{by_identity, quotes_in}
 use Rattle.kin_algebra.proofs.OrderedRings.{OrderedRing, positive_product, one}
+use Rattle.kin_motion.specs.Numbers.{IsIn}
+use Rattle.kin_motion.proofs.Members.{in_cases}
 use Rattle.kin_chain.proofs.Comparisons.{way, AtMost, Below, not_both, most_or_below}
 use Rattle.kin_chain.proofs.Directions.{cross, anti}
 use Rattle.kin_chain.proofs.Planes.{Places, height, fall}
 use Rattle.kin_chain.proofs.Geometry.{Direction, Steep, Steeper, steep_steep, steeper_steep, steeper_then, then_steeper, up, along, falls_steeper}
-use Rattle.kin_chain.proofs.Members.{In, in_cases}
 
 module _ {R : Type 0} (o : OrderedRing R) where
   -- a steeper direction
@@ -61,25 +62,25 @@ module _ {R : Type 0} (o : OrderedRing R) where
             by_steepness (inl p) = (lifted (along o ps i j r), steeper_steep o (steeper_then o (lifted_steeper (along o ps i j r)) p), λ r'. falls r (lifted_steeper (along o ps i j r)))
             by_steepness (inr p) = (e, own_steep e, λ r'. falls r p)
 
-    steep_from : (e : Direction o) (i : ℕ) (js : List ℕ) → (d : Direction o) × Steep o d e × ((j : ℕ) → In j js → Falls d i j)
+    steep_from : (e : Direction o) (i : ℕ) (js : List ℕ) → (d : Direction o) × Steep o d e × ((j : ℕ) → IsIn j js → Falls d i j)
     steep_from e i [] = (e, own_steep e, λ j k. absurd cc)
     steep_from e i (j ∷ js) = at (steep_from e i js)
       where
-        at : (d : Direction o) × Steep o d e × ((j : ℕ) → In j js → Falls d i j) → (d : Direction o) × Steep o d e × ((k : ℕ) → In k (j ∷ js) → Falls d i k)
-        at (d, p, f) = let n = steep_enough d i j in (n.0, steep_steep o n.1 p, λ k h. by_case k (in_cases j k js h))
+        at : (d : Direction o) × Steep o d e × ((j : ℕ) → IsIn j js → Falls d i j) → (d : Direction o) × Steep o d e × ((k : ℕ) → IsIn k (j ∷ js) → Falls d i k)
+        at (d, p, f) = let n = steep_enough d i j in (n.0, steep_steep o n.1 p, λ k h. by_case k (in_cases k j js h))
           where
-            by_case : (k : ℕ) → (k ≡ j) ⊎ In k js → Falls (steep_enough d i j).0 i k
+            by_case : (k : ℕ) → (k ≡ j) ⊎ IsIn k js → Falls (steep_enough d i j).0 i k
             by_case k (inl q) = subst (λ m. Falls (steep_enough d i j).0 i m) (sym q) (steep_enough d i j).2
             by_case k (inr h) = falls_too (steep_enough d i j).1 (f k h)
 
-    steep_among : (e : Direction o) (is js : List ℕ) → (d : Direction o) × Steep o d e × ((i j : ℕ) → In i is → In j js → Falls d i j)
+    steep_among : (e : Direction o) (is js : List ℕ) → (d : Direction o) × Steep o d e × ((i j : ℕ) → IsIn i is → IsIn j js → Falls d i j)
     steep_among e [] js = (e, own_steep e, λ i j h. absurd cc)
     steep_among e (i ∷ is) js = at (steep_among e is js)
       where
-        at : (d : Direction o) × Steep o d e × ((i j : ℕ) → In i is → In j js → Falls d i j) → (d : Direction o) × Steep o d e × ((k j : ℕ) → In k (i ∷ is) → In j js → Falls d k j)
-        at (d, p, f) = let n = steep_from d i js in (n.0, steep_steep o n.1 p, λ k j h g. by_case k j g (in_cases i k is h))
+        at : (d : Direction o) × Steep o d e × ((i j : ℕ) → IsIn i is → IsIn j js → Falls d i j) → (d : Direction o) × Steep o d e × ((k j : ℕ) → IsIn k (i ∷ is) → IsIn j js → Falls d k j)
+        at (d, p, f) = let n = steep_from d i js in (n.0, steep_steep o n.1 p, λ k j h g. by_case k j g (in_cases k i is h))
           where
-            by_case : (k j : ℕ) → In j js → (k ≡ i) ⊎ In k is → Falls (steep_from d i js).0 k j
+            by_case : (k j : ℕ) → IsIn j js → (k ≡ i) ⊎ IsIn k is → Falls (steep_from d i js).0 k j
             by_case k j g (inl q) = subst (λ m. Falls (steep_from d i js).0 m j) (sym q) ((steep_from d i js).2 j g)
             by_case k j g (inr h) = falls_too (steep_from d i js).1 (f k j h g)
 
@@ -96,13 +97,13 @@ module _ {R : Type 0} (o : OrderedRing R) where
       pub left : Direction o
       pub right : Direction o
       pub steeper : Steeper o left right
-      pub by_left : (i j : ℕ) → In i set → In j set → Below o ps.x i j → Below o (up o ps left) j i
-      pub by_right : (i j : ℕ) → In i set → In j set → Below o ps.x i j → Below o (up o ps right) i j
+      pub by_left : (i j : ℕ) → IsIn i set → IsIn j set → Below o ps.x i j → Below o (up o ps left) j i
+      pub by_right : (i j : ℕ) → IsIn i set → IsIn j set → Below o ps.x i j → Below o (up o ps right) i j
 
     level_direction : Direction o
     level_direction = record { vector = record { x = one o; y = one o }; right = o.sign_one }
 
-    flat : (d : Direction o) × Steep o d level_direction × ((i j : ℕ) → In i set → In j set → Below o (turned_x ps).x i j → Below o (up o (turned_x ps) d) j i)
+    flat : (d : Direction o) × Steep o d level_direction × ((i j : ℕ) → IsIn i set → IsIn j set → Below o (turned_x ps).x i j → Below o (up o (turned_x ps) d) j i)
     flat = steep_among (turned_x ps) level_direction set set
 
     turned_up : (d : Direction o) (i : ℕ) → up o ps (turned_direction d) i ≡ up o (turned_x ps) d i
@@ -116,7 +117,7 @@ module _ {R : Type 0} (o : OrderedRing R) where
         back : way o (λ k. o.ring.negative (ps.x k)) j i ≡ way o ps.x i j
         back = by_identity o.ring (ps.x i ∷ ps.x j ∷ []) _ _ (search quotes_in depth 20) (search quotes_in depth 20) refl
 
-    flat_rises : (i j : ℕ) → In i set → In j set → Below o ps.x i j → Below o (up o ps (turned_direction flat.0)) i j
+    flat_rises : (i j : ℕ) → IsIn i set → IsIn j set → Below o ps.x i j → Below o (up o ps (turned_direction flat.0)) i j
     flat_rises i j h k r =
         let b = flat.2 j i k h (turned_below i j r) in
         record { is = ap o.sign (λ t. o.ring.plus (turned_up flat.0 j t) (o.ring.negative (turned_up flat.0 i t))) ∙ b.is }

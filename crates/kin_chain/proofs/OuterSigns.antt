@@ -6,13 +6,13 @@ use Rattle.kin_algebra.specs.Signs.{opposite_of, first_of}
 use Rattle.kin_algebra.proofs.OrderedRings.{OrderedRing}
 use Rattle.kin_motion.specs.Scene.{Scene, x_sign, y_sign}
 use Rattle.kin_motion.specs.Cells.{above_left, above_right}
+use Rattle.kin_motion.specs.Numbers.{IsIn}
 use Rattle.kin_chain.proofs.Comparisons.{way, Below, turned}
 use Rattle.kin_chain.proofs.Planes.{Places, Shows}
 use Rattle.kin_chain.proofs.Geometry.{Direction, up, straight}
-use Rattle.kin_chain.proofs.Members.{In}
 use Rattle.kin_chain.proofs.Outer.{Outer}
 
-module _ {R : Type 0} (o : OrderedRing R) (ps : Places o) (s : Scene) (shows : Shows o s ps) {set : List ℕ} (outer : Outer o ps set) (a b : ℕ) (i : In a set) (j : In b set) where
+module _ {R : Type 0} (o : OrderedRing R) (ps : Places o) (s : Scene) (shows : Shows o s ps) {set : List ℕ} (outer : Outer o ps set) (a b : ℕ) (i : IsIn a set) (j : IsIn b set) where
   -- + where a is higher than b
   abbrev higher : (ℕ → R) → Sign
   higher v = o.sign (way o v b a)

@@ -2,6 +2,7 @@
 use Rattle.std.proofs.Common.{◌≡◌, ◌⊎◌, inl, inr, sym, ap, ap₂, ◌∙◌, subst, List, [], ◌∷◌, ◌++◌, map, ℕ, zero, suc}
 use Rattle.std.specs.Prelude.{pos, Option, None, Contains, flat_map}
 use Rattle.std.proofs.lemmas.List.Elements.{Contains-append_left, Contains-append_right}
+use Rattle.kin_basics.proofs.Members.{contains_none, contains_head, contains_tail, contains_cases}
 use Rattle.kin_algebra.proofs.OrderedRings.{OrderedRing}
 use Rattle.kin_algebra.proofs.Pairs.{Pair}
 use Rattle.kin_num.specs.Quadratic.{Quadratic}
@@ -12,7 +13,7 @@ use Rattle.kin_motion.specs.declared.form.Form.TheVariants.{Line, Turn, Slope}
 use Rattle.kin_motion.specs.Course.{Course, motion_of}
 use Rattle.kin_motion.specs.Forms.{Linear, minus, product, difference, along, x_of_course, y_of_course, x_of, y_of, x_step, y_step, polynomial_of, sign_of_form}
 use Rattle.kin_motion.specs.Scene.{Scene, IsReal, x_sign, y_sign}
-use Rattle.kin_motion.proofs.SetLaws.{contains_none, contains_head, contains_tail, contains_cases, contains_map}
+use Rattle.kin_motion.proofs.SetLaws.{contains_map}
 use Rattle.kin_motion.proofs.SeenLaws.{SeenAt, seen_at}
 use Rattle.kin_motion.proofs.SlopeLaws.{line_value, line_value-minus, x_sign-value, y_sign-value, slope-value}
 use Rattle.kin_chain.proofs.Comparisons.{way}

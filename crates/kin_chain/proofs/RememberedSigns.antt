@@ -2,6 +2,7 @@
 use Rattle.std.proofs.Common.{◌≡◌, refl, sym, ap, ap₂, ◌∙◌, subst, List, [], ◌∷◌, ◌++◌, ℕ, Bool, true, false, cond, not, ◌&&◌, ◌||◌, pos}
 use Rattle.std.specs.Prelude.{Contains, Option, Some, None}
 use Rattle.std.proofs.lemmas.List.Elements.{Contains-append_left, Contains-append_right}
+use Rattle.kin_basics.proofs.Members.{contains_head, contains_tail}
 use Rattle.kin_algebra.specs.declared.sign.Sign.{Sign}
 use Rattle.kin_algebra.specs.declared.sign.Sign.TheVariants.{Minus, Zero, Plus}
 use Rattle.kin_algebra.specs.Signs.{opposite_of, first_of}
@@ -12,7 +13,6 @@ use Rattle.kin_motion.specs.Scene.{Scene, x_sign, y_sign}
 use Rattle.kin_motion.specs.Chains.{is_zero}
 use Rattle.kin_motion.specs.Merges.{Half, Half.{A, B}, Breakpoint, is_of, slope_form, goes_first, IsInterleaving, current_after, other_current, slope_between, slopes_from, turns_from, end_forms, last_of, forms_of_ends, forms_of_merge}
 use Rattle.kin_motion.specs.Cells.{Cell, above_at, above_left, above_right, is_narrow, cells_from, cells_of}
-use Rattle.kin_motion.proofs.SetLaws.{contains_head, contains_tail}
 use Rattle.kin_chain.specs.Merging.{is_in_place}
 use Rattle.kin_chain.proofs.Walks.{behind_of, at_end}
 

@@ -9,10 +9,11 @@ use Rattle.kin_algebra.proofs.OrderedRings.{OrderedRing}
 use Rattle.kin_motion.specs.Scene.{Scene}
 use Rattle.kin_motion.specs.Chains.{is_left}
 use Rattle.kin_motion.specs.Cells.{Cell, given_by}
+use Rattle.kin_motion.specs.Numbers.{IsIn}
+use Rattle.kin_motion.proofs.Members.{in_head, in_tail, in_either}
 use Rattle.kin_chain.proofs.Comparisons.{AtMost, turned, own_most, most_most, below_most}
 use Rattle.kin_chain.proofs.Planes.{Places}
 use Rattle.kin_chain.proofs.Geometry.{Direction, Steeper, up, order_of_x}
-use Rattle.kin_chain.proofs.Members.{In, in_head, in_tail, in_either}
 use Rattle.kin_chain.proofs.Stays.{Stays, Comes, apart, left_test}
 use Rattle.kin_chain.proofs.Ground.{Merging, both}
 use Rattle.kin_chain.proofs.CellLaws.{Sound, Linked}
@@ -28,15 +29,15 @@ lead Minus a b = b
 module _ {R : Type 0} (o : OrderedRing R) (ps : Places o) (s : Scene) (m : Merging o ps s) where
   -- ---- what is given stays
   -- kept, then stays: what the cells give is of both sets and stays in both together
-  pub given_stays : (cs : List Cell) (l : Direction o) (t : Sign) (a b : ℕ) → Linked o ps s m l t a b cs → (p : ℕ) → In p (flat_map given_by cs) → In p (both o ps s m) × Stays o ps (both o ps s m) p
+  pub given_stays : (cs : List Cell) (l : Direction o) (t : Sign) (a b : ℕ) → Linked o ps s m l t a b cs → (p : ℕ) → IsIn p (flat_map given_by cs) → IsIn p (both o ps s m) × Stays o ps (both o ps s m) p
   given_stays [] l t a b linked p i = absurd cc
   given_stays (c ∷ cs) l t a b (e, f, g, (r, sound, (a', b', h, k, rest))) p i = at (in_either p (given_by c) (flat_map given_by cs) i) (given_stays cs r c.right a' b' rest p)
     where
-      of_cell : Highest o ps s m l p ⊎ Highest o ps s m r p → In p (both o ps s m) × Stays o ps (both o ps s m) p
+      of_cell : Highest o ps s m l p ⊎ Highest o ps s m r p → IsIn p (both o ps s m) × Stays o ps (both o ps s m) p
       of_cell (inl top) = (top.inside, top.stays)
       of_cell (inr top) = (top.inside, top.stays)
 
-      at : In p (given_by c) ⊎ In p (flat_map given_by cs) → (In p (flat_map given_by cs) → In p (both o ps s m) × Stays o ps (both o ps s m) p) → In p (both o ps s m) × Stays o ps (both o ps s m) p
+      at : IsIn p (given_by c) ⊎ IsIn p (flat_map given_by cs) → (IsIn p (flat_map given_by cs) → IsIn p (both o ps s m) × Stays o ps (both o ps s m) p) → IsIn p (both o ps s m) × Stays o ps (both o ps s m) p
       at (inl k) rest = of_cell (given_top o ps s m c sound p k)
       at (inr k) rest = rest k
 
@@ -114,9 +115,9 @@ module _ {R : Type 0} (o : OrderedRing R) (ps : Places o) (s : Scene) (m : Mergi
 
   -- ---- points that stay differ in x
   abbrev AllStay : List ℕ → Type 0
-  AllStay ps' = (p : ℕ) → In p ps' → In p (both o ps s m) × Stays o ps (both o ps s m) p
+  AllStay ps' = (p : ℕ) → IsIn p ps' → IsIn p (both o ps s m) × Stays o ps (both o ps s m) p
 
-  fits : {p q : ℕ} → In p (both o ps s m) × Stays o ps (both o ps s m) p → In q (both o ps s m) × Stays o ps (both o ps s m) q → AtMost o ps.x p q → Fits (is_left s) (Some p) q
+  fits : {p q : ℕ} → IsIn p (both o ps s m) × Stays o ps (both o ps s m) p → IsIn q (both o ps s m) × Stays o ps (both o ps s m) q → AtMost o ps.x p q → Fits (is_left s) (Some p) q
   fits {p} {q} x y k = at (apart o ps x.0 y.0 x.1 y.1 k)
     where
       at : Comes o ps p q → Fits (is_left s) (Some p) q
@@ -125,7 +126,7 @@ module _ {R : Type 0} (o : OrderedRing R) (ps : Places o) (s : Scene) (m : Mergi
 
   rise_behind : (p : ℕ) (qs : List ℕ) → AllStay (p ∷ qs) → Follow p qs → Rises (is_left s) (Some p) qs
   rise_behind p [] all r = tt
-  rise_behind p (q ∷ qs) all r = (fits (all p (in_head p (q ∷ qs))) (all q (in_tail p q (q ∷ qs) (in_head q qs))) r.0, rise_behind q qs (λ n i. all n (in_tail p n (q ∷ qs) i)) r.1)
+  rise_behind p (q ∷ qs) all r = (fits (all p (in_head p (q ∷ qs))) (all q (in_tail q p (q ∷ qs) (in_head q qs))) r.0, rise_behind q qs (λ n i. all n (in_tail n p (q ∷ qs) i)) r.1)
 
   rise_all : (p : ℕ) (qs : List ℕ) → AllStay qs → Follow p qs → Rises (is_left s) None qs
   rise_all p [] all r = tt

@@ -1,18 +1,18 @@
 -- Support at each breakpoint of a merge, and what narrow cells have at both ends.
 use Rattle.std.proofs.Common.{◌≡◌, ◌⊎◌, inl, inr, sym, ◌∙◌, subst, List, [], ◌∷◌, ◌++◌, ℕ, true}
 use Rattle.std.specs.Prelude.{Contains, Option, Some, None}
+use Rattle.kin_basics.proofs.Members.{contains_none, contains_cases}
 use Rattle.kin_algebra.specs.declared.sign.Sign.{Sign}
 use Rattle.kin_algebra.proofs.OrderedRings.{OrderedRing}
 use Rattle.kin_motion.specs.Scene.{Scene}
 use Rattle.kin_motion.specs.Merges.{Half, Half.{A, B}, Breakpoint, IsCurrent, other, point_of, current_after}
 use Rattle.kin_motion.specs.Cells.{Cell, above_left, cells_of}
-use Rattle.kin_motion.proofs.SetLaws.{contains_none, contains_cases}
 use Rattle.kin_motion.proofs.CurrentLaws.{current_before, first_behind}
+use Rattle.kin_motion.specs.Numbers.{IsIn}
 use Rattle.kin_chain.specs.Supports.{list_of, Support, Outermost, TiesAgree}
 use Rattle.kin_chain.proofs.Comparisons.{AtMost}
 use Rattle.kin_chain.proofs.Planes.{Places, step, height}
 use Rattle.kin_chain.proofs.Geometry.{Direction, along}
-use Rattle.kin_chain.proofs.Members.{In}
 use Rattle.kin_chain.proofs.Sides.{support}
 use Rattle.kin_chain.proofs.Ground.{Merging, At, own_falls, goes_right, steep_next}
 use Rattle.kin_chain.proofs.Steps.{at_start}
@@ -25,7 +25,7 @@ use Rattle.kin_chain.proofs.ChainLaws.{never_minus}
 module _ {R : Type 0} (o : OrderedRing R) (ps : Places o) (s : Scene) (m : Merging o ps s) where
   -- no point of the half's set is higher along the breakpoint than k
   abbrev IsSupported : Breakpoint → Half → ℕ → Type 0
-  IsSupported e h k = (q : ℕ) → In q (list_of h m.left m.right) → AtMost o (height o ps (step o ps e.left e.right)) q k
+  IsSupported e h k = (q : ℕ) → IsIn q (list_of h m.left m.right) → AtMost o (height o ps (step o ps e.left e.right)) q k
 
   first_supported : {l : Direction o} {front : Option Breakpoint} {a : ℕ} {as' : List ℕ} {b : ℕ} {bs : List ℕ} (e : Breakpoint) {behind : List Breakpoint} → At o ps s m l front a as' b bs (e ∷ behind) → (h : Half) → IsSupported e h (point_of h a b)
   first_supported {l} {front} {a} {as'} {b} {bs} e {behind} at A = support o ps m.a_known at.a_side (along o ps e.left e.right (goes_right o ps s m e at)) (steep_next o ps s m e at) (own_falls o ps s m e behind (goes_right o ps s m e at) at.sorted)
@@ -61,7 +61,7 @@ support_proved s left right a as' b bs before e behind h k q place c i =
 pub outermost_proved : Outermost
 outermost_proved s left right a as' b bs before e behind k l place c i = support_proved s left right a as' b bs before e behind (other e.half) k l place c (inside (other e.half) i)
   where
-    inside : (h : Half) → In l (list_of h (a ∷ as') (b ∷ bs)) → In l (list_of h left right)
+    inside : (h : Half) → IsIn l (list_of h (a ∷ as') (b ∷ bs)) → IsIn l (list_of h left right)
     inside A j = (chain_of s place.real place.told.a_chain).inside l j
     inside B j = (chain_of s place.real place.told.b_chain).inside l j
 

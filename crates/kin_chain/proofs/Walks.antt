@@ -1,6 +1,7 @@
 -- The walk along the breakpoints of two chains: each step passes the first breakpoint of what is left of one of them.
-use Rattle.std.proofs.Common.{◌≡◌, refl, sym, ap, ◌∙◌, subst, List, [], ◌∷◌, ℕ, cond}
-use Rattle.kin_motion.specs.Merges.{Half, Half.{A, B}, Breakpoint, is_of, own_of, breakpoints_of, IsInterleaving, current_after, last_of}
+use Rattle.std.proofs.Common.{◌≡◌, refl, sym, ap, ◌∙◌, subst, List, [], ◌∷◌, ℕ}
+use Rattle.kin_motion.specs.Merges.{Half, Half.{A, B}, Breakpoint, own_of, breakpoints_of, IsInterleaving, current_after, last_of}
+use Rattle.kin_motion.proofs.BreakpointLaws.{own_with}
 
 -- a breakpoint that is the first of its chain's rest, which begins with p
 pub record IsNext (h : Half) (p : ℕ) (rest : List ℕ) (e : Breakpoint) (es : List Breakpoint) : Type 0 where
@@ -19,10 +20,6 @@ next_of h p (j ∷ rest) e es q = record { to = j; behind = rest; rest_is = refl
 
     same_behind : {d e : Breakpoint} {ds es : List Breakpoint} → d ∷ ds ≡ e ∷ es → ds ≡ es
     same_behind {d} {e} {ds} {es} q = cc
-
--- the breakpoints of a half, with one more in front
-pub own_with : (h g : Half) (e : Breakpoint) (es : List Breakpoint) → e.half ≡ g → own_of h (e ∷ es) ≡ cond (is_of h g) (e ∷ own_of h es) (own_of h es)
-own_with h g e es q = ap (λ t. cond (is_of h t) (e ∷ own_of h es) (own_of h es)) q
 
 -- where nothing is left of the walk, the current points are the last ones
 pub at_end : (h : Half) (p : ℕ) (ps : List ℕ) → [] ≡ breakpoints_of h (p ∷ ps) → ps ≡ []

@@ -1,17 +1,17 @@
 -- The whole root of a discriminant: how large it is, and where it isn't exact.
 use Rattle.std.proofs.Common.{◌≡◌, ℕ, ◌+◌, ◌*◌, ◌<◌, ◌≤◌, ◌^◌, ℤ, pos, ◌-ℤ◌, ◌*ℤ◌, unsigned_abs, arith, ap, sym, ◌∙◌, subst, mul-le-mul, lt_of_not-le, not-le_of_lt}
 use Rattle.std.proofs.lemmas.Int.{ints}
+use Rattle.kin_basics.proofs.Integers.{size-product}
 use Rattle.kin_num.specs.Quadratic.{IsSmall}
 use Rattle.kin_num.specs.Canonical.{discriminant}
 use Rattle.kin_num.specs.Roots.{IsWholeRoot}
 use Rattle.kin_instant.specs.Roots.{quadratic}
-use Rattle.kin_instant.proofs.Widths.{abs-product}
 
 pub size : (a b c : ℤ) (s : ℕ) → IsSmall (quadratic a b c) → pos s ≡ discriminant a b c → s ≤ 2 ^ 59
 size a b c s h e =
-    let first : unsigned_abs (b *ℤ b) ≤ 2 ^ 58 = abs-product b b (2 ^ 29) (2 ^ 29) h.b_small h.b_small in
-    let quadruple : unsigned_abs (pos 4 *ℤ a) ≤ 2 ^ 30 = abs-product (pos 4) a 4 (2 ^ 28) (omega arith) h.a_small in
-    let second : unsigned_abs (pos 4 *ℤ a *ℤ c) ≤ 2 ^ 58 = abs-product (pos 4 *ℤ a) c (2 ^ 30) (2 ^ 28) quadruple h.c_small in
+    let first : unsigned_abs (b *ℤ b) ≤ 2 ^ 58 = size-product b b (2 ^ 29) (2 ^ 29) h.b_small h.b_small in
+    let quadruple : unsigned_abs (pos 4 *ℤ a) ≤ 2 ^ 30 = size-product (pos 4) a 4 (2 ^ 28) (omega arith) h.a_small in
+    let second : unsigned_abs (pos 4 *ℤ a *ℤ c) ≤ 2 ^ 58 = size-product (pos 4 *ℤ a) c (2 ^ 30) (2 ^ 28) quadruple h.c_small in
     last (b *ℤ b) (pos 4 *ℤ a *ℤ c) s first second e
   where
     last : (x y : ℤ) (n : ℕ) → unsigned_abs x ≤ 2 ^ 58 → unsigned_abs y ≤ 2 ^ 58 → pos n ≡ x -ℤ y → n ≤ 2 ^ 59
@@ -40,3 +40,6 @@ pub irrational : (r s : ℕ) (d : ℤ) → IsWholeRoot s r → (r * r ≡ s → 
 irrational r s d w n e k f =
     let same : s ≡ k * k = ap unsigned_abs (e ∙ sym f) in
     no_root r k (subst (λ (x : ℕ). r * r ≤ x) same w.at_most) (subst (λ (x : ℕ). x < (r + 1) * (r + 1)) same w.greatest) (λ g. n (g ∙ sym same))
+
+pub same_discriminant : (a b c a' b' c' : ℤ) → a' ≡ a → b' ≡ b → c' ≡ c → discriminant a' b' c' ≡ discriminant a b c
+same_discriminant a b c a' b' c' e f g = rw (e, f, g)

@@ -5,6 +5,7 @@ use Rattle.std.specs.Int.{◌∣◌}
 use Rattle.std.proofs.lemmas.Int.{ints, unsigned_abs-mul}
 use Rattle.std.proofs.lemmas.Nat.Gcd.{dvd_antisymm}
 use Rattle.std.proofs.Math.Nat.{mul-dvd-mul_left, dvd_of_mul-dvd-mul_left, one-dvd}
+use Rattle.kin_basics.proofs.Integers.{size-some}
 use Rattle.kin_num.specs.declared.instant.Shape.TheVariants.{Root}
 use Rattle.kin_num.specs.Quadratic.{IsSmall}
 use Rattle.kin_num.specs.Canonical.{IsCanonical, HaveNoCommonDivisor, discriminant}
@@ -15,9 +16,6 @@ as_natural : (g : ℤ) → pos 0 <ℤ g → g ≡ pos (unsigned_abs g)
 as_natural (pos n) h = refl
 as_natural (negsuc n) h = absurd (omega (arith, ints))
 
-some : (g : ℤ) → pos 0 <ℤ g → 0 < unsigned_abs g
-some g h = omega (arith, ints)
-
 abs_of : (x q g : ℤ) → x ≡ q *ℤ g → unsigned_abs x ≡ unsigned_abs g * unsigned_abs q
 abs_of x q g e = ap unsigned_abs e ∙ unsigned_abs-mul q g ∙ turned (unsigned_abs q) (unsigned_abs g)
   where
@@ -27,14 +25,14 @@ abs_of x q g e = ap unsigned_abs e ∙ unsigned_abs-mul q g ∙ turned (unsigned
 -- after division by the greatest common divisor none is left but 1
 primitive : (a b c a' b' c' g : ℤ) → pos 0 <ℤ g → ((k : ℕ) → k ∣ unsigned_abs a → k ∣ unsigned_abs b → k ∣ unsigned_abs c → k ∣ unsigned_abs g) → a ≡ a' *ℤ g → b ≡ b' *ℤ g → c ≡ c' *ℤ g → HaveNoCommonDivisor a' b' c'
 primitive a b c a' b' c' g h greatest e f l = λ k p q r.
-    dvd_antisymm (dvd_of_mul-dvd-mul_left k (some g h) (subst (λ (x : ℕ). unsigned_abs g * k ∣ x) (times_one (unsigned_abs g))
+    dvd_antisymm (dvd_of_mul-dvd-mul_left k (size-some g h) (subst (λ (x : ℕ). unsigned_abs g * k ∣ x) (times_one (unsigned_abs g))
     (greatest (unsigned_abs g * k) (subst (λ (x : ℕ). unsigned_abs g * k ∣ x) (sym (abs_of a a' g e)) (mul-dvd-mul_left k (unsigned_abs g) p)) (subst (λ (x : ℕ). unsigned_abs g * k ∣ x) (sym (abs_of b b' g f)) (mul-dvd-mul_left k (unsigned_abs g) q)) (subst (λ (x : ℕ). unsigned_abs g * k ∣ x) (sym (abs_of c c' g l)) (mul-dvd-mul_left k (unsigned_abs g) r))))) (one-dvd k)
   where
     times_one : (e : ℕ) → e ≡ e * 1
     times_one e = omega arith
 
 not_more : (x q g : ℤ) (m : ℕ) → pos 0 <ℤ g → x ≡ q *ℤ g → unsigned_abs x ≤ m → unsigned_abs q ≤ m
-not_more x q g m h e k = at_least (unsigned_abs q) (unsigned_abs g) (unsigned_abs x) m (some g h) (abs_of x q g e) k
+not_more x q g m h e k = at_least (unsigned_abs q) (unsigned_abs g) (unsigned_abs x) m (size-some g h) (abs_of x q g e) k
   where
     at_least : (q g x m : ℕ) → 0 < g → x ≡ g * q → x ≤ m → q ≤ m
     at_least q g x m h e k = grind (arith, e)
@@ -44,6 +42,6 @@ pub canonical : (a b c a' b' c' g : ℤ) (upper : Bool) → pos 0 <ℤ g → pos
 canonical a b c a' b' c' g upper h a_positive small real irrational greatest e f l =
     let n = as_natural g h in
     record {
-      form = irreducible_after a b c a' b' c' (unsigned_abs g) (some g h) a_positive real irrational (e ∙ ap (λ (z : ℤ). a' *ℤ z) n) (f ∙ ap (λ (z : ℤ). b' *ℤ z) n) (l ∙ ap (λ (z : ℤ). c' *ℤ z) n) (primitive a b c a' b' c' g h greatest e f l);
+      form = irreducible_after a b c a' b' c' (unsigned_abs g) (size-some g h) a_positive real irrational (e ∙ ap (λ (z : ℤ). a' *ℤ z) n) (f ∙ ap (λ (z : ℤ). b' *ℤ z) n) (l ∙ ap (λ (z : ℤ). c' *ℤ z) n) (primitive a b c a' b' c' g h greatest e f l);
       small = record { a_small = not_more a a' g (2 ^ 28) h e small.a_small; b_small = not_more b b' g (2 ^ 29) h f small.b_small; c_small = not_more c c' g (2 ^ 28) h l small.c_small };
     }

@@ -6,6 +6,7 @@ use Rattle.std.proofs.lemmas.Int.{ints}
 use Rattle.std.proofs.lemmas.Nat.Gcd.{dvd_trans}
 use Rattle.std.proofs.Math.Nat.{pos_of_dvd_of_pos}
 use lib.IntN.{neg_ℤ}
+use Rattle.kin_basics.proofs.Integers.{size-some}
 use Rattle.kin_algebra.proofs.Squares.{square_below}
 use Rattle.kin_num.specs.declared.instant.Shape.{Shape}
 use Rattle.kin_num.specs.declared.instant.Shape.TheVariants.{Ratio, Root}
@@ -28,14 +29,11 @@ HasRoots p = (answer : Roots) × AreRootsOf p answer
 positive : (g : ℕ) → 0 < g → pos 0 <ℤ pos g
 positive g h = omega (arith, ints)
 
-some_size : (d : ℤ) → pos 0 <ℤ d → 0 < unsigned_abs d
-some_size d h = omega (arith, ints)
-
 -- ---- fractions
 pub ratio_exists : (n d : ℤ) → unsigned_abs n < 2 ^ 31 → unsigned_abs d < 2 ^ 31 → pos 0 <ℤ d → (r : Shape) × IsFraction n d r × IsCanonical r
 ratio_exists n d n_small d_small h =
     let g = gcd_of (unsigned_abs n) (unsigned_abs d) in
-    let some : 0 < g.0 = pos_of_dvd_of_pos g.1.1 (some_size d h) in
+    let some : 0 < g.0 = pos_of_dvd_of_pos g.1.1 (size-some d h) in
     let m = quotient_of n g.0 some g.1.0 in
     let e = quotient_of d g.0 some g.1.1 in (
       Ratio m.0 e.0,
@@ -128,7 +126,7 @@ module _ (a b c : ℤ) (up : pos 0 <ℤ a) (small : IsSmall (quadratic a b c)) w
       let g = gcd_of h.0 (unsigned_abs c) in
       let first : g.0 ∣ unsigned_abs a = dvd_trans g.0 g.1.0 h.1.0 in
       let second : g.0 ∣ unsigned_abs b = dvd_trans g.0 g.1.0 h.1.1 in
-      let some : 0 < g.0 = pos_of_dvd_of_pos first (some_size a up) in
+      let some : 0 < g.0 = pos_of_dvd_of_pos first (size-some a up) in
       let a' = quotient_of a g.0 some first in
       let b' = quotient_of b g.0 some second in
       let c' = quotient_of c g.0 some g.1.1 in (

@@ -2,7 +2,7 @@
 use Rattle.std.proofs.Common.{◌≡◌, ◌≢◌, ◌⊎◌, inl, inr, ℕ, zero, suc, ◌+◌, ◌*◌, ◌<◌, ◌≤◌, ◌^◌, [], ◌∷◌, refl, sym, ap, ap₂, ◌∙◌, subst, arith, mul-le-mul, true, false}
 use Rattle.std.specs.Prelude.{ℤ, pos, ◌-ℤ◌, ◌*ℤ◌, ◌<ℤ◌}
 use Rattle.std.proofs.lemmas.Int.{ints}
-use lib.IntN.{neg_ℤ}
+use Rattle.kin_basics.proofs.Integers.{difference-turned}
 use Rattle.kin_algebra.specs.declared.sign.Sign.{Sign}
 use Rattle.kin_algebra.specs.declared.sign.Sign.TheVariants.{Minus, Zero, Plus}
 use Rattle.kin_algebra.specs.Signs.{sign_of, opposite_of, product_of}
@@ -22,7 +22,7 @@ use Rattle.kin_num.proofs.Near.{past, line_sign}
 use Rattle.kin_num.proofs.RootZeros.{divisor-positive}
 use Rattle.kin_num.proofs.Divisors.{same_lowest}
 use Rattle.kin_num.proofs.FractionOrder.{line_at_fraction}
-use Rattle.kin_num.proofs.LowerFractions.{lower_fraction}
+use Rattle.kin_num.proofs.LowerFractions.{lower_fraction, same_denominator}
 use Rattle.kin_num.proofs.InstantOrder.{total}
 use Rattle.kin_num.specs.declared.instant.Moment.{Moment}
 use Rattle.kin_instant.specs.declared.key.Key.{Key}
@@ -69,11 +69,8 @@ module _ (w : Shape) (form : IsCanonicalForm w) where
       (ap (sign_over x.radicand) (lower-as n d m e x.whole x.root x.radicand x.divisor)
       ∙ positive_sum o {a = flat ((m *ℤ d -ℤ n *ℤ e) *ℤ x.divisor)} {b = pair_times x.radicand (flat d) (past x m e)} first rest)
 
-  same_unit : (m n t : ℤ) → m *ℤ t -ℤ n *ℤ t ≡ (m -ℤ n) *ℤ t
-  same_unit m n t = by_ring (m ∷ n ∷ t ∷ []) _ _ (search quotes depth 20) (search quotes depth 20) refl
-
   apart : (s t : ℕ) → s < t → sign_of (pos t *ℤ unit -ℤ pos s *ℤ unit) ≡ Plus
-  apart s t h = ap sign_of (same_unit (pos t) (pos s) unit) ∙ sign_of-times (pos t -ℤ pos s) unit ∙ ap (λ (k : Sign). product_of k Plus) (sign_in Plus (pos t -ℤ pos s) (omega (arith, ints)))
+  apart s t h = ap sign_of (same_denominator (pos t) (pos s) unit) ∙ sign_of-times (pos t -ℤ pos s) unit ∙ ap (λ (k : Sign). product_of k Plus) (sign_in Plus (pos t -ℤ pos s) (omega (arith, ints)))
 
   reached : (s t : ℕ) → s ≤ t → AtLeast (sign_at_instant (line (pos t) unit) w) → AtLeast (sign_at_instant (line (pos s) unit) w)
   reached s t h p = at (split s t h)
@@ -84,9 +81,6 @@ module _ (w : Shape) (form : IsCanonicalForm w) where
       at : (s ≡ t) ⊎ (s < t) → AtLeast (sign_at_instant (line (pos s) unit) w)
       at (inl e) = subst (λ (k : ℕ). AtLeast (sign_at_instant (line (pos k) unit) w)) (sym e) p
       at (inr l) = inl (strictly_lower (pos s) unit (pos t) unit (omega (arith, ints)) (omega (arith, ints)) (apart s t l) p)
-
-turned : (n d m e : ℤ) → n *ℤ e -ℤ m *ℤ d ≡ neg_ℤ (m *ℤ d -ℤ n *ℤ e)
-turned n d m e = by_ring (n ∷ d ∷ m ∷ e ∷ []) _ _ (search quotes depth 20) (search quotes depth 20) refl
 
 -- a lesser span lies before
 pub lesser_span : (v w : Shape) → IsCanonicalForm v → IsCanonicalForm w → (s t : ℕ) → IsSpanOf s v → IsSpanOf t w → s < t → IsLess v w
@@ -99,9 +93,9 @@ lesser_span v w fv fw s t a b h = at (total v w fv fw)
     not_between : (n d : ℤ) → pos 0 <ℤ d → sign_at_instant (line n d) w ≢ Plus → sign_at_instant (line n d) v ≡ Plus → (k : Sign) → sign_of (pos (s + 1) *ℤ d -ℤ n *ℤ unit) ≡ k → ⊥
     not_between n d p first second Plus e = first (strictly_lower w fw n d (pos (s + 1)) unit p (omega (arith, ints)) e there)
     not_between n d p first second Zero e =
-        code (sym a.before_end ∙ lower_fraction v fv (pos (s + 1)) unit n d (omega (arith, ints)) p (inr (ap sign_of (turned n d (pos (s + 1)) unit) ∙ sign_of-negative (pos (s + 1) *ℤ d -ℤ n *ℤ unit) ∙ ap opposite_of e)) second)
+        code (sym a.before_end ∙ lower_fraction v fv (pos (s + 1)) unit n d (omega (arith, ints)) p (inr (ap sign_of (difference-turned (n *ℤ unit) (pos (s + 1) *ℤ d)) ∙ sign_of-negative (pos (s + 1) *ℤ d -ℤ n *ℤ unit) ∙ ap opposite_of e)) second)
     not_between n d p first second Minus e =
-        code (sym a.before_end ∙ lower_fraction v fv (pos (s + 1)) unit n d (omega (arith, ints)) p (inl (ap sign_of (turned n d (pos (s + 1)) unit) ∙ sign_of-negative (pos (s + 1) *ℤ d -ℤ n *ℤ unit) ∙ ap opposite_of e)) second)
+        code (sym a.before_end ∙ lower_fraction v fv (pos (s + 1)) unit n d (omega (arith, ints)) p (inl (ap sign_of (difference-turned (n *ℤ unit) (pos (s + 1) *ℤ d)) ∙ sign_of-negative (pos (s + 1) *ℤ d -ℤ n *ℤ unit) ∙ ap opposite_of e)) second)
 
     at : IsLess v w ⊎ (IsLess w v ⊎ (v ≡ w)) → IsLess v w
     at (inl l) = l

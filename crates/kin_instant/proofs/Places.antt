@@ -20,7 +20,7 @@ use Rattle.kin_num.specs.Instants.{sign_at_instant, derivative}
 use Rattle.kin_num.specs.Order.{IsLess, IsEarlier}
 use Rattle.kin_num.proofs.Divisors.{same_lowest}
 use Rattle.kin_num.proofs.LowerFractions.{not_less_itself, less_asym}
-use Rattle.kin_num.proofs.InstantOrder.{below_upper, above_upper, at_upper, below_lower, above_lower, at_lower, level_value, same_level}
+use Rattle.kin_num.proofs.InstantOrder.{below_upper, above_upper, at_upper, below_lower, above_lower, at_lower, same_level, never_level}
 use Rattle.kin_num.proofs.MomentOrder.{not_earlier_itself, earlier_trans}
 use Rattle.kin_instant.specs.Roots.{quadratic}
 use Rattle.kin_instant.specs.Places.{place_of}
@@ -81,22 +81,19 @@ module _ (a b c : ℤ) (i : IsIrreducible a b c) (w : Shape) (form : IsCanonical
   abbrev Placed : Bool → Ordering → Type 0
   Placed upper o = MatchOrdering o (IsLess w (Root a b c upper)) (w ≡ Root a b c upper) (IsLess (Root a b c upper) w)
 
-  not_level : {P : Type 0} (v : Sign) → sign_at_instant (quadratic a b c) w ≡ v → v ≢ Minus → sign_at_instant (derivative (quadratic a b c)) w ≡ Zero → P
-  not_level v e n f = absurd (n (sym e ∙ level_value a b c i w form f))
-
   pub placed : (v s : Sign) (upper : Bool) → sign_at_instant (quadratic a b c) w ≡ v → (v ≢ Minus → sign_at_instant (derivative (quadratic a b c)) w ≡ s) → Placed upper (place_of v s upper)
   placed Minus s true e f = below_upper a b c i w form (inr e)
   placed Minus s false e f = above_lower a b c i w form (inr e)
   placed Zero Minus true e f = below_upper a b c i w form (inl (f (λ x. code x)))
   placed Zero Minus false e f = at_lower a b c i w form (f (λ x. code x)) e
-  placed Zero Zero true e f = not_level Zero e (λ x. code x) (f (λ x. code x))
-  placed Zero Zero false e f = not_level Zero e (λ x. code x) (f (λ x. code x))
+  placed Zero Zero true e f = never_level a b c i w form Zero e (λ x. code x) (f (λ x. code x))
+  placed Zero Zero false e f = never_level a b c i w form Zero e (λ x. code x) (f (λ x. code x))
   placed Zero Plus true e f = at_upper a b c i w form (f (λ x. code x)) e
   placed Zero Plus false e f = above_lower a b c i w form (inl (f (λ x. code x)))
   placed Plus Minus true e f = below_upper a b c i w form (inl (f (λ x. code x)))
   placed Plus Minus false e f = below_lower a b c i w form (f (λ x. code x)) e
-  placed Plus Zero true e f = not_level Plus e (λ x. code x) (f (λ x. code x))
-  placed Plus Zero false e f = not_level Plus e (λ x. code x) (f (λ x. code x))
+  placed Plus Zero true e f = never_level a b c i w form Plus e (λ x. code x) (f (λ x. code x))
+  placed Plus Zero false e f = never_level a b c i w form Plus e (λ x. code x) (f (λ x. code x))
   placed Plus Plus true e f = above_upper a b c i w form (f (λ x. code x)) e
   placed Plus Plus false e f = above_lower a b c i w form (inl (f (λ x. code x)))
 

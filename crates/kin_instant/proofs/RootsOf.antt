@@ -17,10 +17,11 @@ use Rattle.kin_num.specs.Instants.{sign_at_instant, line}
 use Rattle.kin_num.specs.Order.{IsLess}
 use Rattle.kin_num.proofs.Values.{negated}
 use Rattle.kin_num.proofs.SignLaws.{sign_at_instant-neg}
+use Rattle.kin_num.proofs.RootSigns.{pair_sign-positive}
 use Rattle.kin_instant.specs.declared.roots.Roots.TheVariants.{Nowhere, One, Two, All}
 use Rattle.kin_instant.specs.Roots.{IsFraction, count_by_signs, root_count, quadratic, AreRootsOf}
-use Rattle.kin_instant.proofs.Values.{sign-scaled, pair_sign-positive, pair_sign-scaled}
-use Rattle.kin_instant.proofs.Zeros.{line-zero, line-zero_at, quadratic-zero, root-zero_at, instant-negative, instant-split, instant-scaled}
+use Rattle.kin_instant.proofs.Values.{sign-scaled, pair_sign-scaled}
+use Rattle.kin_instant.proofs.Zeros.{line-zero, line-zero_at, quadratic-zero, root-zero_at, instant-negative, instant-split, instant-scaled, doubled_positive}
 
 -- where p is zero, another polynomial is, and the other way round
 abbrev pub SameZeros : Quadratic → Quadratic → Type 0
@@ -163,9 +164,6 @@ zero_factor s Plus Plus e = (λ z. absurd (code (sym z ∙ e)), λ k. absurd (ne
     neither : (Plus ≡ Zero) ⊎ (Plus ≡ Zero) → ⊥
     neither (inl e) = code e
     neither (inr e) = code e
-
-doubled_positive : (a : ℤ) → pos 0 <ℤ a → pos 0 <ℤ (pos 2 *ℤ a)
-doubled_positive a h = omega (arith, ints)
 
 pub double_root : (a b c root : ℤ) → pos 0 <ℤ a → root *ℤ root ≡ discriminant a b c → root ≡ pos 0 → (r : Shape) → IsFraction (root -ℤ b) (pos 2 *ℤ a) r → IsCanonical r → AreRootsOf (quadratic a b c) (One r)
 double_root a b c root h e z r f k =
@@ -338,12 +336,12 @@ count_turned Plus t u Minus = refl
 count_turned Plus t u Zero = refl
 count_turned Plus t u Plus = refl
 
-same_discriminant : (a b c : ℤ) → discriminant (neg_ℤ a) (neg_ℤ b) (neg_ℤ c) ≡ discriminant a b c
-same_discriminant a b c = by_ring (a ∷ b ∷ c ∷ []) _ _ (search quotes depth 20) (search quotes depth 20) refl
+pub discriminant-negated : (a b c : ℤ) → discriminant (neg_ℤ a) (neg_ℤ b) (neg_ℤ c) ≡ discriminant a b c
+discriminant-negated a b c = by_ring (a ∷ b ∷ c ∷ []) _ _ (search quotes depth 20) (search quotes depth 20) refl
 
 pub count_negated : (p : Quadratic) → root_count (negated p) ≡ root_count p
 count_negated p =
-    ap (λ (z : ℤ). count_by_signs (sign_of (neg_ℤ p.a)) (sign_of (neg_ℤ p.b)) (sign_of (neg_ℤ p.c)) (sign_of z)) (same_discriminant p.a p.b p.c)
+    ap (λ (z : ℤ). count_by_signs (sign_of (neg_ℤ p.a)) (sign_of (neg_ℤ p.b)) (sign_of (neg_ℤ p.c)) (sign_of z)) (discriminant-negated p.a p.b p.c)
     ∙ ap (λ (s : Sign). count_by_signs s (sign_of (neg_ℤ p.b)) (sign_of (neg_ℤ p.c)) (sign_of (discriminant p.a p.b p.c))) (sign_of-negative p.a)
     ∙ ap₂ (λ (s t : Sign). count_by_signs (opposite_of (sign_of p.a)) s t (sign_of (discriminant p.a p.b p.c))) (sign_of-negative p.b) (sign_of-negative p.c)
     ∙ count_turned (sign_of p.a) (sign_of p.b) (sign_of p.c) (sign_of (discriminant p.a p.b p.c))

@@ -20,7 +20,7 @@ use Rattle.kin_num.specs.Instants.{sign_at_instant, sign_at, derivative, line}
 use Rattle.kin_num.specs.Order.{IsLess}
 use Rattle.kin_num.proofs.RootZeros.{root_itself}
 use Rattle.kin_num.proofs.LowerFractions.{not_less_itself}
-use Rattle.kin_num.proofs.InstantOrder.{below_upper, above_upper, at_upper, below_lower, above_lower, at_lower, level_value, above_fraction, below_fraction}
+use Rattle.kin_num.proofs.InstantOrder.{below_upper, above_upper, at_upper, below_lower, above_lower, at_lower, above_fraction, below_fraction, never_level}
 use Rattle.kin_instant.specs.declared.roots.Roots.{Roots}
 use Rattle.kin_instant.specs.declared.roots.Roots.TheVariants.{Nowhere, One, Two, All}
 use Rattle.kin_instant.specs.Roots.{quadratic, AreRootsOf, count_by_signs, root_count}
@@ -150,16 +150,13 @@ module _ (a b c : ℤ) (i : IsIrreducible a b c) (w : Shape) (form : IsCanonical
     value : v ≡ product_of lower upper
     after : first_of v (first_of s Plus) ≡ product_of (first_of lower Plus) (first_of upper Plus)
 
-  level : {P : Type 0} (v : Sign) → sign_at_instant (quadratic a b c) w ≡ v → v ≢ Minus → sign_at_instant (derivative (quadratic a b c)) w ≡ Zero → P
-  level v e n f = absurd (n (sym e ∙ level_value a b c i w form f))
-
   places : (v s : Sign) → sign_at_instant (quadratic a b c) w ≡ v → sign_at_instant (derivative (quadratic a b c)) w ≡ s → Places v s
   places Minus s e f = record { lower = Plus; upper = Minus; at_lower = above_lower a b c i w form (inr e); at_upper = below_upper a b c i w form (inr e); value = refl; after = refl }
   places Zero Minus e f = record { lower = Zero; upper = Minus; at_lower = at_lower a b c i w form f e; at_upper = below_upper a b c i w form (inl f); value = refl; after = refl }
-  places Zero Zero e f = level Zero e (λ x. code x) f
+  places Zero Zero e f = never_level a b c i w form Zero e (λ x. code x) f
   places Zero Plus e f = record { lower = Plus; upper = Zero; at_lower = above_lower a b c i w form (inl f); at_upper = at_upper a b c i w form f e; value = refl; after = refl }
   places Plus Minus e f = record { lower = Minus; upper = Minus; at_lower = below_lower a b c i w form f e; at_upper = below_upper a b c i w form (inl f); value = refl; after = refl }
-  places Plus Zero e f = level Plus e (λ x. code x) f
+  places Plus Zero e f = never_level a b c i w form Plus e (λ x. code x) f
   places Plus Plus e f = record { lower = Plus; upper = Plus; at_lower = above_lower a b c i w form (inl f); at_upper = above_upper a b c i w form f e; value = refl; after = refl }
 
 -- ---- the table

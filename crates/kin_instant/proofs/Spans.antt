@@ -16,8 +16,8 @@ use Rattle.kin_num.proofs.Values.{canonical-sound}
 use Rattle.kin_num.proofs.Near.{line_sign}
 use Rattle.kin_num.proofs.RootZeros.{divisor-positive}
 use Rattle.kin_num.proofs.FractionOrder.{line_at_fraction, line_at_root}
+use Rattle.kin_num.proofs.RootSigns.{pair_sign-positive}
 use Rattle.kin_instant.specs.Keys.{IsSpanOf, numerator_of, IsCutOff}
-use Rattle.kin_instant.proofs.Values.{pair_sign-positive}
 
 abbrev unit : ℤ
 unit = pos (2 ^ 32)

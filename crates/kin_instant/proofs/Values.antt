@@ -7,7 +7,7 @@ use Rattle.kin_algebra.specs.declared.sign.Sign.{Sign}
 use Rattle.kin_algebra.specs.declared.sign.Sign.TheVariants.{Minus, Zero, Plus}
 use Rattle.kin_algebra.specs.Signs.{sign_of, product_of, first_of, sum_sign_of, norm_of, pair_sign_of}
 use Rattle.kin_algebra.proofs.Ring.{by_ring, quotes}
-use Rattle.kin_algebra.proofs.Signs.{code}
+use Rattle.kin_algebra.proofs.Signs.{code, sum_sign-single}
 use Rattle.kin_algebra.proofs.IntegerSigns.{sign_of-times, sign_in}
 use Rattle.kin_num.specs.declared.instant.Shape.{Shape}
 use Rattle.kin_num.specs.declared.instant.Shape.TheVariants.{Ratio, Root}
@@ -16,6 +16,7 @@ use Rattle.kin_num.specs.Canonical.{IsCanonicalForm, discriminant}
 use Rattle.kin_num.specs.Instants.{sign_at_instant, sign_at_phase, sign_at, derivative, number_of}
 use Rattle.kin_num.specs.declared.instant.Phase.{Phase}
 use Rattle.kin_num.specs.declared.instant.Phase.TheVariants.{At, After}
+use Rattle.kin_num.proofs.RootSigns.{pair_sign-positive}
 use Rattle.kin_instant.specs.Remainders.{remainder_slope_of, remainder_start_of, side}
 
 -- ---- positive factors
@@ -26,11 +27,6 @@ positive-times : (a b : ℤ) → pos 0 <ℤ a → pos 0 <ℤ b → sign_of (a *�
 positive-times a b h k = sign-scaled a b h ∙ sign_in Plus b k
 
 -- ---- signs of pairs over a positive radicand
-pub pair_sign-positive : (u v d : ℤ) → pos 0 <ℤ d → pair_sign_of u v d ≡ sum_sign_of (sign_of u) (sign_of v) (sign_of (norm_of u v d))
-pair_sign-positive u v (pos zero) h = absurd (omega (arith, ints))
-pair_sign-positive u v (pos (suc n)) h = refl
-pair_sign-positive u v (negsuc n) h = absurd (omega (arith, ints))
-
 norm-scaled : (k u v d : ℤ) → norm_of (k *ℤ u) (k *ℤ v) d ≡ k *ℤ (k *ℤ norm_of u v d)
 norm-scaled k u v d = by_ring (k ∷ u ∷ v ∷ d ∷ []) _ _ (search quotes depth 20) (search quotes depth 20) refl
 
@@ -157,11 +153,6 @@ root_curvature p a b m e = by_ring (p ∷ a ∷ b ∷ m ∷ e ∷ []) _ _ (searc
 no_surd : (a b m : ℤ) → pos 2 *ℤ pos 0 *ℤ neg_ℤ b *ℤ m +ℤ (pos 2 *ℤ pos 0) *ℤ m *ℤ (pos 2 *ℤ a) ≡ pos 0
 no_surd a b m = by_ring (a ∷ b ∷ m ∷ []) _ _ (search quotes depth 24) (search quotes depth 24) refl
 
-sum_sign-single : (s n : Sign) → sum_sign_of s Zero n ≡ s
-sum_sign-single Minus n = refl
-sum_sign-single Zero n = refl
-sum_sign-single Plus n = refl
-
 at_root-curvature : (p a b m e : ℤ) → pos 0 <ℤ a → pos 0 <ℤ e →
     pair_sign_of (pos 0 *ℤ (neg_ℤ b *ℤ neg_ℤ b +ℤ m *ℤ m *ℤ e) +ℤ (pos 2 *ℤ pos 0) *ℤ neg_ℤ b *ℤ (pos 2 *ℤ a) +ℤ (pos 2 *ℤ p) *ℤ (pos 2 *ℤ a) *ℤ (pos 2 *ℤ a)) (pos 2 *ℤ pos 0 *ℤ neg_ℤ b *ℤ m +ℤ (pos 2 *ℤ pos 0) *ℤ m *ℤ (pos 2 *ℤ a)) e ≡ sign_of p
 at_root-curvature p a b m e h real =
@@ -220,3 +211,7 @@ opposed-is w s n w' s' n' t e f g h k = sym (sum_sign-opposed w s n k) ∙ ap₂
 
 pub agreeing-is : (w s w' s' n' t : Sign) → w ≡ w' → s ≡ s' → t ≡ sum_sign_of w' s' n' → product_of w s ≢ Minus → first_of w s ≡ t
 agreeing-is w s w' s' n' t e f h k = sym (sum_sign-agreeing w s n' k) ∙ ap₂ (λ (x y : Sign). sum_sign_of x y n') e f ∙ sym h
+
+-- ---- a remainder of the same numbers
+pub same_remainder_slope : (p : Quadratic) (a b a' b' : ℤ) → a' ≡ a → b' ≡ b → remainder_slope_of p a' b' ≡ remainder_slope_of p a b
+same_remainder_slope p a b a' b' e f = rw (e, f)

@@ -1,18 +1,10 @@
 -- Sums and differences of products that fit their width.
-use Rattle.std.proofs.Common.{◌≡◌, ℕ, ◌+◌, ◌*◌, ◌<◌, ◌≤◌, ◌^◌, ℤ, pos, ◌+ℤ◌, ◌-ℤ◌, ◌*ℤ◌, unsigned_abs, FitsSigned, true, false, w64, to_z, of_z, sym, ap, ap₂, ◌∙◌, subst, arith, mul-le-mul}
-use Rattle.std.proofs.lemmas.Int.{ints, to_z-of_z, fits_signed_from_abs, unsigned_abs-mul}
-use mir.Syntax.{Width}
+use Rattle.std.proofs.Common.{◌≡◌, ℕ, ◌+◌, ◌-◌, ◌*◌, ◌<◌, ◌≤◌, ◌^◌, ℤ, pos, ◌+ℤ◌, ◌-ℤ◌, ◌*ℤ◌, unsigned_abs, FitsSigned, true, false, w64, to_z, of_z, sym, ap, ap₂, ◌∙◌, subst, arith, mul-le-mul}
+use Rattle.std.proofs.lemmas.Int.{ints, to_z-of_z, fits_signed_from_abs, unsigned_abs-mul, to_z_pos}
+use mir.Syntax.{Width, w128}
 use mir.Val.{hbits}
 use lib.Signed.{mag, lt_z, ◌<ℤ◌, ◌≤ℤ◌}
-
-abs-sum : (x y : ℤ) (m n : ℕ) → unsigned_abs x ≤ m → unsigned_abs y ≤ n → unsigned_abs (x +ℤ y) ≤ m + n
-abs-sum x y m n h k = omega (arith, ints)
-
-abs-difference : (x y : ℤ) (m n : ℕ) → unsigned_abs x ≤ m → unsigned_abs y ≤ n → unsigned_abs (x -ℤ y) ≤ m + n
-abs-difference x y m n h k = omega (arith, ints)
-
-pub abs-product : (x y : ℤ) (m n : ℕ) → unsigned_abs x ≤ m → unsigned_abs y ≤ n → unsigned_abs (x *ℤ y) ≤ m * n
-abs-product x y m n h k = omega (arith, unsigned_abs-mul x y, mul-le-mul h k)
+use Rattle.kin_basics.proofs.Integers.{size-sum, size-difference}
 
 -- what the code's a * b + c * d and a * b - c * d give, where the products are at most k and l
 module _ (w : Width) (a b c d : ℤ) (k l : ℕ) (fa : FitsSigned w a) (fb : FitsSigned w b) (fc : FitsSigned w c) (fd : FitsSigned w d)
@@ -30,10 +22,10 @@ module _ (w : Width) (a b c d : ℤ) (k l : ℕ) (fa : FitsSigned w a) (fb : Fit
   right_fits = fits_signed_from_abs w (c *ℤ d) (omega (arith, right))
 
   pub sum-size : unsigned_abs (a *ℤ b +ℤ c *ℤ d) ≤ unsigned_abs a * unsigned_abs b + unsigned_abs c * unsigned_abs d
-  sum-size = abs-sum (a *ℤ b) (c *ℤ d) _ _ left right
+  sum-size = size-sum (a *ℤ b) (c *ℤ d) _ _ left right
 
   pub difference-size : unsigned_abs (a *ℤ b -ℤ c *ℤ d) ≤ unsigned_abs a * unsigned_abs b + unsigned_abs c * unsigned_abs d
-  difference-size = abs-difference (a *ℤ b) (c *ℤ d) _ _ left right
+  difference-size = size-difference (a *ℤ b) (c *ℤ d) _ _ left right
 
   abbrev as_left : ℤ
   as_left = to_z w (of_z w (to_z w (of_z w a) *ℤ to_z w (of_z w b)))
@@ -100,7 +92,7 @@ small_fits : (z : ℤ) → unsigned_abs z ≤ 2 ^ 33 → FitsSigned w64 z
 small_fits z h = fits_signed_from_abs w64 z (omega arith)
 
 pub small_difference-fits : (x y x' y' : ℤ) → x' ≡ x → y' ≡ y → unsigned_abs x ≤ 2 ^ 32 → unsigned_abs y ≤ 2 ^ 32 → FitsSigned w64 (x' -ℤ y')
-small_difference-fits x y x' y' e f h k = rw (e, f) (small_fits (x -ℤ y) (abs-difference x y (2 ^ 32) (2 ^ 32) h k))
+small_difference-fits x y x' y' e f h k = rw (e, f) (small_fits (x -ℤ y) (size-difference x y (2 ^ 32) (2 ^ 32) h k))
 
 pub small_difference-value : (x y x' y' : ℤ) → x' ≡ x → y' ≡ y → unsigned_abs x ≤ 2 ^ 32 → unsigned_abs y ≤ 2 ^ 32 → to_z w64 (of_z w64 (x' -ℤ y')) ≡ x -ℤ y
 small_difference-value x y x' y' e f h k = to_z-of_z w64 (x' -ℤ y') (small_difference-fits x y x' y' e f h k) ∙ ap₂ (λ (u v : ℤ). u -ℤ v) e f
@@ -113,3 +105,23 @@ doubled-fits x x' e h = rw e (small_fits (pos 2 *ℤ x) (twice x h))
 
 pub doubled-value : (x x' : ℤ) → x' ≡ x → unsigned_abs x ≤ 2 ^ 32 → to_z w64 (of_z w64 (pos 2 *ℤ x')) ≡ pos 2 *ℤ x
 doubled-value x x' e h = to_z-of_z w64 (pos 2 *ℤ x') (doubled-fits x x' e h) ∙ ap (λ (u : ℤ). pos 2 *ℤ u) e
+
+pub wide_from_narrow : (z : ℤ) → unsigned_abs z < 2 ^ 63 → FitsSigned w128 z
+wide_from_narrow z h = fits_signed_from_abs w128 z (omega arith)
+
+pub at_most : {n : ℕ} → n < 2 ^ 63 → n ≤ 2 ^ 63 - 1
+at_most h = omega arith
+
+pub positive_out : (g : ℕ) → 0 < g → g < 2 ^ 63 → pos 0 <ℤ to_z w64 g
+positive_out g h k = subst (λ (z : ℤ). pos 0 <ℤ z) (sym (to_z_pos w64 g k)) (omega (arith, ints))
+
+-- ---- one number, neither above nor below 0
+pub level_out : (b b' : ℤ) → b' ≡ b → pos 0 ≤ℤ b' → b' ≤ℤ pos 0 → b ≡ pos 0
+level_out b b' e h k = omega (arith, ints, e)
+
+-- ---- the size of a difference of products, as the code reads its factors
+pub size-read : (a q b p a' q' b' p' z : ℤ) → a' ≡ a → q' ≡ q → b' ≡ b → p' ≡ p → unsigned_abs z ≤ unsigned_abs a' * unsigned_abs q' + unsigned_abs b' * unsigned_abs p' → unsigned_abs z ≤ unsigned_abs a * unsigned_abs q + unsigned_abs b * unsigned_abs p
+size-read a q b p a' q' b' p' z e f g h l = rw (← e, ← f, ← g, ← h) l
+
+pub size-remainder : (a q b p z z' : ℤ) → z' ≡ z → unsigned_abs z ≤ unsigned_abs a * unsigned_abs q + unsigned_abs b * unsigned_abs p → unsigned_abs a ≤ 2 ^ 29 → unsigned_abs q ≤ 2 ^ 29 → unsigned_abs b ≤ 2 ^ 31 → unsigned_abs p ≤ 2 ^ 28 → unsigned_abs z' ≤ 2 ^ 61
+size-remainder a q b p z z' e l h i j k = subst (λ (x : ℤ). unsigned_abs x ≤ 2 ^ 61) (sym e) (omega (arith, mul-le-mul h i, mul-le-mul j k))

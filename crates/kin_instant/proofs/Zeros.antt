@@ -3,6 +3,7 @@ use Rattle.std.proofs.Common.{◌≡◌, ◌≢◌, ◌⊎◌, inl, inr, refl, a
 use Rattle.std.specs.Prelude.{◌<ℤ◌}
 use Rattle.std.proofs.lemmas.Int.{ints}
 use lib.IntN.{neg_ℤ}
+use Rattle.kin_basics.proofs.Integers.{same_from_difference}
 use Rattle.kin_algebra.specs.declared.sign.Sign.{Sign}
 use Rattle.kin_algebra.specs.declared.sign.Sign.TheVariants.{Minus, Zero, Plus}
 use Rattle.kin_algebra.specs.Signs.{sign_of, product_of, pair_sign_of}
@@ -21,6 +22,9 @@ use Rattle.kin_num.proofs.Values.{value, canonical-sound, irreducible-sound}
 use Rattle.kin_instant.specs.Roots.{quadratic}
 use Rattle.kin_num.proofs.Divisors.{cancel_factor, same_lowest}
 use Rattle.kin_num.proofs.RootZeros.{root_itself}
+
+pub doubled_positive : (a : ℤ) → pos 0 <ℤ a → pos 0 <ℤ (pos 2 *ℤ a)
+doubled_positive a h = omega (arith, ints)
 
 pub positive_product : (a b : ℤ) → pos 0 <ℤ a → pos 0 <ℤ b → pos 0 <ℤ (a *ℤ b)
 positive_product a b h k = sign_out Plus (a *ℤ b) (sign_of-times a b ∙ ap₂ product_of (sign_in Plus a h) (sign_in Plus b k))
@@ -164,9 +168,6 @@ ratio_on_line n d m e = by_ring (n ∷ d ∷ m ∷ e ∷ []) _ _ (search quotes 
 same_difference : (x y : ℤ) → x ≡ y → x -ℤ y ≡ pos 0
 same_difference x y e = omega (arith, ints, e)
 
-no_difference : (x y : ℤ) → x -ℤ y ≡ pos 0 → x ≡ y
-no_difference x y e = omega (arith, ints, e)
-
 nothing_times : (e z : ℤ) → z ≡ pos 0 → e *ℤ z ≡ pos 0
 nothing_times e z h = ap (λ (y : ℤ). e *ℤ y) h ∙ omega (arith, ints)
 
@@ -189,15 +190,12 @@ line_surd a b d m = by_ring (a ∷ b ∷ d ∷ m ∷ []) _ _ (search quotes dept
 
 line_no_root : (a b d u D m : ℤ) → pos 0 <ℤ a → pos 0 <ℤ d → pos 0 <ℤ D → Sound D → m ≢ pos 0 → pair_sign_of u (pos 2 *ℤ pos 0 *ℤ neg_ℤ b *ℤ m +ℤ d *ℤ m *ℤ (pos 2 *ℤ a)) D ≢ Zero
 line_no_root a b d u D m h k real s some e =
-    some (zero_product (pos 2 *ℤ (d *ℤ a)) m (sym (line_surd a b d m) ∙ (both_zero u _ D real s e).1) (doubled (d *ℤ a) (positive_product d a k h)))
-  where
-    doubled : (z : ℤ) → pos 0 <ℤ z → pos 0 <ℤ (pos 2 *ℤ z)
-    doubled z h = omega (arith, ints)
+    some (zero_product (pos 2 *ℤ (d *ℤ a)) m (sym (line_surd a b d m) ∙ (both_zero u _ D real s e).1) (doubled_positive (d *ℤ a) (positive_product d a k h)))
 
 -- where a line is zero at a fraction, the fraction is its root
 pub on_line : (n d m e : ℤ) → pos 0 <ℤ e → sign_at_instant (line n d) (Ratio m e) ≡ Zero → m *ℤ d ≡ n *ℤ e
 unfolding sign_at_instant
-on_line n d m e h z = no_difference (m *ℤ d) (n *ℤ e) (zero_product e (m *ℤ d -ℤ n *ℤ e) (sym (ratio_on_line n d m e) ∙ zero_of _ z) h)
+on_line n d m e h z = same_from_difference (m *ℤ d) (n *ℤ e) (zero_product e (m *ℤ d -ℤ n *ℤ e) (sym (ratio_on_line n d m e) ∙ zero_of _ z) h)
 
 -- no line is zero at an irrational root
 pub line-never : (a b c : ℤ) (upper : Bool) → IsIrreducible a b c → (n d : ℤ) → pos 0 <ℤ d → sign_at_instant (line n d) (Root a b c upper) ≢ Zero

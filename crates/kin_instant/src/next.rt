@@ -69,8 +69,9 @@ fn line_root_from(p: &Poly, m: &Moment, sign: Sign) -> Option<Instant>
     ensures none { IfNone result (IsZeroPolynomial p.now ⊎ HasNoRootAfter p.now m.now.at) }
     ensures kept { KeepsSign p.now m.now.at result }
 {
-    let (_, b, _, _) = (p.a(), p.b(), p.c(), m.at.shape());
-    if let Sign::Plus = sign.times(Sign::of(i128::from(b))) {
+    p.recall_small();
+    m.at.recall_canonical();
+    if let Sign::Plus = sign.times(Sign::of(i128::from(p.b()))) {
         return None;
     }
     match roots(p) {

@@ -2,13 +2,15 @@
 use Rattle.std.proofs.Common.{◌≡◌, ◌≢◌, refl, sym, ap, ap₂, ◌∙◌, subst, arith, List, [], ◌∷◌, ◌++◌, ℕ, zero, suc, ◌+◌, ◌<◌, ◌≤◌, ◌⊎◌, length, set, Some, None, Option, inl, inr, IsSome, add-one}
 use Rattle.std.specs.Prelude.{slice_get, slice_index_or, remove, insert, MatchOption}
 use Rattle.std.proofs.lemmas.Option.{slice_get_within, same_Some}
+use Rattle.std.proofs.lemmas.List.{set-set}
+use Rattle.kin_basics.proofs.Places.{get-remove_above, get-set_same, get_within, past_from_none}
 use Rattle.slab.specs.Slab.{Slab, Updates}
 use Rattle.kin_links.specs.declared.node.Gap.{Gap}
 use Rattle.kin_links.specs.declared.node.Gap.TheVariants.{Front, Behind}
 use Rattle.kin_links.specs.declared.node.Node.{Node}
 use Rattle.kin_links.specs.Family.{Linked, Standing, AreApart, HasLinked, IsNodeAt, exchanged}
 use Rattle.kin_links.specs.Pointers.{Pointers, pointers, item_in, gap_at, behind, node_at, id_of, IsHeld, IsFamily, IsDetached, IsAttached, lists_of}
-use Rattle.kin_links.proofs.Edits.{get-remove_above, get-set_same, get_within, moved_on}
+use Rattle.kin_links.proofs.Edits.{moved_on}
 use Rattle.kin_links.proofs.Moves.{detach_family, detached_away, attach_family, gap_within}
 use Rattle.kin_links.proofs.Reading.{family_apart, same_place}
 use Rattle.kin_links.proofs.Slots.{same_but, other_slot, read, some_item, gap_held, AreSameBut}
@@ -17,24 +19,13 @@ with_none : {R : Type 0} {P P' : Type 0} (Q : R → Type 0) (r : Option R) → (
 with_none Q None f h = f h
 with_none Q (Some n) f h = h
 
--- two writes at one place are the last one
-set_twice : {A : Type 0} (xs : List A) (p : ℕ) (x y : A) → set (set xs p x) p y ≡ set xs p y
-set_twice [] p x y = refl
-set_twice (z ∷ zs) zero x y = refl
-set_twice {A} (z ∷ zs) (suc p) x y = ap (λ (l : List A). z ∷ l) (set_twice zs p x y)
-
 module _ {T : Type 0} where
   -- the node at a place, and what is told of it
   told : {R : Type 0} (f : R → ℕ) (xs : List (Linked T)) (i : ℕ) (o : Option ℕ) (r : Option R) → o ≡ node_at xs i → MatchOption r (o ≡ None) (λ n. o ≡ Some (f n)) → MatchOption r (length xs ≤ i) (λ n. IsNodeAt xs i (f n))
   told f xs i o None e h = at (slice_get xs i) refl (sym e ∙ h)
     where
       at : (x : Option (Linked T)) → slice_get xs i ≡ x → id_of x ≡ None → length xs ≤ i
-      at None k g = past xs i k
-        where
-          past : (ys : List (Linked T)) (j : ℕ) → slice_get ys j ≡ None → length ys ≤ j
-          past [] j k = omega arith
-          past (y ∷ ys) zero k = absurd cc
-          past (y ∷ ys) (suc j) k = let r = past ys j k in omega arith
+      at None k g = past_from_none xs i k
       at (Some x) k g = absurd cc
   told f xs i o (Some n) e h = at (slice_get xs i) refl (sym e ∙ h)
     where
@@ -55,9 +46,6 @@ module _ {T : Type 0} (firsts : List (Option ℕ)) (slots : List (Option (Node T
 
   pub node_there : (node : ℕ) → Standing value node → IsSome (slice_index_or slots node None)
   node_there node s = some_item _ s.item (family.item s.list s.place s.items _ s.listed s.at)
-
-  pub front_held : (l : ℕ) → l < length value → IsHeld (pointers firsts slots) (Front l)
-  front_held l h = subst (λ n. l < n) family.count h
 
   pub behind_held : (node : ℕ) → Standing value node → IsHeld (pointers firsts slots) (Behind node)
   behind_held node s = gap_held (pointers firsts slots) value family s.list (suc s.place) s.items (Behind node) s.listed (ap behind s.at)
@@ -241,9 +229,6 @@ module _ {T : Type 0} (firsts : List (Option ℕ)) (slots : List (Option (Node T
     pub item_kept : (pointers firsts' slots').item key ≡ Some s.item
     item_kept = d.item key ∙ family.item s.list s.place s.items this s.listed s.at
 
-    pub out_there : IsSome (slice_index_or slots' key None)
-    out_there = some_item _ s.item item_kept
-
     -- and its slot is emptied
     pub gone_family : (old new : Slab (Node T)) → old.slots ≡ slots' → Updates old new key None → IsFamily (pointers firsts' new.slots) (set value s.list (remove s.items s.place))
     gone_family old new same u =
@@ -274,9 +259,6 @@ module _ {T : Type 0} (firsts : List (Option ℕ)) (slots : List (Option (Node T
       out_gap : gap_at s.list (remove s.items s.place) (suc s.place) ≡ Some (Behind next)
       out_gap = let y = the_next in ap behind (get-remove_above s.place s.place s.items (omega arith) ∙ y.1) ∙ ap (λ (n : ℕ). Some (Behind n)) y.2
 
-      pub out_held : IsHeld (pointers firsts' slots') (Behind next)
-      out_held = gap_held (pointers firsts' slots') _ out_family s.list (suc s.place) (remove s.items s.place) (Behind next) out_listed out_gap
-
       pub out_next : (k : ℕ) → (pointers firsts' slots').next (Behind next) ≡ Some k → (k ≢ key) × IsSome (slice_index_or slots' k None)
       out_next k n = at (slice_get (remove s.items s.place) (suc s.place)) refl (sym (out_family.next s.list (suc s.place) (remove s.items s.place) (Behind next) out_listed out_gap) ∙ n)
         where
@@ -292,7 +274,7 @@ module _ {T : Type 0} (firsts : List (Option ℕ)) (slots : List (Option (Node T
         pub swapped_family : IsFamily (pointers firsts'' slots'') (set value s.list (set (set s.items s.place the_next.0) (suc s.place) this))
         swapped_family =
             subst (IsFamily (pointers firsts'' slots''))
-            (set_twice value s.list _ _ ∙ ap (set value s.list) (moved_on s.place s.items this the_next.0 s.at the_next.1))
+            (set-set value s.list _ _ ∙ ap (set value s.list) (moved_on s.place s.items this the_next.0 s.at the_next.1))
             (attach_family (pointers firsts' slots') _ out_family s.list (remove s.items s.place) out_listed (pointers firsts'' slots'') (suc s.place) this (Behind next) out_gap out_away item_kept a)
 
         pub swapped : (y : Linked T) → slice_get s.items (s.place + 1) ≡ Some y → lists_of (pointers firsts'' slots'') ≡ set value s.list (exchanged s.items s.place this y)

@@ -3,7 +3,8 @@ use Rattle.std.proofs.Common.{◌≡◌, ◌≢◌, refl, sym, ap, ◌∙◌, su
 use Rattle.std.specs.Prelude.{slice_get, remove}
 use Rattle.std.proofs.lemmas.Bool.{cases_eq, cases_order}
 use Rattle.std.proofs.lemmas.Option.{slice_get_within, same_Some}
-use Rattle.kin_links.proofs.Edits.{get-remove_below, get-remove_above, length-remove}
+use Rattle.std.proofs.lemmas.List.Edits.{length-remove}
+use Rattle.kin_basics.proofs.Places.{get-remove_below, get-remove_above}
 
 abbrev pub AreDifferent : List ℕ → Type 0
 AreDifferent xs = (p q n : ℕ) → slice_get xs p ≡ Some n → slice_get xs q ≡ Some n → p ≡ q
@@ -47,7 +48,7 @@ few_below (suc n) xs d below = at (found xs n) (few_below n)
     at : IsFound xs n → ((ys : List ℕ) → AreDifferent ys → ((p m : ℕ) → slice_get ys p ≡ Some m → m < n) → length ys ≤ n) → length xs ≤ suc n
     at (inr none) fewer = let h = fewer xs d (λ p m e. let h = below p m e in let k : m ≢ n = λ s. none p (subst (λ (z : ℕ). slice_get xs p ≡ Some z) s e) in omega (arith, h, k)) in omega arith
     at (inl s) fewer =
-        let l = length-remove s.0 xs (slice_get_within xs s.0 n s.1) in
+        let l = length-remove xs s.0 (slice_get_within xs s.0 n s.1) in
         let h = fewer (remove xs s.0) different lower in
         omega arith
       where

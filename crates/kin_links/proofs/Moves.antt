@@ -3,11 +3,11 @@ use Rattle.std.proofs.Common.{◌≡◌, ◌≢◌, refl, sym, ap, ap₂, ◌∙
 use Rattle.std.specs.Prelude.{slice_get, insert, remove}
 use Rattle.std.proofs.lemmas.Bool.{cases_eq, cases_order}
 use Rattle.std.proofs.lemmas.Option.{slice_get_within, same_Some}
+use Rattle.kin_basics.proofs.Places.{get-insert_below, get-insert_at, get-insert_above, get-remove_below, get-remove_above, get-set_same, get-set_other}
 use Rattle.kin_links.specs.declared.node.Gap.{Gap}
 use Rattle.kin_links.specs.declared.node.Gap.TheVariants.{Front, Behind}
 use Rattle.kin_links.specs.Family.{Linked, Standing}
 use Rattle.kin_links.specs.Pointers.{Pointers, gap_at, behind, node_at, id_of, IsFamily, IsDetached, IsAttached}
-use Rattle.kin_links.proofs.Edits.{get-insert_below, get-insert_at, get-insert_above, get-remove_below, get-remove_above, get-set_same, get-set_other}
 use Rattle.kin_links.proofs.Counting.{stood}
 use Rattle.kin_links.proofs.Reading.{same_gap, same_place}
 

@@ -2,28 +2,22 @@
 use Rattle.std.proofs.Common.{◌≡◌, ◌≢◌, refl, sym, ap, ap₂, ◌∙◌, subst, arith, List, [], ◌∷◌, ℕ, zero, suc, ◌+◌, ◌<◌, ◌≤◌, length, drop, Some, None, Option}
 use Rattle.std.specs.Prelude.{slice_get}
 use Rattle.std.proofs.lemmas.Option.{slice_get_within, same_Some}
+use Rattle.std.proofs.lemmas.List.{drop_all}
+use Rattle.kin_basics.proofs.Places.{past_from_none}
 use Rattle.kin_links.specs.declared.node.Gap.{Gap}
 use Rattle.kin_links.specs.declared.node.Gap.TheVariants.{Front, Behind}
 use Rattle.kin_links.specs.Family.{Linked, AreApart}
 use Rattle.kin_links.specs.Pointers.{Pointers, gap_at, behind, id_of, IsFamily, walk, visited, with_item, lists_from, lists_of}
 use Rattle.kin_links.proofs.Counting.{AreDifferent, few_below}
 
+pub same_node : (n k : ℕ) → Behind n ≡ Behind k → n ≡ k
+same_node n k e = cc
+
 module _ {T : Type 0} where
   pub drop_from : (xs : List (Linked T)) (i : ℕ) (x : Linked T) → slice_get xs i ≡ Some x → drop i xs ≡ x ∷ drop (suc i) xs
   drop_from [] i x e = absurd cc
   drop_from (y ∷ ys) zero x e = ap (λ z. z ∷ ys) (same_Some y x e)
   drop_from (y ∷ ys) (suc i) x e = drop_from ys i x e
-
-  pub drop_past : (xs : List (Linked T)) (i : ℕ) → length xs ≤ i → drop i xs ≡ []
-  drop_past [] zero h = refl
-  drop_past [] (suc i) h = refl
-  drop_past (y ∷ ys) zero h = absurd (omega arith)
-  drop_past (y ∷ ys) (suc i) h = drop_past ys i (omega arith)
-
-  none_past : (xs : List (Linked T)) (i : ℕ) → slice_get xs i ≡ None → length xs ≤ i
-  none_past [] i e = omega arith
-  none_past (y ∷ ys) zero e = absurd cc
-  none_past (y ∷ ys) (suc i) e = let r = none_past ys i e in omega arith
 
   -- the gap at a place tells the list and the place
   front_only : (l m j : ℕ) (ys : List (Linked T)) → gap_at m ys j ≡ Some (Front l) → (l ≡ m) × (j ≡ zero)
@@ -44,10 +38,7 @@ module _ {T : Type 0} where
     where
       at : (o : Option (Linked T)) → slice_get ys j ≡ o → behind o ≡ Some (Behind k) → (i : ℕ) × (x : Linked T) × (suc j ≡ suc i) × (slice_get ys i ≡ Some x) × (x.node ≡ k)
       at None f e = absurd cc
-      at (Some x) f e = (j, x, refl, f, same x.node k (same_Some _ _ e))
-        where
-          same : (a b : ℕ) → Behind a ≡ Behind b → a ≡ b
-          same a b e = cc
+      at (Some x) f e = (j, x, refl, f, same_node x.node k (same_Some _ _ e))
 
 module _ {T : Type 0} (g : Pointers T) (lists : List (List (Linked T))) (family : IsFamily g lists) where
   -- one node stands at one place
@@ -62,7 +53,7 @@ module _ {T : Type 0} (g : Pointers T) (lists : List (List (Linked T))) (family 
       gaps = sym (family.prev m j ys y b d) ∙ sym (ap g.prev e) ∙ family.prev l (suc i) xs x a c
 
       at : (o : Option (Linked T)) → slice_get xs i ≡ o → ((k : ℕ) (z w : Linked T) → slice_get xs i ≡ Some z → slice_get ys k ≡ Some w → z.node ≡ w.node → (l ≡ m) × (i ≡ k)) → (l ≡ m) × (suc i ≡ j)
-      at None f before = absurd (let h = none_past xs i f in let w = slice_get_within xs (suc i) x c in omega arith)
+      at None f before = absurd (let h = past_from_none xs i f in let w = slice_get_within xs (suc i) x c in omega arith)
       at (Some z) f before =
           let r = behind_only z.node m j ys (gaps ∙ ap behind f) in
           let s = before r.0 z r.1 f r.3 (sym r.4) in
@@ -85,11 +76,11 @@ module _ {T : Type 0} (g : Pointers T) (lists : List (List (Linked T))) (family 
 
   -- the walk from a gap on reads the rest of the list
   walk_reads : (n i l : ℕ) (xs : List (Linked T)) (b : Gap) → slice_get lists l ≡ Some xs → length xs ≤ n + i → gap_at l xs i ≡ Some b → walk n g b ≡ drop i xs
-  walk_reads zero i l xs b a h e = sym (drop_past xs i (omega arith))
+  walk_reads zero i l xs b a h e = sym (drop_all i xs (omega arith))
   walk_reads (suc n) i l xs b a h e = at (slice_get xs i) refl (λ x f. walk_reads n (suc i) l xs (Behind x.node) a (omega arith) (ap behind f))
     where
       at : (o : Option (Linked T)) → slice_get xs i ≡ o → ((x : Linked T) → slice_get xs i ≡ Some x → walk n g (Behind x.node) ≡ drop (suc i) xs) → visited (g.next b) g.item (λ k. walk n g (Behind k)) ≡ drop i xs
-      at None f further = ap (λ o. visited o g.item (λ k. walk n g (Behind k))) (family.next l i xs b a e ∙ ap id_of f) ∙ sym (drop_past xs i (none_past xs i f))
+      at None f further = ap (λ o. visited o g.item (λ k. walk n g (Behind k))) (family.next l i xs b a e ∙ ap id_of f) ∙ sym (drop_all i xs (past_from_none xs i f))
       at (Some x) f further =
           ap (λ o. visited o g.item (λ k. walk n g (Behind k))) (family.next l i xs b a e ∙ ap id_of f)
           ∙ ap (λ o. with_item x.node o (walk n g (Behind x.node))) (family.item l i xs x a f)

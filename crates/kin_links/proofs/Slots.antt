@@ -8,7 +8,7 @@ use Rattle.kin_links.specs.declared.node.Gap.TheVariants.{Front, Behind}
 use Rattle.kin_links.specs.declared.node.Node.{Node}
 use Rattle.kin_links.specs.Family.{Linked, Standing}
 use Rattle.kin_links.specs.Pointers.{Pointers, pointers, next_in, prev_in, item_in, gap_at, behind, IsHeld, IsFamily, lists_of}
-use Rattle.kin_links.proofs.Reading.{read_family}
+use Rattle.kin_links.proofs.Reading.{read_family, same_node}
 
 module _ {T : Type 0} where
   -- what is not at this node is as it was
@@ -43,16 +43,13 @@ module _ {T : Type 0} where
       elsewhere : (l i : ℕ) (xs : List (Linked T)) (x : Linked T) → slice_get lists l ≡ Some xs → slice_get xs i ≡ Some x → x.node ≢ node
       elsewhere l i xs x e f s = away (record { list = l; place = i; items = xs; item = x.item; listed = e; at = f ∙ ap (λ (k : ℕ). Some (record { node = k; item = x.item })) s })
 
-      same_id : (n k : ℕ) → Behind n ≡ Behind k → n ≡ k
-      same_id n k e = cc
-
       not_behind : (l i : ℕ) (xs : List (Linked T)) (b : Gap) → slice_get lists l ≡ Some xs → gap_at l xs i ≡ Some b → b ≢ Behind node
       not_behind l zero xs b e f s = let c : Front l ≡ Behind node = same_Some _ _ f ∙ s in cc
       not_behind l (suc i) xs b e f s = at (slice_get xs i) refl f
         where
           at : (o : Option (Linked T)) → slice_get xs i ≡ o → behind o ≡ Some b → ⊥
           at None k f = absurd cc
-          at (Some x) k f = elsewhere l i xs x e k (same_id x.node node (same_Some _ _ f ∙ s))
+          at (Some x) k f = elsewhere l i xs x e k (same_node x.node node (same_Some _ _ f ∙ s))
 
   -- an item is at a node below the room
   within_room : (slots : List (Option (Node T))) (k : ℕ) (t : T) → item_in (slice_index_or slots k None) ≡ Some t → k < length slots

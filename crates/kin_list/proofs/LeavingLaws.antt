@@ -3,12 +3,11 @@ use Rattle.std.proofs.Common.{◌≡◌, ◌≢◌, ◌⊎◌, inl, inr, refl, s
 use Rattle.std.proofs.lemmas.Bool.{cases_eq}
 use Rattle.std.proofs.lemmas.Bool.Decides.{nat_tests}
 use Rattle.kin_motion.specs.Numbers.{is_in, IsOnce, Lists, HasEntered}
-use Rattle.kin_motion.proofs.KeptLaws.{entered_in}
 use Rattle.kin_list.specs.declared.mark.Mark.{Mark}
 use Rattle.kin_list.specs.declared.mark.Mark.TheVariants.{Rest, Leaves}
 use Rattle.kin_list.specs.Listing.{Listing, HasMarked, without}
 use Rattle.kin_list.specs.Keeping.{HasMembers}
-use Rattle.kin_list.proofs.ListLaws.{is_in-without, not_in-without, without-absent}
+use Rattle.kin_list.proofs.ListLaws.{is_in-without, not_in-without}
 
 without_once : (who : ℕ) (xs : List ℕ) → IsOnce xs → IsOnce (without who xs)
 without_once who [] once = tt

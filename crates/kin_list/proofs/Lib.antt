@@ -1,10 +1,8 @@
 pub mod RowLaws
 pub mod PigeonLaws
 pub mod PlaceLaws
-pub mod TestLaws
 pub mod InversionLaws
 pub mod RepairLaws
-pub mod OkLaws
 pub mod LeaveLaws
 pub mod EnterLaws
 pub mod HalvingLaws

@@ -1,7 +1,9 @@
 -- The facts of links by number.
-use Rattle.std.proofs.Common.{◌≡◌, refl, sym, ap, ◌∙◌, arith, List, [], ◌∷◌, ℕ, zero, suc, ◌+◌, ◌<◌, length, Some, None, Option, ℤ, pos, false, cond, nat_eq}
-use Rattle.std.specs.Prelude.{slice_get, slice_index_or, Contains}
+use Rattle.std.proofs.Common.{◌≡◌, refl, sym, ap, ◌∙◌, arith, List, [], ◌∷◌, ℕ, zero, suc, ◌+◌, ◌<◌, Some, None, Option, ℤ, pos, false, cond, nat_eq}
+use Rattle.std.specs.Prelude.{slice_get, Contains}
 use Rattle.std.proofs.lemmas.Option.{same_Some, none-some}
+use Rattle.std.proofs.lemmas.Bool.{eq-eqb, ne_eqb, or_parts}
+use Rattle.kin_basics.proofs.Members.{contains_from_get, get_from_contains}
 use Rattle.kin_algebra.specs.declared.sign.Sign.{Sign}
 use Rattle.kin_motion.specs.declared.form.Form.TheVariants.{Line}
 use Rattle.kin_motion.specs.declared.fact.Placed.{Placed}
@@ -9,21 +11,6 @@ use Rattle.kin_motion.specs.Kinetics.{AreDistinct}
 use Rattle.kin_motion.specs.Numbers.{is_in}
 use Rattle.kin_list.specs.declared.link.Link.{Link}
 use Rattle.kin_list.specs.Links.{linked, link_for, fact_of, facts_from}
-use Rattle.kin_list.proofs.TestLaws.{eq_true, eq_false, neither}
-
--- what stands in a list, by the place where it is found
-pub contains_from_get : {A : Type 0} (xs : List A) (k : ℕ) (x : A) → slice_get xs k ≡ Some x → Contains xs x
-contains_from_get [] k x h = absurd cc
-contains_from_get (y ∷ ys) zero x h = (zero, omega arith, same_Some y x h)
-contains_from_get (y ∷ ys) (suc k) x h = let r = contains_from_get ys k x h in (suc r.0, (let l = r.1 in omega arith), r.2)
-
-pub get_from_contains : {A : Type 0} (xs : List A) (x : A) → Contains xs x → (k : ℕ) × (slice_get xs k ≡ Some x)
-get_from_contains xs x (k, l, e) = (k, found xs k x l e)
-  where
-    found : {A : Type 0} (xs : List A) (k : ℕ) (x : A) → k < length xs → slice_index_or xs k x ≡ x → slice_get xs k ≡ Some x
-    found [] k x l e = absurd (omega arith)
-    found (y ∷ ys) zero x l e = ap (λ z. Some z) e
-    found (y ∷ ys) (suc k) x l e = found ys k x (omega arith) e
 
 module _ (dx dy : ℤ) where
   pub same_facts : (i j : ℕ) (l m : Link) → fact_of dx dy i l ≡ fact_of dx dy j m → (i ≡ j) × (l ≡ m)
@@ -74,13 +61,13 @@ module _ (dx dy : ℤ) where
 -- the link of a number by its place
 pub link_for-at : (xs : List ℕ) (signs : List Sign) (p i : ℕ) → AreDistinct xs → slice_get xs p ≡ Some i → link_for xs signs i ≡ linked (slice_get xs (suc p)) (slice_get signs i)
 link_for-at [] signs p i apart h = absurd cc
-link_for-at (x ∷ xs) signs zero i apart h = ap (λ b. cond b (linked (slice_get xs 0) (slice_get signs i)) (link_for xs signs i)) (eq_true i x (sym (same_Some x i h)))
+link_for-at (x ∷ xs) signs zero i apart h = ap (λ b. cond b (linked (slice_get xs 0) (slice_get signs i)) (link_for xs signs i)) (eq-eqb i x (sym (same_Some x i h)))
 link_for-at (x ∷ xs) signs (suc p) i apart h =
-    ap (λ b. cond b (linked (slice_get xs 0) (slice_get signs i)) (link_for xs signs i)) (eq_false i x (λ e. absurd (let f = apart zero (suc p) i (ap (λ (m : ℕ). Some m) (sym e)) h in omega arith)))
+    ap (λ b. cond b (linked (slice_get xs 0) (slice_get signs i)) (link_for xs signs i)) (ne_eqb i x (λ e. absurd (let f = apart zero (suc p) i (ap (λ (m : ℕ). Some m) (sym e)) h in omega arith)))
     ∙ link_for-at xs signs p i (λ q r y a b. let e = apart (suc q) (suc r) y a b in omega arith) h
 
 pub link_for-absent : (xs : List ℕ) (signs : List Sign) (i : ℕ) → is_in i xs ≡ false → link_for xs signs i ≡ None
 link_for-absent [] signs i out = refl
 link_for-absent (x ∷ xs) signs i out =
-    let n = neither (nat_eq i x) (is_in i xs) out in
+    let n = or_parts (nat_eq i x) (is_in i xs) out in
     ap (λ b. cond b (linked (slice_get xs 0) (slice_get signs i)) (link_for xs signs i)) n.0 ∙ link_for-absent xs signs i n.1

@@ -3,9 +3,10 @@ use Rattle.std.proofs.Common.{◌≡◌, refl, sym, ap, ◌∙◌, arith, List, 
 use Rattle.std.specs.Prelude.{slice_get, remove}
 use Rattle.std.proofs.lemmas.Bool.{cases_order}
 use Rattle.std.proofs.lemmas.Option.{slice_get_within, same_Some}
+use Rattle.std.proofs.lemmas.List.Edits.{length-remove}
+use Rattle.kin_basics.proofs.Places.{get-remove_below, get-remove_above}
 use Rattle.kin_motion.specs.Numbers.{numbers_from}
 use Rattle.kin_motion.specs.Sets.{AreDistinct}
-use Rattle.kin_list.proofs.RowLaws.{get-remove_below, get-remove_above, length-remove}
 
 -- where y stands after the thing at k is taken out
 left_over : {A : Type 0} (ys : List A) (k q : ℕ) (y : A) → (q ≡ k → ⊥) → slice_get ys q ≡ Some y → (r : ℕ) × (slice_get (remove ys k) r ≡ Some y)
@@ -25,7 +26,7 @@ no_longer (x ∷ xs) ys apart inside =
     let rest = no_longer xs (remove ys k.0)
     (λ p q y a b. let e = apart (suc p) (suc q) y a b in omega arith)
     (λ p y a. let q = inside (suc p) y a in left_over ys k.0 q.0 y (λ e. absurd (let s : Some y ≡ Some x = sym q.1 ∙ ap (slice_get ys) e ∙ k.1 in let t : y ≡ x = same_Some y x s in let o = apart zero (suc p) x refl (a ∙ ap (λ z. Some z) t) in omega arith)) q.1) in
-    let l = length-remove k.0 ys (slice_get_within ys k.0 x k.1) in
+    let l = length-remove ys k.0 (slice_get_within ys k.0 x k.1) in
     omega arith
 
 numbers-get : (a n p : ℕ) → p < n → slice_get (numbers_from a n) p ≡ Some (a + p)

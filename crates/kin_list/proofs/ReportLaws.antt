@@ -1,9 +1,10 @@
 -- A link is written, and the change is told.
 use Rattle.std.proofs.Common.{◌≡◌, ◌≢◌, refl, sym, ap, ◌∙◌, subst, arith, List, [], ◌∷◌, ◌++◌, ℕ, zero, suc, ◌+◌, ◌<◌, ◌≤◌, length, set, Some, None, Option, ℤ, false, inl, inr}
 use Rattle.std.specs.Prelude.{slice_get, ◌⊎◌}
-use Rattle.std.proofs.lemmas.Bool.{cases_eq, cases_lt, cases_order}
+use Rattle.std.proofs.lemmas.Bool.{cases_eq, cases_lt, cases_order, both_ways}
 use Rattle.std.proofs.lemmas.List.{set_past}
 use Rattle.std.proofs.lemmas.Option.{same_Some}
+use Rattle.kin_basics.proofs.Places.{get_within, get-set_same, get-set_other}
 use Rattle.kin_motion.specs.Deltas.{Change}
 use Rattle.kin_motion.specs.Kinetics.{HasChanged}
 use Rattle.kin_motion.specs.Numbers.{is_in}
@@ -11,8 +12,6 @@ use Rattle.kin_list.specs.declared.link.Link.{Link}
 use Rattle.kin_list.specs.Links.{link_facts, facts_from}
 use Rattle.kin_list.proofs.ChangeLaws.{changed_at}
 use Rattle.kin_list.proofs.HeldLaws.{same_sign_or_not}
-use Rattle.kin_list.proofs.RowLaws.{get_within, get-set_same, get-set_other}
-use Rattle.kin_list.proofs.TestLaws.{not_both}
 use Rattle.kin_list.proofs.RowLaws.{is_in_from_get}
 
 same_link_or_not : (o n : Option Link) → (o ≡ n) ⊎ (o ≢ n)
@@ -86,4 +85,4 @@ module _ (dx dy : ℤ) (first ls ls' : List (Option Link)) (i : ℕ) (new : Opti
 
   pub renewed_others : (touched : List ℕ) (index : ℕ) → slice_get touched index ≡ Some i → ((j : ℕ) → is_in j touched ≡ false → slice_get ls j ≡ slice_get first j) → (j : ℕ) → is_in j touched ≡ false → slice_get ls' j ≡ slice_get first j
   renewed_others touched index at others j out =
-      ap (λ (xs : List (Option Link)). slice_get xs j) written ∙ get-set_other ls i j new (λ e. not_both (is_in_from_get touched index j (at ∙ ap (λ (m : ℕ). Some m) (sym e))) out) ∙ others j out
+      ap (λ (xs : List (Option Link)). slice_get xs j) written ∙ get-set_other ls i j new (λ e. both_ways _ out (is_in_from_get touched index j (at ∙ ap (λ (m : ℕ). Some m) (sym e)))) ∙ others j out

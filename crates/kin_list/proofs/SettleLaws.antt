@@ -2,6 +2,8 @@
 use Rattle.std.proofs.Common.{◌≡◌, refl, sym, ap, ap₂, ◌∙◌, subst, arith, List, [], ◌∷◌, ℕ, zero, suc, ◌+◌, ◌<◌, true, false, length, Some, None, Option, ℤ, pos, add-one, inl, inr}
 use Rattle.std.specs.Prelude.{slice_get, Contains, ◌↔◌}
 use Rattle.std.proofs.lemmas.Option.{slice_get_within, same_Some, none-some}
+use Rattle.std.proofs.lemmas.Bool.{cases_Bool, both_ways}
+use Rattle.kin_basics.proofs.Members.{contains_from_get, get_from_contains}
 use Rattle.kin_algebra.specs.declared.sign.Sign.{Sign}
 use Rattle.kin_motion.specs.declared.form.Form.TheVariants.{Line}
 use Rattle.kin_motion.specs.declared.fact.Placed.{Placed}
@@ -15,16 +17,15 @@ use Rattle.kin_list.specs.declared.link.Link.{Link}
 use Rattle.kin_list.specs.Links.{linked, link_for, facts_from}
 use Rattle.kin_list.specs.Repairs.{IsHeld, IsKnown}
 use Rattle.kin_motion.specs.Sets.{AreDistinct}
-use Rattle.kin_list.proofs.TestLaws.{true_or_false, not_both}
 use Rattle.kin_list.proofs.RowLaws.{is_in_from_get, get_from_is_in}
-use Rattle.kin_list.proofs.LinkLaws.{contains_from_get, get_from_contains, has_fact, has_link, facts-distinct, link_for-at, link_for-absent}
+use Rattle.kin_list.proofs.LinkLaws.{has_fact, has_link, facts-distinct, link_for-at, link_for-absent}
 
 -- an order has no number twice
 pub apart_from_once : (xs : List ℕ) → IsOnce xs → AreDistinct xs
 apart_from_once [] once p q x a b = absurd cc
 apart_from_once (y ∷ ys) once zero zero x a b = refl
-apart_from_once (y ∷ ys) once zero (suc q) x a b = absurd (not_both (is_in_from_get ys q x b) (ap (λ n. is_in n ys) (sym (same_Some y x a)) ∙ once.0))
-apart_from_once (y ∷ ys) once (suc p) zero x a b = absurd (not_both (is_in_from_get ys p x a) (ap (λ n. is_in n ys) (sym (same_Some y x b)) ∙ once.0))
+apart_from_once (y ∷ ys) once zero (suc q) x a b = absurd (both_ways _ (ap (λ n. is_in n ys) (sym (same_Some y x a)) ∙ once.0) (is_in_from_get ys q x b))
+apart_from_once (y ∷ ys) once (suc p) zero x a b = absurd (both_ways _ (ap (λ n. is_in n ys) (sym (same_Some y x b)) ∙ once.0) (is_in_from_get ys p x a))
 apart_from_once (y ∷ ys) once (suc p) (suc q) x a b = ap suc (apart_from_once ys once.1 p q x a b)
 
 -- a link has both parts
@@ -53,9 +54,9 @@ module _ (s : Scene) (dx dy : ℤ) (items : List ℕ) (signs : List Sign) (touch
     (others : (i : ℕ) → is_in i touched ≡ false → slice_get after i ≡ slice_get before i) where
   -- every link is that of the list
   pub every_link : (i : ℕ) → i < length before → slice_get after i ≡ Some (link_for items signs i)
-  every_link i bound = elim (true_or_false (is_in i touched)) [
+  every_link i bound = elim (cases_Bool (is_in i touched)) [
     | inl t ↦ renewed i bound t
-    | inr f ↦ elim (true_or_false (is_in i items)) [
+    | inr f ↦ elim (cases_Bool (is_in i items)) [
       | inl t ↦ (let g = get_from_is_in items i t in
           others i f ∙ known.kept g.0 i bound g.1 refl f ∙ ap (λ (o : Option Link). Some o) (ap (λ (o : Option ℕ). linked o (slice_get signs i)) (ap (slice_get items) (add-one g.0)) ∙ sym (link_for-at items signs g.0 i apart g.1)))
       | inr o ↦ others i f ∙ known.gone i bound o f ∙ ap (λ (o : Option Link). Some o) (sym (link_for-absent items signs i o))
@@ -86,7 +87,7 @@ module _ (s : Scene) (dx dy : ℤ) (items : List ℕ) (signs : List Sign) (touch
   link_known i l h =
       let bound : i < length before = let w = slice_get_within after i (Some l) h in omega arith in
       let e : link_for items signs i ≡ Some l = same_Some (link_for items signs i) (Some l) (sym (every_link i bound) ∙ h) in
-      elim (true_or_false (is_in i items)) [
+      elim (cases_Bool (is_in i items)) [
         | inl t ↦ (let g = get_from_is_in items i t in
             let parts = linked_some (slice_get items (suc g.0)) (slice_get signs i) l (sym (link_for-at items signs g.0 i apart g.1) ∙ e) in
             let r = known.right g.0 i l.right g.1 (ap (slice_get items) (add-one g.0) ∙ parts.0) refl in

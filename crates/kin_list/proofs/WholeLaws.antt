@@ -9,6 +9,7 @@ use Rattle.kin_motion.specs.Kinetics.{ListsFailing, HasChanged}
 use Rattle.kin_motion.specs.Numbers.{is_in}
 use Rattle.kin_motion.specs.Scene.{Scene}
 use Rattle.kin_motion.specs.Laws.{HasLineLaws}
+use Rattle.kin_motion.proofs.Members.{in_head}
 use Rattle.kin_list.specs.declared.link.Link.{Link}
 use Rattle.kin_list.specs.declared.mark.Mark.{Mark}
 use Rattle.kin_list.specs.declared.mark.Mark.TheVariants.{Rest, Enters, Leaves, Broken}
@@ -18,7 +19,6 @@ use Rattle.kin_list.specs.Listing.{IsReadyMark, names_leaving, AreFewTests}
 use Rattle.kin_list.specs.Repairs.{IsHeld}
 use Rattle.kin_list.specs.Rows.{Row}
 use Rattle.kin_list.specs.Sound.{IsMarkable, IsHeldIf}
-use Rattle.kin_list.proofs.TestLaws.{is_in_head}
 use Rattle.kin_list.proofs.ListLaws.{not_in-without}
 use Rattle.kin_list.proofs.SettleLaws.{apart_from_once, held_after, all_hold, settled_after}
 use Rattle.kin_list.proofs.BoundLaws.{failed_dropped, few_tests}
@@ -30,6 +30,12 @@ held_when_ready (Enters i) links items signs s ready held = held
 held_when_ready (Leaves i) links items signs s ready held = held
 held_when_ready Broken links items signs s ready held = absurd ready
 
+-- what holds once the order is arranged and its links are told
+pub record IsWholeSettle (s : Scene) (dx dy : ℤ) (mark : Mark) (old : List ℕ) (links after : List (Option Link)) (new : List ℕ) (signs : List Sign) (out out' : Change) (steps steps' : ℕ) : Type 0 where
+  pub held : IsHeld after new signs [] []
+  pub settled : IsSettledList s dx dy new (facts_from dx dy 0 after)
+  pub tests : HasChanged (facts_from dx dy 0 links) (facts_from dx dy 0 after) out out' → AreFewTests mark old new out out' steps steps'
+
 leaving : (mark : Mark) (row : Row) (s : Scene) (new : List ℕ) → ((i : ℕ) → is_in i new ≡ is_in i s.live) → IsReadyMark mark row.items s → IsMarkable mark row → (who : ℕ) → mark ≡ Leaves who → (is_in who row.items ≡ true) × (is_in who new ≡ false)
 leaving mark row s new same ready markable who e =
     let ready' : IsReadyMark (Leaves who) row.items s = subst (λ m. IsReadyMark m row.items s) e ready in
@@ -39,7 +45,7 @@ leaving mark row s new same ready markable who e =
 entering : (mark : Mark) (row : Row) (s : Scene) (new : List ℕ) → ((i : ℕ) → is_in i new ≡ is_in i s.live) → IsReadyMark mark row.items s → (who : ℕ) → mark ≡ Enters who → (is_in who new ≡ true) × (is_in who row.items ≡ false)
 entering mark row s new same ready who e =
     let ready' : IsReadyMark (Enters who) row.items s = subst (λ m. IsReadyMark m row.items s) e ready in
-    (same who ∙ sym (ready'.same who) ∙ is_in_head who row.items, ready'.once.0)
+    (same who ∙ sym (ready'.same who) ∙ in_head who row.items, ready'.once.0)
 
 module _ (s : Scene) (laws : HasLineLaws s) (dx dy : ℤ) (mark : Mark) (row : Row) (links after : List (Option Link)) (new : List ℕ) (signs signs' : List Sign) (touched swaps : List ℕ) (failed : List Placed) (steps steps' : ℕ) (out out' : Change)
     (ready : IsReadyMark mark row.items s) (markable : IsMarkable mark row)
@@ -48,19 +54,23 @@ module _ (s : Scene) (laws : HasLineLaws s) (dx dy : ℤ) (mark : Mark) (row : R
     (same : length after ≡ length links) (fits : length links ≡ length signs')
     (renewed : (i : ℕ) → i < length links → is_in i touched ≡ true → slice_get after i ≡ Some (link_for new signs' i))
     (others : (i : ℕ) → is_in i touched ≡ false → slice_get after i ≡ slice_get links i) where
-  pub whole_held : IsHeld after new signs' [] []
+  whole_held : IsHeld after new signs' [] []
   whole_held = held_after s dx dy new signs' touched (apart_from_once new arranged.order.all.once) links after same fits arranged.known renewed others
 
-  pub whole_settled : IsSettledList s dx dy new (facts_from dx dy 0 after)
-  whole_settled = settled_after s dx dy new signs' touched (apart_from_once new arranged.order.all.once) links after same fits arranged.known renewed others laws arranged.order
-
-  pub whole_tests : HasChanged (facts_from dx dy 0 links) (facts_from dx dy 0 after) out out' → AreFewTests mark row.items new out out' steps steps'
+  whole_tests : HasChanged (facts_from dx dy 0 links) (facts_from dx dy 0 after) out out' → AreFewTests mark row.items new out out' steps steps'
   whole_tests changed = few_tests dx dy links after row.items new signs signs' held whole_held out out' changed mark (length failed) (length swaps) steps steps' arranged.moved
       (failed_dropped dx dy links after row.items new signs signs' held whole_held out out' changed s (names_leaving mark) failed failing
       (all_hold s dx dy new signs' touched (apart_from_once new arranged.order.all.once) links after same fits arranged.known renewed others))
       (leaving mark row s new arranged.order.all.same ready markable)
       (entering mark row s new arranged.order.all.same ready)
       arranged.cost
+
+  pub whole_settle : IsWholeSettle s dx dy mark row.items links after new signs' out out' steps steps'
+  whole_settle = record {
+    held = whole_held;
+    settled = settled_after s dx dy new signs' touched (apart_from_once new arranged.order.all.once) links after same fits arranged.known renewed others laws arranged.order;
+    tests = whole_tests;
+  }
 
 -- an empty list
 no_links : (n i : ℕ) → i < length {A = Option Link} (replicate n None) → slice_get {X = Option Link} (replicate n None) i ≡ Some None

@@ -1,6 +1,8 @@
 -- Every live fact may be asked for.
 use Rattle.std.proofs.Common.{◌≡◌, ◌⊎◌, inl, inr, refl, sym, ap, ◌∙◌, subst, List, [], ◌∷◌, ℕ, zero, suc, ◌+◌, ◌*◌, ◌/◌, ◌%◌, ◌<◌, ◌≤◌, Bool, true, false, cond, map, ℤ, pos, unsigned_abs, min, max, arith}
 use Rattle.std.specs.Prelude.{Option, Some, None, Contains, slice_get}
+use Rattle.std.proofs.lemmas.Bool.{and_parts}
+use Rattle.kin_basics.proofs.Members.{contains_none, contains_cases, contains_from_get}
 use Rattle.kin_motion.specs.declared.form.Form.{Form}
 use Rattle.kin_motion.specs.declared.form.Form.TheVariants.{Line, Dist}
 use Rattle.kin_motion.specs.declared.fact.Placed.{Placed}
@@ -18,22 +20,23 @@ use Rattle.kin_motion.specs.ClosestFacts.{near, HoldsNear, AreNearSlots, IsClose
 use Rattle.kin_motion.specs.Merges.{IsHullFact}
 use Rattle.kin_motion.specs.Live.{IsKeepFact, IsSmallKeep}
 use Rattle.kin_motion.specs.Theorems.{LiveFactsAreAskable}
-use Rattle.kin_motion.proofs.SetLaws.{contains_none, contains_cases, contains_at, contains_mapped}
+use Rattle.kin_motion.proofs.SetLaws.{contains_mapped}
 use Rattle.kin_motion.proofs.AgreementLaws.{kept-members}
 use Rattle.kin_motion.proofs.NearLaws.{octant_at}
-use Rattle.kin_motion.proofs.AskableMerges.{AllLive, own_number, by_right, left_of_both, node_form_askable}
+use Rattle.kin_motion.proofs.AskableMerges.{AllLive, node_form_askable}
+use Rattle.kin_motion.proofs.Members.{in_head, in_tail}
 
 -- ---- orders
 neighbours_askable : (live : List ℕ) (dx dy : ℤ) → unsigned_abs dx ≤ 16 → unsigned_abs dy ≤ 16 → (xs : List ℕ) → AllLive live xs → (f : Form) → Contains (neighbour_forms dx dy xs) f → IsAskable live f
 neighbours_askable live dx dy x_small y_small [] known f h = absurd (contains_none f h)
 neighbours_askable live dx dy x_small y_small (i ∷ []) known f h = absurd (contains_none f h)
 neighbours_askable live dx dy x_small y_small (i ∷ j ∷ xs) known f h =
-    at (contains_cases (Line dx dy (pos 0) i j) f (neighbour_forms dx dy (j ∷ xs)) h) (neighbours_askable live dx dy x_small y_small (j ∷ xs) (λ k e. known k (by_right _ _ e)) f)
+    at (contains_cases (Line dx dy (pos 0) i j) f (neighbour_forms dx dy (j ∷ xs)) h) (neighbours_askable live dx dy x_small y_small (j ∷ xs) (λ k e. known k (in_tail k i (j ∷ xs) e)) f)
   where
     here : IsAskable live (Line dx dy (pos 0) i j)
     here = record {
-      i_live = known i (own_number i (j ∷ xs));
-      j_live = known j (by_right _ _ (own_number j xs));
+      i_live = known i (in_head i (j ∷ xs));
+      j_live = known j (in_tail j i (j ∷ xs) (in_head j xs));
       dx_small = x_small;
       dy_small = y_small;
       off_small = omega arith;
@@ -95,7 +98,7 @@ near_live live slot p c x y = (of_two (min p c) (least p c), of_two (max p c) (m
     of_two k (inl e) = subst (λ i. IsIn i live) (sym e) x
     of_two k (inr e) = subst (λ i. IsIn i live) (sym e) y
 
-held_slot : (slots : List (Option Near)) (n : ℕ) (a : Near) → item_in slots n ≡ Some a → slice_get slots n ≡ Some (Some a)
+pub held_slot : (slots : List (Option Near)) (n : ℕ) (a : Near) → item_in slots n ≡ Some a → slice_get slots n ≡ Some (Some a)
 held_slot [] n a e = absurd cc
 held_slot (x ∷ slots) zero a e = ap Some e
 held_slot (x ∷ slots) (suc n) a e = held_slot slots n a e
@@ -114,7 +117,7 @@ pair_live size s slots filled n a e =
     whole n = omega arith
 
     member : (o : Octant) (p c : ℕ) → IsCandidate s o p c → IsIn c s.live
-    member o p c h = left_of_both (is_in c s.live) (is_in_octant s o p c) (sym (kept-members (is_in_octant s o p) s.live c) ∙ h.member)
+    member o p c h = (and_parts (is_in c s.live) (is_in_octant s o p c) (sym (kept-members (is_in_octant s o p) s.live c) ∙ h.member)).0
 
 small_of : {a : Direction} (d : Direction) → Some a ≡ Some d → unsigned_abs a.dx ≤ 16 → unsigned_abs a.dy ≤ 16 → (unsigned_abs d.dx ≤ 16) × (unsigned_abs d.dy ≤ 16)
 small_of {a} d e x y = let same : a ≡ d = cc in subst (λ (k : Direction). (unsigned_abs k.dx ≤ 16) × (unsigned_abs k.dy ≤ 16)) same (x, y)
@@ -156,5 +159,5 @@ keep_fact_askable size s Range p small (inr f) = order_fact_askable s (pos 0) (p
 
 pub live_facts_are_askable : LiveFactsAreAskable
 live_facts_are_askable size keeps s c small f =
-    let k = contains_at keeps c.structure f.keep f.kept in
+    let k = contains_from_get keeps c.structure f.keep f.kept in
     keep_fact_askable size s f.keep c.placed (subst IsSmallKeep k.2 (small k.0 f.keep k.1)) f.fact

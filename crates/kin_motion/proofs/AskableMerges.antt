@@ -1,30 +1,22 @@
 -- The forms of a merge name points of its two chains.
-use Rattle.std.proofs.Common.{◌≡◌, ◌⊎◌, inl, inr, refl, sym, ap, ◌∙◌, subst, List, [], ◌∷◌, ◌++◌, ℕ, Bool, true, false, cond, ◌&&◌, ◌||◌, nat_eq, ◌+◌, ◌*◌, pos, arith}
+use Rattle.std.proofs.Common.{◌≡◌, ◌⊎◌, inl, inr, refl, sym, ap, ◌∙◌, subst, List, [], ◌∷◌, ◌++◌, ℕ, Bool, true, false, cond, ◌+◌, ◌*◌, pos, arith}
 use Rattle.std.specs.Prelude.{Contains}
-use Rattle.std.proofs.lemmas.Bool.Decides.{nat_tests}
 use Rattle.std.proofs.lemmas.List.Elements.{Contains-append_cases}
+use Rattle.std.proofs.lemmas.Bool.{and_parts}
+use Rattle.kin_basics.proofs.Members.{contains_none, contains_head, contains_tail, contains_cases}
 use Rattle.kin_motion.specs.declared.form.Form.{Form}
 use Rattle.kin_motion.specs.declared.form.Form.TheVariants.{Line, Turn}
 use Rattle.kin_motion.specs.Forms.{IsAskable}
 use Rattle.kin_motion.specs.Numbers.{is_in, IsIn}
 use Rattle.kin_motion.specs.Scene.{Scene, x_sign}
-use Rattle.kin_motion.specs.Chains.{is_zero, is_bare, IsUpperChain}
-use Rattle.kin_motion.specs.Merges.{Half, Half.{A, B}, Breakpoint, is_of, breakpoints_of, slope_form, IsBreakpointList, current_after, other_current, turns_from, slope_between, slopes_from, end_forms, last_of, forms_of_ends, forms_of_merge, points_under, IsNodeForm}
+use Rattle.kin_motion.specs.Chains.{is_zero, IsUpperChain}
+use Rattle.kin_motion.specs.Merges.{IsMergeForm, Half, Half.{A, B}, Breakpoint, is_of, breakpoints_of, slope_form, IsBreakpointList, current_after, other_current, turns_from, slope_between, slopes_from, end_forms, last_of, forms_of_ends, forms_of_merge, points_under, IsNodeForm}
 use Rattle.kin_motion.specs.Tournaments.{is_under}
 use Rattle.kin_motion.proofs.CurrentLaws.{forms_agree}
-use Rattle.kin_motion.proofs.SetLaws.{contains_none, contains_head, contains_tail, contains_cases, filter-complete}
+use Rattle.kin_motion.proofs.SetLaws.{filter-complete}
 use Rattle.kin_motion.proofs.AgreementLaws.{kept-members}
-
-pub own_number : (i : ℕ) (xs : List ℕ) → is_in i (i ∷ xs) ≡ true
-own_number i xs = grind (arith, nat_tests)
-
-pub by_right : (a b : Bool) → b ≡ true → a || b ≡ true
-by_right true b e = refl
-by_right false b e = e
-
-pub left_of_both : (a b : Bool) → a && b ≡ true → a ≡ true
-left_of_both true b e = refl
-left_of_both false b e = absurd cc
+use Rattle.kin_motion.proofs.Members.{in_head, in_tail}
+use Rattle.kin_motion.proofs.ChainLaws.{chain_within}
 
 -- all numbers of the list are live
 abbrev pub AllLive : List ℕ → List ℕ → Type 0
@@ -32,10 +24,10 @@ AllLive live xs = (i : ℕ) → is_in i xs ≡ true → IsIn i live
 
 module _ (live : List ℕ) where
   first_live : (i : ℕ) (xs : List ℕ) → AllLive live (i ∷ xs) → IsIn i live
-  first_live i xs known = known i (own_number i xs)
+  first_live i xs known = known i (in_head i xs)
 
   rest_live : (i : ℕ) (xs : List ℕ) → AllLive live (i ∷ xs) → AllLive live xs
-  rest_live i xs known j e = known j (by_right (nat_eq j i) (is_in j xs) e)
+  rest_live i xs known j e = known j (in_tail j i xs e)
 
   abbrev AreLive : Breakpoint → Type 0
   AreLive e = IsIn e.left live × IsIn e.right live
@@ -152,14 +144,15 @@ module _ (live : List ℕ) where
 
 -- ---- a node of the tree
 under_live : (size : ℕ) (s : Scene) (v : ℕ) → AllLive s.live (points_under size s v)
-under_live size s v i e = left_of_both (is_in i s.live) (is_under size v i) (sym (kept-members (is_under size v) s.live i) ∙ e)
+under_live size s v i e = (and_parts (is_in i s.live) (is_under size v i) (sym (kept-members (is_under size v) s.live i) ∙ e)).0
 
 chain_live : (live : List ℕ) (s : Scene) (set xs : List ℕ) → IsUpperChain s set xs → AllLive live set → AllLive live xs
-chain_live live s set xs chain known i e = known i (left_of_both (is_in i set) (is_bare s set i) (sym (chain.members i) ∙ e))
+chain_live live s set xs chain known i e = known i (chain_within s set xs chain i e)
+
+-- a form of the merge of two sets of live numbers may be asked for
+pub merge_form_askable : (live : List ℕ) (s : Scene) (left right : List ℕ) (f : Form) → AllLive live left → AllLive live right → IsMergeForm s left right f → IsAskable live f
+merge_form_askable live s left right f x y m =
+    merge_askable live s m.a m.b m.breakpoints (chain_live live s left m.a m.a_chain x) (chain_live live s right m.b m.b_chain y) m.sorted f ((forms_agree s m.a m.b m.breakpoints f).1 m.listed)
 
 pub node_form_askable : (size : ℕ) (s : Scene) (v : ℕ) (f : Form) → IsNodeForm size s v f → IsAskable s.live f
-node_form_askable size s v f m =
-    merge_askable s.live s m.a m.b m.breakpoints
-    (chain_live s.live s _ m.a m.a_chain (under_live size s (2 * v)))
-    (chain_live s.live s _ m.b m.b_chain (under_live size s (2 * v + 1)))
-    m.sorted f ((forms_agree s m.a m.b m.breakpoints f).1 m.listed)
+node_form_askable size s v f m = merge_form_askable s.live s (points_under size s (2 * v)) (points_under size s (2 * v + 1)) f (under_live size s (2 * v)) (under_live size s (2 * v + 1)) m

@@ -1,20 +1,19 @@
 -- The computed best item, and the computed extreme point.
-use Rattle.std.proofs.Common.{◌≡◌, ◌≢◌, ◌⊎◌, inl, inr, refl, sym, ap, ◌∙◌, subst, arith, List, [], ◌∷◌, ℕ, zero, ◌<◌, Bool, true, false, cond, not, ◌||◌, nat_eq, nat_lt, ℤ, pos}
+use Rattle.std.proofs.Common.{◌≡◌, ◌≢◌, ◌⊎◌, inl, inr, refl, sym, ap, ◌∙◌, subst, arith, List, [], ◌∷◌, ℕ, zero, ◌<◌, Bool, true, false, cond, not, nat_eq, nat_lt, ℤ, pos}
 use Rattle.std.specs.Prelude.{Option, Some, None, Contains, MatchOption}
 use Rattle.std.proofs.lemmas.Bool.Decides.{nat_tests}
+use Rattle.std.proofs.lemmas.Option.{same_Some}
+use Rattle.kin_basics.proofs.Members.{contains_cases, contains_tail, contains_none}
 use Rattle.kin_algebra.specs.declared.sign.Sign.{Sign}
 use Rattle.kin_algebra.specs.declared.sign.Sign.TheVariants.{Minus, Zero, Plus}
 use Rattle.kin_algebra.specs.Signs.{opposite_of, SumMayBe}
+use Rattle.kin_algebra.proofs.Signs.{zero_from_opposite}
 use Rattle.kin_motion.specs.declared.form.Form.TheVariants.{Line}
-use Rattle.kin_motion.specs.Numbers.{is_in}
 use Rattle.kin_motion.specs.Scene.{Scene}
 use Rattle.kin_motion.specs.Tournaments.{Key, beats, better_of, best_of}
 use Rattle.kin_motion.specs.Extremes.{IsExtreme, IsExtremePoint, left_is_farther, along_key, extreme_of}
 use Rattle.kin_motion.specs.Laws.{HasLineLaws}
-use Rattle.kin_motion.proofs.SetLaws.{contains_cases, contains_tail}
-
-same_item : {A : Type 0} {a b : A} → Some a ≡ Some b → a ≡ b
-same_item {A} {a} {b} e = cc
+use Rattle.kin_motion.proofs.Members.{in_from_contains, contains_from_in}
 
 module _ {Item : Type 0} (s : Scene) (key : Key Item)
     (otherwise : (a b : Item) → beats s key a b ≡ false → (a ≡ b) ⊎ (beats s key b a ≡ true))
@@ -61,36 +60,13 @@ module _ {Item : Type 0} (s : Scene) (key : Key Item)
         where
           only : (x ≡ z) ⊎ Contains xs z → x ≡ z
           only (inl g) = g
-          only (inr h) = absurd (nothing (subst (λ ys. Contains ys z) none h))
-            where
-              nothing : Contains {X = Item} [] z → ⊥
-              nothing (k, l, g) = absurd (omega arith)
+          only (inr h) = absurd (contains_none z (subst (λ ys. Contains ys z) none h))
 
       at : (o : Option Item) → best_of s key xs ≡ o → ((b : Item) → best_of s key xs ≡ Some b → IsTop xs b) → better_of s key x o ≡ Some a → IsTop (x ∷ xs) a
-      at None f rest g = subst (IsTop (x ∷ xs)) (same_item g) ((zero, omega arith, refl), λ z h. inl (alone (none_there xs f) z h))
-      at (Some b) f rest g = subst (IsTop (x ∷ xs)) (same_item g) (top b (rest b f) (beats s key x b) refl)
+      at None f rest g = subst (IsTop (x ∷ xs)) (same_Some _ _ g) ((zero, omega arith, refl), λ z h. inl (alone (none_there xs f) z h))
+      at (Some b) f rest g = subst (IsTop (x ∷ xs)) (same_Some _ _ g) (top b (rest b f) (beats s key x b) refl)
 
 -- ---- the extreme point
-in_from_contains : (xs : List ℕ) (i : ℕ) → Contains xs i → is_in i xs ≡ true
-in_from_contains [] i (k, l, e) = absurd (omega arith)
-in_from_contains (x ∷ xs) i h = at (contains_cases x i xs h) (in_from_contains xs i)
-  where
-    at : (x ≡ i) ⊎ Contains xs i → (Contains xs i → is_in i xs ≡ true) → nat_eq i x || is_in i xs ≡ true
-    at (inl e) rest = let same : nat_eq i x ≡ true = grind (arith, nat_tests, e) in ap (λ t. t || is_in i xs) same
-    at (inr h) rest = right (nat_eq i x) (is_in i xs) (rest h)
-      where
-        right : (a b : Bool) → b ≡ true → a || b ≡ true
-        right true b e = refl
-        right false b e = e
-
-contains_from_in : (xs : List ℕ) (i : ℕ) → is_in i xs ≡ true → Contains xs i
-contains_from_in [] i e = absurd cc
-contains_from_in (x ∷ xs) i e = at (nat_eq i x) refl (contains_from_in xs i) e
-  where
-    at : (t : Bool) → nat_eq i x ≡ t → (is_in i xs ≡ true → Contains xs i) → t || is_in i xs ≡ true → Contains (x ∷ xs) i
-    at true f rest e = let same : x ≡ i = grind (arith, nat_tests, f) in (zero, omega arith, same)
-    at false f rest e = contains_tail x i xs (rest e)
-
 pub farther_otherwise : (t : Sign) (i j : ℕ) → left_is_farther t i j ≡ false → (i ≡ j) ⊎ (left_is_farther (opposite_of t) j i ≡ true)
 farther_otherwise Minus i j e = absurd cc
 farther_otherwise Plus i j e = inr refl
@@ -121,12 +97,7 @@ not_beyond Plus i j e = absurd cc
 
 module _ (s : Scene) (laws : HasLineLaws s) (dx dy : ℤ) where
   itself : (i : ℕ) → s.sign (Line dx dy (pos 0) i i) ≡ Zero
-  itself i = own (s.sign (Line dx dy (pos 0) i i)) (laws.opposite dx dy i i)
-    where
-      own : (t : Sign) → t ≡ opposite_of t → t ≡ Zero
-      own Minus e = absurd cc
-      own Zero e = refl
-      own Plus e = absurd cc
+  itself i = zero_from_opposite (s.sign (Line dx dy (pos 0) i i)) (laws.opposite dx dy i i)
 
   extreme_from_top : (i : ℕ) → Contains s.live i → ((j : ℕ) → Contains s.live j → (i ≡ j) ⊎ (beats s (along_key dx dy) i j ≡ true)) → IsExtreme s dx dy s.live i
   extreme_from_top i there top = record {

@@ -1,6 +1,8 @@
 -- Two upper chains have one list of breakpoints, and it is the computed one.
 use Rattle.std.proofs.Common.{◌≡◌, ◌⊎◌, inl, inr, refl, sym, ap, ap₂, ◌∙◌, subst, List, [], ◌∷◌, ℕ, Bool, true, false, cond, ◌&&◌}
-use Rattle.std.specs.Prelude.{filter, Contains}
+use Rattle.std.specs.Prelude.{Contains}
+use Rattle.std.proofs.lemmas.Bool.{and_parts, and_from}
+use Rattle.kin_basics.proofs.Members.{contains_none, contains_head, contains_tail, contains_cases}
 use Rattle.kin_algebra.specs.declared.sign.Sign.{Sign}
 use Rattle.kin_algebra.specs.declared.sign.Sign.TheVariants.{Minus, Zero, Plus}
 use Rattle.kin_algebra.specs.Signs.{opposite_of, SumMayBe}
@@ -8,12 +10,12 @@ use Rattle.kin_motion.specs.Numbers.{IsChain}
 use Rattle.kin_motion.specs.Sets.{AreDistinct}
 use Rattle.kin_motion.specs.Scene.{Scene, x_sign}
 use Rattle.kin_motion.specs.Chains.{is_plus, is_left, IsUpperChain}
-use Rattle.kin_motion.specs.Merges.{Half.{A, B}, Half, Breakpoint, is_of, breakpoints_of, slope_form, goes_first, is_placed_before, IsBreakpointList, put_before, merged, breakpoint_list}
+use Rattle.kin_motion.specs.Merges.{Half.{A, B}, Half, Breakpoint, is_of, breakpoints_of, slope_form, goes_first, is_placed_before, IsBreakpointList, put_before, merged, breakpoint_list, own_of}
 use Rattle.kin_motion.specs.Laws.{HasSlopeLaws, HasTurnLaws}
-use Rattle.kin_motion.proofs.SetLaws.{contains_none, contains_head, contains_tail, contains_cases, distinct_cons, distinct_none, filter-sound, filter-complete}
-use Rattle.kin_motion.proofs.AgreementLaws.{halves}
+use Rattle.kin_motion.proofs.SetLaws.{distinct_cons, distinct_none, filter-sound, filter-complete}
 use Rattle.kin_motion.proofs.JournalLaws.{first_of_chain, same_list}
 use Rattle.kin_motion.proofs.MergeLaws.{Falls, upper_falls}
+use Rattle.kin_motion.proofs.ChainLaws.{plus_from}
 
 -- ---- signs
 placed_through : (t u r : Sign) (x y z : Half) → SumMayBe t u r → goes_first t x y ≡ true → goes_first u y z ≡ true → goes_first r x z ≡ true
@@ -38,18 +40,7 @@ other_way Plus e = absurd cc
 other_way Zero e = absurd cc
 other_way Minus e = refl
 
-plus_from : (t : Sign) → is_plus t ≡ true → t ≡ Plus
-plus_from Plus e = refl
-plus_from Zero e = absurd cc
-plus_from Minus e = absurd cc
-
-both_true : (a b : Bool) → a ≡ true → b ≡ true → a && b ≡ true
-both_true a b e f = ap₂ (λ c d. c && d) e f
-
 -- ---- the breakpoints of one half
-own : Half → List Breakpoint → List Breakpoint
-own h es = filter (λ (e : Breakpoint). is_of h e.half) es
-
 own_half : (h : Half) (a : List ℕ) (e : Breakpoint) → Contains (breakpoints_of h a) e → e.half ≡ h
 own_half h [] e c = absurd (contains_none e c)
 own_half h (i ∷ []) e c = absurd (contains_none e c)
@@ -63,30 +54,26 @@ itself : (h : Half) → is_of h h ≡ true
 itself A = refl
 itself B = refl
 
-with_own : (h g : Half) (e : Breakpoint) (es : List Breakpoint) → e.half ≡ g → own h (e ∷ es) ≡ cond (is_of h g) (e ∷ own h es) (own h es)
-unfolding own
-with_own h g e es q = ap (λ t. cond (is_of h t) (e ∷ own h es) (own h es)) q
+-- with one more in front
+pub own_with : (h g : Half) (e : Breakpoint) (es : List Breakpoint) → e.half ≡ g → own_of h (e ∷ es) ≡ cond (is_of h g) (e ∷ own_of h es) (own_of h es)
+own_with h g e es q = ap (λ t. cond (is_of h t) (e ∷ own_of h es) (own_of h es)) q
 
-own_all : (h : Half) (es : List Breakpoint) → ((e : Breakpoint) → Contains es e → e.half ≡ h) → own h es ≡ es
-unfolding own
+own_all : (h : Half) (es : List Breakpoint) → ((e : Breakpoint) → Contains es e → e.half ≡ h) → own_of h es ≡ es
 own_all h [] all = refl
 own_all h (e ∷ es) all =
-    with_own h h e es (all e (contains_head e es)) ∙ ap (λ t. cond t (e ∷ own h es) (own h es)) (itself h)
+    own_with h h e es (all e (contains_head e es)) ∙ ap (λ t. cond t (e ∷ own_of h es) (own_of h es)) (itself h)
     ∙ ap (λ (fs : List Breakpoint). e ∷ fs) (own_all h es (λ f c. all f (contains_tail e f es c)))
 
-own_none : (h g : Half) (es : List Breakpoint) → is_of h g ≡ false → ((e : Breakpoint) → Contains es e → e.half ≡ g) → own h es ≡ []
-unfolding own
+own_none : (h g : Half) (es : List Breakpoint) → is_of h g ≡ false → ((e : Breakpoint) → Contains es e → e.half ≡ g) → own_of h es ≡ []
 own_none h g [] n all = refl
 own_none h g (e ∷ es) n all =
-    with_own h g e es (all e (contains_head e es)) ∙ ap (λ t. cond t (e ∷ own h es) (own h es)) n
+    own_with h g e es (all e (contains_head e es)) ∙ ap (λ t. cond t (e ∷ own_of h es) (own_of h es)) n
     ∙ own_none h g es n (λ f c. all f (contains_tail e f es c))
 
-own_has : (h : Half) (es : List Breakpoint) (e : Breakpoint) → Contains es e → e.half ≡ h → Contains (own h es) e
-unfolding own
+own_has : (h : Half) (es : List Breakpoint) (e : Breakpoint) → Contains es e → e.half ≡ h → Contains (own_of h es) e
 own_has h es e c q = filter-complete (λ (f : Breakpoint). is_of h f.half) es e c (ap (is_of h) q ∙ itself h)
 
-own_in : (h : Half) (es : List Breakpoint) (e : Breakpoint) → Contains (own h es) e → Contains es e
-unfolding own
+own_in : (h : Half) (es : List Breakpoint) (e : Breakpoint) → Contains (own_of h es) e → Contains es e
 own_in h es e c = (filter-sound (λ (f : Breakpoint). is_of h f.half) es e c).0
 
 weaker_chain : {X : Type 0} (p q : X → X → Bool) → ((x y : X) → p x y ≡ true → q x y ≡ true) → (xs : List X) → IsChain p xs → IsChain q xs
@@ -104,16 +91,16 @@ module _ (s : Scene) (slopes : HasSlopeLaws s) where
 
   pub right_signs : (e f : Breakpoint) → comes e f ≡ true → (x_sign s e.left e.right ≡ Plus) × (x_sign s f.left f.right ≡ Plus) × (is_placed_before s e f ≡ true)
   right_signs e f c =
-      let h = halves (goes_right e && goes_right f) (is_placed_before s e f) c in
-      let g = halves (goes_right e) (goes_right f) h.0 in
-      (plus_from (x_sign s e.left e.right) g.0, plus_from (x_sign s f.left f.right) g.1, h.1)
+      let h = and_parts (goes_right e && goes_right f) (is_placed_before s e f) c in
+      let g = and_parts (goes_right e) (goes_right f) h.0 in
+      (plus_from g.0, plus_from g.1, h.1)
 
   pub comes_through : (e f g : Breakpoint) → comes e f ≡ true → comes f g ≡ true → comes e g ≡ true
   comes_through e f g c d =
       let p = right_signs e f c in
       let q = right_signs f g d in
-      both_true (goes_right e && goes_right g) (is_placed_before s e g)
-      (both_true (goes_right e) (goes_right g) (ap is_plus p.0) (ap is_plus q.1))
+      and_from (goes_right e && goes_right g) (is_placed_before s e g)
+      (and_from (goes_right e) (goes_right g) (ap is_plus p.0) (ap is_plus q.1))
       (placed_through (s.sign (slope_form e f)) (s.sign (slope_form f g)) (s.sign (slope_form e g)) e.half f.half g.half (slopes.through e.left e.right f.left f.right g.left g.right p.0 p.1 q.1) p.2 q.2)
 
   pub comes_never : (e : Breakpoint) → comes e e ≡ true → ⊥
@@ -125,7 +112,7 @@ module _ (s : Scene) (slopes : HasSlopeLaws s) where
   breakpoints_come h (i ∷ []) c f = tt
   breakpoints_come h (i ∷ j ∷ []) c f = tt
   breakpoints_come h (i ∷ j ∷ k ∷ ps) c f =
-      (both_true (is_left s i j && is_left s j k) _ (both_true (is_left s i j) (is_left s j k) c.0 c.1.0) (ap (λ t. goes_first t h h) f.0), breakpoints_come h (j ∷ k ∷ ps) c.1 f.1)
+      (and_from (is_left s i j && is_left s j k) _ (and_from (is_left s i j) (is_left s j k) c.0 c.1.0) (ap (λ t. goes_first t h h) f.0), breakpoints_come h (j ∷ k ∷ ps) c.1 f.1)
 
   pub all_right : (h : Half) (a : List ℕ) → IsChain (is_left s) a → (e : Breakpoint) → Contains (breakpoints_of h a) e → goes_right e ≡ true
   all_right h [] c e k = absurd (contains_none e k)
@@ -174,31 +161,29 @@ module _ (s : Scene) (slopes : HasSlopeLaws s) where
         at false q true r rest = ((is_b f (first f (contains_head f (g ∷ l))) q).1, rest)
         at false q false r rest = (c.0, rest)
 
-    put_own_a : (l : List Breakpoint) → IsFirst l → own A (put_before s e l) ≡ e ∷ own A l
-    unfolding own
-    put_own_a [] first = with_own A A e [] of_a
+    put_own_a : (l : List Breakpoint) → IsFirst l → own_of A (put_before s e l) ≡ e ∷ own_of A l
+    put_own_a [] first = own_with A A e [] of_a
     put_own_a (f ∷ l) first = at (is_placed_before s e f) refl (put_own_a l (later_first f l first))
       where
-        at : (b : Bool) → is_placed_before s e f ≡ b → own A (put_before s e l) ≡ e ∷ own A l → own A (cond b (e ∷ f ∷ l) (f ∷ put_before s e l)) ≡ e ∷ own A (f ∷ l)
-        at true q rest = with_own A A e (f ∷ l) of_a
+        at : (b : Bool) → is_placed_before s e f ≡ b → own_of A (put_before s e l) ≡ e ∷ own_of A l → own_of A (cond b (e ∷ f ∷ l) (f ∷ put_before s e l)) ≡ e ∷ own_of A (f ∷ l)
+        at true q rest = own_with A A e (f ∷ l) of_a
         at false q rest =
             let h = (is_b f (first f (contains_head f l)) q).0 in
-            with_own A B f (put_before s e l) h ∙ rest ∙ ap (λ (fs : List Breakpoint). e ∷ fs) (sym (with_own A B f l h))
+            own_with A B f (put_before s e l) h ∙ rest ∙ ap (λ (fs : List Breakpoint). e ∷ fs) (sym (own_with A B f l h))
 
-    put_own_b : (l : List Breakpoint) → IsFirst l → own B (put_before s e l) ≡ own B l
-    unfolding own
-    put_own_b [] first = with_own B A e [] of_a
+    put_own_b : (l : List Breakpoint) → IsFirst l → own_of B (put_before s e l) ≡ own_of B l
+    put_own_b [] first = own_with B A e [] of_a
     put_own_b (f ∷ l) first = at (is_placed_before s e f) refl (put_own_b l (later_first f l first))
       where
-        at : (b : Bool) → is_placed_before s e f ≡ b → own B (put_before s e l) ≡ own B l → own B (cond b (e ∷ f ∷ l) (f ∷ put_before s e l)) ≡ own B (f ∷ l)
-        at true q rest = with_own B A e (f ∷ l) of_a
+        at : (b : Bool) → is_placed_before s e f ≡ b → own_of B (put_before s e l) ≡ own_of B l → own_of B (cond b (e ∷ f ∷ l) (f ∷ put_before s e l)) ≡ own_of B (f ∷ l)
+        at true q rest = own_with B A e (f ∷ l) of_a
         at false q rest =
             let h = (is_b f (first f (contains_head f l)) q).0 in
-            with_own B B f (put_before s e l) h ∙ ap (λ (fs : List Breakpoint). f ∷ fs) rest ∙ sym (with_own B B f l h)
+            own_with B B f (put_before s e l) h ∙ ap (λ (fs : List Breakpoint). f ∷ fs) rest ∙ sym (own_with B B f l h)
 
   -- ---- the computed list
   merged_right : (es fs : List Breakpoint) → ((e : Breakpoint) → Contains es e → e.half ≡ A) → ((f : Breakpoint) → Contains fs f → f.half ≡ B) → IsChain comes es → IsChain (is_placed_before s) fs
-      → IsChain (is_placed_before s) (merged s es fs) × (own A (merged s es fs) ≡ es) × (own B (merged s es fs) ≡ fs)
+      → IsChain (is_placed_before s) (merged s es fs) × (own_of A (merged s es fs) ≡ es) × (own_of B (merged s es fs) ≡ fs)
   merged_right [] fs all_a all_b c d = (d, own_none A B fs refl all_b, own_all B fs all_b)
   merged_right (e ∷ es) fs all_a all_b c d =
       let rest = merged_right es fs (λ f k. all_a f (contains_tail e f es k)) all_b (tail_of_chain es c) d in
@@ -210,12 +195,11 @@ module _ (s : Scene) (slopes : HasSlopeLaws s) where
       tail_of_chain [] c = tt
       tail_of_chain (f ∷ fs) c = c.1
 
-      in_rest : own A (merged s es fs) ≡ es → (f : Breakpoint) → Contains (merged s es fs) f → f.half ≡ A → Contains es f
+      in_rest : own_of A (merged s es fs) ≡ es → (f : Breakpoint) → Contains (merged s es fs) f → f.half ≡ A → Contains es f
       in_rest q f k h = subst (λ (gs : List Breakpoint). Contains gs f) q (own_has A (merged s es fs) f k h)
 
   -- the computed list is the list of breakpoints
   pub breakpoints_agree : HasTurnLaws s → (left right a b : List ℕ) → IsUpperChain s left a → IsUpperChain s right b → IsBreakpointList s a b (breakpoint_list s a b)
-  unfolding own
   breakpoints_agree turns left right a b ua ub =
       let m = merged_right (breakpoints_of A a) (breakpoints_of B b) (own_half A a) (own_half B b)
       (breakpoints_come A a ua.rising (upper_falls s turns left a ua))
@@ -224,7 +208,6 @@ module _ (s : Scene) (slopes : HasSlopeLaws s) where
 
   -- ---- uniqueness
   pub members_of : (a b : List ℕ) (es : List Breakpoint) → IsBreakpointList s a b es → (e : Breakpoint) → Contains es e → Contains (breakpoints_of A a) e ⊎ Contains (breakpoints_of B b) e
-  unfolding own
   members_of a b es l e c = at e.half refl
     where
       at : (h : Half) → e.half ≡ h → Contains (breakpoints_of A a) e ⊎ Contains (breakpoints_of B b) e
@@ -232,7 +215,6 @@ module _ (s : Scene) (slopes : HasSlopeLaws s) where
       at B q = inr (subst (λ (gs : List Breakpoint). Contains gs e) l.of_b (own_has B es e c q))
 
   member_from : (a b : List ℕ) (es : List Breakpoint) → IsBreakpointList s a b es → (e : Breakpoint) → Contains (breakpoints_of A a) e ⊎ Contains (breakpoints_of B b) e → Contains es e
-  unfolding own
   member_from a b es l e (inl c) = own_in A es e (subst (λ (gs : List Breakpoint). Contains gs e) (sym l.of_a) c)
   member_from a b es l e (inr c) = own_in B es e (subst (λ (gs : List Breakpoint). Contains gs e) (sym l.of_b) c)
 
@@ -240,7 +222,7 @@ module _ (s : Scene) (slopes : HasSlopeLaws s) where
   list_comes [] all c = tt
   list_comes (e ∷ []) all c = tt
   list_comes (e ∷ f ∷ es) all c = (
-    both_true (goes_right e && goes_right f) (is_placed_before s e f) (both_true (goes_right e) (goes_right f) (all e (contains_head e (f ∷ es))) (all f (contains_tail e f (f ∷ es) (contains_head f es)))) c.0,
+    and_from (goes_right e && goes_right f) (is_placed_before s e f) (and_from (goes_right e) (goes_right f) (all e (contains_head e (f ∷ es))) (all f (contains_tail e f (f ∷ es) (contains_head f es)))) c.0,
     list_comes (f ∷ es) (λ g k. all g (contains_tail e g (f ∷ es) k)) c.1,
   )
 

@@ -1,8 +1,8 @@
 -- The computed candidate is the candidate, and there is one at most.
-use Rattle.std.proofs.Common.{◌≡◌, ◌≢◌, ◌⊎◌, inl, inr, refl, sym, ap, ◌∙◌, subst, arith, List, [], ◌∷◌, ℕ, Bool, true, false, cond, not, ◌||◌, nat_eq}
+use Rattle.std.proofs.Common.{◌≡◌, ◌≢◌, ◌⊎◌, inl, inr, refl, sym, ap, ◌∙◌, subst, List, [], ◌∷◌, ℕ, Bool, true, false, cond, not}
 use Rattle.std.specs.Prelude.{Option, Some, None}
-use Rattle.std.proofs.lemmas.Bool.Decides.{nat_tests}
-use Rattle.kin_motion.specs.Numbers.{is_in, IsIn}
+use Rattle.std.proofs.lemmas.Bool.{cases_eq}
+use Rattle.kin_motion.specs.Numbers.{IsIn}
 use Rattle.kin_motion.specs.Scene.{Scene}
 use Rattle.kin_motion.specs.Octants.{direction_of, is_before_in, Reading, comes_after, octant_members, IsCandidateAnswer, earlier_of, first_in, candidate_of}
 use Rattle.kin_motion.specs.Laws.{HasLineLaws}
@@ -11,16 +11,10 @@ use Rattle.kin_motion.specs.Theorems.{OneCandidate}
 use Rattle.kin_motion.proofs.RealLaws.{real_line_laws}
 use Rattle.kin_motion.proofs.OrderLaws.{never_before_itself, before_through}
 use Rattle.kin_motion.proofs.OctantLaws.{before_turned}
+use Rattle.kin_motion.proofs.Members.{in_cases, in_head, in_tail}
 
 same_number : {i j : ℕ} → Some i ≡ Some j → i ≡ j
 same_number {i} {j} e = cc
-
-decided : (i j : ℕ) → (i ≡ j) ⊎ (i ≢ j)
-decided i j = at (nat_eq i j) refl
-  where
-    at : (t : Bool) → nat_eq i j ≡ t → (i ≡ j) ⊎ (i ≢ j)
-    at true e = inl (grind (arith, nat_tests, e))
-    at false e = inr (grind (arith, nat_tests, e))
 
 module _ (s : Scene) (laws : HasLineLaws s) (r : Reading) where
   -- of two different numbers one comes after the other
@@ -57,36 +51,19 @@ module _ (s : Scene) (laws : HasLineLaws s) (r : Reading) where
       at None e = absurd cc
       at (Some d) e = absurd cc
 
-  head_or_rest : (i x : ℕ) (xs : List ℕ) → IsIn i (x ∷ xs) → (i ≡ x) ⊎ IsIn i xs
-  head_or_rest i x xs h = at (nat_eq i x) refl h
-    where
-      at : (t : Bool) → nat_eq i x ≡ t → t || is_in i xs ≡ true → (i ≡ x) ⊎ IsIn i xs
-      at true e h = inl (grind (arith, nat_tests, e))
-      at false e h = inr h
-
-  in_front : (x : ℕ) (xs : List ℕ) → IsIn x (x ∷ xs)
-  in_front x xs = let same : nat_eq x x ≡ true = grind (arith, nat_tests) in ap (λ t. t || is_in x xs) same
-
-  in_rest : (i x : ℕ) (xs : List ℕ) → IsIn i xs → IsIn i (x ∷ xs)
-  in_rest i x xs h = at (nat_eq i x)
-    where
-      at : (t : Bool) → t || is_in i xs ≡ true
-      at true = refl
-      at false = h
-
   first_agrees : (xs : List ℕ) (c : ℕ) → first_in s r xs ≡ Some c → IsFirst xs c
   first_agrees [] c e = absurd cc
   first_agrees (x ∷ xs) c e = at (first_in s r xs) refl (first_agrees xs) e
     where
       alone : xs ≡ [] → IsFirst (x ∷ xs) x
-      alone none = (in_front x xs, λ q h. only q (head_or_rest q x xs h))
+      alone none = (in_head x xs, λ q h. only q (in_cases q x xs h))
         where
           only : (q : ℕ) → (q ≡ x) ⊎ IsIn q xs → (q ≡ x) ⊎ (comes_after s r x q ≡ true)
           only q (inl f) = inl f
           only q (inr h) = absurd (let clash : false ≡ true = subst (λ ys. IsIn q ys) none h in cc)
 
       earlier : (d : ℕ) → IsFirst xs d → (t : Bool) → comes_after s r x d ≡ t → IsFirst (x ∷ xs) (cond t x d)
-      earlier d f true e = (in_front x xs, λ q h. with_x q (head_or_rest q x xs h))
+      earlier d f true e = (in_head x xs, λ q h. with_x q (in_cases q x xs h))
         where
           with_x : (q : ℕ) → (q ≡ x) ⊎ IsIn q xs → (q ≡ x) ⊎ (comes_after s r x q ≡ true)
           with_x q (inl g) = inl g
@@ -95,10 +72,10 @@ module _ (s : Scene) (laws : HasLineLaws s) (r : Reading) where
               by_d : (q : ℕ) → (q ≡ d) ⊎ (comes_after s r d q ≡ true) → (q ≡ x) ⊎ (comes_after s r x q ≡ true)
               by_d q (inl g) = inr (ap (comes_after s r x) g ∙ e)
               by_d q (inr g) = inr (after_through x d q e g)
-      earlier d f false e = (in_rest d x xs f.0, λ q h. with_d q (head_or_rest q x xs h))
+      earlier d f false e = (in_tail d x xs f.0, λ q h. with_d q (in_cases q x xs h))
         where
           with_d : (q : ℕ) → (q ≡ x) ⊎ IsIn q xs → (q ≡ d) ⊎ (comes_after s r d q ≡ true)
-          with_d q (inl g) = turned (decided x d)
+          with_d q (inl g) = turned (cases_eq x d)
             where
               turned : (x ≡ d) ⊎ (x ≢ d) → (q ≡ d) ⊎ (comes_after s r d q ≡ true)
               turned (inl k) = inl (g ∙ k)

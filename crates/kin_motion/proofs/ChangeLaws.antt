@@ -3,13 +3,14 @@ use Rattle.std.proofs.Common.{◌≡◌, ◌≢◌, ◌⊎◌, inl, inr, refl, s
 use Rattle.std.specs.Prelude.{Contains}
 use Rattle.std.proofs.lemmas.List.{append-nil, append_assoc}
 use Rattle.std.proofs.lemmas.List.Elements.{Contains-append_left, Contains-append_right, Contains-append_cases}
+use Rattle.kin_basics.proofs.Members.{contains_none, contains_head, contains_cases}
 use Rattle.kin_motion.specs.declared.fact.Placed.{Placed}
 use Rattle.kin_motion.specs.Deltas.{Change}
 use Rattle.kin_motion.specs.Kinetics.{HasGained, HasChanged}
-use Rattle.kin_motion.proofs.SetLaws.{contains_none, contains_head, contains_cases, exactly_none, exactly_one, exactly_both, exactly_in_words}
+use Rattle.kin_motion.proofs.SetLaws.{exactly_none, exactly_one, exactly_both, exactly_in_words}
 
 -- the facts that were there and are not
-abbrev IsLost : List Placed → List Placed → Placed → Type 0
+abbrev pub IsLost : List Placed → List Placed → Placed → Type 0
 IsLost old new p = Contains old p × ¬ (Contains new p)
 
 nothing_gained : (xs fs : List Placed) → HasGained xs xs (IsLost fs fs)

@@ -1,10 +1,12 @@
 -- Rectangles the wrong way round, and what a hull leaves out.
-use Rattle.std.proofs.Common.{◌≡◌, ◌⊎◌, inl, inr, refl, sym, ap, ap₂, ◌∙◌, arith, List, [], ◌∷◌, ℕ, Bool, true, false, cond, not, ◌&&◌, ◌||◌, nat_eq, nat_lt}
+use Rattle.std.proofs.Common.{◌≡◌, ◌⊎◌, inl, inr, refl, sym, ap, ap₂, ◌∙◌, arith, List, [], ◌∷◌, ℕ, Bool, true, false, cond, not, ◌&&◌, nat_lt}
 use Rattle.std.specs.Prelude.{ℤ, pos, negsuc, ◌+ℤ◌, ◌-ℤ◌, ◌*ℤ◌, ◌<ℤ◌, filter}
 use Rattle.std.specs.List.{list_any}
 use Rattle.std.proofs.lemmas.Bool.Decides.{nat_tests}
 use Rattle.std.proofs.lemmas.Int.{ints}
+use Rattle.std.proofs.lemmas.Bool.{and_parts, not-true}
 use lib.IntN.{neg_ℤ}
+use Rattle.kin_basics.proofs.Tests.{three_parts}
 use Rattle.kin_algebra.proofs.Ring.{by_ring, quotes}
 use Rattle.kin_algebra.proofs.IntegerSigns.{sign_in}
 use Rattle.kin_algebra.specs.declared.sign.Sign.{Sign}
@@ -25,6 +27,7 @@ use Rattle.kin_motion.specs.Boxes.{is_not_minus, is_at_least, is_inside}
 use Rattle.kin_motion.specs.Chains.{is_plus, is_zero, is_left, is_double, is_above, is_under_segment, is_bare, IsUpperChain}
 use Rattle.kin_motion.specs.Claims.{WrongRectIsEmpty, ChainIsStrict, ChainHasLeast}
 use Rattle.kin_motion.proofs.TurningLaws.{constant_sign}
+use Rattle.kin_motion.proofs.AgreementLaws.{none_passes}
 
 -- ---- rectangles
 below_nothing : (p : Quadratic) (m : Moment) (c : ℤ) → IsCanonical m.at → p ≡ linear (pos 0) c → sign_of c ≡ Minus → sign_at p m ≡ Minus
@@ -100,30 +103,8 @@ wrong_rect_is_empty ms m r canonical wrong = none_left (is_inside ms m r) (fille
         (both (along (pos 0) (pos 1) (neg_ℤ r.y1) (x_of ms i) (y_of ms i)) (along (pos 0) (negsuc 0) r.y2 (x_of ms i) (y_of ms i)) (r.y2 -ℤ r.y1) (λ t. record { a = pos 0; b = b t; c = c t }) (less_is_minus r.y2 r.y1 h))
 
 -- ---- chains
-both_true : (a b : Bool) → a && b ≡ true → (a ≡ true) × (b ≡ true)
-both_true true b e = (refl, e)
-both_true false b e = absurd cc
-
-all_true : (a b c : Bool) → a && b && c ≡ true → (a ≡ true) × (b ≡ true) × (c ≡ true)
-all_true true true c e = (refl, refl, e)
-all_true true false c e = absurd cc
-all_true false b c e = absurd cc
-
-denied : (a : Bool) → not a ≡ true → a ≡ false
-denied true e = absurd cc
-denied false e = refl
-
-none_passes : (test : ℕ → Bool) (set : List ℕ) (q : ℕ) → list_any test set ≡ false → IsIn q set → test q ≡ false
-none_passes test [] q none there = absurd cc
-none_passes test (x ∷ set) q none there = at (test x) refl (nat_eq q x) refl none there (none_passes test set q)
-  where
-    at : (a : Bool) → test x ≡ a → (t : Bool) → nat_eq q x ≡ t → a || list_any test set ≡ false → t || is_in q set ≡ true → (list_any test set ≡ false → IsIn q set → test q ≡ false) → test q ≡ false
-    at true e t f none there rest = absurd cc
-    at false e true f none there rest = let same : q ≡ x = grind (arith, nat_tests, f) in ap test same ∙ e
-    at false e false f none there rest = rest none there
-
 bare_of : (s : Scene) (set xs : List ℕ) (p : ℕ) → IsUpperChain s set xs → IsIn p xs → is_bare s set p ≡ true
-bare_of s set xs p u h = (both_true (is_in p set) (is_bare s set p) (sym (u.members p) ∙ h)).1
+bare_of s set xs p u h = (and_parts (is_in p set) (is_bare s set p) (sym (u.members p) ∙ h)).1
 
 plus_again : (t : Sign) → not (is_plus t) ≡ false → t ≡ Plus
 plus_again Plus e = refl
@@ -135,16 +116,16 @@ left_by s p q e = ap is_plus e
 
 pub chain_is_strict : ChainIsStrict
 chain_is_strict s set xs p q r u there qs rs left right =
-    let bare = all_true (not (list_any (is_double s p) set)) (not (list_any (is_above s p) set)) (not (list_any (λ q. list_any (is_under_segment s p q) set) set)) (bare_of s set xs p u there) in
-    let none = denied (list_any (λ q. list_any (is_under_segment s p q) set) set) bare.2 in
+    let bare = three_parts (not (list_any (is_double s p) set)) (not (list_any (is_above s p) set)) (not (list_any (λ q. list_any (is_under_segment s p q) set) set)) (bare_of s set xs p u there) in
+    let none = not-true (list_any (λ q. list_any (is_under_segment s p q) set) set) bare.2 in
     let inner = none_passes (λ q. list_any (is_under_segment s p q) set) set q none qs in
     let last = none_passes (is_under_segment s p q) set r inner rs in
     plus_again (s.sign (Turn q r p)) (sym (ap₂ (λ a b. a && b && not (is_plus (s.sign (Turn q r p)))) (left_by s q p left) (left_by s p r right)) ∙ last)
 
 pub chain_has_least : ChainHasLeast
 chain_has_least s set xs p q u there qs same_x same_y less =
-    let bare = all_true (not (list_any (is_double s p) set)) (not (list_any (is_above s p) set)) (not (list_any (λ q. list_any (is_under_segment s p q) set) set)) (bare_of s set xs p u there) in
-    let none = none_passes (is_double s p) set q (denied (list_any (is_double s p) set) bare.0) qs in
+    let bare = three_parts (not (list_any (is_double s p) set)) (not (list_any (is_above s p) set)) (not (list_any (λ q. list_any (is_under_segment s p q) set) set)) (bare_of s set xs p u there) in
+    let none = none_passes (is_double s p) set q (not-true (list_any (is_double s p) set) bare.0) qs in
     let lesser : nat_lt q p ≡ true = grind (arith, nat_tests, less) in
     let clash : true ≡ false = sym (double same_x same_y lesser) ∙ none in cc
   where

@@ -68,7 +68,7 @@ module _ (s : Scene) (real : IsReal s) where
       from : (p : Placed) → IsWedgeFact s p → IsFactOf 0 eight_directions p
       from p w = (p.part, w.way, w.known, omega arith, w.fact)
 
-  wedge_part : (p : Placed) → IsWedgeFact s p → p.part < 8
+  pub wedge_part : (p : Placed) → IsWedgeFact s p → p.part < 8
   wedge_part p w = slice_get_within eight_directions p.part w.way w.known
 
 -- ---- the tournament of pairs
@@ -124,7 +124,7 @@ module _ (size : ℕ) (s : Scene) (real : IsReal s) where
           let e : w.slots ≡ near_slots size s = one_near s real size w.slots (near_slots size s) w.filled (near_agrees s real size) in
           (w.node, subst (λ slots. IsNodeFact s distance_key (size + 3) slots w.node) e w.fact, w.placed)
 
-  pair_part : (p : Placed) → IsPairFact size s p → 8 ≤ p.part
+  pub pair_part : (p : Placed) → IsPairFact size s p → 8 ≤ p.part
   pair_part p w = let e : p.part ≡ 8 + w.node.part = ap (λ (x : Placed). x.part) w.placed in omega (arith, e)
 
 pub closest_facts_agree : ClosestFactsAgree

@@ -1,8 +1,9 @@
 -- The computed closest pair is the closest pair.
-use Rattle.std.proofs.Common.{◌≡◌, ◌≢◌, ◌⊎◌, inl, inr, refl, ap, sym, ◌∙◌, subst, arith, List, [], ◌∷◌, ◌++◌, ℕ, zero, ◌+◌, ◌<◌, Bool, true, false, ◌||◌, nat_eq, nat_lt}
+use Rattle.std.proofs.Common.{◌≡◌, ◌≢◌, ◌⊎◌, inl, inr, refl, ap, sym, ◌∙◌, subst, arith, List, [], ◌∷◌, ◌++◌, ℕ, zero, ◌+◌, ◌<◌, Bool, true, false, nat_lt}
 use Rattle.std.specs.Prelude.{Option, Some, None, Contains}
 use Rattle.std.proofs.lemmas.Bool.Decides.{nat_tests}
 use Rattle.std.proofs.lemmas.List.Elements.{Contains-append_left, Contains-append_right, Contains-append_cases}
+use Rattle.kin_basics.proofs.Members.{contains_cases, contains_tail}
 use Rattle.kin_algebra.specs.declared.sign.Sign.{Sign}
 use Rattle.kin_algebra.specs.declared.sign.Sign.TheVariants.{Minus, Zero, Plus}
 use Rattle.kin_algebra.specs.Signs.{opposite_of}
@@ -14,11 +15,11 @@ use Rattle.kin_motion.specs.ClosestPairs.{Near, is_less_pair, left_is_nearer, di
 use Rattle.kin_motion.specs.Laws.{HasDistanceLaws}
 use Rattle.kin_motion.specs.Agreements.{ClosestAgrees}
 use Rattle.kin_motion.proofs.LiveLaws.{not_below}
-use Rattle.kin_motion.proofs.SetLaws.{contains_cases, contains_tail}
 use Rattle.kin_motion.proofs.BestLaws.{none_there, best_is_top, IsTop}
 use Rattle.kin_motion.proofs.DistanceLaws.{LessPair, less_from, less_to, not_both, three_ways, same_or_less, nearer_transitive, real_distance_laws}
+use Rattle.kin_motion.proofs.Members.{in_tail, in_front, in_cases}
 
--- each number is less than all behind it
+-- each number is less than all in_tail it
 abbrev Rises : List ℕ → Type 0
 Rises [] = Unit {0}
 Rises (x ∷ xs) = ((j : ℕ) → is_in j xs ≡ true → x < j) × Rises xs
@@ -35,16 +36,9 @@ filled-rises {A} n (None ∷ cs) = filled-rises (n + 1) cs
 abbrev pair : ℕ → ℕ → Near
 pair i j = record { i = i; j = j; slot = 0 }
 
-head_or_rest : (i x : ℕ) (xs : List ℕ) → is_in i (x ∷ xs) ≡ true → (i ≡ x) ⊎ (is_in i xs ≡ true)
-head_or_rest i x xs h = at (nat_eq i x) refl h
-  where
-    at : (t : Bool) → nat_eq i x ≡ t → t || is_in i xs ≡ true → (i ≡ x) ⊎ (is_in i xs ≡ true)
-    at true e h = inl (grind (arith, nat_tests, e))
-    at false e h = inr h
-
 with_members : (i j : ℕ) (js : List ℕ) → is_in j js ≡ true → Contains (pairs_with i js) (pair i j)
 with_members i j [] h = absurd cc
-with_members i j (k ∷ js) h = at (head_or_rest j k js h) (with_members i j js)
+with_members i j (k ∷ js) h = at (in_cases j k js h) (with_members i j js)
   where
     at : (j ≡ k) ⊎ (is_in j js ≡ true) → (is_in j js ≡ true → Contains (pairs_with i js) (pair i j)) → Contains (pairs_with i (k ∷ js)) (pair i j)
     at (inl e) rest = (zero, omega arith, ap (pair i) (sym e))
@@ -52,7 +46,7 @@ with_members i j (k ∷ js) h = at (head_or_rest j k js h) (with_members i j js)
 
 pairs_members : (xs : List ℕ) (i j : ℕ) → Rises xs → is_in i xs ≡ true → is_in j xs ≡ true → i < j → Contains (pairs_of xs) (pair i j)
 pairs_members [] i j r a b lt = absurd cc
-pairs_members (x ∷ xs) i j r a b lt = at (head_or_rest i x xs a) (head_or_rest j x xs b) (pairs_members xs i j r.1)
+pairs_members (x ∷ xs) i j r a b lt = at (in_cases i x xs a) (in_cases j x xs b) (pairs_members xs i j r.1)
   where
     at : (i ≡ x) ⊎ (is_in i xs ≡ true) → (j ≡ x) ⊎ (is_in j xs ≡ true) → (is_in i xs ≡ true → is_in j xs ≡ true → i < j → Contains (pairs_of xs) (pair i j)) → Contains (pairs_with x xs ++ pairs_of xs) (pair i j)
     at (inl e) (inl f) rest = absurd (omega (arith, lt, e, f))
@@ -67,16 +61,6 @@ record IsListed (xs : List ℕ) (p : Near) : Type 0 where
   rising : p.i < p.j
   first_slot : p.slot ≡ 0
 
-right_true : (a b : Bool) → b ≡ true → a || b ≡ true
-right_true true b e = refl
-right_true false b e = e
-
-behind : (i x : ℕ) (xs : List ℕ) → is_in i xs ≡ true → is_in i (x ∷ xs) ≡ true
-behind i x xs h = right_true (nat_eq i x) (is_in i xs) h
-
-in_front : (i x : ℕ) (xs : List ℕ) → x ≡ i → is_in i (x ∷ xs) ≡ true
-in_front i x xs e = let same : nat_eq i x ≡ true = grind (arith, nat_tests, e) in ap (λ t. t || is_in i xs) same
-
 with_listed : (i : ℕ) (js : List ℕ) (p : Near) → Contains (pairs_with i js) p → (i ≡ p.i) × (is_in p.j js ≡ true) × (p.slot ≡ 0)
 with_listed i [] p (k, l, e) = absurd (omega arith)
 with_listed i (j ∷ js) p h = at (contains_cases (pair i j) p (pairs_with i js) (as_pair h)) (with_listed i js p)
@@ -86,15 +70,15 @@ with_listed i (j ∷ js) p h = at (contains_cases (pair i j) p (pairs_with i js)
 
     at : (pair i j ≡ p) ⊎ Contains (pairs_with i js) p → (Contains (pairs_with i js) p → (i ≡ p.i) × (is_in p.j js ≡ true) × (p.slot ≡ 0)) → (i ≡ p.i) × (is_in p.j (j ∷ js) ≡ true) × (p.slot ≡ 0)
     at (inl e) rest = (ap (λ (q : Near). q.i) e, in_front p.j j js (ap (λ (q : Near). q.j) e), sym (ap (λ (q : Near). q.slot) e))
-    at (inr h) rest = let r = rest h in (r.0, behind p.j j js r.1, r.2)
+    at (inr h) rest = let r = rest h in (r.0, in_tail p.j j js r.1, r.2)
 
 pairs_listed : (xs : List ℕ) → Rises xs → (p : Near) → Contains (pairs_of xs) p → IsListed xs p
 pairs_listed [] r p (k, l, e) = absurd (omega arith)
 pairs_listed (x ∷ xs) r p h = at (Contains-append_cases (pairs_with x xs) (pairs_of xs) p h) (pairs_listed xs r.1 p)
   where
     at : Contains (pairs_with x xs) p ⊎ Contains (pairs_of xs) p → (Contains (pairs_of xs) p → IsListed xs p) → IsListed (x ∷ xs) p
-    at (inl h) rest = let w = with_listed x xs p h in let lt = r.0 p.j w.1 in record { i_in = in_front p.i x xs w.0; j_in = behind p.j x xs w.1; rising = subst (λ i. i < p.j) w.0 lt; first_slot = w.2 }
-    at (inr h) rest = let l = rest h in record { i_in = behind p.i x xs l.i_in; j_in = behind p.j x xs l.j_in; rising = l.rising; first_slot = l.first_slot }
+    at (inl h) rest = let w = with_listed x xs p h in let lt = r.0 p.j w.1 in record { i_in = in_front p.i x xs w.0; j_in = in_tail p.j x xs w.1; rising = subst (λ i. i < p.j) w.0 lt; first_slot = w.2 }
+    at (inr h) rest = let l = rest h in record { i_in = in_tail p.i x xs l.i_in; j_in = in_tail p.j x xs l.j_in; rising = l.rising; first_slot = l.first_slot }
 
 nearer_otherwise : (t : Sign) (p q : Near) → left_is_nearer t p q ≡ false → (p ≡ q) ⊎ (left_is_nearer (opposite_of t) q p ≡ true)
 nearer_otherwise Minus p q e = inr refl

@@ -2,11 +2,11 @@
 use Rattle.std.proofs.Common.{◌≡◌, ◌⊎◌, inl, inr, refl, sym, ap, ◌∙◌, subst, List, [], ◌∷◌, ◌++◌, ℕ, Bool, true, false, cond}
 use Rattle.std.specs.Prelude.{Contains, ◌↔◌}
 use Rattle.std.proofs.lemmas.List.Elements.{Contains-append_left, Contains-append_right, Contains-append_cases}
+use Rattle.kin_basics.proofs.Members.{contains_none, contains_head, contains_tail, contains_cases}
 use Rattle.kin_motion.specs.declared.form.Form.{Form}
 use Rattle.kin_motion.specs.declared.form.Form.TheVariants.{Turn}
 use Rattle.kin_motion.specs.Scene.{Scene}
 use Rattle.kin_motion.specs.Merges.{Half, Half.{A, B}, Breakpoint, is_of, own_of, IsCurrent, other, point_of, current_after, other_current, IsTurnForm, turns_from, slopes_from, forms_of_ends, IsListedForm, forms_of_merge}
-use Rattle.kin_motion.proofs.SetLaws.{contains_none, contains_head, contains_tail, contains_cases}
 
 -- ---- the current point behind one more breakpoint
 current_behind : (h : Half) (e : Breakpoint) (first : ℕ) (es : List Breakpoint) (p : ℕ) → IsCurrent h (current_after h e first) es p → IsCurrent h first (e ∷ es) p

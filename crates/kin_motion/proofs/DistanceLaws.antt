@@ -2,7 +2,8 @@
 use Rattle.std.proofs.Common.{◌≡◌, ◌≢◌, ◌⊎◌, inl, inr, refl, ap, sym, ◌∙◌, arith, List, [], ◌∷◌, ℕ, ◌<◌, Bool, true, false, not, ◌||◌, ◌&&◌, nat_eq, nat_lt}
 use Rattle.std.specs.Prelude.{ℤ, ◌+ℤ◌, ◌-ℤ◌, Option}
 use Rattle.std.proofs.lemmas.Bool.Decides.{nat_tests}
-use lib.IntN.{neg_ℤ}
+use Rattle.std.proofs.lemmas.Bool.{or_left, or_right, and_from, lt-ltb, eq-eqb}
+use Rattle.kin_basics.proofs.Integers.{difference-turned}
 use Rattle.kin_algebra.proofs.Ring.{by_ring, quotes}
 use Rattle.kin_algebra.specs.declared.sign.Sign.{Sign}
 use Rattle.kin_algebra.specs.declared.sign.Sign.TheVariants.{Minus, Zero, Plus}
@@ -19,14 +20,11 @@ use Rattle.kin_motion.specs.ClosestPairs.{Near, is_less_pair, left_is_nearer, di
 use Rattle.kin_motion.specs.Laws.{HasDistanceLaws}
 use Rattle.kin_motion.proofs.RealLaws.{by_signs, line_sum, opposite_forms}
 
-turned_back : (a b : ℤ) → a -ℤ b ≡ neg_ℤ (b -ℤ a)
-turned_back a b = by_ring (a ∷ b ∷ []) _ _ (search quotes depth 20) (search quotes depth 20) refl
-
 in_between : (a b c : ℤ) → c -ℤ a ≡ (b -ℤ a) +ℤ (c -ℤ b)
 in_between a b c = by_ring (a ∷ b ∷ c ∷ []) _ _ (search quotes depth 20) (search quotes depth 20) refl
 
 dist_turned : (p q : Quadratic) → difference p q ≡ negated (difference q p)
-dist_turned p q = let f = turned_back p.a q.a in let g = turned_back p.b q.b in let h = turned_back p.c q.c in λ t. record { a = f t; b = g t; c = h t }
+dist_turned p q = let f = difference-turned p.a q.a in let g = difference-turned p.b q.b in let h = difference-turned p.c q.c in λ t. record { a = f t; b = g t; c = h t }
 
 dist_sum : (p q r : Quadratic) → difference r p ≡ quadratic_sum (difference q p) (difference r q)
 dist_sum p q r = let f = in_between p.a q.a r.a in let g = in_between p.b q.b r.b in let h = in_between p.c q.c r.c in λ t. record { a = f t; b = g t; c = h t }
@@ -63,29 +61,13 @@ less_from p q h = at (nat_lt p.i q.i) refl (nat_eq p.i q.i) refl (nat_lt p.j q.j
     at false f true g false u false v e w h = absurd cc
     at false f false g c u d v e w h = absurd cc
 
-or_left : (a b : Bool) → a ≡ true → a || b ≡ true
-or_left a b e = ap (λ t. t || b) e
-
-or_right : (a b : Bool) → b ≡ true → a || b ≡ true
-or_right true b e = refl
-or_right false b e = e
-
-and_both : (a b : Bool) → a ≡ true → b ≡ true → a && b ≡ true
-and_both a b e f = ap (λ t. t && b) e ∙ f
-
-lesser : (a b : ℕ) → a < b → nat_lt a b ≡ true
-lesser a b h = grind (arith, nat_tests, h)
-
-same : (a b : ℕ) → a ≡ b → nat_eq a b ≡ true
-same a b e = grind (arith, nat_tests, e)
-
 pub less_to : (p q : Near) → LessPair p q → is_less_pair p q ≡ true
 unfolding LessPair
-less_to p q (inl h) = or_left (nat_lt p.i q.i) (nat_eq p.i q.i && (nat_lt p.j q.j || (nat_eq p.j q.j && nat_lt p.slot q.slot))) (lesser p.i q.i h)
+less_to p q (inl h) = or_left (nat_lt p.i q.i) (nat_eq p.i q.i && (nat_lt p.j q.j || (nat_eq p.j q.j && nat_lt p.slot q.slot))) (lt-ltb p.i q.i h)
 less_to p q (inr (e, inl h)) = or_right (nat_lt p.i q.i) (nat_eq p.i q.i && (nat_lt p.j q.j || (nat_eq p.j q.j && nat_lt p.slot q.slot)))
-    (and_both (nat_eq p.i q.i) (nat_lt p.j q.j || (nat_eq p.j q.j && nat_lt p.slot q.slot)) (same p.i q.i e) (or_left (nat_lt p.j q.j) (nat_eq p.j q.j && nat_lt p.slot q.slot) (lesser p.j q.j h)))
+    (and_from (nat_eq p.i q.i) (nat_lt p.j q.j || (nat_eq p.j q.j && nat_lt p.slot q.slot)) (eq-eqb p.i q.i e) (or_left (nat_lt p.j q.j) (nat_eq p.j q.j && nat_lt p.slot q.slot) (lt-ltb p.j q.j h)))
 less_to p q (inr (e, inr (f, h))) = or_right (nat_lt p.i q.i) (nat_eq p.i q.i && (nat_lt p.j q.j || (nat_eq p.j q.j && nat_lt p.slot q.slot)))
-    (and_both (nat_eq p.i q.i) (nat_lt p.j q.j || (nat_eq p.j q.j && nat_lt p.slot q.slot)) (same p.i q.i e) (or_right (nat_lt p.j q.j) (nat_eq p.j q.j && nat_lt p.slot q.slot) (and_both (nat_eq p.j q.j) (nat_lt p.slot q.slot) (same p.j q.j f) (lesser p.slot q.slot h))))
+    (and_from (nat_eq p.i q.i) (nat_lt p.j q.j || (nat_eq p.j q.j && nat_lt p.slot q.slot)) (eq-eqb p.i q.i e) (or_right (nat_lt p.j q.j) (nat_eq p.j q.j && nat_lt p.slot q.slot) (and_from (nat_eq p.j q.j) (nat_lt p.slot q.slot) (eq-eqb p.j q.j f) (lt-ltb p.slot q.slot h))))
 
 pub not_both : (p q : Near) → LessPair p q → LessPair q p → ⊥
 unfolding LessPair

@@ -2,6 +2,7 @@
 use Rattle.std.proofs.Common.{◌≡◌, ◌≢◌, ◌⊎◌, inl, inr, refl, sym, ap, ◌∙◌, subst, arith, List, [], ◌∷◌, Bool, true, false, cond, ℤ, map}
 use Rattle.std.specs.Prelude.{Contains, int_lt, int_le, filter}
 use Rattle.std.proofs.lemmas.Int.{ints}
+use Rattle.kin_basics.proofs.Members.{contains_head, contains_tail}
 use Rattle.kin_num.specs.declared.instant.Moment.{Moment}
 use Rattle.kin_motion.specs.declared.form.Form.{Form}
 use Rattle.kin_motion.specs.declared.form.Form.TheVariants.{Line, Turn, Slope, Dist}
@@ -11,7 +12,7 @@ use Rattle.kin_motion.specs.Scene.{IsReal}
 use Rattle.kin_motion.specs.Live.{Certificate, live_facts}
 use Rattle.kin_motion.specs.Journal.{Setting, Failure, IsFailure, failures_at, seen_in, has_failed, is_less_rank, form_rank, rank_of, is_listed_before}
 use Rattle.kin_motion.specs.Agreements.{FitsSize}
-use Rattle.kin_motion.proofs.SetLaws.{contains_head, contains_tail, distinct_cons, distinct_head, distinct_tail, distinct_none, distinct_mapped, filter-sound}
+use Rattle.kin_motion.proofs.SetLaws.{distinct_cons, distinct_head, distinct_tail, distinct_none, distinct_mapped, filter-sound}
 use Rattle.kin_motion.proofs.JournalLaws.{by_first, by_rest}
 use Rattle.kin_motion.proofs.LiveFactLaws.{live_facts_agree, failures_agree, sorted-has}
 use Rattle.kin_motion.proofs.LiveFactsHold.{live_fact_holds}
@@ -40,7 +41,7 @@ module _ {A : Type 0} (lt : A → A → Bool) where
       total x y (contains_head x xs) (contains_tail x y xs there) (λ e. distinct_head x xs d (subst (Contains xs) (sym e) there)))
       (sorted-in_order xs (distinct_tail x xs d) (λ y z h k. total y z (contains_tail x y xs h) (contains_tail x z xs k)))
 
-distinct_filter : {A : Type 0} (test : A → Bool) (xs : List A) → AreDistinct xs → AreDistinct (filter test xs)
+pub distinct_filter : {A : Type 0} (test : A → Bool) (xs : List A) → AreDistinct xs → AreDistinct (filter test xs)
 distinct_filter {A} test [] d = distinct_none
 distinct_filter {A} test (x ∷ xs) d = at (test x) (distinct_filter test xs (distinct_tail x xs d))
   where

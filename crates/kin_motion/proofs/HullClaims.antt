@@ -1,7 +1,9 @@
 -- What a hull leaves out, and that every structure can be settled.
-use Rattle.std.proofs.Common.{◌≡◌, ◌≢◌, ◌⊎◌, inl, inr, refl, sym, ap, ◌∙◌, subst, arith, List, [], ◌∷◌, ◌++◌, map, ℕ, ◌+◌, ◌-◌, ◌^◌, ◌<◌, ◌≤◌, Bool, true, false, cond, not, ◌&&◌, ◌||◌, nat_eq}
+use Rattle.std.proofs.Common.{◌≡◌, ◌≢◌, ◌⊎◌, inl, inr, refl, sym, ap, ◌∙◌, subst, arith, List, [], ◌∷◌, ◌++◌, map, ℕ, ◌+◌, ◌-◌, ◌^◌, ◌<◌, ◌≤◌, Bool, true, false, cond, not}
 use Rattle.std.specs.Prelude.{ℤ, pos, Option, Some, None, reverse, filter, flat_map, slice_get, option_and_then, Contains}
 use Rattle.std.proofs.lemmas.List.{reverse-append}
+use Rattle.std.proofs.lemmas.Bool.{and_parts}
+use Rattle.kin_basics.proofs.Members.{contains_none}
 use Rattle.kin_algebra.specs.declared.sign.Sign.{Sign}
 use Rattle.kin_algebra.specs.declared.sign.Sign.TheVariants.{Zero, Plus}
 use Rattle.kin_algebra.specs.Signs.{opposite_of}
@@ -23,7 +25,7 @@ use Rattle.kin_motion.specs.Octants.{eight_directions}
 use Rattle.kin_motion.specs.Agreements.{FitsSize}
 use Rattle.kin_motion.specs.Contents.{IsWinner, IsRangeFact}
 use Rattle.kin_motion.specs.Claims.{HullIsStrict, HullHasLeast, SettledStatesExist}
-use Rattle.kin_motion.proofs.SetLaws.{contains_none, exactly_in_words, exactly_in_turn, exactly_mapped, exactly_both}
+use Rattle.kin_motion.proofs.SetLaws.{exactly_in_words, exactly_in_turn, exactly_mapped, exactly_both}
 use Rattle.kin_motion.proofs.RealLaws.{real_line_laws}
 use Rattle.kin_motion.proofs.TurnedFactLaws.{along_y}
 use Rattle.kin_motion.proofs.ClaimLaws.{chain_is_strict, chain_has_least}
@@ -36,49 +38,23 @@ use Rattle.kin_motion.proofs.ExtremeFactLaws.{held_number, extreme_facts_agree, 
 use Rattle.kin_motion.proofs.ClosestFactLaws.{order_facts_agree, closest_facts_agree, part_of_order, wedge_exact}
 use Rattle.kin_motion.proofs.HullFactLaws.{hull_facts_agree, node_exact, node_is_inner, one_form, part_of}
 use Rattle.kin_motion.proofs.Proved.{order_proved, chain_proved, cycle_proved, live-once}
+use Rattle.kin_motion.proofs.Members.{in_tail, in_left, in_either}
 
 -- ---- a member of the cycle is one of a chain
-joined_in : (p : ℕ) (xs ys : List ℕ) → is_in p (xs ++ ys) ≡ (is_in p xs || is_in p ys)
-joined_in p [] ys = refl
-joined_in p (x ∷ xs) ys = at (nat_eq p x) (joined_in p xs ys)
-  where
-    at : (t : Bool) → is_in p (xs ++ ys) ≡ (is_in p xs || is_in p ys) → (t || is_in p (xs ++ ys)) ≡ ((t || is_in p xs) || is_in p ys)
-    at true e = refl
-    at false e = e
-
-front_of : (p x : ℕ) (xs : List ℕ) → IsIn p (x ∷ []) → IsIn p (x ∷ xs)
-front_of p x xs h = at (nat_eq p x) h
-  where
-    at : (t : Bool) → t || false ≡ true → t || is_in p xs ≡ true
-    at true e = refl
-    at false e = absurd cc
-
-either : (a b : Bool) → a || b ≡ true → (a ≡ true) ⊎ (b ≡ true)
-either true b e = inl refl
-either false b e = inr e
-
 reversed_in : (p : ℕ) (xs : List ℕ) → IsIn p (reverse xs) → IsIn p xs
 reversed_in p [] h = h
-reversed_in p (x ∷ xs) h = at (either (is_in p (reverse xs)) (is_in p (x ∷ [])) (sym (joined_in p (reverse xs) (x ∷ [])) ∙ ap (is_in p) (sym (reverse-append (x ∷ []) xs)) ∙ h)) (reversed_in p xs)
+reversed_in p (x ∷ xs) h = at (in_either p (reverse xs) (x ∷ []) (ap (is_in p) (sym (reverse-append (x ∷ []) xs)) ∙ h)) (reversed_in p xs)
   where
     at : IsIn p (reverse xs) ⊎ IsIn p (x ∷ []) → (IsIn p (reverse xs) → IsIn p xs) → IsIn p (x ∷ xs)
-    at (inl k) rest = behind (nat_eq p x) (rest k)
-      where
-        behind : (t : Bool) → is_in p xs ≡ true → t || is_in p xs ≡ true
-        behind true e = refl
-        behind false e = e
-    at (inr k) rest = front_of p x xs k
-
-of_both : (a b : Bool) → a && b ≡ true → a ≡ true
-of_both true b e = refl
-of_both false b e = absurd cc
+    at (inl k) rest = in_tail p x xs (rest k)
+    at (inr k) rest = in_left p (x ∷ []) xs k
 
 in_a_chain : (p : ℕ) (lower upper : List ℕ) → IsIn p (round lower upper) → IsIn p lower ⊎ IsIn p upper
-in_a_chain p lower upper h = at (either (is_in p lower) (is_in p (filter (λ q. not (is_in q lower)) (reverse upper))) (sym (joined_in p lower (filter (λ q. not (is_in q lower)) (reverse upper))) ∙ h))
+in_a_chain p lower upper h = at (in_either p lower (filter (λ q. not (is_in q lower)) (reverse upper)) h)
   where
     at : IsIn p lower ⊎ IsIn p (filter (λ q. not (is_in q lower)) (reverse upper)) → IsIn p lower ⊎ IsIn p upper
     at (inl k) = inl k
-    at (inr k) = inr (reversed_in p upper (of_both (is_in p (reverse upper)) (not (is_in p lower)) (sym (kept-members (λ q. not (is_in q lower)) (reverse upper) p) ∙ k)))
+    at (inr k) = inr (reversed_in p upper (and_parts (is_in p (reverse upper)) (not (is_in p lower)) (sym (kept-members (λ q. not (is_in q lower)) (reverse upper) p) ∙ k)).0)
 
 not_plus : (t : Sign) → t ≡ Plus → t ≢ Zero
 not_plus t e f = let clash : Plus ≡ Zero = sym e ∙ f in cc

@@ -1,8 +1,10 @@
 -- The computed facts of the hull are its facts.
-use Rattle.std.proofs.Common.{◌≡◌, ◌⊎◌, inl, inr, refl, sym, ap, ◌∙◌, subst, arith, List, [], ◌∷◌, ◌++◌, ℕ, zero, suc, ◌+◌, ◌*◌, ◌-◌, ◌/◌, ◌^◌, ◌<◌, ◌≤◌, Bool, true, false, ◌||◌, nat_eq, map}
+use Rattle.std.proofs.Common.{◌≡◌, ◌⊎◌, inl, inr, sym, ap, ◌∙◌, subst, arith, List, [], ◌∷◌, ◌++◌, ℕ, zero, suc, ◌+◌, ◌*◌, ◌-◌, ◌/◌, ◌^◌, ◌<◌, ◌≤◌, true, false, ◌||◌, nat_eq, map}
 use Rattle.std.specs.Prelude.{Contains, filter}
 use Rattle.std.proofs.lemmas.List.Elements.{Contains-append_cases}
 use Rattle.std.proofs.lemmas.Bool.Decides.{nat_tests}
+use Rattle.std.proofs.lemmas.Bool.{and_parts, or_cases}
+use Rattle.kin_basics.proofs.Members.{contains_none, contains_cases}
 use Rattle.kin_motion.specs.declared.form.Form.{Form}
 use Rattle.kin_motion.specs.declared.fact.Placed.{Placed}
 use Rattle.kin_motion.specs.Numbers.{is_in, IsOnce, IsChain}
@@ -12,18 +14,19 @@ use Rattle.kin_motion.specs.Tournaments.{comes_to, is_under}
 use Rattle.kin_motion.specs.Chains.{is_left, is_bare, IsUpperChain, upper_chain_of}
 use Rattle.kin_motion.specs.Merges.{Half.{A, B}, Half, Breakpoint, breakpoints_of, IsBreakpointList, breakpoint_list, turns_from, slopes_from, forms_of_ends, forms_of_merge, IsMergeForm, merge_forms, points_under, IsNodeForm, node_forms, IsHullFact, hull_facts_of_node, hull_facts}
 use Rattle.kin_motion.specs.Agreements.{FitsSize, HullFactsAgree}
-use Rattle.kin_motion.proofs.SetLaws.{contains_none, contains_cases, distinct_none, distinct_append, distinct_mapped_on, exactly_both, exactly_in_words, exactly_mapped, exactly_in_turn}
+use Rattle.kin_motion.proofs.SetLaws.{distinct_none, distinct_append, distinct_mapped_on, exactly_both, exactly_in_words, exactly_mapped, exactly_in_turn}
 use Rattle.kin_motion.proofs.RealLaws.{real_line_laws, real_turn_laws}
 use Rattle.kin_motion.proofs.SlopeLaws.{real_slope_laws}
 use Rattle.kin_motion.proofs.TurnedLaws.{turned-real}
-use Rattle.kin_motion.proofs.ChainLaws.{one_upper_chain}
+use Rattle.kin_motion.proofs.ChainLaws.{one_upper_chain, chain_within}
 use Rattle.kin_motion.proofs.Sorting.{sorted-once}
-use Rattle.kin_motion.proofs.AgreementLaws.{chain_agrees, kept-members, kept-once, halves}
+use Rattle.kin_motion.proofs.AgreementLaws.{chain_agrees, kept-members, kept-once}
 use Rattle.kin_motion.proofs.NodeLaws.{node_with_slot, not_above}
 use Rattle.kin_motion.proofs.BreakpointLaws.{members_of, breakpoints_agree, one_breakpoint_list, chain_of_list, list_distinct}
 use Rattle.kin_motion.proofs.CurrentLaws.{forms_agree}
 use Rattle.kin_motion.proofs.MergeFormLaws.{lefts, kind, turn_first, turns_distinct, slope_first, slopes_distinct, ends_distinct, ends_kind}
 use Rattle.kin_motion.proofs.Proved.{live-once}
+use Rattle.kin_motion.proofs.Members.{in_front, in_tail}
 
 -- ---- left points
 left_in : (h : Half) (a : List ℕ) (e : Breakpoint) → Contains (breakpoints_of h a) e → is_in e.left a ≡ true
@@ -31,16 +34,9 @@ left_in h [] e c = absurd (contains_none e c)
 left_in h (i ∷ []) e c = absurd (contains_none e c)
 left_in h (i ∷ j ∷ ps) e c = at (contains_cases (record { half = h; left = i; right = j }) e (breakpoints_of h (j ∷ ps)) c) (left_in h (j ∷ ps) e)
   where
-    in_front : (n : ℕ) → i ≡ n → nat_eq n i || is_in n (j ∷ ps) ≡ true
-    in_front n q = let same : nat_eq n i ≡ true = grind (arith, nat_tests, q) in ap (λ t. t || is_in n (j ∷ ps)) same
-
-    behind : (t : Bool) (b : Bool) → b ≡ true → t || b ≡ true
-    behind true b q = refl
-    behind false b q = q
-
     at : (record { half = h; left = i; right = j } ≡ e) ⊎ Contains (breakpoints_of h (j ∷ ps)) e → (Contains (breakpoints_of h (j ∷ ps)) e → is_in e.left (j ∷ ps) ≡ true) → is_in e.left (i ∷ j ∷ ps) ≡ true
-    at (inl q) rest = in_front e.left (ap (λ (x : Breakpoint). x.left) q)
-    at (inr k) rest = behind (nat_eq e.left i) (is_in e.left (j ∷ ps)) (rest k)
+    at (inl q) rest = in_front e.left i (j ∷ ps) (ap (λ (x : Breakpoint). x.left) q)
+    at (inr k) rest = in_tail e.left i (j ∷ ps) (rest k)
 
 same_left : (h : Half) (a : List ℕ) → IsOnce a → (e f : Breakpoint) → Contains (breakpoints_of h a) e → Contains (breakpoints_of h a) f → e.left ≡ f.left → e ≡ f
 same_left h [] o e f c k q = absurd (contains_none e c)
@@ -97,9 +93,6 @@ module _ (s : Scene) (real : IsReal s) where
   chain_once : (set : List ℕ) → IsOnce set → IsOnce (upper_chain_of s set)
   chain_once set o = sorted-once (is_left s) (filter (is_bare s set) set) (kept-once (is_bare s set) set o)
 
-  chain_part : (set xs : List ℕ) → IsUpperChain s set xs → (i : ℕ) → is_in i xs ≡ true → is_in i set ≡ true
-  chain_part set xs u i h = (halves (is_in i set) (is_bare s set i) (sym (u.members i) ∙ h)).0
-
   -- by two upper chains and their breakpoint list the forms are listed exactly
   pub forms_exact : (left right a b : List ℕ) (es : List Breakpoint) → IsUpperChain s left a → IsUpperChain s right b → IsOnce a → IsOnce b → AreDisjoint a b → IsBreakpointList s a b es
       → ListsExactly (forms_of_merge s a b es) (IsMergeForm s left right)
@@ -124,7 +117,7 @@ module _ (s : Scene) (real : IsReal s) where
   unfolding AreDisjoint
   merge_exact left right ol or apart =
       forms_exact left right (upper_chain_of s left) (upper_chain_of s right) (breakpoint_list s (upper_chain_of s left) (upper_chain_of s right)) left_chain right_chain (chain_once left ol) (chain_once right or)
-      (λ i h k. apart i (chain_part left (upper_chain_of s left) left_chain i h) (chain_part right (upper_chain_of s right) right_chain i k))
+      (λ i h k. apart i (chain_within s left (upper_chain_of s left) left_chain i h) (chain_within s right (upper_chain_of s right) right_chain i k))
       (breakpoints_agree s (real_slope_laws s real) (real_turn_laws s real) left right (upper_chain_of s left) (upper_chain_of s right) left_chain right_chain)
     where
       left_chain : IsUpperChain s left (upper_chain_of s left)
@@ -134,14 +127,10 @@ module _ (s : Scene) (real : IsReal s) where
       right_chain = chain_agrees s (real_line_laws s real) right or
 
 -- ---- nodes
-either_true : (a b : Bool) → a || b ≡ true → (a ≡ true) ⊎ (b ≡ true)
-either_true true b h = inl refl
-either_true false b h = inr h
-
--- no node comes to both halves of another
+-- no node comes to both and_parts of another
 not_both : (h u v : ℕ) → 0 < v → comes_to h u (2 * v) ≡ true → comes_to h u (2 * v + 1) ≡ true → ⊥
 not_both zero u v some p q = let e : u ≡ 2 * v = grind (arith, nat_tests, p) in let f : u ≡ 2 * v + 1 = grind (arith, nat_tests, q) in omega (arith, e, f)
-not_both (suc h) u v some p q = at (either_true (nat_eq u (2 * v)) (comes_to h (u / 2) (2 * v)) p) (either_true (nat_eq u (2 * v + 1)) (comes_to h (u / 2) (2 * v + 1)) q) (not_both h (u / 2) v some)
+not_both (suc h) u v some p q = at (or_cases (nat_eq u (2 * v)) (comes_to h (u / 2) (2 * v)) p) (or_cases (nat_eq u (2 * v + 1)) (comes_to h (u / 2) (2 * v + 1)) q) (not_both h (u / 2) v some)
   where
     at : (nat_eq u (2 * v) ≡ true) ⊎ (comes_to h (u / 2) (2 * v) ≡ true) → (nat_eq u (2 * v + 1) ≡ true) ⊎ (comes_to h (u / 2) (2 * v + 1) ≡ true)
         → (comes_to h (u / 2) (2 * v) ≡ true → comes_to h (u / 2) (2 * v + 1) ≡ true → ⊥) → ⊥
@@ -152,7 +141,7 @@ not_both (suc h) u v some p q = at (either_true (nat_eq u (2 * v)) (comes_to h (
 
 module _ (size : ℕ) (s : Scene) (real : IsReal s) (fits : FitsSize size s) where
   live_under : (v i : ℕ) → is_in i (points_under size s v) ≡ true → (is_in i s.live ≡ true) × (is_under size v i ≡ true)
-  live_under v i h = halves (is_in i s.live) (is_under size v i) (sym (kept-members (is_under size v) s.live i) ∙ h)
+  live_under v i h = and_parts (is_in i s.live) (is_under size v i) (sym (kept-members (is_under size v) s.live i) ∙ h)
 
   under_once : (v : ℕ) → IsOnce (points_under size s v)
   under_once v = kept-once (is_under size v) s.live (live-once s real)
@@ -170,7 +159,7 @@ module _ (size : ℕ) (s : Scene) (real : IsReal s) (fits : FitsSize size s) whe
 
   -- a node with a form is an inner node
   pub node_is_inner : (v : ℕ) (f : Form) → IsNodeForm size s v f → (1 ≤ v) × (v < 2 ^ size)
-  node_is_inner v f m = at m.a (λ i h. (halves (is_in i (points_under size s (2 * v))) (is_bare s (points_under size s (2 * v)) i) (sym (m.a_chain.members i) ∙ h)).0) ((forms_agree s m.a m.b m.breakpoints f).1 m.listed)
+  node_is_inner v f m = at m.a (λ i h. (and_parts (is_in i (points_under size s (2 * v))) (is_bare s (points_under size s (2 * v)) i) (sym (m.a_chain.members i) ∙ h)).0) ((forms_agree s m.a m.b m.breakpoints f).1 m.listed)
     where
       at : (a : List ℕ) → ((i : ℕ) → is_in i a ≡ true → is_in i (points_under size s (2 * v)) ≡ true) → Contains (forms_of_merge s a m.b m.breakpoints) f → (1 ≤ v) × (v < 2 ^ size)
       at [] part c = absurd (contains_none f c)

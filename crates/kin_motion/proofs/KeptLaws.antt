@@ -1,19 +1,14 @@
 -- What is handed to a structure at rest that settles.
-use Rattle.std.proofs.Common.{◌≡◌, sym, ◌∙◌, subst, List, [], ℕ, Bool, true, false, Result, Ok, Err}
-use Rattle.std.specs.Prelude.{Contains, IsFalse, OnOk}
+use Rattle.std.proofs.Common.{◌≡◌, sym, ◌∙◌, subst, List, [], ℕ, Bool, true, false}
+use Rattle.std.specs.Prelude.{Contains, IsFalse}
 use Rattle.kin_motion.specs.declared.fact.Placed.{Placed}
 use Rattle.kin_motion.specs.Kinetics.{ListsFailing}
 use Rattle.kin_motion.specs.Scene.{Scene, Holds}
 use Rattle.kin_motion.specs.Sets.{ListsExactly}
 use Rattle.kin_motion.specs.Forms.{names}
 use Rattle.kin_motion.specs.Numbers.{is_in, HasEntered}
-use Rattle.kin_motion.proofs.AskableMerges.{own_number}
 use Rattle.kin_motion.proofs.SetLaws.{exactly_in_words, exactly_none}
-
--- what follows of an `Ok` from three clauses
-pub from_three : {T E P Q R S : Type 0} (r : Result T E) → (P → Q → R → S) → OnOk r P → OnOk r Q → OnOk r R → OnOk r S
-from_three (Ok v) f p q r = f p q r
-from_three (Err e) f p q r = tt
+use Rattle.kin_motion.proofs.Members.{in_head}
 
 -- where nothing is spared, all that fail are listed
 pub none_spared : (facts : List Placed) (is_spared : Placed → Bool) (s : Scene) (failed : List Placed) → ((p : Placed) → is_spared p ≡ false)
@@ -24,7 +19,7 @@ none_spared facts is_spared s failed none listed =
 
 -- the number that has entered is there
 pub entered_in : (entering : ℕ) (before after : List ℕ) → HasEntered entering before after → is_in entering after ≡ true
-entered_in entering before after entered = sym (entered.lists.same entering) ∙ own_number entering before
+entered_in entering before after entered = sym (entered.lists.same entering) ∙ in_head entering before
 
 -- where each fact that isn't spared names the leaving number or holds, none is left that fails
 pub none_left : (facts after : List Placed) (is_spared : Placed → Bool) (s : Scene) (leaving : ℕ) → after ≡ facts → ((p : Placed) → Contains facts p → is_spared p ≡ false → names p.fact.form leaving ≡ false)

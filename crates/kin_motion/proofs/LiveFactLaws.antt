@@ -1,6 +1,7 @@
 -- The computed live facts are the live facts, and the computed failures are the failures.
 use Rattle.std.proofs.Common.{◌≡◌, ◌≢◌, ◌⊎◌, inl, inr, refl, sym, ap, ◌∙◌, subst, arith, List, [], ◌∷◌, ◌++◌, ℕ, zero, suc, ◌+◌, Bool, true, false, cond, not, map, pos}
 use Rattle.std.specs.Prelude.{Some, slice_get, Contains, ◌↔◌, filter}
+use Rattle.kin_basics.proofs.Members.{contains_head, contains_tail, contains_cases}
 use Rattle.kin_algebra.specs.declared.sign.Sign.{Sign}
 use Rattle.kin_algebra.specs.declared.sign.Sign.TheVariants.{Minus, Zero, Plus}
 use Rattle.kin_num.specs.declared.instant.Moment.{Moment}
@@ -14,7 +15,7 @@ use Rattle.kin_motion.specs.Orders.{IsOrderFact, order_facts}
 use Rattle.kin_motion.specs.Live.{Certificate, IsKeepFact, IsLiveFact, ListsLive, keep_facts, owned_by, live_facts_from, live_facts}
 use Rattle.kin_motion.specs.Journal.{Setting, Failure, IsFailure, failures_at, seen_in, has_failed, is_listed_before, same_sign}
 use Rattle.kin_motion.specs.Agreements.{FitsSize, LiveFactsAgree, FailuresAgree}
-use Rattle.kin_motion.proofs.SetLaws.{contains_head, contains_tail, contains_cases, contains_mapped, contains_map, exactly_none, exactly_both, exactly_in_words, exactly_mapped, filter-sound, filter-complete}
+use Rattle.kin_motion.proofs.SetLaws.{contains_mapped, contains_map, exactly_none, exactly_both, exactly_in_words, exactly_mapped, filter-sound, filter-complete}
 use Rattle.kin_motion.proofs.HullFactLaws.{hull_facts_agree}
 use Rattle.kin_motion.proofs.ExtremeFactLaws.{extreme_facts_agree}
 use Rattle.kin_motion.proofs.ClosestFactLaws.{order_facts_agree, part_of_order, closest_facts_agree}

@@ -1,16 +1,17 @@
 -- No form of a merge stands twice, and the computed forms are those of the merge.
-use Rattle.std.proofs.Common.{◌≡◌, ◌⊎◌, inl, inr, refl, sym, ap, ◌∙◌, subst, arith, List, [], ◌∷◌, ◌++◌, ℕ, Bool, true, false, cond, ◌||◌, nat_eq, map, ℤ, pos}
+use Rattle.std.proofs.Common.{◌≡◌, ◌⊎◌, inl, inr, sym, ap, ◌∙◌, subst, List, [], ◌∷◌, ◌++◌, ℕ, Bool, true, false, cond, map, ℤ, pos}
 use Rattle.std.specs.Prelude.{Contains}
-use Rattle.std.proofs.lemmas.Bool.Decides.{nat_tests}
 use Rattle.std.proofs.lemmas.List.Elements.{Contains-append_cases}
+use Rattle.kin_basics.proofs.Members.{contains_none, contains_head, contains_tail, contains_cases}
 use Rattle.kin_motion.specs.declared.form.Form.{Form}
 use Rattle.kin_motion.specs.declared.form.Form.TheVariants.{Line, Turn, Slope, Dist}
-use Rattle.kin_motion.specs.Numbers.{is_in, IsOnce}
+use Rattle.kin_motion.specs.Numbers.{is_in, IsIn, IsOnce}
 use Rattle.kin_motion.specs.Sets.{AreDistinct}
 use Rattle.kin_motion.specs.Scene.{Scene, x_sign}
 use Rattle.kin_motion.specs.Chains.{is_zero}
 use Rattle.kin_motion.specs.Merges.{Half.{A, B}, Breakpoint, is_of, slope_form, current_after, other_current, turns_from, slope_between, slopes_from, end_forms, last_of, forms_of_ends}
-use Rattle.kin_motion.proofs.SetLaws.{contains_none, contains_head, contains_tail, contains_cases, distinct_none, distinct_cons, distinct_head, distinct_tail, distinct_append}
+use Rattle.kin_motion.proofs.SetLaws.{distinct_none, distinct_cons, distinct_head, distinct_tail, distinct_append}
+use Rattle.kin_motion.proofs.Members.{in_head, in_tail}
 
 -- ---- the left points of a list of breakpoints
 unfoldable pub lefts : List Breakpoint → List ℕ
@@ -85,6 +86,10 @@ slopes_distinct (e ∷ f ∷ es) d =
     (λ g c k. distinct_head e.left (lefts (f ∷ es)) d (subst (λ n. Contains (lefts (f ∷ es)) n) (between_first e f g c).0 (slope_first (f ∷ es) g k).0))
 
 -- ---- the outer ends
+pub last_in : (p : ℕ) (ps : List ℕ) → IsIn (last_of p ps) (p ∷ ps)
+last_in p [] = in_head p []
+last_in p (q ∷ ps) = in_tail (last_of q ps) p (q ∷ ps) (last_in q ps)
+
 module _ (s : Scene) where
   abbrev by_x : ℕ → ℕ → Form
   by_x a b = Line (pos 1) (pos 0) (pos 0) a b
@@ -154,17 +159,6 @@ module _ (s : Scene) where
   two_ends a b c e n =
       distinct_append (end_forms s a b) (end_forms s c e) (end_distinct a b) (end_distinct c e)
       (λ f h k. let p = end_names a b f h in let q = end_names c e f k in n (sym p.0 ∙ q.0) (sym p.1 ∙ q.1))
-
-  last_in : (p : ℕ) (ps : List ℕ) → is_in (last_of p ps) (p ∷ ps) ≡ true
-  last_in p [] = grind (arith, nat_tests)
-  last_in p (q ∷ ps) = behind (last_in q ps)
-    where
-      behind : is_in (last_of q ps) (q ∷ ps) ≡ true → nat_eq (last_of q ps) p || is_in (last_of q ps) (q ∷ ps) ≡ true
-      behind e = right (nat_eq (last_of q ps) p) e
-        where
-          right : (t : Bool) → is_in (last_of q ps) (q ∷ ps) ≡ true → t || is_in (last_of q ps) (q ∷ ps) ≡ true
-          right true e = refl
-          right false e = e
 
   -- the last of two or more is another than the first
   last_other : (p q : ℕ) (ps : List ℕ) → IsOnce (p ∷ q ∷ ps) → p ≡ last_of q ps → ⊥

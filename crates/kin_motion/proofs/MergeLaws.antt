@@ -2,6 +2,7 @@
 use Rattle.std.proofs.Common.{◌≡◌, refl, sym, ap₂, ◌∙◌, arith, List, [], ◌∷◌, ℕ, Bool, true, false, not, ◌&&◌}
 use Rattle.std.specs.List.{list_any}
 use Rattle.std.proofs.lemmas.Bool.Decides.{nat_tests}
+use Rattle.std.proofs.lemmas.Bool.{and_parts}
 use Rattle.kin_algebra.specs.declared.sign.Sign.{Sign}
 use Rattle.kin_algebra.specs.declared.sign.Sign.TheVariants.{Minus, Zero, Plus}
 use Rattle.kin_motion.specs.declared.form.Form.TheVariants.{Turn, Slope}
@@ -9,7 +10,7 @@ use Rattle.kin_motion.specs.Numbers.{is_in, IsChain}
 use Rattle.kin_motion.specs.Scene.{Scene}
 use Rattle.kin_motion.specs.Chains.{is_plus, is_left, is_double, is_above, is_under_segment, is_bare, IsUpperChain}
 use Rattle.kin_motion.specs.Laws.{HasTurnLaws}
-use Rattle.kin_motion.proofs.AgreementLaws.{none_passes, halves}
+use Rattle.kin_motion.proofs.AgreementLaws.{none_passes}
 
 -- each two segments that meet fall
 abbrev pub Falls : Scene → List ℕ → Type 0
@@ -43,9 +44,9 @@ chain_falls s laws set [] m c = tt
 chain_falls s laws set (i ∷ []) m c = tt
 chain_falls s laws set (i ∷ j ∷ []) m c = tt
 chain_falls s laws set (i ∷ j ∷ k ∷ ps) m c =
-    let of_i = halves (is_in i set) (is_bare s set i) (m i (grind (arith, nat_tests))) in
-    let of_j = halves (is_in j set) (is_bare s set j) (m j (grind (arith, nat_tests))) in
-    let of_k = halves (is_in k set) (is_bare s set k) (m k (grind (arith, nat_tests))) in (
+    let of_i = and_parts (is_in i set) (is_bare s set i) (m i (grind (arith, nat_tests))) in
+    let of_j = and_parts (is_in j set) (is_bare s set j) (m j (grind (arith, nat_tests))) in
+    let of_k = and_parts (is_in k set) (is_bare s set k) (m k (grind (arith, nat_tests))) in (
       turns_right s laws set i j k of_i.0 of_k.0 of_j.1 c.0 c.1.0,
       chain_falls s laws set (j ∷ k ∷ ps) (λ p h. m p (grind (arith, nat_tests, h))) c.1,
     )

@@ -1,23 +1,22 @@
 -- The computed facts of a tournament are the facts of its nodes.
-use Rattle.std.proofs.Common.{◌≡◌, ◌≢◌, ◌⊎◌, inl, inr, refl, sym, ap, ◌∙◌, subst, arith, List, [], ◌∷◌, ℕ, zero, suc, ◌+◌, ◌*◌, ◌-◌, ◌/◌, ◌^◌, ◌<◌, ◌≤◌, Bool, true, false, cond, ◌||◌, nat_eq, IsTrue, length}
+use Rattle.std.proofs.Common.{◌≡◌, ◌≢◌, ◌⊎◌, inl, inr, refl, sym, ap, ◌∙◌, subst, arith, List, [], ◌∷◌, ℕ, zero, suc, ◌+◌, ◌*◌, ◌-◌, ◌/◌, ◌^◌, ◌<◌, ◌≤◌, Bool, true, false, cond, nat_eq, IsTrue, length}
 use Rattle.std.specs.Prelude.{Option, Some, None, Contains}
 use Rattle.std.proofs.lemmas.Bool.Decides.{nat_tests}
 use Rattle.std.proofs.lemmas.Nat.{pow-add}
+use Rattle.std.proofs.lemmas.Bool.{or_cases}
+use Rattle.std.proofs.lemmas.Option.{same_Some}
+use Rattle.kin_basics.proofs.Members.{contains_none, contains_head, contains_tail, contains_cases}
 use Rattle.kin_motion.specs.declared.fact.Placed.{Placed}
 use Rattle.kin_motion.specs.Sets.{ListsExactly}
 use Rattle.kin_motion.specs.Scene.{Scene, placed_at}
 use Rattle.kin_motion.specs.Tournaments.{Key, beats, IsBest, item_in, comes_to, is_under, items_from, items_under, best_of, IsNodeFact, node_fact, tournament_facts}
-use Rattle.kin_motion.proofs.SetLaws.{contains_none, contains_head, contains_tail, contains_cases, exactly_none, exactly_one, exactly_in_turn, exactly_in_words}
+use Rattle.kin_motion.proofs.SetLaws.{exactly_none, exactly_one, exactly_in_turn, exactly_in_words}
 use Rattle.kin_motion.proofs.BestLaws.{none_there, best_is_top, IsTop}
 
 -- ---- which nodes have slots
-either_true : (a b : Bool) → a || b ≡ true → (a ≡ true) ⊎ (b ≡ true)
-either_true true b h = inl refl
-either_true false b h = inr h
-
 pub not_above : (h u v : ℕ) → comes_to h u v ≡ true → v ≤ u
 not_above zero u v e = let f : u ≡ v = grind (arith, nat_tests, e) in omega (arith, f)
-not_above (suc h) u v e = at (either_true (nat_eq u v) (comes_to h (u / 2) v) e) (not_above h (u / 2) v)
+not_above (suc h) u v e = at (or_cases (nat_eq u v) (comes_to h (u / 2) v) e) (not_above h (u / 2) v)
   where
     at : (nat_eq u v ≡ true) ⊎ (comes_to h (u / 2) v ≡ true) → (comes_to h (u / 2) v ≡ true → v ≤ u / 2) → v ≤ u
     at (inl f) rest = let g : u ≡ v = grind (arith, nat_tests, f) in omega (arith, g)
@@ -25,7 +24,7 @@ not_above (suc h) u v e = at (either_true (nat_eq u v) (comes_to h (u / 2) v) e)
 
 not_none : (h u v : ℕ) → 2 ^ h ≤ u → comes_to h u v ≡ true → 0 < v
 not_none zero u v low e = let f : u ≡ v = grind (arith, nat_tests, e) in omega (arith, f, low)
-not_none (suc h) u v low e = at (either_true (nat_eq u v) (comes_to h (u / 2) v) e) (not_none h (u / 2) v)
+not_none (suc h) u v low e = at (or_cases (nat_eq u v) (comes_to h (u / 2) v) e) (not_none h (u / 2) v)
   where
     power : 2 ^ suc h ≡ 2 * 2 ^ h
     power = let p = pow-add 2 h 1 in let q : 2 ^ suc h ≡ 2 ^ (h + 1) = ap (λ (k : ℕ). 2 ^ k) (omega arith) in omega (arith, p, q)
@@ -52,9 +51,6 @@ within_slots {A} [] i a e = absurd cc
 within_slots {A} (x ∷ xs) zero a e = omega arith
 within_slots {A} (x ∷ xs) (suc i) a e = let h = within_slots xs i a e in omega (arith, h)
 
-same_item : {A : Type 0} {a b : A} → Some a ≡ Some b → a ≡ b
-same_item {A} {a} {b} e = cc
-
 -- ---- the items under a node
 module _ {Item : Type 0} (size v : ℕ) where
   items_from-sound : (n : ℕ) (slots : List (Option Item)) (a : Item) → Contains (items_from size v n slots) a → (k : ℕ) × (is_under size v (n + k) ≡ true) × (item_in slots k ≡ Some a)
@@ -79,7 +75,7 @@ module _ {Item : Type 0} (size v : ℕ) where
   items_from-complete n (None ∷ slots) (suc k) a u e = items_from-complete (n + 1) slots k a (ap (is_under size v) (omega arith) ∙ u) e
   items_from-complete n (Some b ∷ slots) zero a u e =
       subst (λ t. Contains (cond t (b ∷ items_from size v (n + 1) slots) (items_from size v (n + 1) slots)) a) (sym (ap (is_under size v) (omega arith) ∙ u))
-      (subst (λ (x : Item). Contains (b ∷ items_from size v (n + 1) slots) x) (same_item e) (contains_head b (items_from size v (n + 1) slots)))
+      (subst (λ (x : Item). Contains (b ∷ items_from size v (n + 1) slots) x) (same_Some _ _ e) (contains_head b (items_from size v (n + 1) slots)))
   items_from-complete n (Some b ∷ slots) (suc k) a u e = at (is_under size v n) (items_from-complete (n + 1) slots k a (ap (is_under size v) (omega arith) ∙ u) e)
     where
       at : (t : Bool) → Contains (items_from size v (n + 1) slots) a → Contains (cond t (b ∷ items_from size v (n + 1) slots) (items_from size v (n + 1) slots)) a
@@ -104,7 +100,7 @@ module _ {Item : Type 0} (s : Scene) (key : Key Item)
   one_best among a b p q = at (nat_eq p.slot q.slot) refl
     where
       at : (t : Bool) → nat_eq p.slot q.slot ≡ t → a ≡ b
-      at true e = let f : p.slot ≡ q.slot = grind (arith, nat_tests, e) in same_item (sym p.held ∙ ap (item_in slots) f ∙ q.held)
+      at true e = let f : p.slot ≡ q.slot = grind (arith, nat_tests, e) in same_Some _ _ (sym p.held ∙ ap (item_in slots) f ∙ q.held)
       at false e =
           let n : p.slot ≢ q.slot = grind (arith, nat_tests, e) in
           let ab = p.beats_others q.slot b (λ f. n (sym f)) q.among q.held in

@@ -52,8 +52,7 @@ module _ (s : Scene) (laws : HasLineLaws s) where
   pub before_turned : (dx dy : ℤ) (i j : ℕ) → i ≢ j → is_before s dx dy j i ≡ not (is_before s dx dy i j)
   before_turned dx dy i j n = ap (λ t. leads t j i) (laws.opposite dx dy i j) ∙ turned_leads (s.sign (Line dx dy (pos 0) i j)) i j n
 
-  sum_of : (dx dy ex ey : ℤ) (i j : ℕ) → both (is_before s dx dy i j) (is_before s ex ey i j) (is_before s (dx +ℤ ex) (dy +ℤ ey) i j)
-  unfolding both
+  pub sum_of : (dx dy ex ey : ℤ) (i j : ℕ) → is_before s dx dy i j ≡ true → is_before s ex ey i j ≡ true → is_before s (dx +ℤ ex) (dy +ℤ ey) i j ≡ true
   sum_of dx dy ex ey i j = leads_along _ _ _ i j (laws.directions dx dy ex ey i j)
 
   pub in_one_octant : (p q : ℕ) → p ≢ q → count_by (λ b. b) (map (λ o. is_in_octant s o p q) octants) ≡ 1

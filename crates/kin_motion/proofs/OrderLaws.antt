@@ -4,7 +4,8 @@ use Rattle.std.proofs.lemmas.Bool.Decides.{nat_tests}
 use Rattle.std.proofs.lemmas.List.Elements.{All-head, All-tail}
 use Rattle.kin_algebra.specs.declared.sign.Sign.{Sign}
 use Rattle.kin_algebra.specs.declared.sign.Sign.TheVariants.{Minus, Zero, Plus}
-use Rattle.kin_algebra.specs.Signs.{opposite_of, SumMayBe}
+use Rattle.kin_algebra.specs.Signs.{SumMayBe}
+use Rattle.kin_algebra.proofs.Signs.{zero_from_opposite}
 use Rattle.kin_motion.specs.declared.form.Form.TheVariants.{Line}
 use Rattle.kin_motion.specs.declared.fact.Placed.{Placed}
 use Rattle.kin_motion.specs.Numbers.{is_in, IsChain}
@@ -13,11 +14,6 @@ use Rattle.kin_motion.specs.Orders.{leads, is_before, IsOrder, neighbour_facts}
 use Rattle.kin_motion.specs.Kinetics.{AllHold}
 use Rattle.kin_motion.specs.Laws.{HasLineLaws}
 use Rattle.kin_motion.proofs.Chains.{same_chain}
-
-own_opposite : (t : Sign) → t ≡ opposite_of t → t ≡ Zero
-own_opposite Minus e = absurd cc
-own_opposite Zero e = refl
-own_opposite Plus e = absurd cc
 
 never_leads : (t : Sign) (i : ℕ) → t ≡ Zero → leads t i i ≡ true → ⊥
 never_leads Minus i e h = absurd cc
@@ -35,7 +31,7 @@ leads_through Plus Plus r i j k sum a b = ap (λ q. leads q i k) sum
 
 module _ (s : Scene) (laws : HasLineLaws s) (dx dy : ℤ) where
   pub never_before_itself : (i : ℕ) → is_before s dx dy i i ≡ true → ⊥
-  never_before_itself i h = never_leads (s.sign (Line dx dy (pos 0) i i)) i (own_opposite _ (laws.opposite dx dy i i)) h
+  never_before_itself i h = never_leads (s.sign (Line dx dy (pos 0) i i)) i (zero_from_opposite _ (laws.opposite dx dy i i)) h
 
   pub before_through : (i j k : ℕ) → is_before s dx dy i j ≡ true → is_before s dx dy j k ≡ true → is_before s dx dy i k ≡ true
   before_through i j k = leads_through _ _ _ i j k (laws.chain dx dy i j k)

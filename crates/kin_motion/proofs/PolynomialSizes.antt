@@ -1,6 +1,6 @@
 -- How large the polynomials of forms are, where motions are slow.
-use Rattle.std.proofs.Common.{◌≡◌, ℤ, ℕ, ◌≤◌, ◌+◌, ◌*◌, ◌^◌, ◌+ℤ◌, ◌-ℤ◌, ◌*ℤ◌, unsigned_abs, List, Option, Some, None, refl, arith, mul-le-mul}
-use Rattle.std.proofs.lemmas.Int.{ints, unsigned_abs-mul}
+use Rattle.std.proofs.Common.{◌≡◌, ℤ, ℕ, ◌≤◌, ◌^◌, ◌+ℤ◌, ◌*ℤ◌, unsigned_abs, List, Option, Some, None, refl, arith}
+use Rattle.kin_basics.proofs.Integers.{size-sum, size-difference, size-product}
 use Rattle.kin_num.specs.Quadratic.{Quadratic, IsSmall, quadratic_sum}
 use Rattle.kin_motion.specs.declared.form.Form.TheVariants.{Line, Turn, Slope, Dist}
 use Rattle.kin_motion.specs.Course.{Course, IsSlow, AreSlow, motion_of}
@@ -10,15 +10,6 @@ use Rattle.kin_motion.specs.Theorems.{PolynomialsAreSmall}
 use Rattle.kin_motion.proofs.PolyLaws.{within_plus}
 
 -- ---- numbers
-sum_size : (n m : ℕ) (x y : ℤ) → unsigned_abs x ≤ n → unsigned_abs y ≤ m → unsigned_abs (x +ℤ y) ≤ n + m
-sum_size n m x y h k = omega (arith, ints)
-
-difference_size : (n m : ℕ) (x y : ℤ) → unsigned_abs x ≤ n → unsigned_abs y ≤ m → unsigned_abs (x -ℤ y) ≤ n + m
-difference_size n m x y h k = omega (arith, ints)
-
-product_size : (n m : ℕ) (x y : ℤ) → unsigned_abs x ≤ n → unsigned_abs y ≤ m → unsigned_abs (x *ℤ y) ≤ n * m
-product_size n m x y h k = omega (arith, unsigned_abs-mul x y, mul-le-mul h k)
-
 -- ---- steps between points
 record IsNear (p : Linear) : Type 0 where
   slope_most : unsigned_abs p.slope ≤ 4096
@@ -34,8 +25,8 @@ y_near (Some c) slow = let s = slow c refl in record { slope_most = s.v_small; s
 
 minus_short : (p q : Linear) → IsNear p → IsNear q → IsShort (minus p q)
 minus_short p q h k = record {
-  slope_small = difference_size 4096 4096 p.slope q.slope h.slope_most k.slope_most;
-  start_small = difference_size 4096 4096 p.start q.start h.start_most k.start_most;
+  slope_small = size-difference p.slope q.slope 4096 4096 h.slope_most k.slope_most;
+  start_small = size-difference p.start q.start 4096 4096 h.start_most k.start_most;
 }
 
 module _ (ms : List (Option Course)) (slow : AreSlow ms) (i j : ℕ) where
@@ -48,11 +39,11 @@ module _ (ms : List (Option Course)) (slow : AreSlow ms) (i j : ℕ) where
 -- ---- polynomials of steps
 product_within : (p q : Linear) → IsShort p → IsShort q → IsWithin (2 ^ 26) (product p q)
 product_within p q h k = record {
-  a_small = product_size (2 ^ 13) (2 ^ 13) p.slope q.slope h.slope_small k.slope_small;
-  b_small = sum_size (2 ^ 26) (2 ^ 26) (p.slope *ℤ q.start) (p.start *ℤ q.slope)
-      (product_size (2 ^ 13) (2 ^ 13) p.slope q.start h.slope_small k.start_small)
-      (product_size (2 ^ 13) (2 ^ 13) p.start q.slope h.start_small k.slope_small);
-  c_small = product_size (2 ^ 13) (2 ^ 13) p.start q.start h.start_small k.start_small;
+  a_small = size-product p.slope q.slope (2 ^ 13) (2 ^ 13) h.slope_small k.slope_small;
+  b_small = size-sum (p.slope *ℤ q.start) (p.start *ℤ q.slope) (2 ^ 26) (2 ^ 26)
+      (size-product p.slope q.start (2 ^ 13) (2 ^ 13) h.slope_small k.start_small)
+      (size-product p.start q.slope (2 ^ 13) (2 ^ 13) h.start_small k.slope_small);
+  c_small = size-product p.start q.start (2 ^ 13) (2 ^ 13) h.start_small k.start_small;
 }
 
 square_within : (p q : Linear) → IsShort p → IsShort q → IsWithin (2 ^ 27) (quadratic_sum (product p p) (product q q))
@@ -63,20 +54,20 @@ wider p h = record { a_small = omega (arith, h.a_small); b_small = omega (arith,
 
 difference_small : (p q : Quadratic) → IsWithin (2 ^ 27) p → IsWithin (2 ^ 27) q → IsSmall (difference p q)
 difference_small p q h k = record {
-  a_small = difference_size (2 ^ 27) (2 ^ 27) p.a q.a h.a_small k.a_small;
-  b_small = difference_size (2 ^ 28) (2 ^ 28) p.b q.b h.b_small k.b_small;
-  c_small = difference_size (2 ^ 27) (2 ^ 27) p.c q.c h.c_small k.c_small;
+  a_small = size-difference p.a q.a (2 ^ 27) (2 ^ 27) h.a_small k.a_small;
+  b_small = size-difference p.b q.b (2 ^ 28) (2 ^ 28) h.b_small k.b_small;
+  c_small = size-difference p.c q.c (2 ^ 27) (2 ^ 27) h.c_small k.c_small;
 }
 
 along_small : (dx dy off : ℤ) (x y : Linear) → unsigned_abs dx ≤ 16 → unsigned_abs dy ≤ 16 → unsigned_abs off ≤ 2 ^ 16 → IsShort x → IsShort y → IsSmall (along dx dy off x y)
 along_small dx dy off x y dx_small dy_small off_small h k = record {
   a_small = omega arith;
   b_small = let e = both x.slope y.slope h.slope_small k.slope_small in omega (arith, e);
-  c_small = let e = sum_size (2 ^ 18) (2 ^ 16) (dx *ℤ x.start +ℤ dy *ℤ y.start) off (both x.start y.start h.start_small k.start_small) off_small in omega (arith, e);
+  c_small = let e = size-sum (dx *ℤ x.start +ℤ dy *ℤ y.start) off (2 ^ 18) (2 ^ 16) (both x.start y.start h.start_small k.start_small) off_small in omega (arith, e);
 }
   where
     both : (u v : ℤ) → unsigned_abs u ≤ 2 ^ 13 → unsigned_abs v ≤ 2 ^ 13 → unsigned_abs (dx *ℤ u +ℤ dy *ℤ v) ≤ 2 ^ 18
-    both u v f g = sum_size (2 ^ 17) (2 ^ 17) (dx *ℤ u) (dy *ℤ v) (product_size 16 (2 ^ 13) dx u dx_small f) (product_size 16 (2 ^ 13) dy v dy_small g)
+    both u v f g = size-sum (dx *ℤ u) (dy *ℤ v) (2 ^ 17) (2 ^ 17) (size-product dx u 16 (2 ^ 13) dx_small f) (size-product dy v 16 (2 ^ 13) dy_small g)
 
 pub polynomials_are_small : PolynomialsAreSmall
 unfolding polynomial_of

@@ -2,6 +2,7 @@
 use Rattle.std.proofs.Common.{◌≡◌, ◌⊎◌, inl, inr, refl, ap, ◌∙◌, arith, List, [], ◌∷◌, ℕ, suc, ◌+◌, ◌*◌, ◌^◌, ◌<◌, ◌≤◌, unsigned_abs}
 use Rattle.std.specs.Prelude.{pos, Contains}
 use Rattle.std.proofs.lemmas.Int.{unsigned_abs-mul}
+use Rattle.kin_basics.proofs.Members.{contains_none, contains_cases}
 use Rattle.kin_algebra.specs.declared.sign.Sign.TheVariants.{Plus}
 use Rattle.kin_algebra.specs.Signs.{sign_of}
 use Rattle.kin_algebra.proofs.Pairs.{Sound}
@@ -16,7 +17,6 @@ use Rattle.kin_num.specs.Instants.{Number, number_of, sign_at_number, sign_at_in
 use Rattle.kin_num.proofs.Near.{HasHeight, HasSize}
 use Rattle.kin_num.proofs.Sizes.{small_is_wide, wide_size}
 use Rattle.kin_num.proofs.Seat.{seat_later}
-use Rattle.kin_motion.proofs.SetLaws.{contains_none, contains_cases}
 
 -- as high as the coefficients of a polynomial and of its derivative
 height_of : Quadratic → ℕ

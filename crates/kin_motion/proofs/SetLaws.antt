@@ -1,48 +1,21 @@
 -- Lists that have exactly what is asked, each once: joined, mapped, and sorted into one list.
 use Rattle.std.proofs.Common.{◌≡◌, ◌⊎◌, inl, inr, refl, sym, ap, ◌∙◌, subst, arith, List, [], ◌∷◌, ◌++◌, ℕ, zero, suc, ◌+◌, ◌<◌, ◌≤◌, map, true, false, cond, Bool}
-use Rattle.std.specs.Prelude.{Some, slice_get, Contains, ◌↔◌, flat_map, filter}
+use Rattle.std.specs.Prelude.{Contains, ◌↔◌, flat_map, filter}
 use Rattle.std.proofs.lemmas.List.Elements.{Contains-append_left, Contains-append_right, Contains-append_cases}
+pub use Rattle.kin_basics.proofs.Members.{contains_none, contains_head, contains_tail, contains_cases}
+use Rattle.kin_basics.proofs.Members.{contains_from_get, get_from_contains}
 use Rattle.kin_motion.specs.Numbers.{numbers_from}
 use Rattle.kin_motion.specs.Sets.{AreDistinct, ListsExactly}
-
-same_item : {A : Type 0} {x y : A} → Some x ≡ Some y → x ≡ y
-same_item {A} {x} {y} e = cc
-
-pub contains_none : {A : Type 0} (z : A) → Contains {X = A} [] z → ⊥
-contains_none {A} z (k, l, e) = absurd (omega arith)
-
-pub contains_head : {A : Type 0} (x : A) (xs : List A) → Contains (x ∷ xs) x
-contains_head {A} x xs = (zero, omega arith, refl)
-
-pub contains_tail : {A : Type 0} (x z : A) (xs : List A) → Contains xs z → Contains (x ∷ xs) z
-contains_tail {A} x z xs (k, l, e) = (suc k, omega arith, e)
-
-pub contains_cases : {A : Type 0} (x z : A) (xs : List A) → Contains (x ∷ xs) z → (x ≡ z) ⊎ Contains xs z
-contains_cases {A} x z xs (zero, l, e) = inl e
-contains_cases {A} x z xs (suc k, l, e) = inr (k, omega arith, e)
-
-pub contains_at : {A : Type 0} (xs : List A) (k : ℕ) (x : A) → slice_get xs k ≡ Some x → Contains xs x
-contains_at {A} [] k x e = absurd cc
-contains_at {A} (y ∷ ys) zero x e = subst (λ (z : A). Contains (y ∷ ys) z) (same_item e) (contains_head y ys)
-contains_at {A} (y ∷ ys) (suc k) x e = contains_tail y x ys (contains_at ys k x e)
-
-pub place_of : {A : Type 0} (xs : List A) (x : A) → Contains xs x → (k : ℕ) × (slice_get xs k ≡ Some x)
-place_of {A} [] x h = absurd (contains_none x h)
-place_of {A} (y ∷ ys) x h = at (contains_cases y x ys h) (place_of ys x)
-  where
-    at : (y ≡ x) ⊎ Contains ys x → (Contains ys x → (k : ℕ) × (slice_get ys k ≡ Some x)) → (k : ℕ) × (slice_get (y ∷ ys) k ≡ Some x)
-    at (inl e) f = (zero, ap (λ (z : A). Some z) e)
-    at (inr l) f = let p = f l in (suc (p.0), p.1)
 
 -- an item in front that isn't behind
 pub distinct_cons : {A : Type 0} (x : A) (xs : List A) → ¬ (Contains xs x) → AreDistinct xs → AreDistinct (x ∷ xs)
 distinct_cons {A} x xs new d zero zero z e f = refl
-distinct_cons {A} x xs new d zero (suc j) z e f = absurd (new (contains_at xs j x (f ∙ sym e)))
-distinct_cons {A} x xs new d (suc i) zero z e f = absurd (new (contains_at xs i x (e ∙ sym f)))
+distinct_cons {A} x xs new d zero (suc j) z e f = absurd (new (contains_from_get xs j x (f ∙ sym e)))
+distinct_cons {A} x xs new d (suc i) zero z e f = absurd (new (contains_from_get xs i x (e ∙ sym f)))
 distinct_cons {A} x xs new d (suc i) (suc j) z e f = ap suc (d i j z e f)
 
 pub distinct_head : {A : Type 0} (x : A) (xs : List A) → AreDistinct (x ∷ xs) → ¬ (Contains xs x)
-distinct_head {A} x xs d h = let p = place_of xs x h in let e : zero ≡ suc p.0 = d zero (suc p.0) x refl p.1 in absurd cc
+distinct_head {A} x xs d h = let p = get_from_contains xs x h in let e : zero ≡ suc p.0 = d zero (suc p.0) x refl p.1 in absurd cc
 
 pub distinct_tail : {A : Type 0} (x : A) (xs : List A) → AreDistinct (x ∷ xs) → AreDistinct xs
 distinct_tail {A} x xs d i j z e f = let h : suc i ≡ suc j = d (suc i) (suc j) z e f in cc

@@ -2,6 +2,8 @@
 use Rattle.std.proofs.Common.{◌≡◌, refl, sym, ap, ap₂, ◌∙◌, subst, List, [], ◌∷◌, ℕ}
 use Rattle.std.specs.Prelude.{ℤ, pos, ◌+ℤ◌, ◌-ℤ◌, ◌*ℤ◌, Option, Contains}
 use lib.IntN.{neg_ℤ}
+use Rattle.kin_basics.proofs.Members.{contains_from_get}
+use Rattle.kin_basics.proofs.Integers.{difference-turned}
 use Rattle.kin_algebra.specs.declared.sign.Sign.{Sign}
 use Rattle.kin_algebra.specs.declared.sign.Sign.TheVariants.{Minus, Zero, Plus}
 use Rattle.kin_algebra.specs.Signs.{sign_of, product_of, opposite_of, SumMayBe}
@@ -18,7 +20,6 @@ use Rattle.kin_motion.specs.Course.{Course}
 use Rattle.kin_motion.specs.Forms.{Linear, minus, product, difference, along, x_step, y_step, polynomial_of, sign_of_form}
 use Rattle.kin_motion.specs.Scene.{Scene, IsReal, x_sign}
 use Rattle.kin_motion.specs.Laws.{HasSlopeLaws}
-use Rattle.kin_motion.proofs.SetLaws.{contains_at}
 use Rattle.kin_motion.proofs.SeenLaws.{SeenAt, seen_at}
 use Rattle.kin_motion.proofs.RealLaws.{by_signs, opposite_forms}
 
@@ -38,10 +39,10 @@ product_root a b c e n m q = by_ring (a ∷ b ∷ c ∷ e ∷ n ∷ m ∷ q ∷ 
 pub value-product : (p q : Linear) (x : Number) → value (product p q) x ≡ pair_times x.radicand (line_value p x) (line_value q x)
 value-product p q x = ap₂ pair (product_whole p.slope p.start q.slope q.start x.whole x.root x.radicand x.divisor) (product_root p.slope p.start q.slope q.start x.whole x.root x.divisor)
 
-less_is_plus : (a b : ℤ) → a -ℤ b ≡ a +ℤ neg_ℤ b
+pub less_is_plus : (a b : ℤ) → a -ℤ b ≡ a +ℤ neg_ℤ b
 less_is_plus a b = by_ring (a ∷ b ∷ []) _ _ (search quotes depth 20) (search quotes depth 20) refl
 
-difference-sum : (p q : Quadratic) → difference p q ≡ quadratic_sum p (negated q)
+pub difference-sum : (p q : Quadratic) → difference p q ≡ quadratic_sum p (negated q)
 difference-sum p q = let f = less_is_plus p.a q.a in let g = less_is_plus p.b q.b in let h = less_is_plus p.c q.c in λ t. record { a = f t; b = g t; c = h t }
 
 value-difference : (p q : Quadratic) (x : Number) → value (difference p q) x ≡ pair_plus (value p x) (pair_negative (value q x))
@@ -163,20 +164,17 @@ module _ (s : Scene) (r : IsReal s) (i j k l m n : ℕ) where
 
   slope_through : x_sign s i j ≡ Plus → x_sign s k l ≡ Plus → x_sign s m n ≡ Plus → SumMayBe (s.sign (Slope i j k l)) (s.sign (Slope k l m n)) (s.sign (Slope i j m n))
   slope_through e f g =
-      by_signs (slope-here i j k l (contains_at six 3 _ refl)) (slope-here k l m n (contains_at six 4 _ refl)) (slope-here i j m n (contains_at six 5 _ refl))
-      (through here (X i j) (Y i j) (X k l) (Y k l) (X m n) (Y m n) (sym (x-here i j (contains_at six 0 _ refl)) ∙ e) (sym (x-here k l (contains_at six 1 _ refl)) ∙ f) (sym (x-here m n (contains_at six 2 _ refl)) ∙ g))
-
-turned_back : (a b : ℤ) → a -ℤ b ≡ neg_ℤ (b -ℤ a)
-turned_back a b = by_ring (a ∷ b ∷ []) _ _ (search quotes depth 20) (search quotes depth 20) refl
+      by_signs (slope-here i j k l (contains_from_get six 3 _ refl)) (slope-here k l m n (contains_from_get six 4 _ refl)) (slope-here i j m n (contains_from_get six 5 _ refl))
+      (through here (X i j) (Y i j) (X k l) (Y k l) (X m n) (Y m n) (sym (x-here i j (contains_from_get six 0 _ refl)) ∙ e) (sym (x-here k l (contains_from_get six 1 _ refl)) ∙ f) (sym (x-here m n (contains_from_get six 2 _ refl)) ∙ g))
 
 opposite_slope : (ms : List (Option Course)) (i j k l : ℕ) → polynomial_of ms (Slope k l i j) ≡ negated (polynomial_of ms (Slope i j k l))
 unfolding polynomial_of
 opposite_slope ms i j k l =
     let p = product (y_step ms k l) (x_step ms i j) in
     let q = product (y_step ms i j) (x_step ms k l) in
-    let f = turned_back p.a q.a in
-    let g = turned_back p.b q.b in
-    let h = turned_back p.c q.c in
+    let f = difference-turned p.a q.a in
+    let g = difference-turned p.b q.b in
+    let h = difference-turned p.c q.c in
     λ t. record { a = f t; b = g t; c = h t }
 
 pub real_slope_laws : (s : Scene) → IsReal s → HasSlopeLaws s

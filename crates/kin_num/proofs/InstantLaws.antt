@@ -2,11 +2,10 @@
 use Rattle.std.proofs.Common.{◌≡◌, ap, sym, ◌∙◌, subst, arith}
 use Rattle.std.specs.Prelude.{ℤ, pos, ◌+ℤ◌, ◌*ℤ◌}
 use Rattle.std.proofs.lemmas.Int.{ints}
-use Rattle.kin_algebra.specs.declared.sign.Sign.{Sign}
-use Rattle.kin_algebra.specs.declared.sign.Sign.TheVariants.{Minus, Zero, Plus}
-use Rattle.kin_algebra.specs.Signs.{SumMayBe, first_of}
+use Rattle.kin_algebra.specs.Signs.{SumMayBe}
 use Rattle.kin_algebra.proofs.OrderedRings.{sum_may_be}
 use Rattle.kin_algebra.proofs.Pairs.{ordered, sign_over}
+use Rattle.kin_algebra.proofs.Signs.{first_of-sum}
 use Rattle.kin_num.specs.declared.instant.Shape.{Shape}
 use Rattle.kin_num.specs.declared.instant.Phase.{Phase}
 use Rattle.kin_num.specs.declared.instant.Phase.TheVariants.{At, After}
@@ -25,25 +24,6 @@ instant_sum p q w c =
     (sum_may_be (ordered x.radicand (canonical-sound w c)) (value p x) (value q x))
 
 -- ---- sums at both phases
-first_sum : (s t r s' t' r' : Sign) → SumMayBe s t r → SumMayBe s' t' r' → SumMayBe (first_of s s') (first_of t t') (first_of r r')
-first_sum Zero Zero r s' t' r' a b = subst (λ x. SumMayBe s' t' (first_of x r')) (sym a) b
-first_sum Zero Plus r Minus t' r' a b = tt
-first_sum Zero Plus r Zero t' r' a b = ap (λ x. first_of x r') a
-first_sum Zero Plus r Plus t' r' a b = ap (λ x. first_of x r') a
-first_sum Zero Minus r Minus t' r' a b = ap (λ x. first_of x r') a
-first_sum Zero Minus r Zero t' r' a b = ap (λ x. first_of x r') a
-first_sum Zero Minus r Plus t' r' a b = tt
-first_sum Plus Plus r s' t' r' a b = ap (λ x. first_of x r') a
-first_sum Plus Zero r s' Minus r' a b = tt
-first_sum Plus Zero r s' Zero r' a b = ap (λ x. first_of x r') a
-first_sum Plus Zero r s' Plus r' a b = ap (λ x. first_of x r') a
-first_sum Plus Minus r s' t' r' a b = tt
-first_sum Minus Plus r s' t' r' a b = tt
-first_sum Minus Zero r s' Minus r' a b = ap (λ x. first_of x r') a
-first_sum Minus Zero r s' Zero r' a b = ap (λ x. first_of x r') a
-first_sum Minus Zero r s' Plus r' a b = tt
-first_sum Minus Minus r s' t' r' a b = ap (λ x. first_of x r') a
-
 twice_sum : (a b : ℤ) → pos 2 *ℤ (a +ℤ b) ≡ pos 2 *ℤ a +ℤ pos 2 *ℤ b
 twice_sum a b = omega (arith, ints)
 
@@ -58,7 +38,7 @@ phase_sum p q w After c =
     let again : derivative (derivative (quadratic_sum p q)) ≡ quadratic_sum (derivative (derivative p)) (derivative (derivative q)) = ap derivative (derivative-sum p q) ∙ derivative-sum (derivative p) (derivative q) in
     let two : SumMayBe (sign_at_instant (derivative (derivative p)) w) (sign_at_instant (derivative (derivative q)) w) (sign_at_instant (derivative (derivative (quadratic_sum p q))) w) =
     subst (λ x. SumMayBe (sign_at_instant (derivative (derivative p)) w) (sign_at_instant (derivative (derivative q)) w) (sign_at_instant x w)) (sym again) (instant_sum (derivative (derivative p)) (derivative (derivative q)) w c) in
-    first_sum _ _ _ _ _ _ (instant_sum p q w c) (first_sum _ _ _ _ _ _ one two)
+    first_of-sum _ _ _ _ _ _ (instant_sum p q w c) (first_of-sum _ _ _ _ _ _ one two)
 
 -- the sign of a sum at a moment of a canonical instant
 pub sign_at-sum-form : (p q : Quadratic) (m : Moment) → IsCanonicalForm m.at → SumMayBe (sign_at p m) (sign_at q m) (sign_at (quadratic_sum p q) m)

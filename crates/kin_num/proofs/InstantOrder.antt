@@ -1,5 +1,5 @@
 -- The order of canonical instants is total: of two different ones one is less.
-use Rattle.std.proofs.Common.{◌≡◌, ◌⊎◌, inl, inr, ℕ, true, false, subst, ◌+◌, ◌*◌, ◌<◌, ◌^◌, pos, arith}
+use Rattle.std.proofs.Common.{◌≡◌, ◌≢◌, ◌⊎◌, inl, inr, ℕ, true, false, sym, ◌∙◌, subst, ◌+◌, ◌*◌, ◌<◌, ◌^◌, pos, arith}
 use Rattle.std.specs.Prelude.{ℤ}
 use Rattle.kin_algebra.specs.declared.sign.Sign.{Sign}
 use Rattle.kin_algebra.specs.declared.sign.Sign.TheVariants.{Minus, Zero, Plus}
@@ -92,6 +92,9 @@ module _ (a b c : ℤ) (i : IsIrreducible a b c) (w : Shape) (form : IsCanonical
   -- a slope of sign 0 comes with a negative value
   pub level_value : slope_sign ≡ Zero → value_sign ≡ Minus
   level_value e = Roots.level a b c i w form (size_of w) (grain w root) (height_of root) (own_size w form) (height_some root) (grain-fine w root) (own_height root).own (own_height root).slope e
+
+  pub never_level : {P : Type 0} (v : Sign) → value_sign ≡ v → v ≢ Minus → slope_sign ≡ Zero → P
+  never_level v e n f = absurd (n (sym e ∙ level_value f))
 
 -- ---- against a fraction, by the sign of its line
 module _ (n d : ℤ) (i : IsLowest n d) (w : Shape) (form : IsCanonicalForm w) where

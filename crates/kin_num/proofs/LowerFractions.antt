@@ -1,8 +1,8 @@
 -- The order laws that hold for all instants with a sound radicand and a positive divisor.
 use Rattle.std.proofs.Common.{◌≡◌, ◌≢◌, ◌⊎◌, inl, inr, [], ◌∷◌, refl, sym, ap, ap₂, ◌∙◌, subst, arith}
-use Rattle.std.specs.Prelude.{zero, suc, ℤ, pos, negsuc, ◌-ℤ◌, ◌*ℤ◌, ◌<ℤ◌, ◌≤ℤ◌}
+use Rattle.std.specs.Prelude.{ℤ, pos, ◌-ℤ◌, ◌*ℤ◌, ◌<ℤ◌, ◌≤ℤ◌}
 use Rattle.std.proofs.lemmas.Int.{ints}
-use lib.IntN.{neg_ℤ}
+use Rattle.kin_basics.proofs.Integers.{difference-turned}
 use Rattle.kin_algebra.specs.declared.sign.Sign.{Sign}
 use Rattle.kin_algebra.specs.declared.sign.Sign.TheVariants.{Minus, Zero, Plus}
 use Rattle.kin_algebra.specs.Signs.{sign_of, opposite_of, product_of}
@@ -16,7 +16,7 @@ use Rattle.kin_num.specs.Canonical.{IsCanonicalForm}
 use Rattle.kin_num.specs.Instants.{Number, number_of, sign_at_instant, line}
 use Rattle.kin_num.specs.Order.{Separates, IsLess}
 use Rattle.kin_num.proofs.Values.{canonical-sound}
-use Rattle.kin_num.proofs.NumberRing.{flat}
+use Rattle.kin_num.proofs.NumberRing.{flat, at_least_in}
 use Rattle.kin_num.proofs.Near.{past, line_sign}
 use Rattle.kin_num.proofs.RootZeros.{divisor-positive}
 
@@ -48,9 +48,6 @@ module _ (w : Shape) (form : IsCanonicalForm w) where
       (ap (sign_over x.radicand) (lower-as n d m e x.whole x.root x.radicand x.divisor)
       ∙ o.sign_plus Plus (pair_times x.radicand (flat d) (past x m e)) (flat ((m *ℤ d -ℤ n *ℤ e) *ℤ x.divisor)) first more)
 
-turned_difference : (n d m e : ℤ) → n *ℤ e -ℤ m *ℤ d ≡ neg_ℤ (m *ℤ d -ℤ n *ℤ e)
-turned_difference n d m e = by_ring (n ∷ d ∷ m ∷ e ∷ []) _ _ (search quotes depth 20) (search quotes depth 20) refl
-
 -- n/d lies before v, and m/e at or after v and before w: so n/d lies before w
 lower_of_two : (v w : Shape) → IsCanonicalForm v → IsCanonicalForm w → (n d m e : ℤ) → pos 0 <ℤ d → pos 0 <ℤ e
     → sign_at_instant (line n d) v ≡ Plus → sign_at_instant (line m e) v ≢ Plus → sign_at_instant (line m e) w ≡ Plus
@@ -58,7 +55,7 @@ lower_of_two : (v w : Shape) → IsCanonicalForm v → IsCanonicalForm w → (n 
 lower_of_two v w fv fw n d m e dp ep a b c Plus k = lower_fraction w fw n d m e dp ep (inl k) c
 lower_of_two v w fv fw n d m e dp ep a b c Zero k = lower_fraction w fw n d m e dp ep (inr k) c
 lower_of_two v w fv fw n d m e dp ep a b c Minus k =
-    absurd (b (lower_fraction v fv m e n d ep dp (inl (ap sign_of (turned_difference n d m e) ∙ sign_of-negative (m *ℤ d -ℤ n *ℤ e) ∙ ap opposite_of k)) a))
+    absurd (b (lower_fraction v fv m e n d ep dp (inl (ap sign_of (difference-turned (n *ℤ e) (m *ℤ d)) ∙ sign_of-negative (m *ℤ d -ℤ n *ℤ e) ∙ ap opposite_of k)) a))
 
 pub not_less_itself : (w : Shape) → ¬ (IsLess w w)
 not_less_itself w l = l.2.first l.2.second
@@ -78,18 +75,13 @@ pub less_asym : (v w : Shape) → IsCanonicalForm v → IsCanonicalForm w → Is
 less_asym v w fv fw p q = not_less_itself v (less_trans v w v fw fv p q)
 
 -- ---- the least fraction of one denominator that isn't before v
-at_least_of : (k : ℤ) → pos 0 ≤ℤ k → AtLeast (sign_of k)
-at_least_of (pos zero) h = inr refl
-at_least_of (pos (suc n)) h = inl refl
-at_least_of (negsuc n) h = absurd (omega (arith, ints))
-
-same_denominator : (m n t : ℤ) → m *ℤ t -ℤ n *ℤ t ≡ (m -ℤ n) *ℤ t
+pub same_denominator : (m n t : ℤ) → m *ℤ t -ℤ n *ℤ t ≡ (m -ℤ n) *ℤ t
 same_denominator m n t = by_ring (m ∷ n ∷ t ∷ []) _ _ (search quotes depth 20) (search quotes depth 20) refl
 
 pub lower_numerator : (w : Shape) → IsCanonicalForm w → (n m t : ℤ) → pos 0 <ℤ t → n ≤ℤ m → sign_at_instant (line m t) w ≡ Plus → sign_at_instant (line n t) w ≡ Plus
 lower_numerator w form n m t p h =
     lower_fraction w form n t m t p p
-    (subst AtLeast (sym (ap sign_of (same_denominator m n t) ∙ sign_of-times (m -ℤ n) t ∙ ap (product_of (sign_of (m -ℤ n))) (sign_in Plus t p) ∙ product-Plus (sign_of (m -ℤ n)))) (at_least_of (m -ℤ n) (omega (arith, ints))))
+    (subst AtLeast (sym (ap sign_of (same_denominator m n t) ∙ sign_of-times (m -ℤ n) t ∙ ap (product_of (sign_of (m -ℤ n))) (sign_in Plus t p) ∙ product-Plus (sign_of (m -ℤ n)))) (at_least_in (m -ℤ n) (omega (arith, ints))))
 
 pub least_separates : (v w : Shape) → IsCanonicalForm v → IsCanonicalForm w → (n k t : ℤ) → sign_at_instant (line (k -ℤ pos 1) t) v ≡ Plus → sign_at_instant (line k t) v ≢ Plus → Separates v w n t → Separates v w k t
 least_separates v w fv fw n k t after not_after s = record {

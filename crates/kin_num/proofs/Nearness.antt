@@ -110,7 +110,7 @@ module _ {R : Type 0} (o : OrderedRing R) where
       after_parts : value_after ≡ rest ⊕ ((T · T) · A Z)
       after_parts = by_identity o.ring (a ∷ b ∷ c ∷ Q ∷ T ∷ Z ∷ []) _ _ (search quotes_in depth 40 fits 40000) (search quotes_in depth 40 fits 40000) refl
 
-      product_nothing : (x y : R) → o.sign y ≡ Zero → o.sign (x · y) ≡ Zero
+      pub product_nothing : (x y : R) → o.sign y ≡ Zero → o.sign (x · y) ≡ Zero
       product_nothing x y e = o.sign_times x y ∙ ap (product_of (o.sign x)) e ∙ product-Zero (o.sign x)
 
       without_value : o.sign (A Z) ≡ Zero → o.sign value_after ≡ o.sign rest

@@ -3,6 +3,7 @@ use Rattle.std.proofs.Common.{◌≡◌, ◌≢◌, inr, Bool, true, false, [], 
 use Rattle.std.specs.Prelude.{ℤ, pos, ◌+ℤ◌, ◌-ℤ◌, ◌*ℤ◌}
 use Rattle.std.proofs.lemmas.Int.{ints}
 use lib.IntN.{neg_ℤ}
+use Rattle.kin_basics.proofs.Integers.{same_from_difference}
 use Rattle.kin_algebra.specs.declared.sign.Sign.{Sign}
 use Rattle.kin_algebra.specs.declared.sign.Sign.TheVariants.{Minus, Zero, Plus}
 use Rattle.kin_algebra.specs.Signs.{sign_of, opposite_of, product_of, sum_sign_of, norm_of, pair_sign_of}
@@ -30,9 +31,6 @@ divisor-positive (Root a b c false) i = double_plus a b c i
 
 nothing_right : (k : ℤ) → k *ℤ pos 0 ≡ pos 0
 nothing_right k = by_ring (k ∷ []) _ _ (search quotes depth 20) (search quotes depth 20) refl
-
-no_difference : (x y : ℤ) → x -ℤ y ≡ pos 0 → x ≡ y
-no_difference x y e = omega (arith, ints)
 
 nothing_times : (k z : ℤ) → sign_of k ≡ Plus → k *ℤ z ≡ pos 0 → z ≡ pos 0
 nothing_times k z e f = zero_of z (sym (times_positive k z e) ∙ ap sign_of f)
@@ -73,7 +71,7 @@ module _ (p : Quadratic) (a b c : ℤ) (i : IsIrreducible a b c) where
   proportional : r1 ≡ pos 0 → pos 2 *ℤ (pos 2 *ℤ a *ℤ r0 -ℤ b *ℤ r1) ≡ pos 0 → IsMultiple
   proportional e f =
       let whole : pos 2 *ℤ a *ℤ r0 ≡ pos 0 = without_slope (pos 2 *ℤ a *ℤ r0) r1 (nothing_times (pos 2) (pos 2 *ℤ a *ℤ r0 -ℤ b *ℤ r1) refl f) e in
-      (no_difference (a *ℤ p.b) (p.a *ℤ b) e, no_difference (a *ℤ p.c) (p.a *ℤ c) (nothing_times (pos 2 *ℤ a) r0 (double_plus a b c i) whole))
+      (same_from_difference (a *ℤ p.b) (p.a *ℤ b) e, same_from_difference (a *ℤ p.c) (p.a *ℤ c) (nothing_times (pos 2 *ℤ a) r0 (double_plus a b c i) whole))
 
   both_zero : (u v : ℤ) → pair_sign_of u v (discriminant a b c) ≡ Zero → (u ≡ pos 0) × (v ≡ pos 0)
   both_zero u v e = pair_of_zero (discriminant a b c) (irreducible-radical a b c i) u v (sym (pair_sign-positive u v (discriminant a b c) i.real) ∙ e)

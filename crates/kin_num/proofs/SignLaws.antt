@@ -15,6 +15,7 @@ use Rattle.kin_num.specs.declared.instant.Moment.{Moment}
 use Rattle.kin_num.specs.Quadratic.{Quadratic}
 use Rattle.kin_num.specs.Instants.{number_of, sign_at_instant, derivative, sign_at_phase, sign_at}
 use Rattle.kin_algebra.proofs.Pairs.{sign_over}
+use Rattle.kin_algebra.proofs.PairProducts.{norm_of-negative}
 use Rattle.kin_num.proofs.Values.{value-negated}
 pub use Rattle.kin_num.proofs.Values.{negated}
 
@@ -26,9 +27,6 @@ sum_sign-opposite Zero t n = refl
 sum_sign-opposite Plus Minus n = refl
 sum_sign-opposite Plus Zero n = refl
 sum_sign-opposite Plus Plus n = refl
-
-norm_of-negative : (u v d : ℤ) → norm_of (neg_ℤ u) (neg_ℤ v) d ≡ norm_of u v d
-norm_of-negative u v d = by_ring (u ∷ v ∷ d ∷ []) _ _ (search quotes depth 20) (search quotes depth 20) refl
 
 -- for every d, sound or not
 pub pair_sign-negative : (u v d : ℤ) → pair_sign_of (neg_ℤ u) (neg_ℤ v) d ≡ opposite_of (pair_sign_of u v d)

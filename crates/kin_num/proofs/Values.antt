@@ -1,7 +1,8 @@
 -- Values of polynomials at numbers, as pairs over the radicand.
-use Rattle.std.proofs.Common.{◌≡◌, ◌≢◌, inl, inr, refl, ap, ap₂, sym, subst, ℕ, ◌+◌, ◌*◌, ◌-◌, true, false, [], ◌∷◌, arith}
+use Rattle.std.proofs.Common.{◌≡◌, ◌≢◌, inl, inr, refl, ap, ap₂, sym, subst, ℕ, ◌+◌, ◌*◌, ◌-◌, true, false, [], ◌∷◌, arith, rules}
 use Rattle.std.specs.Prelude.{ℤ, pos, negsuc, ◌+ℤ◌, ◌*ℤ◌, ◌<ℤ◌}
 use Rattle.std.proofs.lemmas.Int.{ints}
+use Rattle.std.proofs.lemmas.Nat.Gcd.{IsGcd-swap, IsGcd-from_zero}
 use lib.IntN.{neg_ℤ}
 use Rattle.kin_algebra.proofs.Ring.{by_ring, quotes}
 use Rattle.kin_algebra.proofs.Radicals.{Radical}
@@ -11,7 +12,7 @@ use Rattle.kin_num.specs.declared.instant.Shape.{Shape}
 use Rattle.kin_num.specs.declared.instant.Shape.TheVariants.{Ratio, Root}
 use Rattle.kin_num.specs.Quadratic.{Quadratic}
 pub use Rattle.kin_num.specs.Quadratic.{quadratic_sum, negated}
-use Rattle.kin_num.specs.Canonical.{IsCanonicalForm, IsIrreducible, discriminant}
+use Rattle.kin_num.specs.Canonical.{IsCanonical, IsCanonicalForm, IsIrreducible, discriminant}
 use Rattle.kin_num.specs.Instants.{Number, number_of, whole_part, root_part}
 
 -- the value at a number, times the square of the divisor
@@ -37,6 +38,13 @@ pub canonical-sound : (w : Shape) → IsCanonicalForm w → Sound (number_of w).
 canonical-sound (Ratio n d) i = inl refl
 canonical-sound (Root a b c true) i = irreducible-sound a b c i
 canonical-sound (Root a b c false) i = irreducible-sound a b c i
+
+-- ---- the instant 0
+pub start_canonical : IsCanonical (Ratio (pos 0) (pos 1))
+start_canonical = record {
+  form = record { positive = search rules; lowest = IsGcd-swap 1 0 1 (IsGcd-from_zero 1 0 refl) };
+  small = record { n_small = omega arith; d_small = omega arith };
+}
 
 -- ---- sums and negatives
 whole_sum : (a b c a' b' c' n m d q : ℤ) →

@@ -1,7 +1,9 @@
 -- Two live numbers in order, and what is reported of them.
-use Rattle.std.proofs.Common.{◌≡◌, ◌⊎◌, inl, inr, refl, sym, ap, ◌∙◌, subst, arith, List, [], ◌∷◌, ℕ, Bool, true, false, IsTrue, ℤ, pos}
-use Rattle.std.specs.Prelude.{nat_eq, ◌||◌, Contains, Result, Ok, Err, OnOk}
+use Rattle.std.proofs.Common.{◌≡◌, ◌⊎◌, inl, inr, refl, sym, ap, ◌∙◌, subst, arith, List, [], ◌∷◌, ℕ, false, IsTrue, ℤ, pos}
+use Rattle.std.specs.Prelude.{nat_eq, Contains}
 use Rattle.std.proofs.lemmas.Bool.Decides.{nat_tests}
+use Rattle.kin_basics.proofs.Members.{contains_none, contains_cases}
+use Rattle.kin_basics.proofs.Tests.{or_exchanged}
 use Rattle.kin_algebra.specs.declared.sign.Sign.{Sign}
 use Rattle.kin_motion.specs.declared.form.Form.TheVariants.{Line}
 use Rattle.kin_motion.specs.declared.fact.Placed.{Placed}
@@ -10,22 +12,15 @@ use Rattle.kin_motion.specs.Scene.{Scene}
 use Rattle.kin_motion.specs.Orders.{leads, IsOrder}
 use Rattle.kin_motion.specs.Deltas.{Change}
 use Rattle.kin_motion.specs.Kinetics.{HasChanged}
-use Rattle.kin_motion.proofs.SetLaws.{contains_none, contains_cases}
 use Rattle.kin_motion.proofs.ChangeLaws.{both_changed}
 use Rattle.kin_rows.specs.declared.pair.Pair.{Pair}
 use Rattle.kin_rows.specs.Pairs.{fact_of, pair_facts}
-
-either_way : (a b : Bool) → a || (b || false) ≡ b || (a || false)
-either_way true true = refl
-either_way true false = refl
-either_way false true = refl
-either_way false false = refl
 
 -- the list the other way round
 pub swapped : (i j : ℕ) (set : List ℕ) → Lists (i ∷ j ∷ []) set → Lists (j ∷ i ∷ []) set
 swapped i j set l = record {
   once = (grind (arith, nat_tests, l.once.0), (refl, tt));
-  same = λ n. either_way (nat_eq n j) (nat_eq n i) ∙ l.same n;
+  same = λ n. or_exchanged (nat_eq n j) (nat_eq n i) false ∙ l.same n;
 }
 
 -- two numbers of which the first is ahead
@@ -35,15 +30,6 @@ two_in_order s dx dy i j members ahead = record { all = members; chain = (ahead,
 -- a sign that was asked for along a direction in other words
 pub sign_through : (s : Scene) (dx dy x y : ℤ) (i j : ℕ) (t : Sign) → x ≡ dx → y ≡ dy → t ≡ s.sign (Line x y (pos 0) i j) → t ≡ s.sign (Line dx dy (pos 0) i j)
 sign_through s dx dy x y i j t e f h = h ∙ (λ n. s.sign (Line (e n) (f n) (pos 0) i j))
-
--- what holds in any case holds in the good one
-pub in_any_case : {A E P : Type 0} (r : Result A E) → P → OnOk r P
-in_any_case {A} {E} {P} (Ok a) p = p
-in_any_case {A} {E} {P} (Err e) p = tt
-
-pub in_turn : {A E P Q : Type 0} (r : Result A E) → (P → Q) → OnOk r P → OnOk r Q
-in_turn {A} {E} {P} {Q} (Ok a) f p = f p
-in_turn {A} {E} {P} {Q} (Err e) f p = tt
 
 -- a fact along x is none along y
 apart : (k l : Pair) (p : Placed)

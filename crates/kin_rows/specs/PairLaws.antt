@@ -2,19 +2,21 @@
 use Rattle.std.proofs.Common.{◌≡◌, ◌⊎◌, inl, inr, sym, ap, ◌∙◌, subst, arith, [], ◌∷◌, ℕ, ℤ, pos, IsTrue}
 use Rattle.std.specs.Prelude.{Contains}
 use Rattle.std.proofs.lemmas.List.Elements.{All-contains}
+use Rattle.kin_basics.proofs.Members.{contains_head, contains_tail}
 use Rattle.kin_algebra.specs.declared.sign.Sign.{Sign}
 use Rattle.kin_motion.specs.declared.form.Form.TheVariants.{Line}
 use Rattle.kin_motion.specs.declared.fact.Placed.{Placed}
 use Rattle.kin_motion.specs.Numbers.{is_in}
 use Rattle.kin_motion.specs.Sets.{ListsExactly}
-use Rattle.kin_motion.specs.Scene.{Scene, IsReal, Holds, placed_at}
-use Rattle.kin_motion.specs.Orders.{leads, neighbour_forms, IsOrder, IsOrderFact}
+use Rattle.kin_motion.specs.Scene.{Scene, IsReal, Holds}
+use Rattle.kin_motion.specs.Orders.{leads, IsOrder, IsOrderFact}
 use Rattle.kin_motion.specs.Kinetics.{AllHold, HaveSameLive}
 use Rattle.kin_motion.specs.Laws.{HasLineLaws}
 use Rattle.kin_motion.proofs.FactLaws.{neighbour_facts-exact}
 use Rattle.kin_motion.proofs.RealLaws.{real_line_laws}
-use Rattle.kin_motion.proofs.SetLaws.{exactly_both, contains_head, contains_tail, contains_mapped}
+use Rattle.kin_motion.proofs.SetLaws.{exactly_both}
 use Rattle.kin_motion.proofs.ClosestFactLaws.{part_of_order}
+use Rattle.kin_motion.proofs.LiveFactsHold.{order_fact_holds}
 use Rattle.kin_rows.specs.declared.pair.Row.{Row}
 use Rattle.kin_rows.specs.declared.pair.Pair.{Pair}
 use Rattle.kin_rows.specs.Pairs.{items_of, fact_of, pair_facts, IsSettled}
@@ -39,12 +41,6 @@ pair_settled s k real by_x x_sign by_y y_sign =
           (λ p f g. let e = part_of_order s (pos 1) (pos 0) 0 p f in let h = part_of_order s (pos 0) (pos 1) 1 p g in omega (arith, e, h));
     }
 
--- a fact of an order holds there
-fact_holds : (s : Scene) (dx dy : ℤ) (part : ℕ) (p : Placed) → IsOrderFact s dx dy part p → Holds s p.fact
-fact_holds s dx dy part p f =
-    let m = contains_mapped (placed_at s part) (neighbour_forms dx dy f.order) p f.listed in
-    ap (λ (q : Placed). s.sign q.fact.form) m.2 ∙ sym (ap (λ (q : Placed). q.fact.sign) m.2)
-
 -- where the two numbers have the same sign in both scenes, their order is the same
 same_order : (v w : Scene) (dx dy : ℤ) (r : Row) → HaveSameLive v w → v.sign (Line dx dy (pos 0) r.first r.second) ≡ w.sign (Line dx dy (pos 0) r.first r.second) → IsOrder v dx dy (items_of r) → IsOrder w dx dy (items_of r)
 same_order v w dx dy r same e o = record {
@@ -60,8 +56,8 @@ module _ (k : Pair) (v w : Scene) (before : IsSettled k v) (hold : AllHold w (pa
   old_sign p h = at ((before.exact.each p).0 h)
     where
       at : IsOrderFact v (pos 1) (pos 0) 0 p ⊎ IsOrderFact v (pos 0) (pos 1) 1 p → Holds v p.fact
-      at (inl f) = fact_holds v (pos 1) (pos 0) 0 p f
-      at (inr f) = fact_holds v (pos 0) (pos 1) 1 p f
+      at (inl f) = order_fact_holds v (pos 1) (pos 0) 0 p f
+      at (inr f) = order_fact_holds v (pos 0) (pos 1) 1 p f
 
   pub pair_settled_again : HaveSameLive v w → IsReal w → IsSettled k w
   pair_settled_again same real =

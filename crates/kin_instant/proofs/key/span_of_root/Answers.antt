@@ -1,12 +1,9 @@
-use Rattle.std.proofs.Common.{◌≡◌, ℤ, unsigned_abs, w64, ap, ◌∙◌, subst}
-use Rattle.kin_num.specs.Canonical.{discriminant}
+use Rattle.std.proofs.Common.{ℤ, unsigned_abs, w64, ap, ◌∙◌, subst}
 use Rattle.kin_instant.specs.Keys.{numerator_of, IsCutOff}
 use Rattle.kin_instant.proofs.Widths.{clean}
 use Rattle.kin_instant.proofs.Spans.{span_at_root}
 use Rattle.kin_instant.proofs.key.span_of_root.Goals as goal
-
-same_discriminant : (a b c a' b' c' : ℤ) → a' ≡ a → b' ≡ b → c' ≡ c → discriminant a' b' c' ≡ discriminant a b c
-same_discriminant a b c a' b' c' e f g = rw (e, f, g)
+use Rattle.kin_instant.proofs.Discriminants.{same_discriminant}
 
 pub returns : goal.returns
 returns c =

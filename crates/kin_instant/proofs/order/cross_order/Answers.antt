@@ -1,10 +1,11 @@
 use Rattle.std.proofs.Common.{◌<◌, ◌≤◌, ◌^◌, ℤ, ◌*ℤ◌, unsigned_abs, w64, arith, ap₂, ◌∙◌}
 use Rattle.std.specs.Ordering.{int_cmp}
-use Rattle.kin_instant.proofs.Widths.{clean, abs-product, product-value}
+use Rattle.kin_basics.proofs.Integers.{size-product}
+use Rattle.kin_instant.proofs.Widths.{clean, product-value}
 use Rattle.kin_instant.proofs.order.cross_order.Goals as goal
 
 fits : (x y : ℤ) → unsigned_abs x ≤ 2 ^ 31 → unsigned_abs y ≤ 2 ^ 31 → unsigned_abs (x *ℤ y) < 2 ^ 63
-fits x y h k = omega (arith, abs-product x y (2 ^ 31) (2 ^ 31) h k)
+fits x y h k = omega (arith, size-product x y (2 ^ 31) (2 ^ 31) h k)
 
 pub returns : goal.returns
 returns c =

@@ -1,11 +1,12 @@
 use Rattle.std.proofs.Common.{◌≡◌, ℕ, ◌<◌, ◌≤◌, ◌^◌, ℤ, pos, ◌*ℤ◌, unsigned_abs, w64, to_z, of_z, arith, ap, sym, ◌∙◌, subst}
 use Rattle.std.specs.Prelude.{◌<ℤ◌}
 use Rattle.std.specs.Int.{IsGcd, ◌∣◌}
-use Rattle.std.proofs.lemmas.Int.{ints, to_z_pos, fits_signed_from_abs}
+use Rattle.std.proofs.lemmas.Int.{to_z_pos, fits_signed_from_abs}
 use Rattle.std.proofs.lemmas.Nat.Gcd.{le_of_dvd}
 use Rattle.std.proofs.Math.Nat.{pos_of_dvd_of_pos}
+use Rattle.kin_basics.proofs.Integers.{size-some}
 use Rattle.kin_num.specs.Canonical.{IsLowest}
-use Rattle.kin_instant.proofs.Widths.{clean}
+use Rattle.kin_instant.proofs.Widths.{clean, positive_out}
 use Rattle.kin_instant.proofs.Lowest.{lowest_of, crossed, not_more}
 use Rattle.kin_instant.proofs.ratio.lowest.Goals as goal
 
@@ -18,12 +19,9 @@ record Common (n d : ℤ) (g : ℕ) : Type 0 where
 common_of : (n d n' d' : ℤ) (u v g : ℕ) → pos 0 <ℤ d → unsigned_abs d < 2 ^ 63 → n' ≡ n → d' ≡ d → u ≡ unsigned_abs n' → v ≡ unsigned_abs d' → IsGcd u v g → Common n d g
 common_of n d n' d' u v g h k e f p q i =
     let j : IsGcd (unsigned_abs n) (unsigned_abs d) g = subst (λ (x : ℕ). IsGcd x (unsigned_abs d) g) (p ∙ ap unsigned_abs e) (subst (λ (y : ℕ). IsGcd u y g) (q ∙ ap unsigned_abs f) i) in
-    let positive : 0 < unsigned_abs d = above d h in
+    let positive : 0 < unsigned_abs d = size-some d h in
     record { some = pos_of_dvd_of_pos j.1 positive; less = below g (unsigned_abs d) (le_of_dvd positive j.1) k; common = j }
   where
-    above : (d : ℤ) → pos 0 <ℤ d → 0 < unsigned_abs d
-    above d h = omega (arith, ints)
-
     below : (g m : ℕ) → g ≤ m → m < 2 ^ 63 → g < 2 ^ 63
     below g m h k = omega arith
 
@@ -32,12 +30,6 @@ read g h = to_z_pos w64 g h
 
 divides : (x x' : ℤ) (g : ℕ) → g < 2 ^ 63 → x' ≡ x → g ∣ unsigned_abs x → unsigned_abs (to_z w64 g) ∣ unsigned_abs x'
 divides x x' g h e d = subst (λ (z : ℤ). unsigned_abs z ∣ unsigned_abs x') (sym (read g h)) (subst (λ (z : ℤ). g ∣ unsigned_abs z) (sym e) d)
-
-positive : (g : ℕ) → 0 < g → g < 2 ^ 63 → pos 0 <ℤ to_z w64 g
-positive g h k = subst (λ (z : ℤ). pos 0 <ℤ z) (sym (read g k)) (some g h)
-  where
-    some : (g : ℕ) → 0 < g → pos 0 <ℤ pos g
-    some g h = omega (arith, ints)
 
 quotient : (x x' q : ℤ) (g : ℕ) → g < 2 ^ 63 → x' ≡ x → x' ≡ q *ℤ to_z w64 g → x ≡ q *ℤ pos g
 quotient x x' q g h e f = sym e ∙ f ∙ ap (λ (z : ℤ). q *ℤ z) (read g h)
@@ -50,7 +42,7 @@ overflow_cast-divisor c =
 pub exact_quotient-requires-clause-positive : goal.exact_quotient-requires-clause-positive
 exact_quotient-requires-clause-positive c =
     let k = common_of c.args.n c.args.d _ _ c.unsigned_abs.result c.unsigned_abs-2.result c.gcd-divisor.result c.requires.d_positive c.requires.d_small (clean w64 c.args.n c.ranges.n.sfits) (clean w64 c.args.d c.ranges.d.sfits) c.unsigned_abs.ensures.value c.unsigned_abs-2.ensures.value c.gcd-divisor.ensures in
-    positive c.gcd-divisor.result k.some k.less
+    positive_out c.gcd-divisor.result k.some k.less
 
 pub exact_quotient-requires-clause-divides : goal.exact_quotient-requires-clause-divides
 exact_quotient-requires-clause-divides c =
@@ -60,7 +52,7 @@ exact_quotient-requires-clause-divides c =
 pub exact_quotient-requires-2-clause-positive : goal.exact_quotient-requires-2-clause-positive
 exact_quotient-requires-2-clause-positive c =
     let k = common_of c.args.n c.args.d _ _ c.unsigned_abs.result c.unsigned_abs-2.result c.gcd-divisor.result c.requires.d_positive c.requires.d_small (clean w64 c.args.n c.ranges.n.sfits) (clean w64 c.args.d c.ranges.d.sfits) c.unsigned_abs.ensures.value c.unsigned_abs-2.ensures.value c.gcd-divisor.ensures in
-    positive c.gcd-divisor.result k.some k.less
+    positive_out c.gcd-divisor.result k.some k.less
 
 pub exact_quotient-requires-2-clause-divides : goal.exact_quotient-requires-2-clause-divides
 exact_quotient-requires-2-clause-divides c =

@@ -2,7 +2,8 @@ use Rattle.std.proofs.Common.{◌≡◌, ◌≤◌, ◌<◌, ◌^◌, ℤ, ◌+�
 use Rattle.std.proofs.lemmas.Int.{to_z-of_z}
 use Rattle.kin_algebra.specs.Signs.{sign_of}
 use mir.Syntax.{w128}
-use Rattle.kin_instant.proofs.Widths.{abs-product, clean, same_sums, product-raw, product-value}
+use Rattle.kin_basics.proofs.Integers.{size-product}
+use Rattle.kin_instant.proofs.Widths.{clean, same_sums, product-raw, product-value}
 use Rattle.kin_instant.proofs.Values.{sign_at_ratio-line, sign_at_ratio-value}
 use Rattle.kin_instant.proofs.ratio_sign.value_at_ratio.Goals as goal
 
@@ -10,7 +11,7 @@ pub returns-then-a-eq0 : goal.returns-then-a-eq0
 returns-then-a-eq0 c = c.of.ensures ∙ ap sign_of (grind (arith, to_z-of_z)) ∙ sym (sign_at_ratio-line c.args.p.now c.args.n c.args.d c.requires.d_positive (grind (arith, to_z-of_z)))
 
 size : (c' c d : ℤ) → c' ≡ c → unsigned_abs c' ≤ 2 ^ 28 → unsigned_abs d ≤ 2 ^ 31 → unsigned_abs (c *ℤ d) ≤ 2 ^ 59
-size c' c d e h k = abs-product c d (2 ^ 28) (2 ^ 31) (subst (λ (z : ℤ). unsigned_abs z ≤ 2 ^ 28) e h) k
+size c' c d e h k = size-product c d (2 ^ 28) (2 ^ 31) (subst (λ (z : ℤ). unsigned_abs z ≤ 2 ^ 28) e h) k
 
 narrow : (z : ℤ) → unsigned_abs z ≤ 2 ^ 59 → unsigned_abs z < 2 ^ 63
 narrow z h = omega arith

@@ -1,7 +1,8 @@
 use Rattle.std.proofs.Common.{◌≡◌, ◌≤◌, ◌<◌, ◌^◌, ℕ, ℤ, pos, ◌-ℤ◌, ◌*ℤ◌, unsigned_abs, to_z, of_z, w64, arith, ◌∙◌}
 use Rattle.std.specs.Prelude.{◌<ℤ◌}
 use Rattle.std.proofs.lemmas.Int.{ints}
-use Rattle.kin_instant.proofs.Widths.{abs-product, clean, same_differences}
+use Rattle.kin_basics.proofs.Integers.{size-product}
+use Rattle.kin_instant.proofs.Widths.{clean, same_differences}
 use Rattle.kin_num.specs.Canonical.{discriminant}
 use Rattle.kin_instant.proofs.root_sign.radicand.Goals as goal
 
@@ -16,9 +17,9 @@ value a b c z u n real e f g = whole (discriminant a b c) u n real (e ∙ f) g
 
 small : (a b c : ℤ) (n : ℕ) → unsigned_abs a ≤ 2 ^ 29 → unsigned_abs b ≤ 2 ^ 31 → unsigned_abs c ≤ 2 ^ 29 → pos n ≡ discriminant a b c → n < 2 ^ 63
 small a b c n h i j e =
-    let first : unsigned_abs (b *ℤ b) ≤ 2 ^ 62 = abs-product b b (2 ^ 31) (2 ^ 31) i i in
-    let quadruple : unsigned_abs (pos 4 *ℤ a) ≤ 2 ^ 31 = abs-product (pos 4) a 4 (2 ^ 29) (omega arith) h in
-    let second : unsigned_abs (pos 4 *ℤ a *ℤ c) ≤ 2 ^ 60 = abs-product (pos 4 *ℤ a) c (2 ^ 31) (2 ^ 29) quadruple j in
+    let first : unsigned_abs (b *ℤ b) ≤ 2 ^ 62 = size-product b b (2 ^ 31) (2 ^ 31) i i in
+    let quadruple : unsigned_abs (pos 4 *ℤ a) ≤ 2 ^ 31 = size-product (pos 4) a 4 (2 ^ 29) (omega arith) h in
+    let second : unsigned_abs (pos 4 *ℤ a *ℤ c) ≤ 2 ^ 60 = size-product (pos 4 *ℤ a) c (2 ^ 31) (2 ^ 29) quadruple j in
     last (b *ℤ b) (pos 4 *ℤ a *ℤ c) n first second e
   where
     last : (x y : ℤ) (n : ℕ) → unsigned_abs x ≤ 2 ^ 62 → unsigned_abs y ≤ 2 ^ 60 → pos n ≡ x -ℤ y → n < 2 ^ 63

@@ -8,8 +8,9 @@ use Rattle.kin_num.specs.Quadratic.{Quadratic}
 use Rattle.kin_num.specs.Canonical.{discriminant}
 use Rattle.kin_num.specs.Instants.{sign_at_instant, derivative, number_of}
 use Rattle.kin_instant.specs.Remainders.{remainder_slope_of}
-use Rattle.kin_instant.proofs.Values.{sign_at_root-slope}
+use Rattle.kin_instant.proofs.Values.{sign_at_root-slope, same_remainder_slope}
 use Rattle.kin_instant.proofs.root_sign.slope_at_root.Goals as goal
+use Rattle.kin_instant.proofs.Discriminants.{same_discriminant}
 
 pub pair_sign-requires-else-upper-clause-v_small : goal.pair_sign-requires-else-upper-clause-v_small
 pair_sign-requires-else-upper-clause-v_small c = omega (arith, ints, c.a-else-upper.ensures.small)
@@ -19,12 +20,6 @@ one_times z = omega (arith, ints)
 
 turned : (z' z : ℤ) → z' ≡ z → unsigned_abs z' ≤ 2 ^ 28 → to_z w64 (of_z w64 (pos 0 -ℤ to_z w64 (of_z w64 z'))) ≡ negsuc 0 *ℤ z
 turned z' z e h = omega (arith, ints)
-
-same_discriminant : (a b c a' b' c' : ℤ) → a' ≡ a → b' ≡ b → c' ≡ c → discriminant a' b' c' ≡ discriminant a b c
-same_discriminant a b c a' b' c' e f g = rw (e, f, g)
-
-same_slope : (p : Quadratic) (a b a' b' : ℤ) → a' ≡ a → b' ≡ b → remainder_slope_of p a' b' ≡ remainder_slope_of p a b
-same_slope p a b a' b' e f = rw (e, f)
 
 whole : (p : Quadratic) (a b c u v d : ℤ) (upper side : Bool) → upper ≡ side → pos 0 <ℤ a → pos 0 <ℤ discriminant a b c → u ≡ remainder_slope_of p a b → v ≡ (number_of (Root a b c side)).root *ℤ p.a → d ≡ discriminant a b c
     → pair_sign_of u v d ≡ sign_at_instant (derivative p) (Root a b c upper)
@@ -38,7 +33,7 @@ returns-then-upper c =
     let b = clean w64 c.args.b c.ranges.b.sfits in
     c.pair_sign.ensures
     ∙ whole c.args.p.now c.args.a c.args.b c.args.c _ _ _ c.args.upper true c.if-upper.true c.requires.a_positive c.requires.real
-    (clean w64 c.remainder_slope-slope.result c.remainder_slope-slope.type_inv ∙ c.remainder_slope-slope.ensures.value ∙ same_slope c.args.p.now c.args.a c.args.b _ _ a b)
+    (clean w64 c.remainder_slope-slope.result c.remainder_slope-slope.type_inv ∙ c.remainder_slope-slope.ensures.value ∙ same_remainder_slope c.args.p.now c.args.a c.args.b _ _ a b)
     (clean w64 c.a.result c.a.type_inv ∙ c.a.ensures.value ∙ one_times c.args.p.now.a)
     (c.radicand.ensures.value ∙ same_discriminant c.args.a c.args.b c.args.c _ _ _ a b (clean w64 c.args.c c.ranges.c.sfits))
 
@@ -48,6 +43,6 @@ returns-else-upper c =
     let b = clean w64 c.args.b c.ranges.b.sfits in
     c.pair_sign-else-upper.ensures
     ∙ whole c.args.p.now c.args.a c.args.b c.args.c _ _ _ c.args.upper false c.if-upper.false c.requires.a_positive c.requires.real
-    (clean w64 c.remainder_slope-slope.result c.remainder_slope-slope.type_inv ∙ c.remainder_slope-slope.ensures.value ∙ same_slope c.args.p.now c.args.a c.args.b _ _ a b)
+    (clean w64 c.remainder_slope-slope.result c.remainder_slope-slope.type_inv ∙ c.remainder_slope-slope.ensures.value ∙ same_remainder_slope c.args.p.now c.args.a c.args.b _ _ a b)
     (turned c.a-else-upper.result c.args.p.now.a c.a-else-upper.ensures.value c.a-else-upper.ensures.small)
     (c.radicand-else-upper.ensures.value ∙ same_discriminant c.args.a c.args.b c.args.c _ _ _ a b (clean w64 c.args.c c.ranges.c.sfits))

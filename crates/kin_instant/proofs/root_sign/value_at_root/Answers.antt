@@ -5,11 +5,8 @@ use Rattle.kin_instant.proofs.Widths.{clean, same_differences}
 use Rattle.kin_algebra.specs.Signs.{sign_of, product_of}
 use Rattle.kin_num.specs.Quadratic.{Quadratic}
 use Rattle.kin_instant.specs.Remainders.{remainder_slope_of, remainder_start_of, side}
-use Rattle.kin_instant.proofs.Values.{whole_of, resultant_of, sign_at_root-value, opposed-is, agreeing-is}
+use Rattle.kin_instant.proofs.Values.{whole_of, resultant_of, sign_at_root-value, opposed-is, agreeing-is, same_remainder_slope}
 use Rattle.kin_instant.proofs.root_sign.value_at_root.Goals as goal
-
-same_slope : (p : Quadratic) (a b a' b' : ℤ) → a' ≡ a → b' ≡ b → remainder_slope_of p a' b' ≡ remainder_slope_of p a b
-same_slope p a b a' b' e f = rw (e, f)
 
 same_start : (p : Quadratic) (a c a' c' : ℤ) → a' ≡ a → c' ≡ c → remainder_start_of p a' c' ≡ remainder_start_of p a c
 same_start p a c a' c' e f = rw (e, f)
@@ -25,7 +22,7 @@ returns-in-Minus c =
     let a = clean w64 c.args.a c.ranges.a.sfits in
     let b = clean w64 c.args.b c.ranges.b.sfits in
     let d = clean w64 c.args.c c.ranges.c.sfits in
-    let slope = clean w64 c.remainder_slope-slope.result c.remainder_slope-slope.type_inv ∙ c.remainder_slope-slope.ensures.value ∙ same_slope c.args.p.now c.args.a c.args.b _ _ a b in
+    let slope = clean w64 c.remainder_slope-slope.result c.remainder_slope-slope.type_inv ∙ c.remainder_slope-slope.ensures.value ∙ same_remainder_slope c.args.p.now c.args.a c.args.b _ _ a b in
     let start = clean w64 c.remainder_start-start.result c.remainder_start-start.type_inv ∙ c.remainder_start-start.ensures.value ∙ same_start c.args.p.now c.args.a c.args.c _ _ a d in
     c.times-in-Minus.ensures
     ∙ opposed-is _ _ _ (sign_of (whole_of c.args.p.now c.args.a c.args.b c.args.c)) (product_of (side c.args.upper) (sign_of (remainder_slope_of c.args.p.now c.args.a c.args.b))) (sign_of (resultant_of c.args.p.now c.args.a c.args.b c.args.c)) _
@@ -40,7 +37,7 @@ returns-in_default c =
     let a = clean w64 c.args.a c.ranges.a.sfits in
     let b = clean w64 c.args.b c.ranges.b.sfits in
     let d = clean w64 c.args.c c.ranges.c.sfits in
-    let slope = clean w64 c.remainder_slope-slope.result c.remainder_slope-slope.type_inv ∙ c.remainder_slope-slope.ensures.value ∙ same_slope c.args.p.now c.args.a c.args.b _ _ a b in
+    let slope = clean w64 c.remainder_slope-slope.result c.remainder_slope-slope.type_inv ∙ c.remainder_slope-slope.ensures.value ∙ same_remainder_slope c.args.p.now c.args.a c.args.b _ _ a b in
     let start = clean w64 c.remainder_start-start.result c.remainder_start-start.type_inv ∙ c.remainder_start-start.ensures.value ∙ same_start c.args.p.now c.args.a c.args.c _ _ a d in
     c.then.ensures
     ∙ agreeing-is _ _ (sign_of (whole_of c.args.p.now c.args.a c.args.b c.args.c)) (product_of (side c.args.upper) (sign_of (remainder_slope_of c.args.p.now c.args.a c.args.b))) (sign_of (resultant_of c.args.p.now c.args.a c.args.b c.args.c)) _

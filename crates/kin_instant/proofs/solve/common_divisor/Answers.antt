@@ -1,10 +1,11 @@
 use Rattle.std.proofs.Common.{◌≡◌, ℕ, ◌<◌, ◌≤◌, ◌^◌, ℤ, pos, unsigned_abs, w64, to_z, arith, ap, sym, ◌∙◌, subst}
 use Rattle.std.specs.Prelude.{◌<ℤ◌}
 use Rattle.std.specs.Int.{IsGcd, ◌∣◌}
-use Rattle.std.proofs.lemmas.Int.{ints, fits_signed_from_abs, to_z_pos}
+use Rattle.std.proofs.lemmas.Int.{fits_signed_from_abs, to_z_pos}
 use Rattle.std.proofs.lemmas.Nat.Gcd.{dvd_trans, le_of_dvd}
-use Rattle.kin_instant.proofs.Widths.{clean}
+use Rattle.kin_instant.proofs.Widths.{clean, positive_out}
 use Rattle.std.proofs.Math.Nat.{pos_of_dvd_of_pos}
+use Rattle.kin_basics.proofs.Integers.{size-some}
 use Rattle.kin_instant.proofs.solve.common_divisor.Goals as goal
 
 -- g is the greatest common divisor of |a|, |b| and |c|, as the code has it
@@ -23,28 +24,19 @@ shared_of a b c a' b' c' u v w h g some small ea eb ec pu pv pw i j =
     let fw : w ≡ unsigned_abs c = pw ∙ ap unsigned_abs ec in
     let first : g ∣ unsigned_abs a = subst (λ (x : ℕ). g ∣ x) fu (dvd_trans g j.0 i.0) in
     record {
-      some = pos_of_dvd_of_pos first (above a some);
-      less = below g (unsigned_abs a) (le_of_dvd (above a some) first) small;
+      some = pos_of_dvd_of_pos first (size-some a some);
+      less = below g (unsigned_abs a) (le_of_dvd (size-some a some) first) small;
       first = first;
       second = subst (λ (x : ℕ). g ∣ x) fv (dvd_trans g j.0 i.1);
       third = subst (λ (x : ℕ). g ∣ x) fw j.1;
       greatest = λ k p q r. j.2 k (i.2 k (subst (λ (x : ℕ). k ∣ x) (sym fu) p) (subst (λ (x : ℕ). k ∣ x) (sym fv) q)) (subst (λ (x : ℕ). k ∣ x) (sym fw) r);
     }
   where
-    above : (d : ℤ) → pos 0 <ℤ d → 0 < unsigned_abs d
-    above d h = omega (arith, ints)
-
     below : (g m : ℕ) → g ≤ m → m < 2 ^ 63 → g < 2 ^ 63
     below g m h k = omega arith
 
 read : (g : ℕ) → g < 2 ^ 63 → unsigned_abs (to_z w64 g) ≡ g
 read g h = ap unsigned_abs (to_z_pos w64 g h)
-
-positive : (g : ℕ) → 0 < g → g < 2 ^ 63 → pos 0 <ℤ to_z w64 g
-positive g h k = subst (λ (z : ℤ). pos 0 <ℤ z) (sym (to_z_pos w64 g k)) (some g h)
-  where
-    some : (g : ℕ) → 0 < g → pos 0 <ℤ pos g
-    some g h = omega (arith, ints)
 
 pub overflow_cast-result : goal.overflow_cast-result
 overflow_cast-result c = fits_signed_from_abs w64 (pos c.gcd-2.result) (shared_of c.args.a c.args.b c.args.c _ _ _ c.unsigned_abs.result c.unsigned_abs-2.result c.unsigned_abs-3.result c.gcd.result c.gcd-2.result c.requires.a_positive c.requires.a_small (clean w64 c.args.a c.ranges.a.sfits) (clean w64 c.args.b c.ranges.b.sfits) (clean w64 c.args.c c.ranges.c.sfits) c.unsigned_abs.ensures.value c.unsigned_abs-2.ensures.value c.unsigned_abs-3.ensures.value c.gcd.ensures c.gcd-2.ensures).less
@@ -55,7 +47,7 @@ returns c =
     let g = c.gcd-2.result in
     let r = read g k.less in
     record {
-      positive = positive g k.some k.less;
+      positive = positive_out g k.some k.less;
       divides_a = subst (λ (x : ℕ). x ∣ unsigned_abs c.args.a) (sym r) k.first;
       divides_b = subst (λ (x : ℕ). x ∣ unsigned_abs c.args.b) (sym r) k.second;
       divides_c = subst (λ (x : ℕ). x ∣ unsigned_abs c.args.c) (sym r) k.third;

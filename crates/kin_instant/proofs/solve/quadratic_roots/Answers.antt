@@ -5,7 +5,7 @@ use Rattle.kin_num.specs.Canonical.{discriminant}
 use Rattle.kin_instant.specs.Roots.{quadratic, AreRootsOf}
 use Rattle.kin_instant.proofs.Widths.{clean, less_out, not_less_out, same_differences}
 use Rattle.kin_instant.proofs.RootsOf.{negative_discriminant}
-use Rattle.kin_instant.proofs.Discriminants.{size, root_size, irrational}
+use Rattle.kin_instant.proofs.Discriminants.{size, root_size, irrational, same_discriminant}
 use Rattle.kin_instant.specs.declared.roots.Roots.{Roots}
 use Rattle.kin_instant.proofs.solve.quadratic_roots.Goals as goal
 
@@ -24,9 +24,6 @@ small_root r s h k = let l = root_size r s h k in subst (λ (z : ℤ). unsigned_
 
 squared : (r s : ℕ) (d : ℤ) → r < 2 ^ 30 → r * r ≡ s → pos s ≡ d → to_z w64 r *ℤ to_z w64 r ≡ d
 squared r s d h e f = ap (λ (z : ℤ). z *ℤ z) (read r h) ∙ ap pos e ∙ f
-
-same_discriminant : (a b c a' b' c' : ℤ) → a' ≡ a → b' ≡ b → c' ≡ c → discriminant a' b' c' ≡ discriminant a b c
-same_discriminant a b c a' b' c' e f g = rw (e, f, g)
 
 same_roots : (a b c a' b' : ℤ) (r : Roots) → a' ≡ a → b' ≡ b → AreRootsOf (quadratic a' b' c) r → AreRootsOf (quadratic a b c) r
 same_roots a b c a' b' r e f h = subst (λ (x : ℤ). AreRootsOf (quadratic x b c) r) e (subst (λ (y : ℤ). AreRootsOf (quadratic a' y c) r) f h)

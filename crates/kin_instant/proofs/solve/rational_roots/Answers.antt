@@ -5,6 +5,7 @@ use lib.IntN.{neg_ℤ}
 use Rattle.kin_instant.proofs.Widths.{clean, nothing_out, small_difference-fits, small_difference-value, doubled-fits, doubled-value}
 use Rattle.kin_instant.proofs.RootsOf.{double_root, two_fractions, fraction_read}
 use Rattle.kin_instant.proofs.solve.rational_roots.Goals as goal
+use Rattle.kin_instant.proofs.Zeros.{doubled_positive}
 
 wide : (x : ℤ) → unsigned_abs x ≤ 2 ^ 30 → unsigned_abs x ≤ 2 ^ 32
 wide x h = omega arith
@@ -28,9 +29,6 @@ b_wide x h = omega arith
 
 a_wide : (x : ℤ) → unsigned_abs x ≤ 2 ^ 28 → unsigned_abs x ≤ 2 ^ 32
 a_wide x h = omega arith
-
-doubled_positive : (a : ℤ) → pos 0 <ℤ a → pos 0 <ℤ (pos 2 *ℤ a)
-doubled_positive a h = omega (arith, ints)
 
 opposite : (x : ℤ) → FitsSigned w64 x → unsigned_abs x ≤ 2 ^ 30 → to_z w64 (of_z w64 (pos 0 -ℤ to_z w64 (of_z w64 x))) ≡ pos 0 -ℤ x
 opposite x f h = small_difference-value (pos 0) x (pos 0) _ refl (to_z-of_z w64 x f) (omega arith) (wide x h)

@@ -1,5 +1,4 @@
 use Rattle.std.proofs.Common.{◌≡◌, ◌≤◌, ◌^◌, ℤ, pos, ◌-ℤ◌, unsigned_abs, w64, to_z, of_z, arith, ap, sym, ◌∙◌}
-use Rattle.std.specs.Prelude.{◌≤ℤ◌}
 use Rattle.std.proofs.lemmas.Int.{ints}
 use lib.IntN.{neg_ℤ}
 use Rattle.kin_num.specs.Quadratic.{Quadratic}
@@ -11,7 +10,7 @@ use Rattle.kin_num.specs.Instants.{sign_at_instant}
 use Rattle.kin_num.proofs.Values.{negated}
 use Rattle.kin_instant.specs.declared.roots.Roots.{Roots}
 use Rattle.kin_instant.specs.Roots.{HasRoot, root_count}
-use Rattle.kin_instant.proofs.Widths.{clean, not_less_out}
+use Rattle.kin_instant.proofs.Widths.{clean, not_less_out, level_out}
 use Rattle.kin_instant.proofs.RootsOf.{negated_zeros, count_negated}
 use Rattle.kin_instant.proofs.solve.roots.Goals as goal
 
@@ -20,12 +19,6 @@ same p a b c e f g = ap (λ (x : ℤ). quadratic x b c) e ∙ ap (λ (x : ℤ). 
 
 opposite : (x' x : ℤ) → x' ≡ x → unsigned_abs x' ≤ 2 ^ 29 → to_z w64 (of_z w64 (pos 0 -ℤ to_z w64 (of_z w64 x'))) ≡ neg_ℤ x
 opposite x' x e h = omega (arith, ints)
-
-wider : (x : ℤ) → unsigned_abs x ≤ 2 ^ 28 → unsigned_abs x ≤ 2 ^ 29
-wider x h = omega arith
-
-level : (b b' : ℤ) → b' ≡ b → pos 0 ≤ℤ b' → b' ≤ℤ pos 0 → b ≡ pos 0
-level b b' e h k = omega (arith, ints, e)
 
 exactly : (p q : Quadratic) (r : Roots) → q ≡ p → AreRootsOf q r → (w : Shape) → IsCanonicalForm w → (sign_at_instant p w ≡ Zero → HasRoot r w) × (HasRoot r w → sign_at_instant p w ≡ Zero)
 exactly p q r e h w i =
@@ -44,16 +37,16 @@ returns-then-a-gt0-clause-exact c =
 
 pub returns-then-a-lt0-clause-exact : goal.returns-then-a-lt0-clause-exact
 returns-then-a-lt0-clause-exact c =
-    turned c.args.p.now _ c.quadratic_roots-then-a-lt0.result (same (negated c.args.p.now) _ _ _ (opposite c.a-a.result c.args.p.now.a c.a-a.ensures.value (wider c.a-a.result c.a-a.ensures.small)) (opposite c.b-b.result c.args.p.now.b c.b-b.ensures.value c.b-b.ensures.small) (opposite c.c-c.result c.args.p.now.c c.c-c.ensures.value (wider c.c-c.result c.c-c.ensures.small))) c.quadratic_roots-then-a-lt0.ensures
+    turned c.args.p.now _ c.quadratic_roots-then-a-lt0.result (same (negated c.args.p.now) _ _ _ (opposite c.a-a.result c.args.p.now.a c.a-a.ensures.value (omega (arith, c.a-a.ensures.small))) (opposite c.b-b.result c.args.p.now.b c.b-b.ensures.value c.b-b.ensures.small) (opposite c.c-c.result c.args.p.now.c c.c-c.ensures.value (omega (arith, c.c-c.ensures.small)))) c.quadratic_roots-then-a-lt0.ensures
 
 pub returns-then-a-lt0-clause-number : goal.returns-then-a-lt0-clause-number
 returns-then-a-lt0-clause-number c =
     c.quadratic_roots-then-a-lt0.ensures.number
-    ∙ ap root_count (same (negated c.args.p.now) _ _ _ (opposite c.a-a.result c.args.p.now.a c.a-a.ensures.value (wider c.a-a.result c.a-a.ensures.small)) (opposite c.b-b.result c.args.p.now.b c.b-b.ensures.value c.b-b.ensures.small) (opposite c.c-c.result c.args.p.now.c c.c-c.ensures.value (wider c.c-c.result c.c-c.ensures.small)))
+    ∙ ap root_count (same (negated c.args.p.now) _ _ _ (opposite c.a-a.result c.args.p.now.a c.a-a.ensures.value (omega (arith, c.a-a.ensures.small))) (opposite c.b-b.result c.args.p.now.b c.b-b.ensures.value c.b-b.ensures.small) (opposite c.c-c.result c.args.p.now.c c.c-c.ensures.value (omega (arith, c.c-c.ensures.small))))
     ∙ count_negated c.args.p.now
 
 pub returns-else-a-lt0-clause-exact : goal.returns-else-a-lt0-clause-exact
 returns-else-a-lt0-clause-exact c =
     exactly c.args.p.now _ c.line_roots.result
-    (same c.args.p.now (pos 0) _ _ (sym (level c.args.p.now.a _ (clean w64 c.a-a.result c.a-a.type_inv ∙ c.a-a.ensures.value) (not_less_out _ _ c.if-a-lt0.false) (not_less_out _ _ c.if-a-gt0.false)))
+    (same c.args.p.now (pos 0) _ _ (sym (level_out c.args.p.now.a _ (clean w64 c.a-a.result c.a-a.type_inv ∙ c.a-a.ensures.value) (not_less_out _ _ c.if-a-lt0.false) (not_less_out _ _ c.if-a-gt0.false)))
     (clean w64 c.b-b.result c.b-b.type_inv ∙ c.b-b.ensures.value) (clean w64 c.c-c.result c.c-c.type_inv ∙ c.c-c.ensures.value)) c.line_roots.ensures

@@ -1,8 +1,8 @@
 use Rattle.std.proofs.Common.{◌≡◌, refl, sym, ap, ◌∙◌, subst, arith, ℕ, ℤ, ◌+◌, ◌<◌, Some, Bool, true, ◌||◌, ◌&&◌, nat_eq, nat_lt}
 use Rattle.std.proofs.lemmas.Bool.Decides.{nat_tests}
+use Rattle.kin_basics.proofs.Results.{for_ok, at_ok}
 use Rattle.kin_motion.specs.declared.form.Form.{Form}
 use Rattle.kin_motion.specs.declared.form.Form.TheVariants.{Line}
-use Rattle.kin_list.proofs.OkLaws.{for_ok, at_ok}
 use Rattle.kin_list.proofs.PlaceLaws.{not_at}
 use Rattle.kin_list.proofs.leave.doubt_line.Goals as goal
 

@@ -1,8 +1,8 @@
 use Rattle.std.proofs.Common.{◌≡◌, refl, sym, ap, ◌∙◌, subst, arith, List, ℕ, ◌<◌, length, Some, get_or, inl}
 use Rattle.std.specs.Prelude.{slice_get, ◌⊎◌}
 use Rattle.std.proofs.lemmas.Option.{slice_get-get_or, slice_get_within}
+use Rattle.kin_motion.proofs.ChangeLaws.{nothing_changed}
 use Rattle.kin_list.specs.Links.{link_for, facts_from}
-use Rattle.kin_list.proofs.ChangeLaws.{nothing_changed}
 use Rattle.kin_list.proofs.ReportLaws.{renewed, renewed_each, renewed_done, renewed_others}
 use Rattle.kin_list.proofs.RowLaws.{get_from_is_in}
 use Rattle.kin_list.proofs.report.report.Goals as goal

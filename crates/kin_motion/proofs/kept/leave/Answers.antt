@@ -1,4 +1,5 @@
-use Rattle.kin_motion.proofs.KeptLaws.{entered_in, from_three, none_left}
+use Rattle.kin_basics.proofs.Results.{from_three}
+use Rattle.kin_motion.proofs.KeptLaws.{entered_in, none_left}
 use Rattle.kin_motion.proofs.kept.leave.Goals as goal
 
 pub mark_leaving-requires-clause-member : goal.mark_leaving-requires-clause-member

@@ -1,5 +1,4 @@
 use Rattle.std.proofs.Common.{sym, ap, ◌∙◌, subst}
-use Rattle.kin_motion.specs.Forms.{names}
 use Rattle.kin_list.specs.declared.mark.Mark.{Mark}
 use Rattle.kin_list.specs.Listing.{Listing, HasMarked, names_leaving}
 use Rattle.kin_list.proofs.LeavingLaws.{list_left}

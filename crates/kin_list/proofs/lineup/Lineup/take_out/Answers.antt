@@ -1,8 +1,8 @@
 use Rattle.std.proofs.Common.{ap, ◌∙◌, arith, ◌+◌, ◌-◌, length, nat_eq, nat_lt, ◌&&◌, ◌||◌}
 use Rattle.std.proofs.lemmas.Option.{slice_get_within}
+use Rattle.std.proofs.lemmas.List.Edits.{length-remove}
+use Rattle.kin_basics.proofs.Results.{for_ok, at_ok}
 use Rattle.kin_motion.specs.Numbers.{is_in}
-use Rattle.kin_list.proofs.OkLaws.{for_ok, at_ok}
-use Rattle.kin_list.proofs.RowLaws.{length-remove}
 use Rattle.kin_list.proofs.LeaveLaws.{taken_first, taken_later}
 use Rattle.kin_list.proofs.lineup.Lineup.take_out.Goals as goal
 
@@ -12,14 +12,14 @@ returns-then-place-eq0-clause-taken c = taken_first c.args.no c.in-Some.place c.
 pub at-left-requires : goal.at-left-requires
 at-left-requires c =
     let l = slice_get_within c.args.self.now.row.items c.in-Some.place c.args.no c.in-Some.ensures.some in
-    let len = length-remove c.in-Some.place c.args.self.now.row.items l in
+    let len = length-remove c.args.self.now.row.items c.in-Some.place l in
     let same = ap length c.take_out.ensures.items in
     omega arith
 
 pub add-requires-clause-place : goal.add-requires-clause-place
 add-requires-clause-place c =
     let l = slice_get_within c.args.self.now.row.items c.in-Some.place c.args.no c.in-Some.ensures.some in
-    let len = length-remove c.in-Some.place c.args.self.now.row.items l in
+    let len = length-remove c.args.self.now.row.items c.in-Some.place l in
     let same = ap length c.take_out.ensures.items in
     omega arith
 

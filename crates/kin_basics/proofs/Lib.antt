@@ -1,0 +1,6 @@
+pub mod Tests
+pub mod Integers
+pub mod Options
+pub mod Results
+pub mod Members
+pub mod Places
