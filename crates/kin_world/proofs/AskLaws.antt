@@ -1,32 +1,13 @@
--- What is asked of a sound world: the structure of a keep, the certificate of a form.
-use Rattle.std.proofs.Common.{◌≡◌, refl, sym, ap, subst, ℕ, ◌<◌, List, Option, Some, None, length, get_or}
-use Rattle.std.specs.Prelude.{slice_get, Contains, ◌↔◌, IsNone, IfSome}
-use Rattle.std.proofs.lemmas.Option.{slice_get_within, slice_get_read}
+-- The certificate of an owner and a form.
+use Rattle.std.proofs.Common.{◌≡◌, refl, sym, ap, subst, ℕ, List, Option, Some, None}
+use Rattle.std.specs.Prelude.{Contains, ◌↔◌, IsNone, IfSome}
 use Rattle.kin_algebra.specs.declared.sign.Sign.{Sign}
-use Rattle.kin_num.specs.declared.instant.Moment.{Moment}
 use Rattle.kin_motion.specs.declared.form.Form.{Form}
-use Rattle.kin_motion.specs.declared.keep.Keep.{Keep}
-use Rattle.kin_motion.specs.Course.{Course}
 use Rattle.kin_motion.specs.Live.{Certificate}
-use Rattle.kin_motion.specs.Scene.{scene_at}
 use Rattle.kin_motion.proofs.SetLaws.{contains_map, contains_mapped}
 use Rattle.kin_cert.specs.Facts.{LiveFact, IsAt}
-use Rattle.kin_world.specs.declared.structure.Structure.{Structure}
-use Rattle.kin_world.specs.declared.upkeep.Upkeep.{Upkeep}
-use Rattle.kin_world.specs.Structures.{IsKept}
 use Rattle.kin_cert.specs.Told.{certificates_of}
-use Rattle.kin_world.specs.Upkeep.{IsSound}
 use Rattle.kin_world.specs.Worlds.{certificate}
-
--- a kept structure is there
-pub asked_within : (u : Upkeep) (motions : List (Option Course)) (m : Moment) → IsSound u motions m → (s : ℕ) (keep : Keep) → slice_get u.keeps.items s ≡ Some keep → s < length u.structures.items
-asked_within u motions m sound s keep is = subst (λ n. s < n) (sym sound.upkept.count) (slice_get_within u.keeps.items s keep is)
-
--- the structure of a keep is settled
-pub asked_kept : (u : Upkeep) (motions : List (Option Course)) (m : Moment) → IsSound u motions m → (s : ℕ) (keep : Keep) (st : Structure) → slice_get u.keeps.items s ≡ Some keep → st ≡ get_or u.structures.items s st → IsKept u.size keep (scene_at motions m) st
-asked_kept u motions m sound s keep st is read =
-    let low : s < length u.structures.items = asked_within u motions m sound s keep is in
-    (sound.upkept.each s keep st is (slice_get_read u.structures.items _ s st refl low read)).fine
 
 -- the table has no fact of the owner and the form exactly where no certificate is of them
 pub no_certificate : (live : List LiveFact) (structure part : ℕ) (form : Form) (answer : Option Sign)

@@ -1,23 +1,22 @@
 -- Failed facts are gathered structure by structure: in the journal's order those of one structure stand together.
-use Rattle.std.proofs.Common.{◌≡◌, ◌≢◌, ◌⊎◌, inl, inr, refl, sym, ap, ap₂, ◌∙◌, subst, arith, ℕ, ◌+◌, ◌<◌, ◌≤◌, ◌^◌, ◌-◌, pos, Bool, true, false, List, [], ◌∷◌, ◌++◌, map, length, length-append, Option}
-use Rattle.std.specs.Prelude.{Contains, ◌↔◌, IsTrue, int_lt, int_le}
+use Rattle.std.proofs.Common.{◌≡◌, ◌≢◌, ◌⊎◌, inl, inr, refl, sym, ap, ap₂, ◌∙◌, subst, arith, ℕ, ◌+◌, ◌<◌, ◌≤◌, ◌-◌, pos, Bool, true, false, List, [], ◌∷◌, ◌++◌, map, length, length-append}
+use Rattle.std.specs.Prelude.{Contains, IsTrue, int_lt, int_le}
 use Rattle.std.proofs.lemmas.Int.{ints}
 use Rattle.std.proofs.lemmas.List.Elements.{Contains-append_left, Contains-append_right, Contains-append_cases}
-use Rattle.kin_num.specs.declared.instant.Moment.{Moment}
 use Rattle.kin_motion.specs.declared.fact.Placed.{Placed}
-use Rattle.kin_motion.specs.Course.{Course}
 use Rattle.kin_motion.specs.Live.{Certificate, owned_by}
 use Rattle.kin_motion.specs.Numbers.{IsChain}
 use Rattle.kin_motion.specs.Sets.{AreDistinct}
 use Rattle.kin_motion.proofs.JournalLaws.{never_less_rank, less_rank_through, rank_cases}
-use Rattle.kin_motion.proofs.SetLaws.{contains_head, contains_none, contains_cases, contains_map, contains_mapped, distinct_mapped_on}
+use Rattle.kin_basics.proofs.Members.{contains_head, contains_none, contains_cases}
+use Rattle.kin_motion.proofs.SetLaws.{contains_map, contains_mapped, distinct_mapped_on}
 use Rattle.kin_cert.specs.declared.owned.Owned.{Owned}
-use Rattle.kin_cert.specs.Facts.{LiveFact, Facts, certificate_of}
+use Rattle.kin_cert.specs.Facts.{LiveFact, certificate_of}
 use Rattle.kin_cert.specs.Taken.{is_taken_before, certificate_rank}
-use Rattle.kin_world.specs.declared.upkeep.Upkeep.{Upkeep}
-use Rattle.kin_world.specs.Upkeep.{IsUnderRepair, ListsWaiting, AreWaiting, AreLeft, HasTimedNew, GoesOn, IsGathered, IsRepairing, placed_of}
+use Rattle.kin_world.specs.Upkeep.{Stage, HasSameFrame, HasSettled, HasRepaired, ListsWaiting, AreWaiting, GoesOn, IsGathered, IsRepairing, placed_of}
 use Rattle.kin_motion.proofs.ListChains.{chain_back, chain_front, chain_first, chain_distinct}
 use Rattle.kin_world.proofs.MadeLaws.{come_on}
+use Rattle.kin_world.proofs.RepairLaws.{sound_when_none_waits}
 
 -- the order of the journal goes through and is strict
 listed_through : (o p q : Owned) → is_taken_before o p ≡ true → is_taken_before p q ≡ true → is_taken_before o q ≡ true
@@ -64,6 +63,10 @@ map_joined (x ∷ xs) y = ap (λ ws. placed_of x ∷ ws) (map_joined xs y)
 by_parts : (o p : Owned) → o.structure ≡ p.structure → placed_of o ≡ placed_of p → o ≡ p
 by_parts o p e f = ap₂ (λ (n : ℕ) (q : Placed). record { structure = n; part = q.part; fact = q.fact }) e f
 
+-- what two calls leave as it is
+pub frame_through : (a b c : Stage) → HasSameFrame a b → HasSameFrame b c → HasSameFrame a c
+frame_through a b c first second = second ∙ ap (λ (x : Stage). record x { structures = c.structures; table = c.table }) first
+
 -- ---- the facts of one structure
 pub gathers_nothing : (k : ℕ) (taken : List Owned) (failed : List Placed) → failed ≡ [] → IsGathered k taken taken failed
 gathers_nothing k taken failed none = record { group = []; split = refl; owned = λ o h. absurd (contains_none o h); gathered = none }
@@ -94,7 +97,7 @@ ends_empty k [] e goes = goes
 ends_empty k (o ∷ os) e goes = absurd (omega (arith, e))
 
 -- ---- one turn: the facts of the first structure are gathered, and it is repaired
-module _ (motions : List (Option Course)) (m : Moment) (start : Facts) (u : Upkeep) (taken : List Owned) (repairing : IsRepairing motions m start u taken) (k : ℕ) (goes : GoesOn k taken) where
+module _ {start s : Stage} {taken : List Owned} (repairing : IsRepairing start s taken) (k : ℕ) (goes : GoesOn k taken) where
   first : (o : Owned) × Contains taken o × (o.structure ≡ k)
   first = at taken goes
     where
@@ -103,10 +106,10 @@ module _ (motions : List (Option Course)) (m : Moment) (start : Facts) (u : Upke
       at (o ∷ os) is = (o, contains_head o os, is)
 
   -- the first fact is live, so its structure is there
-  pub turn_within : k < length u.structures.items
+  pub turn_within : k < length s.structures
   turn_within =
       let l = repairing.waiting.only first.0 first.1 in
-      subst (λ n. n < length u.structures.items) (ap (λ (c : Certificate). c.structure) l.3 ∙ first.2) (repairing.repair.owned l.0 l.1)
+      subst (λ n. n < length s.structures) (ap (λ (c : Certificate). c.structure) l.3 ∙ first.2) (repairing.repair.owned l.0 l.1)
 
   first_reached : repairing.reached ≤ k
   first_reached = subst (λ n. repairing.reached ≤ n) first.2 (repairing.behind first.0 first.1)
@@ -122,14 +125,14 @@ module _ (motions : List (Option Course)) (m : Moment) (start : Facts) (u : Upke
         at [] none = absurd (none refl)
         at (o ∷ os) none = omega (arith, length-append (o ∷ os) rest)
 
-    waiting : AreWaiting u.table.live (g.group ++ rest)
-    waiting = subst (λ (os : List Owned). AreWaiting u.table.live os) g.split repairing.waiting
+    waiting : AreWaiting s.table.live (g.group ++ rest)
+    waiting = subst (λ (os : List Owned). AreWaiting s.table.live os) g.split repairing.waiting
 
     later : (o : Owned) → Contains rest o → k < o.structure
     later = later_than k g.group rest waiting.in_order g.owned some ends
 
     -- the gathered facts are all that wait of their structure
-    pub turn_failed : ListsWaiting k u.table.live failed
+    pub turn_failed : ListsWaiting k s.table.live failed
     turn_failed = record {
       once = subst (λ (ps : List Placed). AreDistinct ps) (sym g.gathered)
           (distinct_mapped_on placed_of g.group (λ o p in_o in_p e. by_parts o p (g.owned o in_o ∙ sym (g.owned p in_p)) e)
@@ -137,13 +140,13 @@ module _ (motions : List (Option Course)) (m : Moment) (start : Facts) (u : Upke
       each = λ p. (to p, from p);
     }
       where
-        to : (p : Placed) → Contains failed p → (l : LiveFact) × Contains u.table.live l × IsTrue l.waits × (l.certificate ≡ owned_by k p)
+        to : (p : Placed) → Contains failed p → (l : LiveFact) × Contains s.table.live l × IsTrue l.waits × (l.certificate ≡ owned_by k p)
         to p there =
             let o = contains_mapped placed_of g.group p (subst (λ (ps : List Placed). Contains ps p) g.gathered there) in
             let l = waiting.only o.0 (Contains-append_left g.group rest o.0 o.1) in
             (l.0, l.1, l.2, l.3 ∙ ap₂ (λ (n : ℕ) (q : Placed). owned_by n q) (g.owned o.0 o.1) (sym o.2))
 
-        from : (p : Placed) → ((l : LiveFact) × Contains u.table.live l × IsTrue l.waits × (l.certificate ≡ owned_by k p)) → Contains failed p
+        from : (p : Placed) → ((l : LiveFact) × Contains s.table.live l × IsTrue l.waits × (l.certificate ≡ owned_by k p)) → Contains failed p
         from p (l, there, waits, is) = at (Contains-append_cases g.group rest o.0 o.1)
           where
             o : (o : Owned) × Contains (g.group ++ rest) o × (l.certificate ≡ certificate_of o)
@@ -157,46 +160,49 @@ module _ (motions : List (Option Course)) (m : Moment) (start : Facts) (u : Upke
                 (subst (λ (q : Placed). Contains (map placed_of g.group) q) (sym (ap (λ (c : Certificate). c.placed) same)) (contains_map placed_of g.group o.0 near))
             at (inr far) = let more : k < o.0.structure = later o.0 far in let e : k ≡ o.0.structure = ap (λ (c : Certificate). c.structure) same in absurd (omega (arith, more, e))
 
-    module _ (after : Upkeep) (repair : IsUnderRepair motions m after) (others : AreLeft k u.table.live after.table.live)
-        (own : (l : LiveFact) → Contains after.table.live l → l.certificate.structure ≡ k → l.waits ≡ false) (made : HasTimedNew u.table after.table) where
-      waiting_after : AreWaiting after.table.live rest
+    module _ {t : Stage} (did : HasRepaired k s t) (frame : HasSameFrame s t) where
+      waiting_after : AreWaiting t.table.live rest
       waiting_after = record {
         in_order = chain_back is_taken_before g.group rest waiting.in_order;
         each = each;
         only = λ o there.
             let l = waiting.only o (Contains-append_right g.group rest o there) in
             let more : k < o.structure = later o there in
-            (l.0, (others l.0 (λ e. let s : o.structure ≡ k = sym (ap (λ (c : Certificate). c.structure) l.3) ∙ e in omega (arith, more, s))).0 l.1, l.2, l.3);
+            (l.0, (did.others l.0 (λ e. let s : o.structure ≡ k = sym (ap (λ (c : Certificate). c.structure) l.3) ∙ e in omega (arith, more, s))).0 l.1, l.2, l.3);
       }
         where
-          each : (l : LiveFact) → Contains after.table.live l → IsTrue l.waits → (o : Owned) × Contains rest o × (l.certificate ≡ certificate_of o)
+          each : (l : LiveFact) → Contains t.table.live l → IsTrue l.waits → (o : Owned) × Contains rest o × (l.certificate ≡ certificate_of o)
           each l there waits = at (Contains-append_cases g.group rest o.0 o.1)
             where
               away : l.certificate.structure ≢ k
-              away e = let no_wait : l.waits ≡ false = own l there e in let w : l.waits ≡ true = waits in absurd cc
+              away e = let no_wait : l.waits ≡ false = did.own l there e in let w : l.waits ≡ true = waits in absurd cc
 
               o : (o : Owned) × Contains (g.group ++ rest) o × (l.certificate ≡ certificate_of o)
-              o = waiting.each l ((others l away).1 there) waits
+              o = waiting.each l ((did.others l away).1 there) waits
 
               at : Contains g.group o.0 ⊎ Contains rest o.0 → (o : Owned) × Contains rest o × (l.certificate ≡ certificate_of o)
               at (inl near) = absurd (away (ap (λ (c : Certificate). c.structure) o.2 ∙ g.owned o.0 near))
               at (inr far) = (o.0, far, o.2)
 
       -- the structure is repaired
-      pub turn_repaired : IsRepairing motions m start after rest
+      pub turn_repaired : IsRepairing start t rest
       turn_repaired = record {
-        repair = repair;
+        repair = did.repair;
         waiting = waiting_after;
         reached = k + 1;
         behind = λ o there. let more : k < o.structure = later o there in omega (arith, more);
-        come = come_on repairing.reached k start u.table after.table first_reached repairing.come others made;
+        come = come_on repairing.reached k start.table s.table t.table first_reached repairing.come did.others did.made;
+        frame = frame_through start s t repairing.frame frame;
       }
 
 -- at the end no fact waits
-pub repaired_all : (motions : List (Option Course)) (m : Moment) (start : Facts) (u : Upkeep) (rest : List Owned) → IsRepairing motions m start u rest → length rest ≡ 0 → (l : LiveFact) → Contains u.table.live l → l.waits ≡ false
-repaired_all motions m start u (o ∷ os) h e l there = absurd (omega (arith, e))
-repaired_all motions m start u [] h e l there = at l.waits refl
+pub repaired_all : {start s : Stage} {rest : List Owned} → IsRepairing start s rest → length rest ≡ 0 → HasSettled start.table s
+repaired_all {start} {s} {rest} h none = record { sound = sound_when_none_waits h.repair (λ l there. at l there l.waits refl); made = h.come.made }
   where
-    at : (w : Bool) → l.waits ≡ w → l.waits ≡ false
-    at false is = is
-    at true is = let o = h.waiting.each l there is in absurd (contains_none o.0 o.1)
+    empty : (os : List Owned) → length os ≡ 0 → (o : Owned) → ¬ (Contains os o)
+    empty [] e o there = contains_none o there
+    empty (p ∷ os) e o there = absurd (omega (arith, e))
+
+    at : (l : LiveFact) → Contains s.table.live l → (w : Bool) → l.waits ≡ w → l.waits ≡ false
+    at l there false is = is
+    at l there true is = let o = h.waiting.each l there is in absurd (empty rest none o.0 o.1)

@@ -1,24 +1,26 @@
 -- What stands at a place, who owns a live fact, and one structure put in the place of another.
-use Rattle.std.proofs.Common.{◌≡◌, ◌≢◌, ◌⊎◌, inl, inr, refl, sym, ap, ◌∙◌, subst, ℕ, ◌<◌, List, length, get_or, slice_set}
-use Rattle.std.specs.Prelude.{slice_get, Some, Contains, ◌↔◌}
+use Rattle.std.proofs.Common.{◌≡◌, ◌≢◌, ◌⊎◌, inl, inr, refl, sym, ap, ◌∙◌, subst, arith, ℕ, ◌+◌, ◌-◌, ◌^◌, ◌<◌, List, length, get_or, slice_set, map}
+use Rattle.std.specs.Prelude.{slice_get, Some, Contains, min, false, true}
 use Rattle.std.proofs.lemmas.Bool.{cases_eq}
-use Rattle.std.proofs.lemmas.List.Elements.{All-contains, Contains-get_or}
-use Rattle.std.proofs.lemmas.Option.{slice_get_read, slice_get_within}
+use Rattle.std.proofs.lemmas.List.{length-map, length-set}
+use Rattle.std.proofs.lemmas.List.Elements.{Contains-get_or}
+use Rattle.std.proofs.lemmas.Option.{same_Some, slice_get_read, slice_get_within}
+use Rattle.kin_basics.proofs.Places.{get_within, get-set_same, get-set_other}
 use Rattle.kin_num.specs.declared.instant.Moment.{Moment}
 use Rattle.kin_motion.specs.declared.fact.Placed.{Placed}
 use Rattle.kin_motion.specs.declared.keep.Keep.{Keep}
 use Rattle.kin_motion.specs.Deltas.{Change}
-use Rattle.kin_motion.specs.Forms.{IsAskable}
 use Rattle.kin_motion.specs.Kinetics.{AllHold, HasChanged}
 use Rattle.kin_motion.specs.Live.{Certificate, owned_by}
-use Rattle.kin_motion.specs.Scene.{Scene, Holds}
-use Rattle.kin_cert.specs.Facts.{LiveFact}
+use Rattle.kin_motion.specs.Scene.{Scene, Holds, scene_at}
+use Rattle.kin_cert.specs.Facts.{LiveFact, Facts}
+use Rattle.kin_cert.specs.Taken.{NoneWaits}
+use Rattle.kin_cert.specs.Told.{HasFactsOf, IsTimed, MayTell, nothing}
+use Rattle.kin_cert.proofs.NextLaws.{timed_holds}
 use Rattle.kin_world.specs.declared.structure.Structure.{Structure}
-use Rattle.kin_world.specs.Structures.{facts_of, IsKept}
-use Rattle.kin_cert.specs.Told.{HasFactsOf, MayTell, IsTold, nothing}
-use Rattle.kin_world.specs.Upkeep.{Stands, AreInOrder, AreLeft}
-use Rattle.kin_world.proofs.Places.{item_at, set_length, set_here, set_there, one_item}
-use Rattle.kin_world.proofs.StructureLaws.{kept_holds, kept_askable}
+use Rattle.kin_world.specs.Structures.{placed_facts, IsSettledFor}
+use Rattle.kin_world.specs.Upkeep.{Stage, sight, IsInPlace, IsInOrder, IsTimedOrFailed, HasTimedNew, HasReplaced}
+use Rattle.kin_world.proofs.StructureLaws.{settled_holds, settled_askable}
 
 -- what is so of the certificate's fact is so of the fact
 pub by_certificate : (P : Placed → Type 0) (k : ℕ) (p : Placed) (c : Certificate) → c ≡ owned_by k p → P c.placed → P p
@@ -31,99 +33,130 @@ facts_hold s live j facts tabled holds i d low =
     let l = (tabled p).0 (Contains-get_or facts i d low) in
     by_certificate (λ q. Holds s q.fact) j p l.0.certificate l.2 (holds l.0 l.1)
 
-module _ (is_fine : ℕ → Keep → Structure → Type 0) (is_timely : LiveFact → Type 0) (keeps : List Keep) (structures : List Structure) (live : List LiveFact)
-    (o : AreInOrder is_fine is_timely keeps structures live) where
+-- a fact with its first failure doesn't wait
+pub timely_from_timed : (scene : Moment → Scene) (m : Moment) (l : LiveFact) → IsTimed scene m l → IsTimedOrFailed scene m l
+timely_from_timed scene m l timed = record {
+  timed = λ not. timed;
+  failed = λ waits. let no : l.waits ≡ false = timed.waits_not in let yes : l.waits ≡ true = waits in absurd cc;
+}
+
+module _ {is_fine : ℕ → Keep → Structure → Type 0} {s : Stage} (o : IsInOrder is_fine s) where
   -- what stands at a place
-  pub standing : (j : ℕ) → j < length structures → (keep : Keep) × (st : Structure) × (slice_get keeps j ≡ Some keep) × (slice_get structures j ≡ Some st) × Stands is_fine live j keep st
+  pub standing : (j : ℕ) → j < length s.structures → (keep : Keep) × (st : Structure) × (slice_get s.keeps j ≡ Some keep) × (slice_get s.structures j ≡ Some st)
   standing j low =
-      let keep = item_at keeps j (subst (λ n. j < n) o.count low) in
-      let st = item_at structures j low in
-      (keep.0, st.0, keep.1, st.1, o.each j keep.0 st.0 keep.1 st.1)
+      let keep = get_within s.keeps j (subst (λ n. j < n) o.count low) in
+      let st = get_within s.structures j low in
+      (keep.0, st.0, keep.1, st.1)
 
   -- what was read there
-  pub standing_read : (j : ℕ) (st : Structure) → j < length structures → st ≡ get_or structures j st → (keep : Keep) × (slice_get keeps j ≡ Some keep) × (slice_get structures j ≡ Some st) × Stands is_fine live j keep st
+  pub standing_read : (j : ℕ) (st : Structure) → j < length s.structures → st ≡ get_or s.structures j st → (keep : Keep) × (slice_get s.keeps j ≡ Some keep) × (slice_get s.structures j ≡ Some st) × IsInPlace is_fine s.table.live j keep st
   standing_read j st low read =
-      let keep = item_at keeps j (subst (λ n. j < n) o.count low) in
-      let here = slice_get_read structures (length structures) j st refl low read in
+      let keep = get_within s.keeps j (subst (λ n. j < n) o.count low) in
+      let here = slice_get_read s.structures (length s.structures) j st refl low read in
       (keep.0, keep.1, here, o.each j keep.0 st keep.1 here)
 
   -- a live fact is one of its owner's
-  pub owner : (l : LiveFact) → Contains live l → (keep : Keep) × (st : Structure) × (slice_get keeps l.certificate.structure ≡ Some keep) × Stands is_fine live l.certificate.structure keep st × Contains (facts_of st) l.certificate.placed
+  pub owner : (l : LiveFact) → Contains s.table.live l
+      → (keep : Keep) × (st : Structure) × (slice_get s.keeps l.certificate.structure ≡ Some keep) × is_fine l.certificate.structure keep st × Contains (placed_facts st) l.certificate.placed
   owner l there =
-      let s = standing l.certificate.structure (o.owned l there) in
-      (s.0, s.1, s.2, s.4, (s.4.tabled l.certificate.placed).1 (l, there, refl))
+      let at = standing l.certificate.structure (o.owned l there) in
+      let place = o.each l.certificate.structure at.0 at.1 at.2 at.3 in
+      (at.0, at.1, at.2, place.fine, (place.tabled l.certificate.placed).1 (l, there, refl))
 
-  module _ (is_fine' : ℕ → Keep → Structure → Type 0) (is_timely' : LiveFact → Type 0) (k : ℕ) (keep : Keep) (st after : Structure) (kept_here : slice_get keeps k ≡ Some keep) (structure_here : slice_get structures k ≡ Some st)
-      (scene : Moment → Scene) (m : Moment) (change : Change) (changed : HasChanged (facts_of st) (facts_of after) nothing change) (live' : List LiveFact) (told : IsTold k change scene m live live') where
+  -- where no fact waits each has its first failure, so it holds
+  pub timed : NoneWaits s.table.live → (l : LiveFact) → Contains s.table.live l → IsTimed (scene_at s.motions) s.moment l
+  timed none l there = (o.timely l there).timed (none l there)
+
+  pub all_hold : NoneWaits s.table.live → (j : ℕ) (facts : List Placed) → HasFactsOf s.table.live j facts → AllHold (sight s) facts
+  all_hold none j facts tabled = facts_hold (sight s) s.table.live j facts tabled (λ l there. timed_holds (scene_at s.motions) s.moment o.canonical l (timed none l there))
+
+  -- what is fine in one sense is fine in another
+  pub restated : {is_fine' : ℕ → Keep → Structure → Type 0} → ((j : ℕ) (keep : Keep) (st : Structure) → slice_get s.structures j ≡ Some st → IsInPlace is_fine s.table.live j keep st → is_fine' j keep st) → IsInOrder is_fine' s
+  restated finer = record {
+    fit = o.fit;
+    canonical = o.canonical;
+    counted = o.counted;
+    count = o.count;
+    each = λ j keep st kept there. let was = o.each j keep st kept there in record { fine = finer j keep st there was; tabled = was.tabled };
+    once = o.once;
+    owned = o.owned;
+    timely = o.timely;
+  }
+
+  -- the change of a structure that is settled now may be told
+  pub may_tell : (k : ℕ) (keep : Keep) (st after : Structure) (change : Change) → slice_get s.keeps k ≡ Some keep → IsInPlace is_fine s.table.live k keep st → IsSettledFor s.size keep (sight s) after
+      → HasChanged (placed_facts st) (placed_facts after) nothing change → MayTell k change (sight s) s.table.live
+  may_tell k keep st after change kept place settled changed = record {
+    before = placed_facts st;
+    after = placed_facts after;
+    once = o.once;
+    tabled = place.tabled;
+    changed = changed;
+    hold = settled_holds s.size keep (sight s) after settled;
+    askable = settled_askable s.size keep (sight s) after (o.fit.keepable.small k keep kept) settled;
+  }
+
+  module _ {k : ℕ} {keep : Keep} {st after : Structure} {table : Facts} (r : HasReplaced k s keep st after table) where
     -- the structure's own facts are tabled
-    pub tabled_here : HasFactsOf live' k (facts_of after)
-    tabled_here = told.facts (facts_of st) (facts_of after) (o.each k keep st kept_here structure_here).tabled changed
+    pub tabled_here : HasFactsOf table.live k (placed_facts after)
+    tabled_here = r.told.facts (placed_facts st) (placed_facts after) (o.each k keep st r.kept r.here).tabled r.changed
+
+    pub timed_new : HasTimedNew s.table table
+    timed_new = record {
+      born = map (owned_by k) r.change.born;
+      exactly = r.told.born;
+      count = r.made ∙ ap (λ n. min (s.table.made + n) (2 ^ 64 - 1)) (sym (length-map r.change.born (owned_by k)));
+    }
 
     -- another structure has the facts that it had
-    tabled_there : (j : ℕ) (facts : List Placed) → j ≢ k → HasFactsOf live j facts → HasFactsOf live' j facts
-    tabled_there j facts apart tabled p = (λ h. to ((tabled p).0 h), λ x. (tabled p).1 (from x))
+    tabled_there : (j : ℕ) (facts : List Placed) → j ≢ k → HasFactsOf s.table.live j facts → HasFactsOf table.live j facts
+    tabled_there j facts apart tabled p = (
+      λ h. let l = (tabled p).0 h in (l.0, (r.told.others l.0 (away l.0 l.2)).0 l.1, l.2),
+      λ l. (tabled p).1 (l.0, (r.told.others l.0 (away l.0 l.2)).1 l.1, l.2),
+    )
       where
         away : (l : LiveFact) → l.certificate ≡ owned_by j p → l.certificate.structure ≢ k
         away l e is = apart (sym (ap (λ (c : Certificate). c.structure) e) ∙ is)
 
-        to : ((l : LiveFact) × Contains live l × (l.certificate ≡ owned_by j p)) → (l : LiveFact) × Contains live' l × (l.certificate ≡ owned_by j p)
-        to (l, h, e) = (l, (told.others l (away l e)).0 h, e)
+    -- a fact that is live now was live, or has its first failure
+    timely_after : (l : LiveFact) → Contains table.live l → IsTimedOrFailed (scene_at s.motions) s.moment l
+    timely_after l there = at (cases_eq l.certificate.structure k)
+      where
+        by_age : Contains s.table.live l ⊎ IsTimed (scene_at s.motions) s.moment l → IsTimedOrFailed (scene_at s.motions) s.moment l
+        by_age (inl old) = o.timely l old
+        by_age (inr new) = timely_from_timed (scene_at s.motions) s.moment l new
 
-        from : ((l : LiveFact) × Contains live' l × (l.certificate ≡ owned_by j p)) → (l : LiveFact) × Contains live l × (l.certificate ≡ owned_by j p)
-        from (l, h, e) = (l, (told.others l (away l e)).1 h, e)
+        at : (l.certificate.structure ≡ k) ⊎ (l.certificate.structure ≢ k) → IsTimedOrFailed (scene_at s.motions) s.moment l
+        at (inl is) = by_age (r.told.own l there is)
+        at (inr other) = o.timely l ((r.told.others l other).1 there)
 
-    -- the new structure is fine, the others stay fine, and so do the facts
-    pub replaced : is_fine' k keep after → ((j : ℕ) (x : Keep) (y : Structure) → j ≢ k → is_fine j x y → is_fine' j x y)
-        → ((l : LiveFact) → Contains live' l → l.certificate.structure ≡ k → is_timely' l) → ((l : LiveFact) → is_timely l → is_timely' l)
-        → AreInOrder is_fine' is_timely' keeps (slice_set structures k after) live'
-    replaced fine others own stay = record {
-      count = set_length structures k after ∙ o.count;
-      few = o.few;
-      each = λ j x y kept_there there. each j x y kept_there there (cases_eq j k);
-      once = told.once;
-      owned = λ l there. subst (λ n. l.certificate.structure < n) (sym (set_length structures k after)) (within l there (cases_eq l.certificate.structure k));
-      timely = λ l there. timely l there (cases_eq l.certificate.structure k);
+    -- the new structure is fine, and the others stay fine
+    pub replaced : {is_fine' : ℕ → Keep → Structure → Type 0} → is_fine' k keep after → ((j : ℕ) (x : Keep) (y : Structure) → j ≢ k → is_fine j x y → is_fine' j x y)
+        → IsInOrder is_fine' (record s { structures = slice_set s.structures k after; table = table })
+    replaced {is_fine'} fine others = record {
+      fit = o.fit;
+      canonical = o.canonical;
+      counted = omega (arith, r.made);
+      count = length-set s.structures k after ∙ o.count;
+      each = λ j x y kept there. each j x y kept there (cases_eq j k);
+      once = r.told.once;
+      owned = λ l there. subst (λ n. l.certificate.structure < n) (sym (length-set s.structures k after)) (within l there (cases_eq l.certificate.structure k));
+      timely = timely_after;
     }
       where
-        low : k < length structures
-        low = slice_get_within structures k st structure_here
+        low : k < length s.structures
+        low = slice_get_within s.structures k st r.here
 
-        within : (l : LiveFact) → Contains live' l → (l.certificate.structure ≡ k) ⊎ (l.certificate.structure ≢ k) → l.certificate.structure < length structures
-        within l there (inl is) = subst (λ n. n < length structures) (sym is) low
-        within l there (inr other) = o.owned l ((told.others l other).1 there)
+        within : (l : LiveFact) → Contains table.live l → (l.certificate.structure ≡ k) ⊎ (l.certificate.structure ≢ k) → l.certificate.structure < length s.structures
+        within l there (inl is) = subst (λ n. n < length s.structures) (sym is) low
+        within l there (inr other) = o.owned l ((r.told.others l other).1 there)
 
-        timely : (l : LiveFact) → Contains live' l → (l.certificate.structure ≡ k) ⊎ (l.certificate.structure ≢ k) → is_timely' l
-        timely l there (inl is) = own l there is
-        timely l there (inr other) = stay l (o.timely l ((told.others l other).1 there))
-
-        here : Stands is_fine' live' k keep after
-        here = record { fine = fine; keepable = (o.each k keep st kept_here structure_here).keepable; tabled = tabled_here }
-
-        each : (j : ℕ) (x : Keep) (y : Structure) → slice_get keeps j ≡ Some x → slice_get (slice_set structures k after) j ≡ Some y → (j ≡ k) ⊎ (j ≢ k) → Stands is_fine' live' j x y
-        each j x y kept_there there (inl is) =
-            let same_keep : keep ≡ x = one_item (sym kept_here ∙ subst (λ n. slice_get keeps n ≡ Some x) is kept_there) in
-            let same : after ≡ y = one_item (sym (set_here structures k after low) ∙ subst (λ n. slice_get (slice_set structures k after) n ≡ Some y) is there) in
-            subst (λ n. Stands is_fine' live' n x y) (sym is) (subst (λ (z : Structure). Stands is_fine' live' k x z) same (subst (λ (q : Keep). Stands is_fine' live' k q after) same_keep here))
-        each j x y kept_there there (inr apart) =
-            let was = o.each j x y kept_there (sym (set_there structures k j after apart) ∙ there) in
-            record { fine = others j x y apart was.fine; keepable = was.keepable; tabled = tabled_there j (facts_of y) apart was.tabled }
-
--- the form of each live fact may be asked for
-pub live_askable : (size : ℕ) (s : Scene) (is_timely : LiveFact → Type 0) (keeps : List Keep) (structures : List Structure) (live : List LiveFact)
-    → AreInOrder (λ j keep st. IsKept size keep s st) is_timely keeps structures live → (l : LiveFact) → Contains live l → IsAskable s.live l.certificate.placed.fact.form
-live_askable size s is_timely keeps structures live o l there =
-    let w = owner (λ j keep st. IsKept size keep s st) is_timely keeps structures live o l there in
-    All-contains (λ (p : Placed). IsAskable s.live p.fact.form) (facts_of w.1) l.certificate.placed (kept_askable size w.0 s w.1 w.3.keepable w.3.fine) w.4
-
--- the change of a structure that is settled now may be told
-pub may_tell : (is_fine : ℕ → Keep → Structure → Type 0) (is_timely : LiveFact → Type 0) (keeps : List Keep) (structures : List Structure) (live : List LiveFact) → AreInOrder is_fine is_timely keeps structures live
-    → (size k : ℕ) (s : Scene) (keep : Keep) (st after : Structure) (change : Change) → Stands is_fine live k keep st → IsKept size keep s after → HasChanged (facts_of st) (facts_of after) nothing change → MayTell k change s live
-may_tell is_fine is_timely keeps structures live o size k s keep st after change stands settled changed = record {
-  before = facts_of st;
-  after = facts_of after;
-  once = o.once;
-  tabled = stands.tabled;
-  changed = changed;
-  hold = kept_holds size keep s after settled;
-  askable = kept_askable size keep s after stands.keepable settled;
-}
+        each : (j : ℕ) (x : Keep) (y : Structure) → slice_get s.keeps j ≡ Some x → slice_get (slice_set s.structures k after) j ≡ Some y → (j ≡ k) ⊎ (j ≢ k) → IsInPlace is_fine' table.live j x y
+        each j x y kept there (inl is) =
+            let same_keep : keep ≡ x = same_Some _ _ (sym r.kept ∙ subst (λ n. slice_get s.keeps n ≡ Some x) is kept) in
+            let same : after ≡ y = same_Some _ _ (sym (get-set_same s.structures k after low) ∙ subst (λ n. slice_get (slice_set s.structures k after) n ≡ Some y) is there) in
+            subst (λ n. IsInPlace is_fine' table.live n x y) (sym is)
+            (subst (λ (z : Structure). IsInPlace is_fine' table.live k x z) same (subst (λ (q : Keep). IsInPlace is_fine' table.live k q after) same_keep (record { fine = fine; tabled = tabled_here })))
+        each j x y kept there (inr apart) =
+            let was = o.each j x y kept (sym (get-set_other s.structures k j after apart) ∙ there) in
+            record { fine = others j x y apart was.fine; tabled = tabled_there j (placed_facts y) apart was.tabled }

@@ -1,20 +1,12 @@
 -- What was made adds up, if the structures are changed in turn.
-use Rattle.std.proofs.Common.{◌≡◌, ℕ, ◌+◌, ◌-◌, ◌^◌, ◌≤◌, ◌⊎◌, inl, inr, sym, ap, ◌∙◌, subst, arith, List, [], ◌++◌, length, length-append}
-use Rattle.std.specs.Prelude.{◌≢◌, ◌↔◌, min, Contains}
+use Rattle.std.proofs.Common.{◌≡◌, ℕ, ◌+◌, ◌-◌, ◌^◌, ◌≤◌, ◌⊎◌, inl, inr, sym, ap, ◌∙◌, subst, arith, List, [], ◌++◌, length-append}
+use Rattle.std.specs.Prelude.{◌≢◌, ◌↔◌, Contains}
 use Rattle.std.proofs.lemmas.Bool.{cases_eq}
 use Rattle.kin_motion.specs.Live.{Certificate}
 use Rattle.kin_motion.proofs.SetLaws.{contains_map, contains_mapped, exactly_none, exactly_both, exactly_in_words}
 use Rattle.kin_cert.specs.Facts.{LiveFact, Facts}
 use Rattle.kin_cert.specs.Told.{certificates_of}
 use Rattle.kin_world.specs.Upkeep.{HasTimedNew, HasComeTo, AreLeft}
-
--- nothing is made where nothing changes
-made_none : (a : Facts) → a.made ≤ 2 ^ 64 - 1 → HasTimedNew a a
-made_none a fits = record {
-  born = [];
-  exactly = exactly_none _ (λ x h. h.1 h.0);
-  count = omega (arith, fits);
-}
 
 -- the certificate is in the second list and not in the first
 abbrev IsNew : List Certificate → List Certificate → Certificate → Type 0
@@ -60,7 +52,10 @@ others_listed k old new others x apart = (through old new (λ l not_k. (others l
 
 -- at the start nothing has come
 pub come_first : (start : Facts) → start.made ≤ 2 ^ 64 - 1 → HasComeTo 0 start start
-come_first start fits = record { made = made_none start fits; ahead = λ c low. (λ h. h, λ h. h) }
+come_first start fits = record {
+  made = record { born = []; exactly = exactly_none _ (λ x h. h.1 h.0); count = omega (arith, fits) };
+  ahead = λ c low. (λ h. h, λ h. h);
+}
 
 -- the structure k is told, after those below it
 pub come_on : (reached k : ℕ) (start b c : Facts) → reached ≤ k → HasComeTo reached start b → AreLeft k b.live c.live → HasTimedNew b c → HasComeTo (k + 1) start c

@@ -1,26 +1,17 @@
 -- What holds of the motions, keeps and moment of every whole world: the laws of failures apply to it.
-use Rattle.std.proofs.Common.{◌≡◌, refl, arith, ℕ, zero, suc, ◌<◌, List, [], ◌∷◌, length, get_or}
-use Rattle.std.specs.Prelude.{slice_get, Some}
-use Rattle.std.specs.List.{All}
-use Rattle.kin_motion.specs.declared.keep.Keep.{Keep}
-use Rattle.kin_motion.specs.Live.{IsSmallKeep}
+use Rattle.std.proofs.Common.{get_or}
+use Rattle.std.proofs.lemmas.Option.{slice_get-get_or}
 use Rattle.kin_cert.specs.Laws.{IsProper}
 use Rattle.kin_cert.proofs.FailureRoots as cert
 use Rattle.kin_cert.proofs.JournalExistence as cert_journal
 use Rattle.kin_world.specs.Laws.{BlocksAreAtRoots, JournalsExist}
 use Rattle.kin_world.specs.Worlds.{World, IsWhole}
 
--- what is read within a list stands there
-get_within : {A : Type 0} (xs : List A) (i : ℕ) (d : A) → i < length xs → slice_get xs i ≡ Some (get_or xs i d)
-get_within {A} [] i d low = absurd (omega (arith, low))
-get_within {A} (x ∷ xs) zero d low = refl
-get_within {A} (x ∷ xs) (suc i) d low = get_within xs i d (omega (arith, low))
-
 pub proper : (w : World) → IsWhole w → IsProper w.motions w.size w.keeps
 proper w whole = record {
   slow = whole.slow;
   slots = whole.room;
-  small = λ i d low. (whole.keepable.small i (get_or w.keeps i d) (get_within w.keeps i d low)).0;
+  small = λ i d low. (whole.keepable.small i (get_or w.keeps i d) (slice_get-get_or w.keeps i d low)).0;
 }
 
 pub blocks_are_at_roots : BlocksAreAtRoots

@@ -1,11 +1,22 @@
--- The start: no number is live, at the instant 0.
-use Rattle.std.proofs.Common.{◌≡◌, rules, refl, ap, ap₂, ◌∙◌, arith, ℕ, zero, suc, ◌+◌, List, [], ◌∷◌, length}
-use Rattle.std.specs.Prelude.{Option, None, pos, replicate}
+-- The start: no number is live, at the instant 0, and the structures have no members.
+use Rattle.std.proofs.Common.{◌≡◌, ◌⊎◌, inl, inr, rules, refl, sym, ap, ap₂, ◌∙◌, subst, arith, ℕ, zero, suc, ◌+◌, List, [], ◌∷◌, ◌++◌, length}
+use Rattle.std.specs.Prelude.{Option, Some, None, pos, replicate, slice_get, Contains}
 use Rattle.std.proofs.lemmas.Nat.Gcd.{IsGcd-swap, IsGcd-from_zero}
+use Rattle.std.proofs.lemmas.Option.{same_Some}
+use Rattle.kin_basics.proofs.Members.{contains_none}
+use Rattle.kin_basics.proofs.Places.{get-push_cases}
+use Rattle.kin_num.specs.declared.instant.Moment.{Moment}
 use Rattle.kin_num.specs.declared.instant.Shape.TheVariants.{Ratio}
 use Rattle.kin_num.specs.Canonical.{IsCanonical}
+use Rattle.kin_motion.specs.declared.fact.Placed.{Placed}
+use Rattle.kin_motion.specs.declared.keep.Keep.{Keep}
 use Rattle.kin_motion.specs.Course.{Course, motion_of, live_of}
 use Rattle.kin_motion.specs.Numbers.{filled_from}
+use Rattle.kin_motion.specs.Scene.{scene_at}
+use Rattle.kin_cert.specs.Told.{HasFactsOf}
+use Rattle.kin_world.specs.declared.structure.Structure.{Structure}
+use Rattle.kin_world.specs.Structures.{placed_facts, IsVacant, AreVacant}
+use Rattle.kin_world.specs.Upkeep.{IsFit, IsSound}
 
 -- a list of so many empty slots
 pub empty_slots : (n : ℕ) (ms : List (Option Course)) → length ms ≡ n → ((i : ℕ) → motion_of ms i ≡ None) → ms ≡ replicate n None
@@ -27,4 +38,43 @@ pub start_canonical : IsCanonical (Ratio (pos 0) (pos 1))
 start_canonical = record {
   form = record { positive = search rules; lowest = IsGcd-swap 1 0 1 (IsGcd-from_zero 1 0 refl) };
   small = record { n_small = omega arith; d_small = omega arith };
+}
+
+pub vacant_none : (size : ℕ) (keeps : List Keep) (structures : List Structure) → structures ≡ [] → AreVacant size keeps structures
+vacant_none size keeps structures none j keep st kept there = let e = subst (λ (xs : List Structure). slice_get xs j ≡ Some st) none there in absurd cc
+
+-- one structure more
+pub vacant_more : (size : ℕ) (keeps : List Keep) (structures after : List Structure) (keep : Keep) (st : Structure)
+    → AreVacant size keeps structures → slice_get keeps (length structures) ≡ Some keep → IsVacant size keep st → after ≡ structures ++ st ∷ [] → AreVacant size keeps after
+vacant_more size keeps structures after keep st vacant here own pushed_is j keep' st' kept there =
+    at (get-push_cases structures st j st' (subst (λ (xs : List Structure). slice_get xs j ≡ Some st') pushed_is there))
+  where
+    at : (slice_get structures j ≡ Some st') ⊎ ((j ≡ length structures) × (st' ≡ st)) → IsVacant size keep' st'
+    at (inl old) = vacant j keep' st' kept old
+    at (inr (last, same)) =
+        let same_keep : keep ≡ keep' = same_Some _ _ (sym here ∙ subst (λ n. slice_get keeps n ≡ Some keep') last kept) in
+        subst (λ (x : Structure). IsVacant size keep' x) (sym same) (subst (λ (k : Keep). IsVacant size k st) same_keep own)
+
+-- an empty table has the facts of a structure without any
+tabled_none : (j : ℕ) (facts : List Placed) → facts ≡ [] → HasFactsOf [] j facts
+tabled_none j facts none p = (
+  λ there. absurd (contains_none p (subst (λ (ps : List Placed). Contains ps p) none there)),
+  λ l. absurd (contains_none l.0 l.1),
+)
+
+-- so they are all settled where no number is live
+pub sound_start : (size : ℕ) (keeps : List Keep) (structures : List Structure) (motions : List (Option Course)) (m : Moment) → IsFit size keeps motions → IsCanonical m.at → live_of motions ≡ [] → length structures ≡ length keeps → AreVacant size keeps structures
+    → IsSound (record { size = size; keeps = keeps; structures = structures; table = record { live = []; made = 0 }; motions = motions; moment = m })
+sound_start size keeps structures motions m fit canonical nobody count vacant = record {
+  in_order = record {
+    fit = fit;
+    canonical = canonical;
+    counted = omega arith;
+    count = count;
+    each = λ j keep st kept there. let v = vacant j keep st kept there in record { fine = v.kept (scene_at motions m) nobody; tabled = tabled_none j (placed_facts st) v.facts };
+    once = λ i j d less within. absurd (omega (arith, within));
+    owned = λ l there. absurd (contains_none l there);
+    timely = λ l there. absurd (contains_none l there);
+  };
+  none_waits = λ l there. absurd (contains_none l there);
 }

@@ -1,5 +1,5 @@
 -- What is told of a kept structure, whatever its kind.
-use Rattle.std.specs.Prelude.{◌≡◌, ℕ, ◌^◌, ◌<◌, List, []}
+use Rattle.std.specs.Prelude.{◌≡◌, ℕ, ◌^◌, ◌<◌, List, [], Some, slice_get}
 use Rattle.kin_motion.specs.declared.fact.Placed.{Placed}
 use Rattle.kin_motion.specs.declared.keep.Keep.{Keep}
 use Rattle.kin_motion.specs.declared.keep.Keep.TheVariants as keep
@@ -15,9 +15,9 @@ use Rattle.kin_world.specs.declared.structure.Structure.{Structure}
 use Rattle.kin_world.specs.declared.structure.Structure.TheVariants.{Order, Extreme}
 
 -- its live facts, each in its part
-abbrev pub facts_of : Structure → List Placed
-facts_of (Order k) = k.facts
-facts_of (Extreme t) = t.facts
+abbrev pub placed_facts : Structure → List Placed
+placed_facts (Order k) = k.facts
+placed_facts (Extreme t) = t.facts
 
 -- it is of the kind, the direction and the size of a keep
 abbrev pub IsFor : ℕ → Keep → Structure → Type 0
@@ -35,31 +35,35 @@ IsSettledIn s (Order k) = listing.IsSettledListing k s
 IsSettledIn s (Extreme t) = points.IsSettledAlong t s
 
 -- it is the structure of the keep, settled in the scene over the live numbers
-pub record IsKept (size : ℕ) (keep : Keep) (s : Scene) (st : Structure) : Type 0 where
+pub record IsSettledFor (size : ℕ) (keep : Keep) (s : Scene) (st : Structure) : Type 0 where
   pub kind : IsFor size keep st
   pub members : HasMembers s.live st
   pub settled : IsSettledIn s st
 
 -- it is the structure of the keep, without members and without facts
 pub record IsVacant (size : ℕ) (keep : Keep) (st : Structure) : Type 0 where
-  pub kept : (s : Scene) → s.live ≡ [] → IsKept size keep s st
-  pub facts : facts_of st ≡ []
+  pub kept : (s : Scene) → s.live ≡ [] → IsSettledFor size keep s st
+  pub facts : placed_facts st ≡ []
+
+-- one stands for each keep, without members
+abbrev pub AreVacant : ℕ → List Keep → List Structure → Type 0
+AreVacant size keeps structures = (j : ℕ) (keep : Keep) (st : Structure) → slice_get keeps j ≡ Some keep → slice_get structures j ≡ Some st → IsVacant size keep st
 
 -- it is the structure of the keep over the live numbers, and it is settled if all its facts hold
-pub record IsKeptUpTo (size : ℕ) (keep : Keep) (s : Scene) (st : Structure) : Type 0 where
+pub record IsSettledWhereAllHold (size : ℕ) (keep : Keep) (s : Scene) (st : Structure) : Type 0 where
   pub kind : IsFor size keep st
   pub members : HasMembers s.live st
-  pub settled : AllHold s (facts_of st) → IsSettledIn s st
+  pub settled : AllHold s (placed_facts st) → IsSettledIn s st
 
 -- a number may enter the structure in this scene: it is settled in one without the number, and all its facts hold
 pub record MayEnter (entering : ℕ) (st : Structure) (s : Scene) : Type 0 where
   pub size : ℕ
   pub keep : Keep
   pub before : Scene
-  pub kept : IsKept size keep before st
+  pub kept : IsSettledFor size keep before st
   pub room : entering < 2 ^ size
   pub entered : HasEntered entering before.live s.live
-  pub hold : AllHold s (facts_of st)
+  pub hold : AllHold s (placed_facts st)
 
 -- a kind of structure that is built
 abbrev pub IsBuilt : Keep → Type 0

@@ -1,12 +1,13 @@
--- How the structures and the table of their facts belong together. No public clause of the world cites this module.
-use Rattle.std.specs.Prelude.{◌≡◌, ◌≢◌, ℕ, ◌+◌, ◌<◌, ◌≤◌, ◌^◌, ◌-◌, min, false, Bool, List, [], ◌∷◌, ◌++◌, map, length, slice_get, Option, Some, Contains, ◌↔◌, ◌⊎◌, IsTrue}
+-- All that a world is made of, in one piece: what is true of it between two calls, and while it is repaired. No public clause of the world cites this module.
+use Rattle.std.specs.Prelude.{◌≡◌, ◌≢◌, ℕ, ◌+◌, ◌<◌, ◌≤◌, ◌^◌, ◌-◌, min, false, Bool, List, [], ◌∷◌, ◌++◌, map, length, slice_get, Option, Some, Contains, ◌↔◌, IsTrue}
 use Rattle.kin_num.specs.declared.instant.Moment.{Moment}
 use Rattle.kin_num.specs.Canonical.{IsCanonical}
 use Rattle.kin_motion.specs.declared.fact.Placed.{Placed}
 use Rattle.kin_motion.specs.declared.keep.Keep.{Keep}
 use Rattle.kin_motion.specs.Course.{Course, AreSlow, live_of}
+use Rattle.kin_motion.specs.Deltas.{Change}
 use Rattle.kin_motion.specs.Journal.{Setting, setting_of}
-use Rattle.kin_motion.specs.Keeps.{are_few}
+use Rattle.kin_motion.specs.Kinetics.{HasChanged}
 use Rattle.kin_motion.specs.Live.{Certificate, owned_by}
 use Rattle.kin_motion.specs.Moments.{HoldsAt}
 use Rattle.kin_motion.specs.Numbers.{IsChain, HasEntered}
@@ -14,59 +15,90 @@ use Rattle.kin_motion.specs.Scene.{Scene, scene_at}
 use Rattle.kin_motion.specs.Sets.{ListsExactly}
 use Rattle.kin_cert.specs.declared.owned.Owned.{Owned}
 use Rattle.kin_cert.specs.Facts.{LiveFact, Facts, NoneAlike, certificate_of}
-use Rattle.kin_cert.specs.Taken.{is_taken_before}
+use Rattle.kin_cert.specs.Taken.{NoneWaits, is_taken_before}
+use Rattle.kin_cert.specs.Told.{HasFactsOf, IsTimed, IsTold, AreNew, certificates_of, nothing}
 use Rattle.kin_world.specs.declared.structure.Structure.{Structure}
 use Rattle.kin_world.specs.declared.upkeep.Upkeep.{Upkeep}
-use Rattle.kin_world.specs.Structures.{facts_of, IsKept, IsKeptUpTo, IsKeepable}
-use Rattle.kin_cert.specs.Told.{HasFactsOf, IsTimed, AreNew, certificates_of}
-use Rattle.kin_world.specs.Worlds.{World}
+use Rattle.kin_world.specs.Structures.{placed_facts, IsSettledFor, IsSettledWhereAllHold}
+use Rattle.kin_world.specs.Worlds.{World, AreKeepable}
 
--- what is kept, and what is seen at each moment of these motions
-abbrev pub setting_with : Upkeep → List (Option Course) → Setting
-setting_with u motions = setting_of motions u.size u.keeps.items
+-- what is kept, the structures in the same order, the table of their live facts, the motions, and the moment now
+pub record Stage : Type 0 where
+  pub size : ℕ
+  pub keeps : List Keep
+  pub structures : List Structure
+  pub table : Facts
+  pub motions : List (Option Course)
+  pub moment : Moment
 
--- the structure of a keep is fine in some sense, and the table has exactly its facts, under its number
-pub record Stands (is_fine : ℕ → Keep → Structure → Type 0) (live : List LiveFact) (j : ℕ) (keep : Keep) (st : Structure) : Type 0 where
+abbrev pub stage_of : Upkeep → Stage
+stage_of u = record { size = u.size; keeps = u.keeps.items; structures = u.structures.items; table = u.table; motions = u.motions; moment = u.moment }
+
+-- what a contract of the world sees of it
+abbrev pub meaning : Stage → Bool → World
+meaning s whole = record { size = s.size; keeps = s.keeps; motions = s.motions; moment = s.moment; live = certificates_of s.table.live; made = s.table.made; whole = whole }
+
+-- what is kept, and what is seen at each moment
+abbrev pub setting : Stage → Setting
+setting s = setting_of s.motions s.size s.keeps
+
+-- what is seen now
+abbrev pub sight : Stage → Scene
+sight s = scene_at s.motions s.moment
+
+-- all but the structures and the facts is as before
+abbrev pub HasSameFrame : Stage → Stage → Type 0
+HasSameFrame s t = t ≡ record s { structures = t.structures; table = t.table }
+
+-- the size and what is kept are in range, and each number has room for a slow motion
+pub record IsFit (size : ℕ) (keeps : List Keep) (motions : List (Option Course)) : Type 0 where
+  pub low : 1 ≤ size
+  pub high : size ≤ 12
+  pub keepable : AreKeepable keeps
+  pub room : length motions ≡ 2 ^ size
+  pub slow : AreSlow motions
+
+-- a structure is fine in some sense, and the table has exactly its facts, under its number
+pub record IsInPlace (is_fine : ℕ → Keep → Structure → Type 0) (live : List LiveFact) (j : ℕ) (keep : Keep) (st : Structure) : Type 0 where
   pub fine : is_fine j keep st
-  pub keepable : IsKeepable keep
-  pub tabled : HasFactsOf live j (facts_of st)
+  pub tabled : HasFactsOf live j (placed_facts st)
 
--- one structure stands for each keep, no live fact is anyone else's, and each is timely in some sense
-pub record AreInOrder (is_fine : ℕ → Keep → Structure → Type 0) (is_timely : LiveFact → Type 0) (keeps : List Keep) (structures : List Structure) (live : List LiveFact) : Type 0 where
-  pub count : length structures ≡ length keeps
-  pub few : IsTrue (are_few keeps)
-  pub each : (j : ℕ) (keep : Keep) (st : Structure) → slice_get keeps j ≡ Some keep → slice_get structures j ≡ Some st → Stands is_fine live j keep st
-  pub once : NoneAlike live
-  pub owned : (l : LiveFact) → Contains live l → l.certificate.structure < length structures
-  pub timely : (l : LiveFact) → Contains live l → is_timely l
+-- a live fact waits to be dropped and doesn't hold now, or has its first failure, seen from now
+pub record IsTimedOrFailed (scene : Moment → Scene) (now : Moment) (l : LiveFact) : Type 0 where
+  pub timed : l.waits ≡ false → IsTimed scene now l
+  pub failed : IsTrue l.waits → ¬ (HoldsAt scene now l.certificate.placed.fact)
 
--- the same of all that is kept
-abbrev pub IsInOrder : (ℕ → Keep → Structure → Type 0) → (LiveFact → Type 0) → Upkeep → Type 0
-IsInOrder is_fine is_timely u = AreInOrder is_fine is_timely u.keeps.items u.structures.items u.table.live
+-- one structure stands for each keep, no live fact is anyone else's, and each is timed or has failed
+pub record IsInOrder (is_fine : ℕ → Keep → Structure → Type 0) (s : Stage) : Type 0 where
+  pub fit : IsFit s.size s.keeps s.motions
+  pub canonical : IsCanonical s.moment.at
+  pub counted : s.table.made ≤ 2 ^ 64 - 1
+  pub count : length s.structures ≡ length s.keeps
+  pub each : (j : ℕ) (keep : Keep) (st : Structure) → slice_get s.keeps j ≡ Some keep → slice_get s.structures j ≡ Some st → IsInPlace is_fine s.table.live j keep st
+  pub once : NoneAlike s.table.live
+  pub owned : (l : LiveFact) → Contains s.table.live l → l.certificate.structure < length s.structures
+  pub timely : (l : LiveFact) → Contains s.table.live l → IsTimedOrFailed (scene_at s.motions) s.moment l
 
--- every structure is settled at the moment, and every live fact has its first failure, seen from it
-abbrev pub IsUpkept : List (Option Course) → Moment → Upkeep → Type 0
-IsUpkept motions m u = IsInOrder (λ j keep st. IsKept u.size keep (scene_at motions m) st) (IsTimed (scene_at motions) m) u
+-- between two calls: every structure is settled now, and no fact waits
+pub record IsSound (s : Stage) : Type 0 where
+  pub in_order : IsInOrder (λ j keep st. IsSettledFor s.size keep (sight s) st) s
+  pub none_waits : NoneWaits s.table.live
 
--- a live fact waits to be dropped and fails at the moment, or has its first failure, seen from it
-pub record IsTimedOrFailed (scene : Moment → Scene) (m : Moment) (l : LiveFact) : Type 0 where
-  pub timed : l.waits ≡ false → IsTimed scene m l
-  pub failed : IsTrue l.waits → ¬ (HoldsAt scene m l.certificate.placed.fact)
-
--- facts that fail at the moment wait to be dropped, and every structure without one is settled
-abbrev pub IsUnderRepair : List (Option Course) → Moment → Upkeep → Type 0
-IsUnderRepair motions m u = IsInOrder (λ j keep st. IsKeptUpTo u.size keep (scene_at motions m) st) (IsTimedOrFailed (scene_at motions) m) u
+-- facts that fail now wait to be dropped, and every structure without one is settled
+abbrev pub IsUnderRepair : Stage → Type 0
+IsUnderRepair s = IsInOrder (λ j keep st. IsSettledWhereAllHold s.size keep (sight s) st) s
 
 -- the structures below k have taken the number in, and the others stand as they were in the scene before
 pub record HasTakenIn (size k : ℕ) (before now : Scene) (j : ℕ) (keep : Keep) (st : Structure) : Type 0 where
-  pub done : j < k → IsKept size keep now st
-  pub ahead : k ≤ j → IsKept size keep before st
+  pub done : j < k → IsSettledFor size keep now st
+  pub ahead : k ≤ j → IsSettledFor size keep before st
 
 -- a number enters, structure after structure
-pub record IsEntering (entering k : ℕ) (before : Scene) (motions : List (Option Course)) (m : Moment) (u : Upkeep) : Type 0 where
-  pub in_order : IsInOrder (HasTakenIn u.size k before (scene_at motions m)) (IsTimed (scene_at motions) m) u
-  pub room : entering < 2 ^ u.size
-  pub entered : HasEntered entering before.live (live_of motions)
+pub record IsEntering (entering k : ℕ) (before : Scene) (s : Stage) : Type 0 where
+  pub in_order : IsInOrder (HasTakenIn s.size k before (sight s)) s
+  pub none_waits : NoneWaits s.table.live
+  pub room : entering < 2 ^ s.size
+  pub entered : HasEntered entering before.live (live_of s.motions)
 
 -- these are the facts of the structure k that wait
 abbrev pub ListsWaiting : ℕ → List LiveFact → List Placed → Type 0
@@ -104,29 +136,44 @@ pub record HasTimedNew (old new : Facts) : Type 0 where
 abbrev pub AreLeft : ℕ → List LiveFact → List LiveFact → Type 0
 AreLeft k old new = (l : LiveFact) → l.certificate.structure ≢ k → Contains old l ↔ Contains new l
 
+-- the structure k has become another, which is settled now, and the table was told what has changed
+pub record HasReplaced (k : ℕ) (s : Stage) (keep : Keep) (st after : Structure) (table : Facts) : Type 0 where
+  pub kept : slice_get s.keeps k ≡ Some keep
+  pub here : slice_get s.structures k ≡ Some st
+  pub settled : IsSettledFor s.size keep (sight s) after
+  pub change : Change
+  pub changed : HasChanged (placed_facts st) (placed_facts after) nothing change
+  pub told : IsTold k change (scene_at s.motions) s.moment s.table.live table.live
+  pub made : table.made ≡ min (s.table.made + length change.born) (2 ^ 64 - 1)
+
+-- the structure k is repaired
+pub record HasRepaired (k : ℕ) (s t : Stage) : Type 0 where
+  pub repair : IsUnderRepair t
+  pub own : (l : LiveFact) → Contains t.table.live l → l.certificate.structure ≡ k → l.waits ≡ false
+  pub others : AreLeft k s.table.live t.table.live
+  pub made : HasTimedNew s.table t.table
+
+-- the structure k has taken the number in, after those below it
+pub record HasGoneOn (entering k : ℕ) (s t : Stage) : Type 0 where
+  pub next : (before : Scene) → IsEntering entering k before s → IsEntering entering (k + 1) before t
+  pub others : AreLeft k s.table.live t.table.live
+  pub made : HasTimedNew s.table t.table
+
 -- from the structure k on all certificates are those of the start, and as many failure moments were made as there are new ones
 pub record HasComeTo (k : ℕ) (start now : Facts) : Type 0 where
   pub made : HasTimedNew start now
   pub ahead : (c : Certificate) → k ≤ c.structure → Contains (certificates_of start.live) c ↔ Contains (certificates_of now.live) c
 
 -- the structures of the rest aren't repaired yet, and nothing has changed of them and of those behind
-pub record IsRepairing (motions : List (Option Course)) (m : Moment) (start : Facts) (u : Upkeep) (rest : List Owned) : Type 0 where
-  pub repair : IsUnderRepair motions m u
-  pub waiting : AreWaiting u.table.live rest
+pub record IsRepairing (start s : Stage) (rest : List Owned) : Type 0 where
+  pub repair : IsUnderRepair s
+  pub waiting : AreWaiting s.table.live rest
   pub reached : ℕ
   pub behind : (o : Owned) → Contains rest o → reached ≤ o.structure
-  pub come : HasComeTo reached start u.table
+  pub come : HasComeTo reached start.table s.table
+  pub frame : HasSameFrame start s
 
--- what is true of every whole world
-pub record IsSound (u : Upkeep) (motions : List (Option Course)) (m : Moment) : Type 0 where
-  pub low : 1 ≤ u.size
-  pub high : u.size ≤ 12
-  pub room : length motions ≡ 2 ^ u.size
-  pub slow : AreSlow motions
-  pub canonical : IsCanonical m.at
-  pub counted : u.table.made ≤ 2 ^ 64 - 1
-  pub upkept : IsUpkept motions m u
-
--- what a contract sees of the parts of a world
-abbrev pub seen : Upkeep → List (Option Course) → Moment → Bool → World
-seen u motions m whole = record { size = u.size; keeps = u.keeps.items; motions = motions; moment = m; live = certificates_of u.table.live; made = u.table.made; whole = whole }
+-- the world is sound, and as many failure moments were made as certificates are new
+pub record HasSettled (before : Facts) (s : Stage) : Type 0 where
+  pub sound : IsSound s
+  pub made : HasTimedNew before s.table

@@ -102,6 +102,11 @@ abbrev pub HasStepped : Moment → Option Block → World → World → Type 0
 HasStepped limit None old new = HasMoved limit old new
 HasStepped limit (Some b) old new = HasPassed limit b old new
 
+-- how many failures a step held, if there was a block
+abbrev pub failure_count : Option Block → Option ℕ
+failure_count None = None
+failure_count (Some b) = Some (length b.failures)
+
 -- the moment of the next block, which has these failures
 pub record IsNextMoment (t : Setting) (now m : Moment) : Type 0 where
   pub failures : List Failure

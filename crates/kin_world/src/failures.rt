@@ -9,23 +9,21 @@ ghost use Rattle.kin_motion.specs.Scene.{scene_at};
 ghost use Rattle.kin_cert.specs.Facts.{certificate_of};
 
 use kin_cert::{Block, Failure, Now, Owned};
-use kin_motion::{Motions, Signs};
-use kin_num::{Moment, NoMemory, Steps};
+use kin_motion::Signs;
+use kin_num::{NoMemory, Steps};
 use std::alloc::Global;
 use std::sync::ledger::Ledger;
 
-/// The block of these facts, with their signs at the moment.
+/// The block of these facts, with their signs now.
 pub fn block_of<L: Ledger>(
     alloc: Global,
     taken: &[Owned],
-    motions: &Motions,
-    moment: &Moment,
+    now: &Now,
     steps: &mut Steps<L>,
 ) -> Result<Block, NoMemory>
-    requires { All (λ o. IsAskable (live_of motions.now) o.fact.form) taken.now }
-    ensures { IfOk result (λ b. b ≡ record { moment = moment.now; failures = map (λ o. seen_in (scene_at motions.now moment.now) (certificate_of o)) taken.now }) }
+    requires { All (λ o. IsAskable (live_of now.now.motions.now) o.fact.form) taken.now }
+    ensures { IfOk result (λ b. b ≡ record { moment = now.now.moment.now; failures = map (λ o. seen_in (scene_at now.now.motions.now now.now.moment.now) (certificate_of o)) taken.now }) }
 {
-    let now = Now { motions, moment };
     let mut failures = Vec::new(alloc);
     failures.reserve(taken.len())?;
     for owned in taken {
@@ -39,7 +37,7 @@ pub fn block_of<L: Ledger>(
         failures.push(failure).map_err(|_| NoMemory)?;
     }
     Ok(Block {
-        moment: *moment,
+        moment: *now.moment,
         failures,
     })
 }

@@ -12,7 +12,7 @@ ghost use Rattle.kin_motion.specs.Orders.{IsOrder};
 ghost use Rattle.kin_motion.specs.Kinetics.{HasChanged};
 ghost use Rattle.kin_motion.specs.Sets.{ListsExactly};
 ghost use Rattle.kin_motion.specs.Scene.{Scene, IsReal, Holds};
-ghost use Rattle.kin_world.specs.Structures.{facts_of, IsFor, HasMembers, IsKept, MayEnter, IsKeepable};
+ghost use Rattle.kin_world.specs.Structures.{placed_facts, IsFor, HasMembers, IsSettledFor, MayEnter, IsKeepable};
 
 use kin_list::KinList;
 use kin_motion::kept::{Kept, enter, repair};
@@ -36,8 +36,8 @@ impl Structure {
         requires low { 1 ≤ size }
         requires high { size ≤ 12 }
         requires small { IsKeepable keep.now }
-        ensures kept { IfOk result (λ st. (s : Scene) → s.live ≡ [] → IsKept size keep.now s st) }
-        ensures facts { IfOk result (λ st. facts_of st ≡ []) }
+        ensures kept { IfOk result (λ st. (s : Scene) → s.live ≡ [] → IsSettledFor size keep.now s st) }
+        ensures facts { IfOk result (λ st. placed_facts st ≡ []) }
     {
         match *keep {
             Keep::Order { .. } => Ok(Structure::Order(KinList::vacant(alloc, keep, size)?)),
@@ -57,9 +57,9 @@ impl Structure {
     ) -> Result<(), NoMemory>
         requires real { IsReal (O.scene now.now) }
         requires members { HasMembers (O.scene now.now).live self.old }
-        requires failing { ListsExactly failed.now (λ p. Contains (facts_of self.old) p × ¬ (Holds (O.scene now.now) p.fact)) }
-        ensures kept { OnOk result ((size : ℕ) (keep : Kind) → IsFor size keep self.old → IsKept size keep (O.scene now.now) self.new) }
-        ensures delta { OnOk result (HasChanged (facts_of self.old) (facts_of self.new) out.old out.new) }
+        requires failing { ListsExactly failed.now (λ p. Contains (placed_facts self.old) p × ¬ (Holds (O.scene now.now) p.fact)) }
+        ensures kept { OnOk result ((size : ℕ) (keep : Kind) → IsFor size keep self.old → IsSettledFor size keep (O.scene now.now) self.new) }
+        ensures delta { OnOk result (HasChanged (placed_facts self.old) (placed_facts self.new) out.old out.new) }
     {
         match self {
             Structure::Order(list) => repair(list, now, failed, out, steps),
@@ -77,8 +77,8 @@ impl Structure {
     ) -> Result<(), NoMemory>
         requires real { IsReal (O.scene now.now) }
         requires may_enter { MayEnter entering self.old (O.scene now.now) }
-        ensures kept { OnOk result ((size : ℕ) (keep : Kind) → IsFor size keep self.old → IsKept size keep (O.scene now.now) self.new) }
-        ensures delta { OnOk result (HasChanged (facts_of self.old) (facts_of self.new) out.old out.new) }
+        ensures kept { OnOk result ((size : ℕ) (keep : Kind) → IsFor size keep self.old → IsSettledFor size keep (O.scene now.now) self.new) }
+        ensures delta { OnOk result (HasChanged (placed_facts self.old) (placed_facts self.new) out.old out.new) }
     {
         match self {
             Structure::Order(list) => enter(list, entering, now, out, steps),
@@ -89,7 +89,7 @@ impl Structure {
     /// The live numbers in their order along the direction, or `None` where no order is kept. They
     /// aren't copied.
     pub fn order(&self) -> Option<&[u32]>
-        ensures { (size : ℕ) (dx dy : ℤ) (s : Scene) → IsKept size (KeepOrder dx dy) s self.now → IsSomeAnd result (λ xs. IsOrder s dx dy xs.now) }
+        ensures { (size : ℕ) (dx dy : ℤ) (s : Scene) → IsSettledFor size (KeepOrder dx dy) s self.now → IsSomeAnd result (λ xs. IsOrder s dx dy xs.now) }
     {
         match self {
             Structure::Order(list) => Some(list.items()),
@@ -101,7 +101,7 @@ impl Structure {
     /// where no number is live or no extreme point is kept. Costs no search.
     pub fn extreme(&self) -> Option<u32>
         requires members { (live : List ℕ) × HasMembers live self.now }
-        ensures { (size : ℕ) (dx dy : ℤ) (s : Scene) → IsReal s → FitsSize size s → IsKept size (KeepExtreme dx dy) s self.now → IsExtremePoint s dx dy result }
+        ensures { (size : ℕ) (dx dy : ℤ) (s : Scene) → IsReal s → FitsSize size s → IsSettledFor size (KeepExtreme dx dy) s self.now → IsExtremePoint s dx dy result }
     {
         match self {
             Structure::Order(_) => None,

@@ -1,21 +1,21 @@
 //! The world: motions, structures and the table of live facts together.
 
-ghost use Rattle.std.specs.Prelude.{◌≡◌, ◌≤◌, ◌<◌, ◌^◌, ◌↔◌, ℕ, ℤ, true, false, Some, None, slice_get, length, Contains, IsTrue, IsFalse, IfOk, OnOk, OnErr, IfSome, IsSome, IsNone, MatchOption};
+ghost use Rattle.std.specs.Prelude.{◌≡◌, ◌≤◌, ◌<◌, ◌^◌, ◌↔◌, ℕ, ℤ, true, false, Option, Some, None, slice_get, length, Contains, IsTrue, IsFalse, IfOk, OnOk, OnErr, IfSome, IsSome, IsNone, MatchOption};
 ghost use Rattle.kin_algebra.specs.declared.sign.Sign.{Sign as Signum};
 ghost use Rattle.kin_num.specs.Grains.{moments_left};
 ghost use Rattle.kin_num.specs.Order.{IsEarlier};
 ghost use Rattle.kin_motion.specs.declared.keep.Keep.TheVariants as keep;
 ghost use Rattle.kin_motion.specs.Course.{is_live, motion_of};
 ghost use Rattle.kin_motion.specs.Extremes.{IsExtremePoint};
-ghost use Rattle.kin_motion.specs.Journal.{NothingFails};
+ghost use Rattle.kin_motion.specs.Journal.{Block as Listed, NothingFails};
 ghost use Rattle.kin_motion.specs.Orders.{IsOrder};
-ghost use Rattle.kin_world.specs.Worlds.{AreKeepable, IsNextMoment, IsWhole, HasInserted, HasStepped, FailsWithin, certificate, empty, world_setting, scene_of};
+ghost use Rattle.kin_world.specs.Worlds.{AreKeepable, IsNextMoment, IsWhole, HasInserted, HasStepped, failure_count, FailsWithin, certificate, empty, world_setting, scene_of};
 
 use crate::upkeep::Upkeep;
 use kin_cert::Block;
 use kin_instant::order::compare_moments;
-use kin_motion::{Form, Keep, Motion, Motions};
-use kin_num::{Instant, Moment, NoMemory, Phase, Shape, Sign, Steps};
+use kin_motion::{Form, Keep, Motion};
+use kin_num::{Moment, NoMemory, Sign, Steps};
 use std::alloc::Global;
 use std::cmp::Ordering;
 use std::marker::Model;
@@ -29,8 +29,6 @@ use std::sync::ledger::Ledger;
 #[derive(Drop)]
 pub struct World {
     alloc: Global,
-    motions: Motions,
-    moment: Moment,
     upkeep: Upkeep,
     whole: bool,
 }
@@ -38,13 +36,13 @@ pub struct World {
 impl Model for World {
     ghost use Rattle.std.specs.Prelude.{IsTrue};
     ghost use Rattle.kin_world.specs.Worlds.{World as Meaning};
-    ghost use Rattle.kin_world.specs.Upkeep.{IsSound, seen};
+    ghost use Rattle.kin_world.specs.Upkeep.{IsSound, meaning, stage_of};
 
     ghost Value = { Meaning };
 
-    ghost view = { λ w. seen w.upkeep w.motions w.moment w.whole };
+    ghost view = { λ w. meaning (stage_of w.upkeep) w.whole };
 
-    ghost invariant = { λ w. IsTrue w.whole → IsSound w.upkeep w.motions w.moment };
+    ghost invariant = { λ w. IsTrue w.whole → IsSound (stage_of w.upkeep) };
 }
 
 impl World {
@@ -56,14 +54,8 @@ impl World {
         ensures empty { IfOk result (λ w. w ≡ empty size keeps.now) }
         ensures whole { IfOk result IsWhole }
     {
-        let moment = Moment {
-            at: Instant::of(Shape::Ratio { n: 0, d: 1 }),
-            phase: Phase::At,
-        };
         Ok(World {
             alloc,
-            motions: Motions::new(alloc, size)?,
-            moment,
             upkeep: Upkeep::new(alloc, size, keeps)?,
             whole: true,
         })
@@ -82,7 +74,7 @@ impl World {
         requires { IsTrue self.now.whole }
         ensures value { result ≡ motion_of self.now.motions no }
     {
-        self.motions.get(no)
+        self.upkeep.motions.get(no)
     }
 
     /// Whether a number may be inserted: it is below `2^size`, and it isn't live.
@@ -91,7 +83,7 @@ impl World {
         ensures value { IsTrue result ↔ ((no < 2 ^ self.now.size) × IsFalse (is_live self.now.motions no)) }
         ensures whole { IsWhole self.now }
     {
-        no < 1 << self.upkeep.size && self.motions.get(no).is_none()
+        no < 1 << self.upkeep.size && self.upkeep.motions.get(no).is_none()
     }
 
     /// Gives a number this motion, from the moment now on. Each structure takes it in, and tells
@@ -110,9 +102,8 @@ impl World {
         ensures keeps { OnErr result (self.new.keeps ≡ self.old.keeps) }
     {
         self.whole = false;
-        self.motions.set(no, m);
-        self.upkeep
-            .enter_each(no, &self.motions, &self.moment, steps)?;
+        self.upkeep.motions.set(no, m);
+        self.upkeep.enter_each(no, steps)?;
         self.whole = true;
         Ok(())
     }
@@ -139,16 +130,41 @@ impl World {
         let _ = limit.at.shape();
         let due = self.upkeep.table.failing();
         let Some(moment) = if_within(due, limit, steps) else {
-            self.moment = *limit;
+            self.upkeep.moment = *limit;
             return Ok(None);
         };
         self.whole = false;
-        self.moment = moment;
-        let block = self
-            .upkeep
-            .pass(self.alloc, &self.motions, &self.moment, steps)?;
+        let block = self.upkeep.pass(self.alloc, &moment, steps)?;
         self.whole = true;
         Ok(Some(block))
+    }
+
+    /// Moves as `step` does and leaves the same state, but lists no failures: answers how many there
+    /// were, or `None` exactly where `step` would.
+    pub fn pass<L: Ledger>(
+        &mut self,
+        limit: &Moment,
+        steps: &mut Steps<L>,
+    ) -> Result<Option<usize>, NoMemory>
+        requires whole { IsTrue self.old.whole }
+        requires later { ¬ (IsEarlier limit.now self.old.moment) }
+        ensures stepped { IfOk result (λ count. (block : Option Listed) × HasStepped limit.now block self.old self.new × (count ≡ failure_count block)) }
+        ensures fewer { IfOk result (λ count. IsSome count → moments_left self.new.moment < moments_left self.old.moment) }
+        ensures broken { OnErr result (self.new.whole ≡ false) }
+        ensures keeps { OnErr result (self.new.keeps ≡ self.old.keeps) }
+        ensures cause { OnErr result (FailsWithin limit.now self.old) }
+    {
+        // An instant tells that it is canonical where its shape is asked.
+        let _ = limit.at.shape();
+        let due = self.upkeep.table.failing();
+        let Some(moment) = if_within(due, limit, steps) else {
+            self.upkeep.moment = *limit;
+            return Ok(None);
+        };
+        self.whole = false;
+        let count = self.upkeep.pass_unlisted(&moment, steps)?;
+        self.whole = true;
+        Ok(Some(count))
     }
 
     /// The moment now.
@@ -157,7 +173,7 @@ impl World {
         ensures value { result.now ≡ self.now.moment }
         ensures whole { IsWhole self.now }
     {
-        &self.moment
+        &self.upkeep.moment
     }
 
     /// The moment of the next block, or `None` exactly where no live fact ever fails.

@@ -6,4 +6,4 @@ use Rattle.kin_cert.specs.Facts.{certificate_of}
 use Rattle.kin_world.proofs.failures.block_of.Given as goal
 
 abbrev pub invariant-loop-owned : goal.invariant-loop-owned
-invariant-loop-owned g l = map failure_of l.failures.items ≡ map (λ o. seen_in (scene_at l.motions l.moment) (certificate_of o)) (take l.owned-index l.taken)
+invariant-loop-owned g l = map failure_of l.failures.items ≡ map (λ o. seen_in (scene_at l.now.motions.now l.now.moment.now) (certificate_of o)) (take l.owned-index l.taken)

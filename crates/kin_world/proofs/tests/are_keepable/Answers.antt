@@ -1,10 +1,9 @@
 use Rattle.std.proofs.Common.{◌≡◌, ◌≢◌, ◌⊎◌, inl, inr, refl, sym, ◌∙◌, subst, arith, ℕ, ◌+◌, ◌<◌, List, length, get_or}
 use Rattle.std.specs.Prelude.{Some, slice_get, IsTrue}
 use Rattle.std.proofs.lemmas.Bool.{cases_eq}
-use Rattle.std.proofs.lemmas.Option.{slice_get-get_or, slice_get_within}
+use Rattle.std.proofs.lemmas.Option.{same_Some, slice_get-get_or, slice_get_within}
 use Rattle.kin_motion.specs.declared.keep.Keep.{Keep}
 use Rattle.kin_world.specs.Structures.{IsKeepable}
-use Rattle.kin_world.proofs.Places.{one_item}
 use Rattle.kin_world.proofs.tests.are_keepable.Goals as goal
 
 -- one keep more may be kept
@@ -13,7 +12,7 @@ more : (keeps : List Keep) (i : ℕ) (d : Keep) → i < length keeps → IsKeepa
 more keeps i d low own before j keep less there = at (cases_eq j i)
   where
     at : (j ≡ i) ⊎ (j ≢ i) → IsKeepable keep
-    at (inl e) = subst IsKeepable (one_item (sym (slice_get-get_or keeps i d low) ∙ subst (λ n. slice_get keeps n ≡ Some keep) e there)) own
+    at (inl e) = subst IsKeepable (same_Some _ _ (sym (slice_get-get_or keeps i d low) ∙ subst (λ n. slice_get keeps n ≡ Some keep) e there)) own
     at (inr apart) = before j keep (omega (arith, less, apart)) there
 
 pub loop-keep-preserved : goal.loop-keep-preserved

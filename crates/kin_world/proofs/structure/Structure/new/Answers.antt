@@ -1,4 +1,4 @@
-use Rattle.std.proofs.Common.{◌≡◌, sym, subst, []}
+use Rattle.std.proofs.Common.{sym, subst}
 use Rattle.kin_list.specs.Keeping.{HasMembers}
 use Rattle.kin_tourney.specs.Points.{HasPoints}
 use Rattle.kin_world.proofs.structure.Structure.new.Goals as goal

@@ -1,0 +1,259 @@
+-- What a sound world has: its live facts are those of the definition, and the table tells what comes next.
+use Rattle.std.proofs.Common.{◌≡◌, ◌⊎◌, inl, inr, refl, sym, ap, ◌∙◌, subst, arith, ℕ, suc, ◌<◌, true, List, [], ◌∷◌, Option, Some, None, slice_set, get_or}
+use Rattle.std.specs.Prelude.{slice_get, Contains, ◌↔◌, IsTrue, IfSome}
+use Rattle.std.proofs.lemmas.List.Elements.{All-contains}
+use Rattle.std.proofs.lemmas.Option.{slice_get_within, slice_get_read}
+use Rattle.kin_num.specs.declared.instant.Moment.{Moment}
+use Rattle.kin_num.specs.Canonical.{IsCanonical}
+use Rattle.kin_num.specs.Grains.{moments_left}
+use Rattle.kin_num.specs.Order.{IsEarlier}
+use Rattle.kin_num.proofs.Grains.{moments_run_out}
+use Rattle.kin_num.proofs.MomentLaws.{never, through, total}
+use Rattle.kin_motion.specs.declared.fact.Placed.{Placed}
+use Rattle.kin_motion.specs.declared.keep.Keep.{Keep}
+use Rattle.kin_motion.specs.Agreements.{FitsSize}
+use Rattle.kin_motion.specs.Course.{Course}
+use Rattle.kin_motion.specs.Forms.{IsAskable}
+use Rattle.kin_motion.specs.Journal.{Block, IsNextBlock, NothingFails, failures_at}
+use Rattle.kin_motion.specs.Live.{Certificate, IsLiveFact, ListsLive}
+use Rattle.kin_motion.specs.Moments.{FailsFirst}
+use Rattle.kin_motion.specs.Scene.{IsReal, scene_at}
+use Rattle.kin_motion.specs.Sets.{AreDistinct}
+use Rattle.kin_motion.proofs.LiveFactLaws.{live_facts_agree}
+use Rattle.kin_motion.proofs.MotionScenes.{real_at, live_fits}
+use Rattle.kin_motion.proofs.SetLaws.{contains_map, contains_mapped, distinct_none, distinct_cons}
+use Rattle.kin_cert.specs.Facts.{LiveFact, NoneAlike, AreAlike}
+use Rattle.kin_cert.specs.Failures.{IsFirstFailure}
+use Rattle.kin_cert.specs.Taken.{NoneFails, IsLeastFailure}
+use Rattle.kin_cert.specs.Told.{certificates_of}
+use Rattle.kin_cert.proofs.JournalExistence.{least_block}
+use Rattle.kin_cert.proofs.NextLaws.{IsInTime, NoneFailsUntil, nothing_fails, nothing_until, hold_before_least, fails_first, holds_until_failure, earlier_still, later_start}
+use Rattle.kin_world.specs.declared.structure.Structure.{Structure}
+use Rattle.kin_world.specs.declared.world.World.TheInside.{Inside}
+use Rattle.kin_world.specs.Structures.{placed_facts, IsSettledFor}
+use Rattle.kin_world.specs.Upkeep.{Stage, IsSound, HasSameFrame, HasSettled, meaning, setting, sight, stage_of}
+use Rattle.kin_world.specs.Worlds.{World, IsWhole, IsNextMoment, HasInserted, HasMoved, HasPassed, FailsWithin, with_facts_of}
+use Rattle.kin_world.proofs.InOrder.{facts_hold, owner, standing, timed, timely_from_timed}
+use Rattle.kin_world.proofs.StructureLaws.{settled_askable, settled_facts, settled_later}
+
+-- no owner has a form twice, so no certificate stands twice
+certificates_distinct : (live : List LiveFact) → NoneAlike live → AreDistinct (certificates_of live)
+certificates_distinct [] once = distinct_none
+certificates_distinct (l ∷ ls) once =
+    distinct_cons l.certificate (certificates_of ls) fresh (certificates_distinct ls (λ i j d low in_. once (suc i) (suc j) d (omega (arith, low)) (omega (arith, in_))))
+  where
+    alike : (k : LiveFact) → l.certificate ≡ k.certificate → AreAlike l k
+    alike k e = record {
+      structure_is = ap (λ (c : Certificate). c.structure) e;
+      part_is = ap (λ (c : Certificate). c.placed.part) e;
+      form_is = ap (λ (c : Certificate). c.placed.fact.form) e;
+    }
+
+    fresh : Contains (certificates_of ls) l.certificate → ⊥
+    fresh h =
+        let o = contains_mapped (λ (k : LiveFact). k.certificate) ls l.certificate h in
+        once 0 (suc o.1.0) o.0 (omega arith) (omega (arith, o.1.1)) (subst (λ (k : LiveFact). AreAlike l k) (sym o.1.2) (alike o.0 o.2))
+
+-- what a table answers about its least failure, against a limit
+pub none_until : (live : List LiveFact) (limit : Moment) (due : Option Moment) → IfSome due (IsLeastFailure live) → (due ≡ None) ↔ NoneFails live → IfSome due (IsEarlier limit) → NoneFailsUntil live limit
+none_until live limit None least none later = inl (none.0 refl)
+none_until live limit (Some m) least none later = inr (m, least, later)
+
+pub least_of : (live : List LiveFact) (due : Option Moment) (m : Moment) → IfSome due (IsLeastFailure live) → due ≡ Some m → IsLeastFailure live m
+least_of live due m least e = subst (λ (d : Option Moment). IfSome d (IsLeastFailure live)) e least
+
+module _ {s : Stage} (sound : IsSound s) where
+  -- each live fact has its first failure
+  pub first_failure : (l : LiveFact) → Contains s.table.live l → IsFirstFailure (scene_at s.motions) s.moment l.certificate.placed.fact l.fails
+  first_failure l there = (timed sound.in_order sound.none_waits l there).fails
+
+  pub failure_at : (l : LiveFact) → Contains s.table.live l → (n : Moment) → l.fails ≡ Some n → FailsFirst (scene_at s.motions) s.moment n l.certificate.placed.fact
+  failure_at l there = fails_first (scene_at s.motions) s.moment sound.in_order.canonical l (timed sound.in_order sound.none_waits l there)
+
+  -- its form may be asked for
+  pub live_askable : (l : LiveFact) → Contains s.table.live l → IsAskable (sight s).live l.certificate.placed.fact.form
+  live_askable l there =
+      let w = owner sound.in_order l there in
+      All-contains (λ (p : Placed). IsAskable (sight s).live p.fact.form) (placed_facts w.1) l.certificate.placed
+      (settled_askable s.size w.0 (sight s) w.1 (sound.in_order.fit.keepable.small l.certificate.structure w.0 w.2) w.3) w.4
+
+  -- the live facts are those of the kept structures, so those of the definition
+  pub lists_live : ListsLive s.size s.keeps (sight s) (certificates_of s.table.live)
+  lists_live = record { once = certificates_distinct s.table.live sound.in_order.once; each = λ c. (to c, from c) }
+    where
+      to : (c : Certificate) → Contains (certificates_of s.table.live) c → IsLiveFact s.size s.keeps (sight s) c
+      to c h =
+          let l = contains_mapped (λ (k : LiveFact). k.certificate) s.table.live c h in
+          let o = owner sound.in_order l.0 l.1 in
+          subst (IsLiveFact s.size s.keeps (sight s)) (sym l.2) (record { keep = o.0; kept = o.2; fact = ((settled_facts s.size o.0 (sight s) o.1 o.3).each l.0.certificate.placed).0 o.4 })
+
+      from : (c : Certificate) → IsLiveFact s.size s.keeps (sight s) c → Contains (certificates_of s.table.live) c
+      from c f =
+          let low = subst (λ n. c.structure < n) (sym sound.in_order.count) (slice_get_within s.keeps c.structure f.keep f.kept) in
+          let at = standing sound.in_order c.structure low in
+          let place = sound.in_order.each c.structure f.keep at.1 f.kept at.3 in
+          let l = (place.tabled c.placed).0 (((settled_facts s.size f.keep (sight s) at.1 place.fine).each c.placed).1 f.fact) in
+          subst (λ (x : Certificate). Contains (certificates_of s.table.live) x) l.2 (contains_map (λ (k : LiveFact). k.certificate) s.table.live l.0 l.1)
+
+  pub is_live : (l : LiveFact) → Contains s.table.live l → IsLiveFact s.size s.keeps (sight s) l.certificate
+  is_live l there = (lists_live.each l.certificate).0 (contains_map (λ (x : LiveFact). x.certificate) s.table.live l there)
+
+  pub whole : IsWhole (meaning s true)
+  whole = record {
+    whole = refl;
+    low = sound.in_order.fit.low;
+    high = sound.in_order.fit.high;
+    keepable = sound.in_order.fit.keepable;
+    room = sound.in_order.fit.room;
+    slow = sound.in_order.fit.slow;
+    canonical = sound.in_order.canonical;
+    live = lists_live;
+  }
+
+  pub real : IsReal (sight s)
+  real = real_at s.motions s.moment sound.in_order.canonical
+
+  pub fits : FitsSize s.size (sight s)
+  fits = live_fits s.size s.motions s.moment sound.in_order.fit.room
+
+  -- the structure of a keep is settled
+  pub settled_read : (k : ℕ) (keep : Keep) (st : Structure) → slice_get s.keeps k ≡ Some keep → st ≡ get_or s.structures k st → IsSettledFor s.size keep (sight s) st
+  settled_read k keep st kept read =
+      let low = subst (λ n. k < n) (sym sound.in_order.count) (slice_get_within s.keeps k keep kept) in
+      (sound.in_order.each k keep st kept (slice_get_read s.structures _ k st refl low read)).fine
+
+  pub in_time : IsInTime (setting s) s.moment s.table.live
+  in_time = record { canonical = sound.in_order.canonical; lists = lists_live; timed = timed sound.in_order sound.none_waits }
+
+  -- where no live fact ever fails nothing does
+  pub never_fails : NoneFails s.table.live ↔ NothingFails (setting s) s.moment
+  never_fails = (nothing_fails (setting s) s.moment s.table.live in_time, from)
+    where
+      from : NothingFails (setting s) s.moment → NoneFails s.table.live
+      from nothing l there m fails =
+          let first = failure_at l there m fails in
+          first.fails (nothing l.certificate (is_live l there) m first.canonical
+          (λ before. never s.moment sound.in_order.canonical (through s.moment m s.moment sound.in_order.canonical first.canonical sound.in_order.canonical first.later_is_later before)))
+
+  -- the least failure is the first failure of a live fact
+  pub least_fails : (m : Moment) (least : IsLeastFailure s.table.live m) → FailsFirst (scene_at s.motions) s.moment m least.some.0.certificate.placed.fact
+  least_fails m least = failure_at least.some.0 least.some.1 m least.some.2
+
+  -- there is one least failure moment
+  pub one_least : (m n : Moment) → IsLeastFailure s.table.live m → IsLeastFailure s.table.live n → m ≡ n
+  one_least m n first second = at (total m n (least_fails m first).canonical (least_fails n second).canonical)
+    where
+      at : IsEarlier m n ⊎ (IsEarlier n m ⊎ (m ≡ n)) → m ≡ n
+      at (inl less) = absurd (second.least first.some.0 m first.some.1 first.some.2 less)
+      at (inr (inl more)) = absurd (first.least second.some.0 n second.some.1 second.some.2 more)
+      at (inr (inr same)) = same
+
+  module _ (m : Moment) (least : IsLeastFailure s.table.live m) where
+    -- fewer moments are left from the least failure on
+    pub least_fewer : moments_left m < moments_left s.moment
+    least_fewer = let first = least_fails m least in moments_run_out s.moment m sound.in_order.canonical first.canonical first.later_is_later
+
+    -- the least failure is the next moment
+    pub next_moment : IsNextMoment (setting s) s.moment m
+    next_moment =
+        let listed = live_facts_agree s.size s.keeps (sight s) real fits in
+        record {
+          failures = failures_at (setting s) s.moment m;
+          next = least_block (setting s) s.moment real fits m (record {
+            some = least.some.0.certificate;
+            among = (listed.each least.some.0.certificate).1 (is_live least.some.0 least.some.1);
+            fails = least_fails m least;
+            hold_before = λ c there x until. hold_before_least (setting s) s.moment s.table.live in_time m least x until.canonical until.from until.until c ((listed.each c).0 there);
+          });
+        }
+
+    -- where it isn't after the limit, a live fact fails until then
+    pub fails_within : (limit : Moment) → ¬ (IsEarlier limit m) → FailsWithin limit (meaning s true)
+    fails_within limit within = record {
+      certificate = least.some.0.certificate;
+      live = is_live least.some.0 least.some.1;
+      moment = m;
+      fails = least_fails m least;
+      within = within;
+    }
+
+  module _ (limit : Moment) (canonical : IsCanonical limit.at) (from : ¬ (IsEarlier limit s.moment)) (none : NoneFailsUntil s.table.live limit) where
+    later : (l : LiveFact) → Contains s.table.live l → (n : Moment) → l.fails ≡ Some n → IsEarlier limit n
+    later l there n e = at none
+      where
+        at : NoneFailsUntil s.table.live limit → IsEarlier limit n
+        at (inl never) = absurd (never l there n e)
+        at (inr (m, least, until)) = earlier_still limit m n canonical (least_fails m least).canonical (failure_at l there n e).canonical until (least.least l n there e)
+
+    fails_later : (l : LiveFact) → Contains s.table.live l → IsEarlier s.moment limit ⊎ (IsEarlier limit s.moment ⊎ (s.moment ≡ limit)) → IsFirstFailure (scene_at s.motions) limit l.certificate.placed.fact l.fails
+    fails_later l there (inl more) = later_start (scene_at s.motions) s.moment sound.in_order.canonical l (timed sound.in_order sound.none_waits l there) limit canonical more (later l there)
+    fails_later l there (inr (inl before)) = absurd (from before)
+    fails_later l there (inr (inr same)) = subst (λ (x : Moment). IsFirstFailure (scene_at s.motions) x l.certificate.placed.fact l.fails) same (first_failure l there)
+
+    -- until something fails all structures stay settled, and all failure moments stay the first
+    pub sound_later : IsSound (record s { moment = limit })
+    sound_later = record {
+      in_order = record {
+        fit = sound.in_order.fit;
+        canonical = canonical;
+        counted = sound.in_order.counted;
+        count = sound.in_order.count;
+        each = λ j keep st kept there.
+            let was = sound.in_order.each j keep st kept there in
+            record {
+              fine = settled_later s.size keep (sight s) (scene_at s.motions limit) st real (real_at s.motions limit canonical) was.fine refl
+                  (facts_hold (scene_at s.motions limit) s.table.live j (placed_facts st) was.tabled
+                  (λ l live. holds_until_failure (scene_at s.motions) s.moment sound.in_order.canonical l (timed sound.in_order sound.none_waits l live) limit canonical from (λ n e c. later l live n e)));
+              tabled = was.tabled;
+            };
+        once = sound.in_order.once;
+        owned = sound.in_order.owned;
+        timely = λ l there. timely_from_timed (scene_at s.motions) limit l (record { waits_not = sound.none_waits l there; fails = fails_later l there (total s.moment limit sound.in_order.canonical canonical) });
+      };
+      none_waits = sound.none_waits;
+    }
+
+-- a sound world is whole, so it has moved to the limit
+pub has_moved : {s : Stage} (sound : IsSound s) (limit : Moment) → IsCanonical limit.at → ¬ (IsEarlier limit s.moment) → NoneFailsUntil s.table.live limit → HasMoved limit (meaning s true) (meaning (record s { moment = limit }) true)
+has_moved {s} sound limit canonical from none = record {
+  nothing = nothing_until (setting s) s.moment s.table.live (in_time sound) limit canonical from none;
+  state = refl;
+  whole = whole (sound_later sound limit canonical from none);
+}
+
+-- where a call has changed nothing but the facts
+module _ (s : Stage) {t : Stage} (did : HasSettled s.table t) (frame : HasSameFrame s t) where
+  same_but_facts : meaning t true ≡ with_facts_of (meaning s true) (meaning t true)
+  same_but_facts = ap (λ (x : Stage). meaning x true) frame
+
+  -- the block is passed
+  pub has_passed : (before limit : Moment) (b : Block) → b.moment ≡ s.moment → ¬ (IsEarlier limit s.moment) → IsNextBlock (setting s) before b → HasPassed limit b (meaning (record s { moment = before }) true) (meaning t true)
+  has_passed before limit b at within next = record {
+    next = next;
+    within = subst (λ (x : Moment). ¬ (IsEarlier limit x)) (sym at) within;
+    state = same_but_facts ∙ ap (λ (x : Moment). with_facts_of (record (meaning s true) { moment = x }) (meaning t true)) (sym at);
+    whole = whole did.sound;
+    made = record { born = did.made.born; exactly = did.made.exactly; count = did.made.count };
+  }
+
+  -- a number has its motion
+  pub has_inserted : (before : List (Option Course)) (entering : ℕ) (motion : Course) → s.motions ≡ slice_set before entering (Some motion) → HasInserted entering motion (meaning (record s { motions = before }) true) (meaning t true)
+  has_inserted before entering motion written = record {
+    state = same_but_facts ∙ ap (λ (ms : List (Option Course)). with_facts_of (record (meaning s true) { motions = ms }) (meaning t true)) written;
+    whole = whole did.sound;
+    made = record { born = did.made.born; exactly = did.made.exactly; count = did.made.count };
+  }
+
+-- what is inside a world that is seen as whole is sound
+module _ (w : Inside) (v : World) (is : meaning (stage_of w.upkeep) w.whole ≡ v) (sound : IsTrue w.whole → IsSound (stage_of w.upkeep)) (there : IsTrue v.whole) where
+  here : w.whole ≡ true
+  here = ap (λ (x : World). x.whole) is ∙ there
+
+  pub sound_inside : IsSound (stage_of w.upkeep)
+  sound_inside = sound here
+
+  pub seen_inside : meaning (stage_of w.upkeep) true ≡ v
+  seen_inside = ap (λ b. meaning (stage_of w.upkeep) b) (sym here) ∙ is
+
+  pub whole_inside : IsWhole v
+  whole_inside = subst (λ (x : World). IsWhole x) seen_inside (whole sound_inside)

@@ -1,0 +1,26 @@
+use Rattle.std.proofs.Common.{◌≡◌, sym, ap, ◌∙◌, subst, ◌+◌, ◌++◌, ◌∷◌, [], rules, length}
+use Rattle.std.specs.Prelude.{Some, pos, slice_get, slice_index_or}
+use Rattle.std.proofs.lemmas.List.{length_push}
+use Rattle.std.proofs.lemmas.Option.{slice_get-get_or}
+use Rattle.kin_motion.specs.declared.keep.Keep.TheVariants.{Order}
+use Rattle.kin_world.proofs.StartLaws.{vacant_none, vacant_more}
+use Rattle.kin_world.proofs.upkeep.vacant_structures.Goals as goal
+
+pub loop-keep-init : goal.loop-keep-init
+loop-keep-init c = record { count = ap length c.new-structures.ensures.items; vacant = vacant_none c.args.size c.args.keeps.now _ c.new-structures.ensures.items }
+
+pub new-requires-clause-small : goal.new-requires-clause-small
+new-requires-clause-small c = c.requires.keepable.small c.loop-keep.keep-index _ (slice_get-get_or c.args.keeps.now c.loop-keep.keep-index _ c.loop-keep-test.true)
+
+pub loop-keep-preserved : goal.loop-keep-preserved
+loop-keep-preserved c =
+    let h = c.loop-keep.invariant in
+    let keeps = c.args.keeps.now in
+    let keep = slice_index_or keeps c.loop-keep.keep-index (Order (pos 0) (pos 0)) in
+    let old = c.loop-keep.structures.items in
+    let here : slice_get keeps (length old) ≡ Some keep = subst (λ n. slice_get keeps n ≡ Some keep) (sym h.count) (slice_get-get_or keeps c.loop-keep.keep-index _ c.loop-keep-test.true) in
+    let pushed : c.push.new.self.items ≡ old ++ c.in_ok-structure.structure ∷ [] = search rules in
+    record {
+      count = ap length pushed ∙ length_push old _ ∙ ap (λ n. n + 1) h.count;
+      vacant = vacant_more c.args.size keeps old c.push.new.self.items keep c.in_ok-structure.structure h.vacant here (record { kept = c.in_ok-structure.ensures.kept; facts = c.in_ok-structure.ensures.facts }) pushed;
+    }
