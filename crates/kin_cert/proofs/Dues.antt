@@ -1,23 +1,19 @@
 -- The facts that are due, and the one that is given out.
-use Rattle.std.proofs.Common.{◌≡◌, ◌≢◌, ℕ, Bool, true, false, cond, IfSome, MatchOption, ℤ, List, Option, Some, None, refl, sym, ap, subst, ◌∙◌, ◌⊎◌, inl, inr, ◌↔◌}
+use Rattle.std.proofs.Common.{◌≡◌, ◌≢◌, ℕ, Bool, true, false, cond, IfSome, MatchOption, List, Option, Some, None, refl, sym, ap, subst, ◌∙◌, ◌⊎◌, inl, inr, ◌↔◌}
 use Rattle.std.specs.List.{Contains}
 use Rattle.std.specs.Ordering.{nat_cmp}
 use Rattle.std.specs.FinMap as map
-use Rattle.std.specs.FinMap.{FinMap, get-empty, get-remove}
-use Rattle.std.proofs.lemmas.Cmp.{nat_cmp_total}
+use Rattle.std.specs.FinMap.{FinMap, get-empty}
 use Rattle.std.proofs.lemmas.Bool.{cases_eq}
-use Rattle.slab.specs.Slab.{Slab, get, Updates}
-use Rattle.indexmap.specs.IndexMap.{IndexMap, get as look_up}
 use Rattle.kin_num.specs.declared.instant.Moment.{Moment}
 use Rattle.kin_queue.specs.Agenda.{IsLeast}
-use Rattle.kin_queue.proofs.Entries.{same}
 use Rattle.kin_cert.specs.declared.entry.Entry.{Entry}
 use Rattle.kin_cert.specs.Facts.{LiveFact}
 use Rattle.kin_cert.specs.Rank.{padded_rank}
 use Rattle.kin_cert.specs.Taken.{NoneWaits, NoneFails, IsLeastFailure}
-use Rattle.kin_cert.specs.Layout.{IsTable, live_fact, live_in, entry_rank, queued_at, is_rank, IsDue, IsDueAt, NoneDue, HasGiven}
-use Rattle.kin_cert.proofs.Slots.{live-there, live-from, waiting}
-use Rattle.kin_cert.proofs.Tables.{same_some, some_none, here, elsewhere, one_slot}
+use Rattle.kin_cert.specs.Layout.{IsTable, live_fact, live_in, entry_at, queued_at, waiting, HasSlot, NoneTwice, IsDue, IsDueAt, NoneDue, HasGiven}
+use Rattle.kin_cert.proofs.Slots.{live-there, live-from}
+use Rattle.kin_cert.proofs.Rolls.{same_some, some_none}
 
 -- what a queued entry says
 pub record IsQueued (o : Option Entry) (m : Moment) : Type 0 where
@@ -33,94 +29,66 @@ queued-entry (Some e) m h =
       | false ↦ λ w h. record { entry = e; there = refl; due = record { fails = h; waits_not = w } }
     ] refl h
 
-module _ {S : Type 0} (entries : Slab Entry) (ids : IndexMap (List ℤ) ℕ S) (moments : FinMap nat_cmp Moment) (table : IsTable entries ids moments) where
+module _ (slots : List (Option Entry)) (moments : FinMap nat_cmp Moment) (table : IsTable slots moments) where
   -- a fact that is due is queued
-  pub due-queued : (l : LiveFact) (m : Moment) → Contains (live_in entries.slots) l → IsDueAt l m → (id : ℕ) × (map.get moments id ≡ Some m)
+  pub due-queued : (l : LiveFact) (m : Moment) → Contains (live_in slots) l → IsDueAt l m → (id : ℕ) × (map.get moments id ≡ Some m)
   due-queued l m c d =
-      let h = live-from entries.slots l c in
+      let h = live-from slots l c in
       let fails : h.entry.fails ≡ Some m = ap (λ (x : LiveFact). x.fails) h.is ∙ d.fails in
       let waits_not : h.entry.is_waiting ≡ false = ap (λ (x : LiveFact). x.waits) h.is ∙ d.waits_not in
-      (h.id, table.queued h.id ∙ ap queued_at h.there ∙ ap (λ (b : Bool). cond b None h.entry.fails) waits_not ∙ fails)
+      (h.id, table h.id ∙ ap queued_at h.there ∙ ap (λ (b : Bool). cond b None h.entry.fails) waits_not ∙ fails)
 
-  queued-slot : (id : ℕ) (m : Moment) → map.get moments id ≡ Some m → IsQueued (get entries id) m
-  queued-slot id m h = queued-entry (get entries id) m (sym (table.queued id) ∙ h)
+  pub queued-slot : (id : ℕ) (m : Moment) → map.get moments id ≡ Some m → IsQueued (entry_at slots id) m
+  queued-slot id m h = queued-entry (entry_at slots id) m (sym (table id) ∙ h)
 
-  pub due-some : (id : ℕ) (at : Moment) → IsLeast moments (id, at) → IsDue (live_in entries.slots) at
+  pub due-some : (id : ℕ) (at : Moment) → IsLeast moments (id, at) → IsDue (live_in slots) at
   due-some id at next =
       let q = queued-slot id at next.there in
       record {
-        some = (live_fact q.entry, live-there entries.slots id q.entry q.there, q.due);
+        some = (live_fact q.entry, live-there slots id q.entry q.there, q.due);
         least = λ l n c d. let k = due-queued l n c d in next.least k.0 n k.1;
       }
 
-  pub due-none : moments ≡ map.empty → NoneDue (live_in entries.slots)
+  pub due-none : moments ≡ map.empty → NoneDue (live_in slots)
   due-none none l m c d =
       let k = due-queued l m c d in
       some_none m (sym k.1 ∙ ap (λ (x : FinMap nat_cmp Moment). map.get x k.0) none ∙ get-empty nat_cmp k.0)
 
-  module _ (after : Slab Entry) (moments_after : FinMap nat_cmp Moment) (id : ℕ) (at : Moment) (next : IsLeast moments (id, at)) (e : Entry) (there : get entries id ≡ Some e)
-      (updates : Updates entries after id (Some (waiting e))) (fewer : moments_after ≡ map.remove moments id) where
+  module _ (after : List (Option Entry)) (once : NoneTwice slots) (id : ℕ) (at : Moment) (next : IsLeast moments (id, at)) (e : Entry) (there : entry_at slots id ≡ Some e)
+      (slot : HasSlot slots after id (Some (waiting e))) where
     pub given-due : IsDueAt (live_fact e) at
     given-due =
         let q = queued-slot id at next.there in
         subst (λ (x : Entry). IsDueAt (live_fact x) at) (same_some q.entry e (sym q.there ∙ there)) q.due
 
-    -- the entry of a slot before
-    was : (j : ℕ) (f : Entry) → get after j ≡ Some f → (g : Entry) × (get entries j ≡ Some g) × (entry_rank g ≡ entry_rank f)
-    was j f h =
-        elim (cases_eq j id) [
-          | inl j_is ↦ (e, ap (get entries) j_is ∙ there, ap entry_rank (same_some (waiting e) f (sym updates.changed ∙ ap (get after) (sym j_is) ∙ h)))
-          | inr n ↦ (f, sym (updates.others j n) ∙ h, refl)
-        ]
+    apart-from : (j : ℕ) (f : Entry) → entry_at slots j ≡ Some f → j ≢ id → live_fact f ≡ live_fact e → ⊥
+    apart-from j f h n same_fact = n (once j id f e h there (ap (λ (x : LiveFact). padded_rank x.certificate.structure x.certificate.placed.part x.certificate.placed.fact.form) same_fact))
 
-    becomes : (j : ℕ) (g : Entry) → get entries j ≡ Some g → (f : Entry) × (get after j ≡ Some f) × (entry_rank f ≡ entry_rank g)
-    becomes j g h =
-        elim (cases_eq j id) [
-          | inl j_is ↦ (waiting e, ap (get after) j_is ∙ updates.changed, ap entry_rank (same_some e g (sym there ∙ ap (get entries) (sym j_is) ∙ h)))
-          | inr n ↦ (g, updates.others j n ∙ h, refl)
-        ]
-
-    pub given-table : IsTable after ids moments_after
-    given-table =
-        record {
-          found = λ j f h. let g = was j f h in ap (look_up is_rank ids) (sym g.2) ∙ table.found j g.0 g.1;
-          known = λ r j h. let k = table.known r j h in let f = becomes j k.0 k.1 in (f.0, f.1, f.2 ∙ k.2);
-          queued = λ j.
-              ap (λ (m : FinMap nat_cmp Moment). map.get m j) fewer ∙ get-remove nat_cmp_total moments id j
-              ∙ elim (cases_eq j id) [
-                | inl j_is ↦ ap (λ (x : ℕ). cond (same x id) None (map.get moments x)) j_is ∙ here id None (map.get moments id) ∙ sym (ap queued_at (ap (get after) j_is ∙ updates.changed))
-                | inr n ↦ elsewhere j id None (map.get moments j) n ∙ table.queued j ∙ ap queued_at (sym (updates.others j n))
-              ];
-        }
-
-    apart-from : (j : ℕ) (f : Entry) → get entries j ≡ Some f → j ≢ id → live_fact f ≡ live_fact e → ⊥
-    apart-from j f h n same_fact = n (one_slot entries ids moments table j id f e h there (ap (λ (x : LiveFact). padded_rank x.certificate.structure x.certificate.placed.part x.certificate.placed.fact.form) same_fact))
-
-    pub has-given : HasGiven (live_in entries.slots) (live_in after.slots) (live_fact e) at
+    pub has-given : HasGiven (live_in slots) (live_in after) (live_fact e) at
     has-given =
         record {
-          there = live-there entries.slots id e there;
+          there = live-there slots id e there;
           due = given-due;
           least = (due-some id at next).least;
           exactly = λ l. (to l, from l);
         }
       where
-        to : (l : LiveFact) → Contains (live_in after.slots) l → (Contains (live_in entries.slots) l × ¬ (l ≡ live_fact e)) ⊎ (l ≡ live_fact (waiting e))
+        to : (l : LiveFact) → Contains (live_in after) l → (Contains (live_in slots) l × ¬ (l ≡ live_fact e)) ⊎ (l ≡ live_fact (waiting e))
         to l c =
-            let h = live-from after.slots l c in
+            let h = live-from after l c in
             elim (cases_eq h.id id) [
-              | inl j_is ↦ inr (sym h.is ∙ ap live_fact (sym (same_some (waiting e) h.entry (sym updates.changed ∙ ap (get after) (sym j_is) ∙ h.there))))
+              | inl j_is ↦ inr (sym h.is ∙ ap live_fact (sym (same_some (waiting e) h.entry (sym slot.changed ∙ ap (entry_at after) (sym j_is) ∙ h.there))))
               | inr n ↦
-                  let h_was : get entries h.id ≡ Some h.entry = sym (updates.others h.id n) ∙ h.there in
-                  inl (subst (λ (x : LiveFact). Contains (live_in entries.slots) x) h.is (live-there entries.slots h.id h.entry h_was), λ l_is. apart-from h.id h.entry h_was n (h.is ∙ l_is))
+                  let h_was : entry_at slots h.id ≡ Some h.entry = sym (slot.others h.id n) ∙ h.there in
+                  inl (subst (λ (x : LiveFact). Contains (live_in slots) x) h.is (live-there slots h.id h.entry h_was), λ l_is. apart-from h.id h.entry h_was n (h.is ∙ l_is))
             ]
 
-        from : (l : LiveFact) → (Contains (live_in entries.slots) l × ¬ (l ≡ live_fact e)) ⊎ (l ≡ live_fact (waiting e)) → Contains (live_in after.slots) l
+        from : (l : LiveFact) → (Contains (live_in slots) l × ¬ (l ≡ live_fact e)) ⊎ (l ≡ live_fact (waiting e)) → Contains (live_in after) l
         from l (inl (c, n)) =
-            let h = live-from entries.slots l c in
-            let apart : h.id ≢ id = λ j_is. n (sym h.is ∙ ap live_fact (same_some h.entry e (sym h.there ∙ ap (get entries) j_is ∙ there))) in
-            subst (λ (x : LiveFact). Contains (live_in after.slots) x) h.is (live-there after.slots h.id h.entry (updates.others h.id apart ∙ h.there))
-        from l (inr l_is) = subst (λ (x : LiveFact). Contains (live_in after.slots) x) (sym l_is) (live-there after.slots id (waiting e) updates.changed)
+            let h = live-from slots l c in
+            let apart : h.id ≢ id = λ j_is. n (sym h.is ∙ ap live_fact (same_some h.entry e (sym h.there ∙ ap (entry_at slots) j_is ∙ there))) in
+            subst (λ (x : LiveFact). Contains (live_in after) x) h.is (live-there after h.id h.entry (slot.others h.id apart ∙ h.there))
+        from l (inr l_is) = subst (λ (x : LiveFact). Contains (live_in after) x) (sym l_is) (live-there after id (waiting e) slot.changed)
 
 -- where no fact waits, the least moment at which one is due is the least failure moment
 pub due-least : (live : List LiveFact) (m : Moment) → NoneWaits live → IsDue live m → IsLeastFailure live m

@@ -4,6 +4,8 @@ pub mod Elements
 pub mod Failing
 pub mod Giving
 pub mod Ranks
+pub mod Rolls
+pub mod Replacing
 pub mod Seen
 pub mod Slots
 pub mod Sorted

@@ -1,12 +1,12 @@
 -- The live facts in the slots of a slab.
-use Rattle.std.proofs.Common.{◌≡◌, ℕ, zero, suc, ◌+◌, ◌<◌, Bool, true, false, cond, not, List, [], ◌∷◌, length, get_or, set, Option, Some, None, is_some, count_by, refl, sym, ap, subst, ◌∙◌, inl, inr, arith}
+use Rattle.std.proofs.Common.{◌≡◌, ℕ, zero, suc, ◌+◌, ◌<◌, Bool, false, cond, not, List, [], ◌∷◌, length, get_or, set, Option, Some, None, is_some, count_by, refl, sym, ap, subst, ◌∙◌, inl, inr, arith}
 use Rattle.std.specs.List.{Contains}
 use Rattle.std.proofs.lemmas.List.Sums.{sum_by-cons}
 use Rattle.std.proofs.lemmas.List.Kept.{AllPairs-cons}
 use Rattle.slab.proofs.SlabLemmas.{Contains-cons, Contains-cons_cases}
 use Rattle.kin_cert.specs.declared.entry.Entry.{Entry}
 use Rattle.kin_cert.specs.Facts.{LiveFact, AreAlike, NoneAlike}
-use Rattle.kin_cert.specs.Layout.{live_fact, live_in, due_count}
+use Rattle.kin_cert.specs.Layout.{live_fact, live_in, waiting, due_count}
 
 none_some : {A : Type 0} (x : A) → None ≡ Some x → ⊥
 none_some x e = cc
@@ -74,10 +74,6 @@ live-once (Some e ∷ slots) h =
     get_or-same [] i d lt = absurd (omega (arith, lt))
     get_or-same (x ∷ xs) zero d lt = refl
     get_or-same (x ∷ xs) (suc i) d lt = get_or-same xs i d (omega (arith, lt))
-
--- the entry after it is given out
-abbrev pub waiting : Entry → Entry
-waiting e = record { owned = e.owned; fails = e.fails; is_waiting = true }
 
 abbrev due : LiveFact → ℕ
 due l = cond (not l.waits) 1 0

@@ -1,30 +1,24 @@
 -- What a table's layout says of its live facts, and what changes of it keep.
-use Rattle.std.proofs.Common.{◌≡◌, ◌≢◌, ℕ, Bool, true, false, cond, ℤ, List, Option, Some, None, refl, sym, ap, subst, ◌∙◌, ◌⊎◌, inl, inr, ◌↔◌}
-use Rattle.std.proofs.Common.{[], get_or}
-use Rattle.std.specs.Map.{lookup}
+use Rattle.std.proofs.Common.{◌≡◌, ◌≢◌, ℕ, zero, suc, ◌<◌, Bool, true, false, cond, List, [], ◌∷◌, length, get_or, set, Option, Some, None, is_some, refl, sym, ap, subst, ◌∙◌, ◌⊎◌, inl, inr, ◌↔◌, arith}
 use Rattle.std.specs.List.{Contains}
 use Rattle.std.specs.Ordering.{nat_cmp}
 use Rattle.std.specs.FinMap as map
 use Rattle.std.specs.FinMap.{FinMap, get-insert, get-remove, get-empty}
 use Rattle.std.proofs.lemmas.Cmp.{nat_cmp_total}
 use Rattle.std.proofs.lemmas.Bool.{cases_eq}
-use Rattle.slab.specs.Slab.{Slab, get, Updates}
-use Rattle.indexmap.specs.IndexMap.{IndexMap, get as look_up}
+use Rattle.std.proofs.lemmas.List.{get_or-set_same, get_or-set_other}
 use Rattle.kin_num.specs.declared.instant.Moment.{Moment}
 use Rattle.kin_motion.specs.declared.form.Form.{Form}
+use Rattle.kin_motion.specs.Scene.{Scene}
 use Rattle.kin_queue.proofs.Entries.{same, same_is, same_itself, differ}
 use Rattle.kin_cert.specs.declared.entry.Entry.{Entry}
+use Rattle.kin_cert.specs.declared.owned.Owned.{Owned}
 use Rattle.kin_cert.specs.Facts.{LiveFact, IsAt, NoneAlike}
 use Rattle.kin_cert.specs.Rank.{padded_rank}
-use Rattle.kin_cert.specs.Layout.{IsTable, live_fact, live_in, entry_rank, queued_at, is_rank, with}
-use Rattle.kin_cert.proofs.Ranks.{rank_names, rank_same, rank_itself, rank_differs}
+use Rattle.kin_cert.specs.Layout.{IsTable, live_fact, live_in, entry_at, entry_rank, queued_at, with, fresh, timed, HasSlot, NoneTwice, IsNotFound, IsTimed}
+use Rattle.kin_cert.proofs.Ranks.{rank_names}
+use Rattle.kin_cert.proofs.Rolls.{same_some, some_none}
 use Rattle.kin_cert.proofs.Slots.{live-there, live-from, live-once, IsEntryOf}
-
-pub same_some : {A : Type 0} (x y : A) → Some x ≡ Some y → x ≡ y
-same_some x y e = cc
-
-pub some_none : {A : Type 0} (x : A) → Some x ≡ None → ⊥
-some_none x e = cc
 
 -- the rank of a fact at an owner and a form
 pub rank-at : (s p : ℕ) (f : Form) (e : Entry) → IsAt s p f (live_fact e) → entry_rank e ≡ padded_rank s p f
@@ -38,46 +32,38 @@ at-rank s p f e h =
     let n = rank_names e.owned.structure e.owned.part e.owned.fact.form s p f h in
     record { structure_is = n.structure; part_is = n.part; form_is = n.form }
 
-module _ {S : Type 0} (entries : Slab Entry) (ids : IndexMap (List ℤ) ℕ S) (moments : FinMap nat_cmp Moment) (table : IsTable entries ids moments) where
-  pub one_slot : (i j : ℕ) (e f : Entry) → get entries i ≡ Some e → get entries j ≡ Some f → entry_rank e ≡ entry_rank f → i ≡ j
-  one_slot i j e f a b r =
-      same_some i j (sym (table.found i e a) ∙ ap (λ (x : List ℤ). look_up is_rank ids x) r ∙ table.found j f b)
+pub table-once : (slots : List (Option Entry)) → NoneTwice slots → NoneAlike (live_in slots)
+table-once slots once = live-once slots (λ i j e f a b alike. once i j e f a b (rank-at _ _ _ e alike))
 
-  pub table-once : NoneAlike (live_in entries.slots)
-  table-once = live-once entries.slots (λ i j e f a b alike. one_slot i j e f a b (rank-at _ _ _ e alike))
+-- no entry has the rank of an owner's form without a live fact
+pub not-found : (slots : List (Option Entry)) (s p : ℕ) (f : Form) → ((l : LiveFact) → Contains (live_in slots) l → ¬ (IsAt s p f l)) → IsNotFound slots (padded_rank s p f)
+not-found slots s p f none id e there ranked = none (live_fact e) (live-there slots id e there) (at-rank s p f e ranked)
 
-  -- no id is known for an owner and a form without a live fact
-  pub unknown : (s p : ℕ) (f : Form) → ((l : LiveFact) → Contains (live_in entries.slots) l → ¬ (IsAt s p f l)) → look_up is_rank ids (padded_rank s p f) ≡ None
-  unknown s p f none =
-      elim (look_up is_rank ids (padded_rank s p f)) as (λ o. look_up is_rank ids (padded_rank s p f) ≡ o → o ≡ None) [
-        | None ↦ λ e. refl
-        | Some id ↦ λ e.
-            let k = table.known (padded_rank s p f) id e in
-            absurd (none (live_fact k.0) (live-there entries.slots id k.0 k.1) (at-rank s p f k.0 k.2))
-      ] refl
+-- the slot of a live fact
+pub rank-of-live : (slots : List (Option Entry)) (s p : ℕ) (f : Form) (l : LiveFact) → IsAt s p f l → (h : IsEntryOf slots l) → entry_rank h.entry ≡ padded_rank s p f
+rank-of-live slots s p f l at h = rank-at s p f h.entry (subst (λ (x : LiveFact). IsAt s p f x) (sym h.is) at)
 
-  -- the slot of a live fact
-  pub slot-of : (s p : ℕ) (f : Form) (l : LiveFact) → Contains (live_in entries.slots) l → IsAt s p f l → (h : IsEntryOf entries.slots l) × (look_up is_rank ids (padded_rank s p f) ≡ Some h.id)
-  slot-of s p f l c at =
-      let h = live-from entries.slots l c in
-      (h, ap (λ (x : List ℤ). look_up is_rank ids x) (sym (rank-at s p f h.entry (subst (λ (x : LiveFact). IsAt s p f x) (sym h.is) at))) ∙ table.found h.id h.entry h.there)
+pub none-of : {A : Type 0} (o : Option A) → is_some o ≡ false → o ≡ None
+none-of None e = refl
+none-of (Some x) e = absurd (cc)
 
--- a look-up by the rank of a live fact
-module _ {S : Type 0} (entries : Slab Entry) (ids : IndexMap (List ℤ) ℕ S) (moments : FinMap nat_cmp Moment) (table : IsTable entries ids moments)
-    (s p : ℕ) (f : Form) (l : LiveFact) (live : Contains (live_in entries.slots) l) (at : IsAt s p f l)
-    (rank : List ℤ) (rank_is : rank ≡ padded_rank s p f) (answer : Option ℕ) (answer_is : answer ≡ look_up is_rank ids rank) where
-  pub slot : IsEntryOf entries.slots l
-  slot = (slot-of entries ids moments table s p f l live at).0
+-- a slot that is written
+in-slots : (slots : List (Option Entry)) (id : ℕ) (e : Entry) → entry_at slots id ≡ Some e → id < length slots
+in-slots [] id e h = absurd (some_none e (sym h))
+in-slots (o ∷ slots) zero e h = omega arith
+in-slots (o ∷ slots) (suc id) e h = let lt = in-slots slots id e h in omega (arith, lt)
 
-  pub answer-some : answer ≡ Some slot.id
-  unfolding slot slot-of
-  answer-some = answer_is ∙ ap (look_up is_rank ids) rank_is ∙ (slot-of entries ids moments table s p f l live at).1
+pub has-slot : (slots : List (Option Entry)) (id : ℕ) (e : Entry) (o : Option Entry) → entry_at slots id ≡ Some e → HasSlot slots (set slots id o) id o
+has-slot slots id e o h =
+    record {
+      changed = get_or-set_same slots id o None (in-slots slots id e h);
+      others = λ j n. get_or-set_other slots id j o None n;
+    }
 
-  pub answer-there : (id : ℕ) → answer ≡ Some id → get entries id ≡ Some slot.entry
-  answer-there id h = ap (get entries) (same_some id slot.id (sym h ∙ answer-some)) ∙ slot.there
-
-  pub answer-is : (id : ℕ) (e : Entry) → answer ≡ Some id → get entries id ≡ Some e → live_fact e ≡ l
-  answer-is id e h there = ap live_fact (same_some e slot.entry (sym there ∙ answer-there id h)) ∙ slot.is
+pub same-slot : (slots : List (Option Entry)) (id : ℕ) (e : Entry) → entry_at slots id ≡ Some e → set slots id (Some e) ≡ slots
+same-slot [] id e h = refl
+same-slot (o ∷ slots) zero e h = ap (λ (x : Option Entry). x ∷ slots) (sym h)
+same-slot (o ∷ slots) (suc id) e h = ap (λ (xs : List (Option Entry)). o ∷ xs) (same-slot slots id e h)
 
 -- taking an absent id out changes nothing
 pub remove-absent : (moments : FinMap nat_cmp Moment) (id : ℕ) → map.get moments id ≡ None → map.remove moments id ≡ moments
@@ -95,148 +81,121 @@ elsewhere j id x y n = ap (λ (b : Bool). cond b x y) (differ j id n)
 pub here : {A : Type 0} (id : ℕ) (x y : A) → cond (same id id) x y ≡ x
 here id x y = ap (λ (b : Bool). cond b x y) (same_itself id)
 
--- an entry is taken out, with its rank and its id
-module _ {S : Type 0} (entries after : Slab Entry) (ids ids_after : IndexMap (List ℤ) ℕ S) (moments moments_after : FinMap nat_cmp Moment)
-    (table : IsTable entries ids moments) (id : ℕ) (e : Entry) (there : get entries id ≡ Some e) (updates : Updates entries after id None)
-    (changes : (q : List ℤ) → look_up is_rank ids_after q ≡ cond (is_rank (entry_rank e) q) None (look_up is_rank ids q))
-    (fewer : moments_after ≡ map.remove moments id) where
-  gone : (j : ℕ) (f : Entry) → get after j ≡ Some f → j ≢ id
-  gone j f h j_is = some_none f (sym h ∙ ap (get after) j_is ∙ updates.changed)
+-- one slot and its moment change
+pub changed-table : (slots after : List (Option Entry)) (moments moments_after : FinMap nat_cmp Moment) (id : ℕ) (o : Option Entry) → IsTable slots moments → HasSlot slots after id o
+    → map.get moments_after id ≡ queued_at o → ((j : ℕ) → j ≢ id → map.get moments_after j ≡ map.get moments j) → IsTable after moments_after
+changed-table slots after moments moments_after id o table slot at_id others j =
+    elim (cases_eq j id) [
+      | inl j_is ↦ ap (map.get moments_after) j_is ∙ at_id ∙ sym (ap queued_at (ap (entry_at after) j_is ∙ slot.changed))
+      | inr n ↦ others j n ∙ table j ∙ ap queued_at (sym (slot.others j n))
+    ]
 
-  stood : (j : ℕ) (f : Entry) → get after j ≡ Some f → get entries j ≡ Some f
-  stood j f h = sym (updates.others j (gone j f h)) ∙ h
+-- the id is taken out of the queue, and its slot has no moment
+pub unqueued-table : (slots after : List (Option Entry)) (moments moments_after : FinMap nat_cmp Moment) (id : ℕ) (o : Option Entry) → IsTable slots moments → HasSlot slots after id o → queued_at o ≡ None
+    → moments_after ≡ map.remove moments id → IsTable after moments_after
+unqueued-table slots after moments moments_after id o table slot none fewer =
+    let got : (j : ℕ) → map.get moments_after j ≡ cond (same j id) None (map.get moments j) = λ j. ap (λ (m : FinMap nat_cmp Moment). map.get m j) fewer ∙ get-remove nat_cmp_total moments id j in
+    changed-table slots after moments moments_after id o table slot (got id ∙ here id None (map.get moments id) ∙ sym none) (λ j n. got j ∙ elsewhere j id None (map.get moments j) n)
 
-  pub dropped-table : IsTable after ids_after moments_after
-  dropped-table =
-      record {
-        found = λ j f h.
-            let n : entry_rank e ≡ entry_rank f → ⊥ = λ r. gone j f h (one_slot entries ids moments table j id f e (stood j f h) there (sym r)) in
-            changes (entry_rank f) ∙ ap (λ (b : Bool). cond b None (look_up is_rank ids (entry_rank f))) (rank_differs (entry_rank e) (entry_rank f) n) ∙ table.found j f (stood j f h);
-        known = λ r j h.
-            elim (is_rank (entry_rank e) r) as (λ b. is_rank (entry_rank e) r ≡ b → cond b None (look_up is_rank ids r) ≡ Some j → (f : Entry) × (get after j ≡ Some f) × (entry_rank f ≡ r)) [
-              | true ↦ λ t h. absurd (some_none j (sym h))
-              | false ↦ λ t h.
-                  let k = table.known r j h in
-                  let n : j ≢ id = λ j_is.
-                  let same_entry : k.0 ≡ e = same_some k.0 e (sym k.1 ∙ ap (get entries) j_is ∙ there) in
-                  let r_is : entry_rank e ≡ r = ap entry_rank (sym same_entry) ∙ k.2 in
-                  let both : true ≡ false = sym (ap (λ (x : List ℤ). is_rank (entry_rank e) x) (sym r_is) ∙ rank_itself (entry_rank e)) ∙ t in
-                  absurd cc in
-                  (k.0, updates.others j n ∙ k.1, k.2)
-            ] refl (sym (changes r) ∙ h);
-        queued = λ j.
-            ap (λ (m : FinMap nat_cmp Moment). map.get m j) fewer ∙ get-remove nat_cmp_total moments id j
-            ∙ elim (cases_eq j id) [
-              | inl j_is ↦ ap (λ (x : ℕ). cond (same x id) None (map.get moments x)) j_is ∙ here id None (map.get moments id) ∙ sym (ap queued_at (ap (get after) j_is ∙ updates.changed))
-              | inr n ↦ elsewhere j id None (map.get moments j) n ∙ table.queued j ∙ ap queued_at (sym (updates.others j n))
-            ];
-      }
+-- a fact that never fails as yet is put in
+pub put-table : (slots after : List (Option Entry)) (moments : FinMap nat_cmp Moment) (id : ℕ) (o : Owned) → IsTable slots moments → entry_at slots id ≡ None → HasSlot slots after id (Some (fresh o)) → IsTable after moments
+put-table slots after moments id o table vacant slot =
+    changed-table slots after moments moments id (Some (fresh o)) table slot (table id ∙ ap queued_at vacant) (λ j n. refl)
 
-  pub dropped-rest : (s p : ℕ) (f : Form) → IsAt s p f (live_fact e) → (l : LiveFact) → Contains (live_in after.slots) l ↔ (Contains (live_in entries.slots) l × ¬ (IsAt s p f l))
+queued-with : (moments : FinMap nat_cmp Moment) (id : ℕ) (o : Option Moment) → map.get moments id ≡ None → (j : ℕ) → map.get (with moments id o) j ≡ cond (same j id) o (map.get moments j)
+queued-with moments id None none j =
+    elim (same j id) as (λ b. same j id ≡ b → map.get moments j ≡ cond b None (map.get moments j)) [
+      | true ↦ λ t. ap (map.get moments) (same_is j id t) ∙ none
+      | false ↦ λ t. refl
+    ] refl
+queued-with moments id (Some m) none j = get-insert nat_cmp_total moments id m j
+
+-- its first failure is found
+module _ (scene : Moment → Scene) (now : Moment) (o : Owned) (id : ℕ) (slots after : List (Option Entry)) (moments moments_after : FinMap nat_cmp Moment)
+    (table : IsTable slots moments) (there : entry_at slots id ≡ Some (fresh o)) (timed_so : IsTimed scene now o id slots moments after moments_after) where
+  absent : map.get moments id ≡ None
+  absent = table id ∙ ap queued_at there
+
+  pub timed-slot : HasSlot slots after id (Some (timed (fresh o) timed_so.fails))
+  timed-slot = subst (λ (xs : List (Option Entry)). HasSlot slots xs id (Some (timed (fresh o) timed_so.fails))) (sym timed_so.slots_are) (has-slot slots id (fresh o) (Some (timed (fresh o) timed_so.fails)) there)
+
+  pub timed-table : IsTable after moments_after
+  timed-table =
+      let got : (j : ℕ) → map.get moments_after j ≡ cond (same j id) timed_so.fails (map.get moments j) = λ j. ap (λ (m : FinMap nat_cmp Moment). map.get m j) timed_so.moments_are ∙ queued-with moments id timed_so.fails absent j in
+      changed-table slots after moments moments_after id (Some (timed (fresh o) timed_so.fails)) table timed-slot (got id ∙ here id timed_so.fails (map.get moments id)) (λ j n. got j ∙ elsewhere j id timed_so.fails (map.get moments j) n)
+
+-- an entry is taken out
+module _ (slots after : List (Option Entry)) (once : NoneTwice slots) (id : ℕ) (e : Entry) (there : entry_at slots id ≡ Some e) (slot : HasSlot slots after id None) where
+  gone : (j : ℕ) (f : Entry) → entry_at after j ≡ Some f → j ≢ id
+  gone j f h j_is = some_none f (sym h ∙ ap (entry_at after) j_is ∙ slot.changed)
+
+  stood : (j : ℕ) (f : Entry) → entry_at after j ≡ Some f → entry_at slots j ≡ Some f
+  stood j f h = sym (slot.others j (gone j f h)) ∙ h
+
+  pub dropped-rest : (s p : ℕ) (f : Form) → IsAt s p f (live_fact e) → (l : LiveFact) → Contains (live_in after) l ↔ (Contains (live_in slots) l × ¬ (IsAt s p f l))
   dropped-rest s p f at l = (to, from)
     where
-      to : Contains (live_in after.slots) l → Contains (live_in entries.slots) l × ¬ (IsAt s p f l)
+      to : Contains (live_in after) l → Contains (live_in slots) l × ¬ (IsAt s p f l)
       to c =
-          let h = live-from after.slots l c in (
-            subst (λ (x : LiveFact). Contains (live_in entries.slots) x) h.is (live-there entries.slots h.id h.entry (stood h.id h.entry h.there)),
-            λ l_at.
-                let r : entry_rank h.entry ≡ entry_rank e = rank-at s p f h.entry (subst (λ (x : LiveFact). IsAt s p f x) (sym h.is) l_at) ∙ sym (rank-at s p f e at) in
-                gone h.id h.entry h.there (one_slot entries ids moments table h.id id h.entry e (stood h.id h.entry h.there) there r),
+          let h = live-from after l c in (
+            subst (λ (x : LiveFact). Contains (live_in slots) x) h.is (live-there slots h.id h.entry (stood h.id h.entry h.there)),
+            λ l_at. gone h.id h.entry h.there (once h.id id h.entry e (stood h.id h.entry h.there) there (rank-of-live after s p f l l_at h ∙ sym (rank-at s p f e at))),
           )
 
-      from : Contains (live_in entries.slots) l × ¬ (IsAt s p f l) → Contains (live_in after.slots) l
+      from : Contains (live_in slots) l × ¬ (IsAt s p f l) → Contains (live_in after) l
       from (c, n) =
-          let h = live-from entries.slots l c in
+          let h = live-from slots l c in
           let apart : h.id ≢ id = λ h_is.
-          let same_entry : h.entry ≡ e = same_some h.entry e (sym h.there ∙ ap (get entries) h_is ∙ there) in
+          let same_entry : h.entry ≡ e = same_some h.entry e (sym h.there ∙ ap (entry_at slots) h_is ∙ there) in
           n (subst (λ (x : LiveFact). IsAt s p f x) (ap live_fact (sym same_entry) ∙ h.is) at) in
-          subst (λ (x : LiveFact). Contains (live_in after.slots) x) h.is (live-there after.slots h.id h.entry (updates.others h.id apart ∙ h.there))
+          subst (λ (x : LiveFact). Contains (live_in after) x) h.is (live-there after h.id h.entry (slot.others h.id apart ∙ h.there))
 
--- an entry is put in, with its rank and its failure moment
-module _ {S : Type 0} (entries after : Slab Entry) (ids ids_after : IndexMap (List ℤ) ℕ S) (moments moments_after : FinMap nat_cmp Moment)
-    (table : IsTable entries ids moments) (id : ℕ) (e : Entry) (vacant : get entries id ≡ None) (updates : Updates entries after id (Some e)) (fresh : look_up is_rank ids (entry_rank e) ≡ None)
-    (changes : (q : List ℤ) → look_up is_rank ids_after q ≡ cond (is_rank (entry_rank e) q) (Some id) (look_up is_rank ids q))
-    (waits_not : e.is_waiting ≡ false) (more : moments_after ≡ with moments id e.fails) where
-  older : (j : ℕ) (f : Entry) → get entries j ≡ Some f → j ≢ id
-  older j f h j_is = some_none f (sym h ∙ ap (get entries) j_is ∙ vacant)
+-- an entry is put in
+module _ (slots after : List (Option Entry)) (id : ℕ) (e : Entry) (vacant : entry_at slots id ≡ None) (slot : HasSlot slots after id (Some e)) where
+  older : (j : ℕ) (f : Entry) → entry_at slots j ≡ Some f → j ≢ id
+  older j f h j_is = some_none f (sym h ∙ ap (entry_at slots) j_is ∙ vacant)
 
-  new_one : (f : Entry) → get after id ≡ Some f → e ≡ f
-  new_one f h = same_some e f (sym updates.changed ∙ h)
-
-  queued-with : (o : Option Moment) (j : ℕ) → map.get (with moments id o) j ≡ cond (same j id) o (map.get moments j)
-  queued-with None j =
-      elim (same j id) as (λ b. same j id ≡ b → map.get moments j ≡ cond b None (map.get moments j)) [
-        | true ↦ λ t. ap (map.get moments) (same_is j id t) ∙ table.queued id ∙ ap queued_at vacant
-        | false ↦ λ t. refl
-      ] refl
-  queued-with (Some m) j = get-insert nat_cmp_total moments id m j
-
-  pub gained-table : IsTable after ids_after moments_after
-  gained-table =
-      record {
-        found = λ j f h.
-            changes (entry_rank f)
-            ∙ elim (cases_eq j id) [
-              | inl j_is ↦
-                  let f_is : e ≡ f = new_one f (ap (get after) (sym j_is) ∙ h) in
-                  ap (λ (b : Bool). cond b (Some id) (look_up is_rank ids (entry_rank f))) (ap (λ (x : Entry). is_rank (entry_rank e) (entry_rank x)) (sym f_is) ∙ rank_itself (entry_rank e))
-                  ∙ ap Some (sym j_is)
-              | inr n ↦
-                  let was : get entries j ≡ Some f = sym (updates.others j n) ∙ h in
-                  let differs : entry_rank e ≡ entry_rank f → ⊥ = λ r. some_none j (sym (table.found j f was) ∙ ap (look_up is_rank ids) (sym r) ∙ fresh) in
-                  ap (λ (b : Bool). cond b (Some id) (look_up is_rank ids (entry_rank f))) (rank_differs (entry_rank e) (entry_rank f) differs) ∙ table.found j f was
-            ];
-        known = λ r j h.
-            elim (is_rank (entry_rank e) r) as (λ b. is_rank (entry_rank e) r ≡ b → cond b (Some id) (look_up is_rank ids r) ≡ Some j → (f : Entry) × (get after j ≡ Some f) × (entry_rank f ≡ r)) [
-              | true ↦ λ t h. (e, ap (get after) (sym (same_some id j h)) ∙ updates.changed, rank_same (entry_rank e) r t)
-              | false ↦ λ t h.
-                  let k = table.known r j h in
-                  (k.0, updates.others j (older j k.0 k.1) ∙ k.1, k.2)
-            ] refl (sym (changes r) ∙ h);
-        queued = λ j.
-            ap (λ (m : FinMap nat_cmp Moment). map.get m j) more ∙ queued-with e.fails j
-            ∙ elim (cases_eq j id) [
-              | inl j_is ↦
-                  ap (λ (x : ℕ). cond (same x id) e.fails (map.get moments x)) j_is ∙ here id e.fails (map.get moments id)
-                  ∙ ap (λ (b : Bool). cond b None e.fails) (sym waits_not)
-                  ∙ sym (ap queued_at (ap (get after) j_is ∙ updates.changed))
-              | inr n ↦ elsewhere j id e.fails (map.get moments j) n ∙ table.queued j ∙ ap queued_at (sym (updates.others j n))
-            ];
-      }
-
-  pub gained-exactly : (l : LiveFact) → Contains (live_in after.slots) l ↔ (Contains (live_in entries.slots) l ⊎ (l ≡ live_fact e))
+  pub gained-exactly : (l : LiveFact) → Contains (live_in after) l ↔ (Contains (live_in slots) l ⊎ (l ≡ live_fact e))
   gained-exactly l = (to, from)
     where
-      to : Contains (live_in after.slots) l → Contains (live_in entries.slots) l ⊎ (l ≡ live_fact e)
+      to : Contains (live_in after) l → Contains (live_in slots) l ⊎ (l ≡ live_fact e)
       to c =
-          let h = live-from after.slots l c in
+          let h = live-from after l c in
           elim (cases_eq h.id id) [
-            | inl h_is ↦ inr (sym h.is ∙ ap live_fact (sym (new_one h.entry (ap (get after) (sym h_is) ∙ h.there))))
-            | inr n ↦ inl (subst (λ (x : LiveFact). Contains (live_in entries.slots) x) h.is (live-there entries.slots h.id h.entry (sym (updates.others h.id n) ∙ h.there)))
+            | inl h_is ↦ inr (sym h.is ∙ ap live_fact (same_some h.entry e (sym h.there ∙ ap (entry_at after) h_is ∙ slot.changed)))
+            | inr n ↦ inl (subst (λ (x : LiveFact). Contains (live_in slots) x) h.is (live-there slots h.id h.entry (sym (slot.others h.id n) ∙ h.there)))
           ]
 
-      from : Contains (live_in entries.slots) l ⊎ (l ≡ live_fact e) → Contains (live_in after.slots) l
+      from : Contains (live_in slots) l ⊎ (l ≡ live_fact e) → Contains (live_in after) l
       from (inl c) =
-          let h = live-from entries.slots l c in
-          subst (λ (x : LiveFact). Contains (live_in after.slots) x) h.is (live-there after.slots h.id h.entry (updates.others h.id (older h.id h.entry h.there) ∙ h.there))
-      from (inr l_is) = subst (λ (x : LiveFact). Contains (live_in after.slots) x) (sym l_is) (live-there after.slots id e updates.changed)
+          let h = live-from slots l c in
+          subst (λ (x : LiveFact). Contains (live_in after) x) h.is (live-there after h.id h.entry (slot.others h.id (older h.id h.entry h.there) ∙ h.there))
+      from (inr l_is) = subst (λ (x : LiveFact). Contains (live_in after) x) (sym l_is) (live-there after id e slot.changed)
 
-pub empty-table : {S : Type 0} (entries : Slab Entry) (ids : IndexMap (List ℤ) ℕ S) (moments : FinMap nat_cmp Moment) → entries.slots ≡ [] → ids.entries ≡ [] → moments ≡ map.empty → IsTable entries ids moments
-empty-table entries ids moments no_slots no_ids no_moments =
-    let nothing : (id : ℕ) → get entries id ≡ None = λ id. ap (λ (xs : List (Option Entry)). get_or xs id None) no_slots in
-    record {
-      found = λ id e h. absurd (some_none e (sym h ∙ nothing id));
-      known = λ r id h. absurd (some_none id (sym h ∙ ap (λ (es : List (List ℤ × ℕ)). lookup (is_rank r) es) no_ids));
-      queued = λ id. ap (λ (m : FinMap nat_cmp Moment). map.get m id) no_moments ∙ get-empty nat_cmp id ∙ sym (ap queued_at (nothing id));
-    }
+-- an entry stands where another one stood
+module _ (slots after : List (Option Entry)) (once : NoneTwice slots) (id : ℕ) (e e' : Entry) (there : entry_at slots id ≡ Some e) (slot : HasSlot slots after id (Some e')) where
+  pub replaced-exactly : (s p : ℕ) (f : Form) → IsAt s p f (live_fact e) → (l : LiveFact) → Contains (live_in after) l ↔ ((Contains (live_in slots) l × ¬ (IsAt s p f l)) ⊎ (l ≡ live_fact e'))
+  replaced-exactly s p f at l = (to, from)
+    where
+      to : Contains (live_in after) l → (Contains (live_in slots) l × ¬ (IsAt s p f l)) ⊎ (l ≡ live_fact e')
+      to c =
+          let h = live-from after l c in
+          elim (cases_eq h.id id) [
+            | inl h_is ↦ inr (sym h.is ∙ ap live_fact (same_some h.entry e' (sym h.there ∙ ap (entry_at after) h_is ∙ slot.changed)))
+            | inr n ↦
+                let was : entry_at slots h.id ≡ Some h.entry = sym (slot.others h.id n) ∙ h.there in
+                inl (subst (λ (x : LiveFact). Contains (live_in slots) x) h.is (live-there slots h.id h.entry was), λ l_at. n (once h.id id h.entry e was there (rank-of-live after s p f l l_at h ∙ sym (rank-at s p f e at))))
+          ]
 
--- only the slots, the ids' entries and the moments matter
-pub same-table : {S : Type 0} (entries entries' : Slab Entry) (ids ids' : IndexMap (List ℤ) ℕ S) (moments : FinMap nat_cmp Moment) → entries'.slots ≡ entries.slots → ids'.entries ≡ ids.entries → IsTable entries ids moments → IsTable entries' ids' moments
-same-table entries entries' ids ids' moments slots_are ids_are table =
-    let got : (id : ℕ) → get entries' id ≡ get entries id = λ id. ap (λ (xs : List (Option Entry)). get_or xs id None) slots_are in
-    let looked : (r : List ℤ) → look_up is_rank ids' r ≡ look_up is_rank ids r = λ r. ap (λ (es : List (List ℤ × ℕ)). lookup (is_rank r) es) ids_are in
-    record {
-      found = λ id e h. looked (entry_rank e) ∙ table.found id e (sym (got id) ∙ h);
-      known = λ r id h. let k = table.known r id (sym (looked r) ∙ h) in (k.0, got id ∙ k.1, k.2);
-      queued = λ id. table.queued id ∙ ap queued_at (sym (got id));
-    }
+      from : (Contains (live_in slots) l × ¬ (IsAt s p f l)) ⊎ (l ≡ live_fact e') → Contains (live_in after) l
+      from (inl (c, n)) =
+          let h = live-from slots l c in
+          let apart : h.id ≢ id = λ h_is.
+          let same_entry : h.entry ≡ e = same_some h.entry e (sym h.there ∙ ap (entry_at slots) h_is ∙ there) in
+          n (subst (λ (x : LiveFact). IsAt s p f x) (ap live_fact (sym same_entry) ∙ h.is) at) in
+          subst (λ (x : LiveFact). Contains (live_in after) x) h.is (live-there after h.id h.entry (slot.others h.id apart ∙ h.there))
+      from (inr l_is) = subst (λ (x : LiveFact). Contains (live_in after) x) (sym l_is) (live-there after id e' slot.changed)
+
+pub empty-table : (slots : List (Option Entry)) (moments : FinMap nat_cmp Moment) → slots ≡ [] → moments ≡ map.empty → IsTable slots moments
+empty-table slots moments no_slots no_moments id =
+    ap (λ (m : FinMap nat_cmp Moment). map.get m id) no_moments ∙ get-empty nat_cmp id ∙ sym (ap queued_at (ap (λ (xs : List (Option Entry)). get_or xs id None) no_slots))

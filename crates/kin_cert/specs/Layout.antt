@@ -1,20 +1,23 @@
--- How a table lies in memory: a slab of entries, their ids by owner and form, and a queue of ids. No public clause cites this module.
-use Rattle.std.specs.Prelude.{◌≡◌, ℕ, ◌+◌, Bool, true, false, cond, not, ℤ, List, [], ◌∷◌, Option, Some, None, Contains, ◌↔◌, ◌⊎◌, count_by, IsTrue, ◌≢◌, ◌<◌, length, slice_index_or}
+-- How a table lies in memory: a roll of entries by id, and a queue of ids. No public clause cites this module.
+use Rattle.std.specs.Prelude.{◌≡◌, ℕ, Bool, true, false, cond, not, ℤ, List, [], ◌∷◌, Option, Some, None, Contains, ◌↔◌, ◌⊎◌, count_by, IsTrue, ◌≢◌, length, slice_index_or, slice_set, is_some}
 use Rattle.std.specs.List.{AllPairs}
 use Rattle.std.specs.Ordering.{nat_cmp, int_eq}
 use Rattle.std.specs.FinMap as map
 use Rattle.std.specs.FinMap.{FinMap}
 use lib.Pointwise.{pointwise}
-use Rattle.slab.specs.Slab.{Slab, get}
-use Rattle.indexmap.specs.IndexMap.{IndexMap, get as look_up}
 use Rattle.kin_num.specs.declared.instant.Moment.{Moment}
 use Rattle.kin_num.specs.Order.{IsEarlier}
 use Rattle.kin_motion.specs.declared.fact.Placed.{Placed}
 use Rattle.kin_motion.specs.Scene.{Scene}
 use Rattle.kin_cert.specs.declared.entry.Entry.{Entry}
+use Rattle.kin_cert.specs.declared.entry.Seat.{Seat}
 use Rattle.kin_cert.specs.declared.owned.Owned.{Owned}
-use Rattle.kin_cert.specs.Facts.{LiveFact, certificate_of}
-use Rattle.kin_cert.specs.Applied.{IsBorn, IsOf}
+use Rattle.kin_cert.specs.Facts.{LiveFact, NoneAlike, certificate_of}
+use Rattle.kin_cert.specs.declared.table.Pending.{Pending}
+use Rattle.kin_motion.specs.Deltas.{Change}
+use Rattle.kin_cert.specs.Failures.{IsFirstFailure}
+use Rattle.kin_cert.specs.Applied.{IsBorn, IsOf, HasApplied}
+use Rattle.kin_cert.specs.Place.{place_of}
 use Rattle.kin_cert.specs.Rank.{padded_rank}
 
 abbrev pub live_fact : Entry → LiveFact
@@ -44,10 +47,58 @@ with moments id (Some m) = map.insert moments id m
 abbrev pub is_rank : List ℤ → List ℤ → Bool
 is_rank = pointwise int_eq
 
-pub record IsTable {S : Type 0} (entries : Slab Entry) (ids : IndexMap (List ℤ) ℕ S) (moments : FinMap nat_cmp Moment) : Type 0 where
-  pub found : (id : ℕ) (e : Entry) → get entries id ≡ Some e → look_up is_rank ids (entry_rank e) ≡ Some id
-  pub known : (rank : List ℤ) (id : ℕ) → look_up is_rank ids rank ≡ Some id → (e : Entry) × (get entries id ≡ Some e) × (entry_rank e ≡ rank)
-  pub queued : (id : ℕ) → map.get moments id ≡ queued_at (get entries id)
+abbrev pub owned_place : Owned → List ℕ
+owned_place o = place_of o.structure o.part o.fact.form
+
+-- the entry of an id, if there is one
+abbrev pub entry_at : List (Option Entry) → ℕ → Option Entry
+entry_at slots id = slice_index_or slots id None
+
+-- a fact that never fails as yet
+abbrev pub fresh : Owned → Entry
+fresh o = record { owned = o; fails = None; is_waiting = false }
+
+-- the entry after it is given out
+abbrev pub waiting : Entry → Entry
+waiting e = record { owned = e.owned; fails = e.fails; is_waiting = true }
+
+-- the entry after its first failure is noted
+abbrev pub timed : Entry → Option Moment → Entry
+timed e fails = record { owned = e.owned; fails = fails; is_waiting = e.is_waiting }
+
+-- no owner's form stands under two ids
+abbrev pub NoneTwice : List (Option Entry) → Type 0
+NoneTwice slots = (i j : ℕ) (e f : Entry) → entry_at slots i ≡ Some e → entry_at slots j ≡ Some f → entry_rank e ≡ entry_rank f → i ≡ j
+
+-- the new slots have this at the id, and every other id keeps what it had
+pub record HasSlot (old new : List (Option Entry)) (id : ℕ) (slot : Option Entry) : Type 0 where
+  pub changed : entry_at new id ≡ slot
+  pub others : (j : ℕ) → j ≢ id → entry_at new j ≡ entry_at old j
+
+-- an entry of this rank is there, and this holds of it
+abbrev pub IsFoundAt : List (Option Entry) → List ℤ → (Entry → Type 0) → Type 0
+IsFoundAt slots rank which = (id : ℕ) × (e : Entry) × (entry_at slots id ≡ Some e) × (entry_rank e ≡ rank) × which e
+
+abbrev pub IsNotFound : List (Option Entry) → List ℤ → Type 0
+IsNotFound slots rank = (id : ℕ) (e : Entry) → entry_at slots id ≡ Some e → entry_rank e ≢ rank
+
+-- the id of the entry of this rank, and whether the queue has it
+pub record IsSeatOf (slots : List (Option Entry)) (rank : List ℤ) (seat : Seat) : Type 0 where
+  pub entry : Entry
+  pub there : entry_at slots seat.id ≡ Some entry
+  pub ranked : entry_rank entry ≡ rank
+  pub queued : seat.is_queued ≡ is_some (queued_at (Some entry))
+
+-- the fact stands where that of this rank stood, and no other entry has its owner and form
+pub record IsTakenOver (old : List (Option Entry)) (rank : List ℤ) (o : Owned) (seat : Seat) (new : List (Option Entry)) : Type 0 where
+  pub seat_of : IsSeatOf old rank seat
+  pub slots : new ≡ slice_set old seat.id (Some (fresh o))
+  pub free : (j : ℕ) (e : Entry) → entry_at old j ≡ Some e → entry_rank e ≡ owned_rank o → j ≡ seat.id
+  pub once : NoneTwice old
+
+-- the queue has exactly the ids of the facts that will fail and don't wait
+abbrev pub IsTable : List (Option Entry) → FinMap nat_cmp Moment → Type 0
+IsTable slots moments = (id : ℕ) → map.get moments id ≡ queued_at (entry_at slots id)
 
 -- the fact fails at this moment and was not given out
 pub record IsDueAt (l : LiveFact) (m : Moment) : Type 0 where
@@ -77,6 +128,30 @@ pub record HasBorn (structure : ℕ) (scene : Moment → Scene) (now : Moment) (
   pub fact : LiveFact
   pub is_born : IsBorn structure scene now p fact
   pub exactly : (l : LiveFact) → Contains new l ↔ (Contains old l ⊎ (l ≡ fact))
+
+-- a born fact stands in the stead of a dropped one, and no other has its owner and form
+pub record HasReplaced (structure : ℕ) (scene : Moment → Scene) (now : Moment) (dropped born : Placed) (old new : List LiveFact) : Type 0 where
+  pub fact : LiveFact
+  pub is_born : IsBorn structure scene now born fact
+  pub free : (l : LiveFact) → Contains old l → IsOf structure born l → IsOf structure dropped l
+  pub exactly : (l : LiveFact) → Contains new l ↔ ((Contains old l × ¬ (IsOf structure dropped l)) ⊎ (l ≡ fact))
+  pub count : length new ≡ length old
+  pub once : NoneAlike old
+
+-- the first failure of a new fact is noted, and the queue has it
+pub record IsTimed (scene : Moment → Scene) (now : Moment) (o : Owned) (id : ℕ) (slots : List (Option Entry)) (moments : FinMap nat_cmp Moment) (slots' : List (Option Entry)) (moments' : FinMap nat_cmp Moment) : Type 0 where
+  pub fails : Option Moment
+  pub first : IsFirstFailure scene now o.fact fails
+  pub slots_are : slots' ≡ slice_set slots id (Some (timed (fresh o) fails))
+  pub moments_are : moments' ≡ with moments id fails
+
+-- what is dropped and what is born
+abbrev pub change_of : Pending → Change
+change_of p = record { dropped = p.dropped.now; born = p.born.now }
+
+-- whoever applies the rest of a change has applied the whole
+abbrev pub IsLeftToApply : ℕ → (Moment → Scene) → Moment → Change → List LiveFact → Change → List LiveFact → Type 0
+IsLeftToApply structure scene now all old rest new = (after : List LiveFact) → HasApplied structure rest scene now new after → HasApplied structure all scene now old after
 
 -- some facts that fail at the moment were given out, and the others are as they were
 pub record IsGivenUpTo (m : Moment) (old new : List LiveFact) (taken : List Owned) : Type 0 where

@@ -1,10 +1,12 @@
 pub mod Rank
+pub mod Place
 pub mod Failures
 pub mod Facts
 pub mod Applied
 pub mod Taken
 pub mod Blocks
 pub mod Layout
+pub mod Rolls
 pub mod Laws
 pub mod Told
 pub mod Remade

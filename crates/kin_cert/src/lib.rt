@@ -13,10 +13,13 @@ pub use table::Table;
 
 mod entry;
 pub mod first_fail;
+mod guesses;
 pub mod laws;
 pub mod now;
 pub mod owned;
+mod place;
 mod rank;
+mod roll;
 pub mod table;
 mod tell;
 #[cfg(test)]

@@ -1,32 +1,26 @@
-use Rattle.std.proofs.Common.{◌≡◌, ◌∙◌, List, Result, Ok, Err, OnOk, sym, ap, subst}
-use Rattle.std.specs.List.{All}
+use Rattle.std.proofs.Common.{◌≡◌, ◌∙◌, List, ap₂, sym, subst, refl}
 use Rattle.kin_motion.specs.declared.fact.Placed.{Placed}
 use Rattle.kin_motion.specs.Deltas.{Change}
 use Rattle.kin_motion.specs.Scene.{scene_at}
-use Rattle.kin_cert.specs.Applied.{IsLiveIn, IsAmong}
+use Rattle.kin_cert.specs.Facts.{Facts}
+use Rattle.kin_cert.specs.Applied.{HasApplied}
+use Rattle.kin_cert.specs.Layout.{change_of}
 use Rattle.kin_cert.proofs.Changes.{applied}
 use Rattle.kin_cert.proofs.table.Table.apply.Goals as goal
 
-pub drop_each-requires-clause-live : goal.drop_each-requires-clause-live
-drop_each-requires-clause-live g c =
-    subst (λ (ps : List Placed). All (IsLiveIn c.args.self.now.live c.args.structure) ps) (sym (c.deref.ensures.value ∙ ap (λ (d : Change). d.dropped) c.delta.view_is)) c.requires.change.dropped_live
-
 pub bear_each-requires-clause-free : goal.bear_each-requires-clause-free
 bear_each-requires-clause-free g c = λ l there among.
-    let dropped_is : c.deref.result.now ≡ c.args.delta.now.dropped = c.deref.ensures.value ∙ ap (λ (d : Change). d.dropped) c.delta.view_is in
-    let born_is : c.deref-2.result.now ≡ c.args.delta.now.born = c.deref-2.ensures.value ∙ ap (λ (d : Change). d.born) c.delta.view_is in
     let was = (c.drop_each.ensures.rest l).0 there in
-    was.1 (subst (λ (ps : List Placed). IsAmong c.args.structure ps l) (sym dropped_is) (c.requires.change.born_free l was.0 (subst (λ (ps : List Placed). IsAmong c.args.structure ps l) born_is among)))
-
--- what follows from four facts that hold after Ok
-on_ok : {T E : Type 0} (r : Result T E) (A B C D P : Type 0) → (A → B → C → D → P) → OnOk r A → OnOk r B → OnOk r C → OnOk r D → OnOk r P
-on_ok (Ok x) A B C D P f a b c d = f a b c d
-on_ok (Err e) A B C D P f a b c d = tt
+    was.1 (c.in_ok-rest.ensures.may.born_free l was.0 among)
 
 pub returns-clause-applied : goal.returns-clause-applied
 returns-clause-applied g c =
-    let dropped_is : c.deref.result.now ≡ c.args.delta.now.dropped = c.deref.ensures.value ∙ ap (λ (d : Change). d.dropped) c.delta.view_is in
-    let born_is : c.deref-2.result.now ≡ c.args.delta.now.born = c.deref-2.ensures.value ∙ ap (λ (d : Change). d.born) c.delta.view_is in
-    on_ok c.bear_each.result _ _ _ _ _
-    (applied c.args.structure c.args.delta.now (scene_at c.args.motions.now) c.args.now.now c.args.self.now.live c.drop_each.new.self.live c.bear_each.new.self.live c.deref.result.now c.deref-2.result.now dropped_is born_is c.drop_each.ensures.rest c.drop_each.ensures.count)
-    c.bear_each.ensures.kept c.bear_each.ensures.born c.bear_each.ensures.only c.bear_each.ensures.count
+    let rest = c.in_ok-rest.rest in
+    let scene = scene_at c.args.motions.now in
+    let change_is : record { dropped = c.deref.result.now; born = c.deref-2.result.now } ≡ c.args.delta.now =
+    ap₂ (λ (ds bs : List Placed). record { dropped = ds; born = bs }) c.deref.ensures.value c.deref-2.ensures.value ∙ c.delta.view_is in
+    let left = applied c.args.structure (change_of rest) scene c.args.now.now c.replace_each.new.self.live c.drop_each.new.self.live c.bear_each.new.self.live rest.dropped.now rest.born.now refl refl c.drop_each.ensures.rest c.drop_each.ensures.count
+    c.in_ok-bear_each.ensures.kept c.in_ok-bear_each.ensures.born c.in_ok-bear_each.ensures.only c.in_ok-bear_each.ensures.count in
+    let whole : HasApplied c.args.structure c.args.delta.now scene c.args.now.now c.args.self.now.live c.bear_each.new.self.live =
+    subst (λ (x : Change). HasApplied c.args.structure x scene c.args.now.now c.args.self.now.live c.bear_each.new.self.live) change_is (c.in_ok-rest.ensures.did c.bear_each.new.self.live left) in
+    subst (λ (t : Facts). HasApplied c.args.structure c.args.delta.now scene c.args.now.now c.args.self.now.live t.live) (sym c.self.view_is) whole

@@ -1,8 +1,6 @@
-use Rattle.std.proofs.Common.{◌≡◌, ◌∙◌, List, refl, sym, ap, subst, arith}
+use Rattle.std.proofs.Common.{◌∙◌, refl, subst, arith}
 use Rattle.kin_motion.specs.Scene.{scene_at}
-use Rattle.kin_cert.specs.Facts.{Facts, LiveFact}
-use Rattle.kin_cert.specs.Layout.{live_in}
-use Rattle.kin_cert.proofs.Changes.{AreBorn}
+use Rattle.kin_cert.specs.Facts.{Facts, NoneAlike}
 use Rattle.kin_cert.proofs.Tables.{table-once}
 use Rattle.kin_cert.proofs.Changes.{born-none, born-free, born-more, born-all, born-only}
 use Rattle.kin_cert.proofs.table.Table.bear_each.Goals as goal
@@ -26,22 +24,15 @@ loop-placed-preserved g c =
     }
 
 pub returns-clause-kept : goal.returns-clause-kept
-returns-clause-kept g c =
-    let seen : c.loop-placed.self.live ≡ live_in c.self.inside.entries.slots = sym (ap (λ (t : Facts). t.live) c.self.view_is) in
-    let born = subst (λ (ls : List LiveFact). AreBorn c.args.structure (scene_at c.args.motions.now) c.args.now.now c.args.born.now c.loop-placed.placed-index c.args.self.now.live ls) seen c.loop-placed.invariant.born in
-    born.kept
+returns-clause-kept g c = c.loop-placed.invariant.born.kept
 
 pub returns-clause-born : goal.returns-clause-born
 returns-clause-born g c =
-    let seen : c.loop-placed.self.live ≡ live_in c.self.inside.entries.slots = sym (ap (λ (t : Facts). t.live) c.self.view_is) in
-    let born = subst (λ (ls : List LiveFact). AreBorn c.args.structure (scene_at c.args.motions.now) c.args.now.now c.args.born.now c.loop-placed.placed-index c.args.self.now.live ls) seen c.loop-placed.invariant.born in
-    born-all c.args.structure (scene_at c.args.motions.now) c.args.now.now c.args.born.now c.loop-placed.placed-index c.args.self.now.live (live_in c.self.inside.entries.slots) born c.loop-placed-test.false
+    born-all c.args.structure (scene_at c.args.motions.now) c.args.now.now c.args.born.now c.loop-placed.placed-index c.args.self.now.live c.loop-placed.self.live c.loop-placed.invariant.born c.loop-placed-test.false
 
 pub returns-clause-only : goal.returns-clause-only
 returns-clause-only g c =
-    let seen : c.loop-placed.self.live ≡ live_in c.self.inside.entries.slots = sym (ap (λ (t : Facts). t.live) c.self.view_is) in
-    let born = subst (λ (ls : List LiveFact). AreBorn c.args.structure (scene_at c.args.motions.now) c.args.now.now c.args.born.now c.loop-placed.placed-index c.args.self.now.live ls) seen c.loop-placed.invariant.born in
-    born-only c.args.structure (scene_at c.args.motions.now) c.args.now.now c.args.born.now c.loop-placed.placed-index c.args.self.now.live (live_in c.self.inside.entries.slots) born (omega arith)
+    born-only c.args.structure (scene_at c.args.motions.now) c.args.now.now c.args.born.now c.loop-placed.placed-index c.args.self.now.live c.loop-placed.self.live c.loop-placed.invariant.born (omega arith)
 
 pub returns-clause-once : goal.returns-clause-once
-returns-clause-once g c = table-once c.self.inside.entries c.self.inside.ids c.self.inside.queue.moments c.self.invariant
+returns-clause-once g c = subst (λ (t : Facts). NoneAlike t.live) c.self.view_is (table-once c.self.inside.roll c.len.ensures.once)

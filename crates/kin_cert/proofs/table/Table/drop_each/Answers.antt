@@ -6,7 +6,7 @@ use Rattle.kin_cert.proofs.table.Table.drop_each.Goals as goal
 
 pub drop_one-requires : goal.drop_one-requires
 drop_one-requires g c =
-    let once = subst (λ (t : Facts). NoneAlike t.live) c.self.view_is (table-once c.self.inside.entries c.self.inside.ids c.self.inside.queue.moments c.self.invariant) in
+    let once = subst (λ (t : Facts). NoneAlike t.live) c.self.view_is (table-once c.self.inside.roll c.len.ensures.once) in
     record { live = dropped-live c.args.structure c.args.dropped.now c.loop-placed.placed-index c.args.self.now.live c.loop-placed.self.live _ c.loop-placed-test.true c.loop-placed.invariant.dropped once c.requires.live c.requires.once }
 
 pub loop-placed-preserved : goal.loop-placed-preserved

@@ -1,46 +1,33 @@
-use Rattle.std.proofs.Common.{◌≡◌, None, Some, refl, subst, sym, ap, ◌∙◌}
+use Rattle.std.proofs.Common.{◌≡◌, ℕ, List, Option, None, Some, IfSome, IfNone, ◌↔◌, refl, subst}
 use Rattle.std.specs.List.{Contains}
-use Rattle.slab.specs.Slab.{get}
-use Rattle.indexmap.specs.IndexMap.{get as look_up}
-use Rattle.kin_cert.specs.Facts.{Facts}
+use Rattle.kin_algebra.specs.declared.sign.Sign.{Sign}
+use Rattle.kin_motion.specs.declared.form.Form.{Form}
+use Rattle.kin_cert.specs.declared.entry.Entry.{Entry}
+use Rattle.kin_cert.specs.Facts.{Facts, LiveFact, IsAt}
 use Rattle.kin_cert.specs.Rank.{padded_rank}
-use Rattle.kin_cert.specs.Layout.{is_rank, live_fact, entry_rank}
-use Rattle.kin_cert.proofs.Slots.{live-there}
-use Rattle.kin_cert.proofs.Tables.{slot-of, some_none, same_some, at-rank}
+use Rattle.kin_cert.specs.Layout.{live_in, live_fact, IsFoundAt, IsNotFound}
+use Rattle.kin_cert.proofs.Slots.{live-there, live-from}
+use Rattle.kin_cert.proofs.Rolls.{some_none}
+use Rattle.kin_cert.proofs.Tables.{at-rank, rank-of-live}
 use Rattle.kin_cert.proofs.table.Table.sign_of.Goals as goal
 
-pub returns-in_default-clause-none : goal.returns-in_default-clause-none
-returns-in_default-clause-none c = (
-  (λ e l there at.
-      let slot = slot-of c.self.inside.entries c.self.inside.ids c.self.inside.queue.moments c.self.invariant c.args.structure c.args.part c.args.form.now l (subst (λ (t : Facts). Contains t.live l) (sym c.self.view_is) there) at in
-      let none : look_up is_rank c.self.inside.ids (padded_rank c.args.structure c.args.part c.args.form.now) ≡ None = ap (look_up is_rank c.self.inside.ids) (sym c.rank.ensures) ∙ sym c.in_default.ensures.value in
-      some_none _ (sym slot.1 ∙ none)),
-  λ n. refl,
-)
+module _ (slots : List (Option Entry)) (s p : ℕ) (f : Form) where
+  found : (o : Option Sign) → IfSome o (λ sign. IsFoundAt slots (padded_rank s p f) (λ e. e.owned.fact.sign ≡ sign))
+      → IfSome o (λ sign. (l : LiveFact) × Contains (live_in slots) l × IsAt s p f l × (l.certificate.placed.fact.sign ≡ sign))
+  found None h = tt
+  found (Some sign) (id, e, there, ranked, is) = (live_fact e, live-there slots id e there, at-rank s p f e ranked, is)
 
-pub returns-in_default-get-clause-none : goal.returns-in_default-get-clause-none
-returns-in_default-get-clause-none c =
-    let known = (c.self.invariant).known c.rank.result c.in-Some.id.now (sym c.in-Some.ensures.value) in
-    absurd (some_none known.0 (sym known.1 ∙ sym c.in_default-get.ensures))
+  none : (o : Option Sign) → IfSome o (λ sign. IsFoundAt slots (padded_rank s p f) (λ e. e.owned.fact.sign ≡ sign)) → IfNone o (IsNotFound slots (padded_rank s p f))
+      → (o ≡ None) ↔ ((l : LiveFact) → Contains (live_in slots) l → ¬ (IsAt s p f l))
+  none None h n = ((λ e l c at. let k = live-from slots l c in n k.id k.entry k.there (rank-of-live slots s p f l at k)), λ n. refl)
+  none (Some sign) (id, e, there, ranked, is) n = ((λ e. absurd (some_none sign e)), λ n. absurd (n (live_fact e) (live-there slots id e there) (at-rank s p f e ranked)))
 
 pub returns-clause-some : goal.returns-clause-some
 returns-clause-some c =
-    let known = (c.self.invariant).known c.rank.result c.in-Some.id.now (sym c.in-Some.ensures.value) in
-    let there : get c.self.inside.entries c.in-Some.id.now ≡ Some c.in-Some-get.entry.now = sym c.in-Some-get.ensures in
-    let same : known.0 ≡ c.in-Some-get.entry.now = same_some known.0 c.in-Some-get.entry.now (sym known.1 ∙ there) in (
-      live_fact c.in-Some-get.entry.now,
-      subst (λ (t : Facts). Contains t.live (live_fact c.in-Some-get.entry.now)) c.self.view_is (live-there c.self.inside.entries.slots c.in-Some.id.now c.in-Some-get.entry.now there),
-      at-rank c.args.structure c.args.part c.args.form.now c.in-Some-get.entry.now (ap entry_rank (sym same) ∙ known.2 ∙ c.rank.ensures),
-      refl,
-    )
+    subst (λ (t : Facts). IfSome c.sign_of.result (λ sign. (l : LiveFact) × Contains t.live l × IsAt c.args.structure c.args.part c.args.form.now l × (l.certificate.placed.fact.sign ≡ sign))) c.self.view_is
+    (found c.self.inside.roll c.args.structure c.args.part c.args.form.now c.sign_of.result c.sign_of.ensures.some)
 
 pub returns-clause-none : goal.returns-clause-none
 returns-clause-none c =
-    let known = (c.self.invariant).known c.rank.result c.in-Some.id.now (sym c.in-Some.ensures.value) in
-    let there : get c.self.inside.entries c.in-Some.id.now ≡ Some c.in-Some-get.entry.now = sym c.in-Some-get.ensures in
-    let same : known.0 ≡ c.in-Some-get.entry.now = same_some known.0 c.in-Some-get.entry.now (sym known.1 ∙ there) in (
-      (λ e. absurd (some_none _ e)),
-      λ n. absurd (n (live_fact c.in-Some-get.entry.now)
-          (subst (λ (t : Facts). Contains t.live (live_fact c.in-Some-get.entry.now)) c.self.view_is (live-there c.self.inside.entries.slots c.in-Some.id.now c.in-Some-get.entry.now there))
-          (at-rank c.args.structure c.args.part c.args.form.now c.in-Some-get.entry.now (ap entry_rank (sym same) ∙ known.2 ∙ c.rank.ensures))),
-    )
+    subst (λ (t : Facts). (c.sign_of.result ≡ None) ↔ ((l : LiveFact) → Contains t.live l → ¬ (IsAt c.args.structure c.args.part c.args.form.now l))) c.self.view_is
+    (none c.self.inside.roll c.args.structure c.args.part c.args.form.now c.sign_of.result c.sign_of.ensures.some c.sign_of.ensures.none)

@@ -1,0 +1,8 @@
+use Rattle.std.proofs.Common.{List, Option, subst}
+use Rattle.kin_cert.specs.declared.entry.Entry.{Entry}
+use Rattle.kin_cert.specs.Layout.{NoneTwice}
+use Rattle.kin_cert.proofs.Rolls.{once}
+use Rattle.kin_cert.proofs.roll.Roll.len.Goals as goal
+
+pub returns-clause-once : goal.returns-clause-once
+returns-clause-once c = subst (λ (slots : List (Option Entry)). NoneTwice slots) c.self.view_is (once c.self.inside.entries.slots c.self.inside.firsts c.self.inside.others c.self.invariant)

@@ -1,0 +1,15 @@
+use Rattle.std.proofs.Common.{◌≡◌, List, Option, Some, refl, sym, subst}
+use Rattle.kin_cert.specs.declared.entry.Entry.{Entry}
+use Rattle.kin_cert.specs.Layout.{entry_at, waiting, NoneTwice}
+use Rattle.kin_cert.proofs.Rolls.{once, kept-roll}
+use Rattle.kin_cert.proofs.Tables.{has-slot}
+use Rattle.kin_cert.proofs.roll.Roll.let_wait.Goals as goal
+
+pub invariant_of-self : goal.invariant_of-self
+invariant_of-self c =
+    let e = c.in-Some.entry.now in
+    let there : entry_at c.self.inside.entries.slots c.args.id ≡ Some e = sym c.in-Some.ensures.value in
+    kept-roll c.self.inside.entries.slots c.self.inside.firsts c.self.inside.others c.self.invariant _ c.args.id e (waiting e) there (has-slot c.self.inside.entries.slots c.args.id e (Some (waiting e)) there) refl
+
+pub returns-clause-once : goal.returns-clause-once
+returns-clause-once c = subst (λ (slots : List (Option Entry)). NoneTwice slots) c.self.view_is (once c.self.inside.entries.slots c.self.inside.firsts c.self.inside.others c.self.invariant)

@@ -1,0 +1,24 @@
+use Rattle.std.proofs.Common.{◌≡◌, ℕ, List, Option, Some, sym, subst, ap, ◌∙◌}
+use Rattle.slab.specs.Slab.{Slab, Updates}
+use Rattle.kin_cert.specs.declared.entry.Entry.{Entry}
+use Rattle.kin_cert.specs.Layout.{owned_rank, fresh, HasSlot, IsNotFound}
+use Rattle.kin_cert.proofs.Rolls.{same-index, enrolled-roll}
+use Rattle.kin_cert.specs.Rolls.{IsRoll}
+use Rattle.kin_cert.proofs.roll.Roll.put_in.Goals as goal
+
+pub invariant_of-self-in_err-enrol : goal.invariant_of-self-in_err-enrol
+invariant_of-self-in_err-enrol c =
+    let slots_are : c.self.inside.entries.slots ≡ c.reserve.new.self.slots = ap (λ (s : Slab Entry). s.slots) (sym c.reserve.ensures.rest_kept) in
+    subst (λ (slots : List (Option Entry)). IsRoll slots c.enrol.new.firsts c.enrol.new.others) slots_are
+    (same-index c.self.inside.entries.slots c.self.inside.firsts c.self.inside.others c.self.invariant c.enrol.new.firsts c.enrol.new.others c.in_err-enrol.ensures.err)
+
+pub invariant_of-self-2 : goal.invariant_of-self-2
+invariant_of-self-2 c =
+    let slots_are : c.reserve.new.self.slots ≡ c.self.inside.entries.slots = ap (λ (s : Slab Entry). s.slots) c.reserve.ensures.rest_kept in
+    let id = c.vacant_key-id.result in
+    let key : c.insert_reserved.result ≡ id = c.insert_reserved.ensures.key ∙ sym c.vacant_key-id.ensures.value in
+    let u : Updates c.reserve.new.self c.insert_reserved.new.self id (Some (fresh c.args.owned)) = subst (λ (k : ℕ). Updates c.reserve.new.self c.insert_reserved.new.self k (Some (fresh c.args.owned))) key c.insert_reserved.ensures.updates in
+    let slot : HasSlot c.reserve.new.self.slots c.insert_reserved.new.self.slots id (Some (fresh c.args.owned)) = record { changed = u.changed; others = u.others } in
+    let roll = subst (λ (slots : List (Option Entry)). IsRoll slots c.self.inside.firsts c.self.inside.others) (sym slots_are) c.self.invariant in
+    let free = subst (λ (slots : List (Option Entry)). IsNotFound slots (owned_rank c.args.owned)) (sym (slots_are ∙ c.self.view_is)) c.requires.free in
+    enrolled-roll c.reserve.new.self.slots c.insert_reserved.new.self.slots c.self.inside.firsts c.enrol.new.firsts c.self.inside.others c.enrol.new.others roll id c.args.owned c.vacant_key-id.ensures.vacant slot free c.in_ok-enrol.ensures.ok
