@@ -185,13 +185,13 @@ impl Sink for MemSink {
 mod tests {
     use super::*;
     use crate::sink::write_all;
-    use crate::source::{Taken, read_all};
+    use crate::source::{Untaken, read_all};
     use std::test::Fail;
 
     const SCRIPT: &[u8] = b"size 1\nhull\n";
 
     /// Takes the whole script in pieces of 3 bytes.
-    fn taken(alloc: Global, limit: u8, failing: Vec<u64>) -> Result<Vec<u8>, Taken> {
+    fn taken(alloc: Global, limit: u8, failing: Vec<u64>) -> Result<Vec<u8>, Untaken> {
         let bytes = Vec::from_slice(alloc, SCRIPT)?;
         read_all(alloc, &mut MemSource::new(bytes, 3, failing), limit.into())
     }
@@ -201,8 +201,8 @@ mod tests {
         let alloc = rt.alloc();
         let all = taken(alloc, 12, Vec::new(alloc))?;
         assert!(rt; all.as_slice() == SCRIPT);
-        assert!(rt; matches!(taken(alloc, 11, Vec::new(alloc)), Err(Taken::TooLong)));
-        assert!(rt; matches!(taken(alloc, 12, vec![in alloc; 1]?), Err(Taken::Fault)));
+        assert!(rt; matches!(taken(alloc, 11, Vec::new(alloc)), Err(Untaken::TooLong)));
+        assert!(rt; matches!(taken(alloc, 12, vec![in alloc; 1]?), Err(Untaken::Fault)));
         Ok(())
     }
 

@@ -4,7 +4,7 @@ ghost use Rattle.std.specs.Prelude.{◌≡◌, ℕ, List, Option, Ok, length, On
 ghost use Rattle.std.specs.Io.{WritesAtMost};
 ghost use Rattle.std.specs.Io.KnownBytes.{WriteAppends, Appends};
 ghost use Rattle.kin_io.specs.Causes.{HasCause};
-ghost use Rattle.kin_io.specs.Ends.{WritesSome, AppendsPrefix};
+ghost use Rattle.kin_io.specs.Ends.{WritesSome, AppendsFront};
 
 use crate::source::Failed;
 
@@ -29,7 +29,7 @@ pub trait Sink {
 /// Writes all of the bytes, or a prefix where a write fails. Takes no memory.
 pub fn write_all<K: Sink>(sink: &mut K, bytes: &[u8]) -> Result<(), Failed>
     ensures all { OnOk result (Appends (K.held sink.old) (K.held sink.new) bytes.now) }
-    ensures prefix { AppendsPrefix (K.held sink.old) (K.held sink.new) bytes.now }
+    ensures prefix { AppendsFront (K.held sink.old) (K.held sink.new) bytes.now }
     ensures cause { HasCause (K.faults sink.old) (K.faults sink.new) result }
 {
     let mut done = 0;

@@ -6,7 +6,7 @@ ghost use Rattle.std.specs.Io.KnownBytes.{ReadConsumes, IsAtEnd, Keeps};
 ghost use Rattle.kin_io.specs.Causes.{HasCause, Rose};
 ghost use Rattle.kin_io.specs.Ends.{ends_after};
 ghost use Rattle.kin_io.specs.Takes.{IsWhole, Takes, MovesOn};
-ghost use Rattle.kin_io.specs.declared.source.Taken.TheVariants.{Fault, NoMemory};
+ghost use Rattle.kin_io.specs.declared.source.Untaken.TheVariants.{Fault, NoMemory};
 
 use std::alloc::{AllocError, Global};
 
@@ -37,7 +37,7 @@ pub trait Source {
 
 /// Why not all bytes were taken. Some from the front may have been.
 #[derive(Clone, Copy, Debug, PartialEq, Eq)]
-pub enum Taken {
+pub enum Untaken {
     /// A read failed.
     Fault,
     /// There are more bytes than the limit: one more was taken.
@@ -45,19 +45,19 @@ pub enum Taken {
     NoMemory,
 }
 
-impl From<AllocError> for Taken {
+impl From<AllocError> for Untaken {
     ghost from_gives = { λ _ e. e ≡ NoMemory };
 
-    fn from(_e: AllocError) -> Taken {
-        Taken::NoMemory
+    fn from(_e: AllocError) -> Untaken {
+        Untaken::NoMemory
     }
 }
 
-impl From<Failed> for Taken {
+impl From<Failed> for Untaken {
     ghost from_gives = { λ _ e. e ≡ Fault };
 
-    fn from(_e: Failed) -> Taken {
-        Taken::Fault
+    fn from(_e: Failed) -> Untaken {
+        Untaken::Fault
     }
 }
 
@@ -72,16 +72,20 @@ fn zeros(alloc: Global, count: usize) -> Result<Vec<u8>, AllocError>
 }
 
 /// Reads at most so many bytes and adds them.
-fn take_some<S: Source>(source: &mut S, all: &mut Vec<u8>, block: &mut [u8]) -> Result<usize, Taken>
+fn take_some<S: Source>(
+    source: &mut S,
+    all: &mut Vec<u8>,
+    block: &mut [u8],
+) -> Result<usize, Untaken>
     requires { 0 < length block.old }
     ensures ok { IfOk result (λ n. (n ≤ length block.old) × (vec_len all.new ≡ vec_len all.old + n)) }
     ensures bytes { OnOk result (MovesOn (S.left source.old) (S.left source.new) all.old.items all.new.items) }
     ensures end { IfOk result (λ n. n ≡ 0 → (S.ended source.new ≡ true) × IsAtEnd (S.left source.new)) }
-    ensures never { IsErrOf result Taken.TooLong → ⊥ }
-    ensures kept { IsErrOf result Taken.Fault → Keeps (S.left source.old) (S.left source.new) }
+    ensures never { IsErrOf result Untaken.TooLong → ⊥ }
+    ensures kept { IsErrOf result Untaken.Fault → Keeps (S.left source.old) (S.left source.new) }
     ensures lost { OnErr result (Takes (S.left source.old) (S.left source.new) (λ n. n ≤ length block.old)) }
     ensures later { S.faults source.old ≤ S.faults source.new }
-    ensures cause { IsErrOf result Taken.Fault → Rose (S.faults source.old) (S.faults source.new) }
+    ensures cause { IsErrOf result Untaken.Fault → Rose (S.faults source.old) (S.faults source.new) }
 {
     let count = source.read(block)?;
     all.extend_from_slice(&block[..count])?;
@@ -90,17 +94,17 @@ fn take_some<S: Source>(source: &mut S, all: &mut Vec<u8>, block: &mut [u8]) -> 
 
 /// All bytes up to the end of the input, at most `limit`. Takes memory for what was read and for
 /// one block.
-pub fn read_all<S: Source>(alloc: Global, source: &mut S, limit: u32) -> Result<Vec<u8>, Taken>
+pub fn read_all<S: Source>(alloc: Global, source: &mut S, limit: u32) -> Result<Vec<u8>, Untaken>
     requires { limit < 2 ^ 31 }
     // All bytes were taken, or a prefix.
     ensures whole { IfOk result (λ all. IsWhole (S.left source.old) (S.left source.new) (S.ended source.new) limit all.items) }
-    ensures too_long { IsErrOf result Taken.TooLong → Takes (S.left source.old) (S.left source.new) (λ n. n ≡ limit + 1) }
-    ensures fault { IsErrOf result Taken.Fault → Takes (S.left source.old) (S.left source.new) (λ n. n ≤ limit) }
-    ensures no_memory { IsErrOf result Taken.NoMemory → Takes (S.left source.old) (S.left source.new) (λ n. n ≤ limit + 1) }
+    ensures too_long { IsErrOf result Untaken.TooLong → Takes (S.left source.old) (S.left source.new) (λ n. n ≡ limit + 1) }
+    ensures fault { IsErrOf result Untaken.Fault → Takes (S.left source.old) (S.left source.new) (λ n. n ≤ limit) }
+    ensures no_memory { IsErrOf result Untaken.NoMemory → Takes (S.left source.old) (S.left source.new) (λ n. n ≤ limit + 1) }
 
     // A fault comes only from the source.
     ensures later { S.faults source.old ≤ S.faults source.new }
-    ensures cause { IsErrOf result Taken.Fault → Rose (S.faults source.old) (S.faults source.new) }
+    ensures cause { IsErrOf result Untaken.Fault → Rose (S.faults source.old) (S.faults source.new) }
 {
     let limit = limit as usize;
     let mut all = Vec::new(alloc);
@@ -111,5 +115,5 @@ pub fn read_all<S: Source>(alloc: Global, source: &mut S, limit: u32) -> Result<
             return Ok(all);
         }
     }
-    Err(Taken::TooLong)
+    Err(Untaken::TooLong)
 }

@@ -96,7 +96,7 @@ impl<W: Write + Drop> Sink for StdSink<W> {
 mod tests {
     use super::*;
     use crate::sink::write_all;
-    use crate::source::{Taken, read_all};
+    use crate::source::{Untaken, read_all};
     use std::io;
     use std::test::Fail;
 
@@ -124,7 +124,7 @@ mod tests {
     fn an_interrupted_read_fails_and_the_next_goes_on(rt: HostRuntime) -> Result<(), Fail> {
         let mut source = StdSource::new(Interrupted { calls: 0 });
         let first = read_all(rt.alloc(), &mut source, 10);
-        assert!(rt; matches!(first, Err(Taken::Fault)));
+        assert!(rt; matches!(first, Err(Untaken::Fault)));
         let all = read_all(rt.alloc(), &mut source, 10)?;
         assert!(rt; all.as_slice() == b"at".as_slice());
         Ok(())

@@ -1,17 +1,13 @@
 -- Fronts of a text that is put piece by piece.
-use Rattle.std.proofs.Common.{◌≡◌, ℕ, zero, suc, ◌-◌, ◌<◌, ◌≤◌, List, [], ◌∷◌, ◌++◌, length, get_or, take, drop, Result, Ok, Err, refl, sym, ap, subst, ◌∙◌, append_assoc, arith}
-use Rattle.std.specs.Prelude.{OnErr, codes}
+use Rattle.std.proofs.Common.{◌≡◌, ℕ, zero, suc, ◌-◌, ◌<◌, ◌≤◌, List, [], ◌∷◌, ◌++◌, length, get_or, take, drop, refl, sym, ap, subst, ◌∙◌, append_assoc, arith}
+use Rattle.std.specs.Prelude.{codes}
 use Rattle.std.specs.Fmt.{decimal}
 use Rattle.std.specs.List.{flat_map}
-use Rattle.std.proofs.lemmas.Grind.{common_steps}
-use Rattle.std.proofs.lemmas.List.{append-nil, take-append-drop}
+use Rattle.std.proofs.lemmas.List.{append-nil, take-append-drop, take_rest}
 use Rattle.std.proofs.lemmas.List.Concat.{flat_map-append}
+pub use Rattle.kin_basics.proofs.Results.{on_err}
 use Rattle.kin_script.specs.Printed.{PutsFront, list_line}
 use Rattle.kin_print.specs.Pieces.{spaced}
-
-pub on_err : {T E P : Type 0} (r : Result T E) → P → OnErr r P
-on_err (Ok x) p = tt
-on_err (Err e) p = p
 
 pub nothing : (before now text : List ℕ) → now ≡ before → PutsFront before now text
 nothing before now text e = record { front = []; rest = text; cut = refl; put = e ∙ sym (append-nil before) }
@@ -64,10 +60,6 @@ module _ {X : Type 0} (f : X → List ℕ) where
 
 -- ---- a line of numbers
 
--- what stands behind the first number is the whole rest
-rest_of : (xs : List ℕ) → take (length xs - 1) (drop 1 xs) ≡ drop 1 xs
-rest_of xs = grind (arith, common_steps)
-
 pub line_of_some : (xs : List ℕ) → 1 ≤ length xs → decimal (get_or xs 0 0) ++ (flat_map spaced (take (length xs - 1) (drop 1 xs)) ++ codes "\n") ≡ list_line xs
 line_of_some [] some = absurd (omega arith)
-line_of_some (x ∷ xs) some = rw (rest_of (x ∷ xs)) (sym (append_assoc (decimal x) (flat_map spaced xs) (codes "\n")))
+line_of_some (x ∷ xs) some = rw (take_rest (x ∷ xs) 1) (sym (append_assoc (decimal x) (flat_map spaced xs) (codes "\n")))

@@ -49,6 +49,7 @@ fn put_signs(out: &mut Vec<u8>, before: Sign, after: Sign) -> Result<(), NoMemor
     put_pieces(out, &[b" ", sign(before), b" ", sign(after), b"\n"])
 }
 
+/// The sign as it is printed.
 fn sign(sign: Sign) -> &'static [u8]
     ensures { result.now ≡ sign_text sign }
 {

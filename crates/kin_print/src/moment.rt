@@ -33,6 +33,7 @@ fn put_root(out: &mut Vec<u8>, a: i64, b: i64, c: i64, upper: bool) -> Result<()
     put_pieces(out, &[b"r(", a, b",", b, b",", c, b",", side(upper), b")"])
 }
 
+/// The word for the greater root or the lesser one.
 fn side(upper: bool) -> &'static [u8]
     ensures { result.now ≡ side_text upper }
 {

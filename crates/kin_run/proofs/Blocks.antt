@@ -8,7 +8,7 @@ use Rattle.kin_num.specs.Order.{IsEarlier}
 use Rattle.kin_num.proofs.MomentOrder.{not_earlier_itself, earlier_trans}
 use Rattle.kin_motion.specs.Journal.{Setting, Failure, Block, IsNextBlock, NothingFails, IsJournal}
 use Rattle.kin_motion.proofs.JournalLaws.{next_block_is_one, journal_is_one}
-use Rattle.kin_motion.proofs.SetLaws.{contains_head}
+use Rattle.kin_basics.proofs.Members.{contains_head}
 use Rattle.kin_script.specs.PrintedJournal.{block_lines, journal_lines, now_line}
 use Rattle.kin_script.specs.Replay.{State, at, state_setting, LeadsToNext}
 use Rattle.kin_script.specs.Text.{IsPassedText, IsNextText}

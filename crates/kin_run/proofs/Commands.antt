@@ -1,31 +1,20 @@
 -- Which deeds are allowed, and what they leave as it is.
-use Rattle.std.proofs.Common.{rules, ap, inl, inr, ◌≡◌, ℕ, Bool, subst, IsTrue, refl, sym, arith}
+use Rattle.std.proofs.Common.{rules, ap, inl, inr, ◌≡◌, Bool, subst, refl, sym, arith}
 use Rattle.std.specs.Prelude.{pos}
 use Rattle.kin_num.specs.declared.instant.Shape.{Shape}
 use Rattle.kin_num.specs.declared.instant.Shape.TheVariants.{Ratio}
 use Rattle.kin_num.specs.Canonical.{IsCanonical}
 use Rattle.kin_num.specs.Order.{IsEarlier}
-use Rattle.kin_motion.specs.Course.{Course, is_live}
 use Rattle.std.proofs.lemmas.Nat.Gcd.{IsGcd-swap, IsGcd-from_zero}
 use Rattle.kin_num.specs.Quadratic.{Quadratic}
 use Rattle.kin_run.proofs.NamedRoots.{one_named_root, named_root_of, named_canonical, has_root}
-use Rattle.kin_script.specs.declared.refusal.Refusal.{Refusal}
-use Rattle.kin_script.specs.Deeds.{Deed, Question, puts, goes_to, goes_on, asks}
-use Rattle.kin_script.specs.Replay.{State, at, IsNamedRoot, IsKept, IsRefused, LeadsTo}
-
-abbrev pub NotRefused : State → Deed → Type 0
-NotRefused s d = (r : Refusal) → ¬ (IsRefused s d r)
-
-pub puts_allowed : (s : State) (number : ℕ) (m : Course) → (IsTrue (is_live s.motions number) → ⊥) → NotRefused s (puts number m)
-puts_allowed s number m dead r h = dead h.1
+use Rattle.kin_script.specs.Deeds.{Deed, puts, goes_to, goes_on, asks}
+use Rattle.kin_script.specs.Replay.{State, at, IsNamedRoot, IsAllowed, LeadsTo}
 
 -- it goes to an instant which isn't before now
-pub goes_allowed : (s : State) (upper : Bool) (p : Quadratic) (w : Shape) → IsNamedRoot upper p w → (IsEarlier (at w) s.moment → ⊥) → NotRefused s (goes_to upper p)
+pub goes_allowed : (s : State) (upper : Bool) (p : Quadratic) (w : Shape) → IsNamedRoot upper p w → (IsEarlier (at w) s.moment → ⊥) → IsAllowed s (goes_to upper p)
 goes_allowed s upper p w named later r (inl h) = has_root p.a p.b p.c w (named_root_of upper p w named) h.1
 goes_allowed s upper p w named later r (inr h) = later (subst (λ (v : Shape). IsEarlier (at v) s.moment) (one_named_root upper p h.1.0 w h.1.1 named) h.1.2)
-
-pub asks_allowed : (s : State) (q : Question) → IsKept s q → NotRefused s (asks q)
-asks_allowed s q kept r h = h.1 kept
 
 -- the size stays
 pub same_size : (s : State) (d : Deed) (t : State) → LeadsTo s d t → t.size ≡ s.size

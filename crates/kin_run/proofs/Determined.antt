@@ -1,17 +1,17 @@
--- A command is refused for one cause, and one that is not refused prints one text and leads to one state.
+-- A deed is refused for one cause, and one that is not refused prints one text and leads to one state.
 use Rattle.std.proofs.Common.{◌≡◌, inl, inr, List, ℕ, ◌∙◌, sym, ap, subst}
 use Rattle.kin_num.specs.declared.instant.Shape.{Shape}
 use Rattle.kin_num.specs.Canonical.{IsCanonical}
-use Rattle.kin_script.specs.declared.command.Command.{Command}
 use Rattle.kin_script.specs.declared.refusal.Refusal.{Refusal}
-use Rattle.kin_script.specs.Deeds.{Deed, Question, puts, goes_to, goes_on, asks, order_along, farthest_along, hull_cycle, closest_pair, points_inside, live_facts, deed_of}
-use Rattle.kin_script.specs.Replay.{State, at, IsRefused, Refuses, LeadsTo}
-use Rattle.kin_script.specs.Text.{Step, IsPassedText, IsAnswerLine, Prints}
+use Rattle.kin_script.specs.Deeds.{Deed, puts, goes_to, goes_on, asks}
+use Rattle.kin_script.specs.Replay.{State, at, IsRefused, LeadsTo}
+use Rattle.kin_script.specs.Text.{Step, IsPassedText, Prints}
 use Rattle.kin_run.proofs.NamedRoots.{one_named_root, named_canonical, named_root_of, has_root}
-use Rattle.kin_run.proofs.Lines.{one_line, one_extreme_line, one_live_line}
+use Rattle.kin_script.proofs.Questions.{one_reply_line}
 use Rattle.kin_run.proofs.Blocks.{one_passed, one_next, one_lead}
 
-one_cause : (s : State) (d : Deed) (r q : Refusal) → IsRefused s d r → IsRefused s d q → r ≡ q
+-- at most one cause
+pub one_cause : (s : State) (d : Deed) (r q : Refusal) → IsRefused s d r → IsRefused s d q → r ≡ q
 one_cause s (puts n m) r q x y = x.0 ∙ sym y.0
 one_cause s (goes_to upper p) r q (inl x) (inl y) = x.0 ∙ sym y.0
 one_cause s (goes_to upper p) r q (inl x) (inr y) = absurd (has_root p.a p.b p.c y.1.0 (named_root_of upper p y.1.0 y.1.1) x.1)
@@ -20,19 +20,6 @@ one_cause s (goes_to upper p) r q (inr x) (inr y) = x.0 ∙ sym y.0
 one_cause s goes_on r q x y = absurd x
 one_cause s (asks k) r q x y = x.0 ∙ sym y.0
 
--- at most one cause
-pub one_refusal : (s : State) (c : Command) (r q : Refusal) → Refuses s c r → Refuses s c q → r ≡ q
-one_refusal s c r q x y = one_cause s (deed_of c) r q x y
-
--- one answer
-pub one_answer_line : (s : State) (q : Question) (x y : List ℕ) → IsCanonical s.moment.at → IsAnswerLine s q x → IsAnswerLine s q y → x ≡ y
-one_answer_line s (order_along k) x y canonical a b = one_line s k x y canonical a b
-one_answer_line s (farthest_along k) x y canonical a b = one_extreme_line s k x y canonical a b
-one_answer_line s live_facts x y canonical a b = one_live_line s x y a b
-one_answer_line s hull_cycle x y canonical a b = absurd a
-one_answer_line s closest_pair x y canonical a b = absurd a
-one_answer_line s (points_inside r) x y canonical a b = absurd a
-
 -- one text
 one_print : (s : State) (d : Deed) (x y : List ℕ) → IsCanonical s.moment.at → Prints s d x → Prints s d y → x ≡ y
 one_print s (puts n m) x y canonical a b = a ∙ sym b
@@ -40,7 +27,7 @@ one_print s (goes_to upper p) x y canonical a b =
     let there = subst (λ (w : Shape). IsPassedText s.journal s w x) (one_named_root upper p a.0 b.0 a.1 b.1) a.2 in
     one_passed s.journal s b.0 x y canonical (named_canonical upper p b.0 b.1) there b.2
 one_print s goes_on x y canonical a b = one_next s x y canonical a b
-one_print s (asks q) x y canonical a b = one_answer_line s q x y canonical a b
+one_print s (asks q) x y canonical a b = one_reply_line s canonical q x y a b
 
 -- one state
 one_state : (s : State) (d : Deed) (t u : State) → IsCanonical s.moment.at → LeadsTo s d t → LeadsTo s d u → t ≡ u
@@ -49,5 +36,5 @@ one_state s (goes_to upper p) t u canonical a b = a.2 ∙ ap (λ (w : Shape). re
 one_state s goes_on t u canonical a b = one_lead s t u canonical a b
 one_state s (asks q) t u canonical a b = a ∙ sym b
 
-pub one_step : (s : State) (c : Command) (x y : List ℕ) (t u : State) → IsCanonical s.moment.at → Step s c x t → Step s c y u → (x ≡ y) × (t ≡ u)
-one_step s c x y t u canonical p q = (one_print s (deed_of c) x y canonical p.prints q.prints, one_state s (deed_of c) t u canonical p.leads q.leads)
+pub one_step : (s : State) (d : Deed) (x y : List ℕ) (t u : State) → IsCanonical s.moment.at → Step s d x t → Step s d y u → (x ≡ y) × (t ≡ u)
+one_step s d x y t u canonical p q = (one_print s d x y canonical p.prints q.prints, one_state s d t u canonical p.leads q.leads)

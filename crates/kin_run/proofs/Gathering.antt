@@ -1,60 +1,30 @@
--- What was written, and what is gathered and still to be written.
-use Rattle.std.proofs.Common.{◌≡◌, ℕ, ◌+◌, List, [], ◌∷◌, ◌++◌, length, take, suc, arith, Option, sym, ap, ◌∙◌, subst, append_assoc}
+-- What a printer has gained.
+use Rattle.std.proofs.Common.{◌≡◌, ℕ, ◌+◌, List, [], ◌∷◌, ◌++◌, length, take, suc, arith, Option, refl, sym, ap, ◌∙◌, subst, append_assoc}
 use Rattle.std.proofs.lemmas.List.{append-nil}
 use Rattle.std.proofs.KnownBytes.{Appends-trans, Appends-nil}
 use Rattle.std.specs.Io.KnownBytes.{Appends}
-use Rattle.kin_io.specs.Ends.{AppendsPrefix}
-use Rattle.kin_run.specs.Written.{IsPrefix, Wrote, Gains}
-use Rattle.kin_run.proofs.Fronts.{prefix_take, prefix_front, prefix_behind}
+use Rattle.kin_io.specs.Ends.{AppendsFront}
+use Rattle.kin_run.specs.declared.write.Stop.{Stop}
+use Rattle.kin_run.specs.declared.write.Stop.TheVariants.{Fault, NoMemory}
+use Rattle.kin_run.specs.Performed.{BreaksOff}
+use Rattle.kin_run.specs.Written.{Printer, printer, IsFront, Wrote, Gains, GainsSome, LosesSome}
+use Rattle.kin_run.proofs.Fronts.{front_take}
 
 abbrev pub Bytes : Type 0
 Bytes = Option (List ℕ)
 
--- what was written, and behind it what is pending, has this property
-abbrev pub Gathers : Bytes → Bytes → List ℕ → (List ℕ → Type 0) → Type 0
-Gathers before now pending P = (written : List ℕ) × Appends before now written × P (written ++ pending)
+pub gains_put : (held : Bytes) (gathered now text : List ℕ) → now ≡ gathered ++ text → Gains (printer held gathered) (printer held now) text
+gains_put held gathered now text e = record { written = []; appended = Appends-nil held; joined = e }
 
-pub gathers_nothing : (a : Bytes) (P : List ℕ → Type 0) → P [] → Gathers a a [] P
-gathers_nothing a P p = ([], Appends-nil a, p)
+pub gains_nothing : (p : Printer) → Gains p p []
+gains_nothing p = gains_put p.held p.gathered p.gathered [] (sym (append-nil p.gathered))
 
-pub gathers_more : (a b : Bytes) (pending text : List ℕ) (P Q : List ℕ → Type 0) → Gathers a b pending P → ((x : List ℕ) → P x → Q (x ++ text)) → Gathers a b (pending ++ text) Q
-gathers_more a b pending text P Q g f = (g.0, g.1, subst Q (append_assoc g.0 pending text) (f (g.0 ++ pending) g.2))
-
-pub gathers_as : (a b : Bytes) (pending : List ℕ) (P Q : List ℕ → Type 0) → Gathers a b pending P → ((x : List ℕ) → P x → Q x) → Gathers a b pending Q
-gathers_as a b pending P Q g f = (g.0, g.1, f (g.0 ++ pending) g.2)
-
--- all that was pending is written
-pub gathers_written : (a b c : Bytes) (pending : List ℕ) (P : List ℕ → Type 0) → Gathers a b pending P → Appends b c pending → Wrote a c P
-gathers_written a b c pending P g w = (g.0 ++ pending, Appends-trans a b c g.0 pending g.1 w, g.2)
-
-pub gathers_flushed : (a b c : Bytes) (pending : List ℕ) (P : List ℕ → Type 0) → Gathers a b pending P → Appends b c pending → Gathers a c [] P
-gathers_flushed a b c pending P g w = (g.0 ++ pending, Appends-trans a b c g.0 pending g.1 w, subst P (sym (append-nil (g.0 ++ pending))) g.2)
-
--- only a front of what was pending is written
-pub gathers_cut : (a b c : Bytes) (k : ℕ) (pending : List ℕ) (P Q : List ℕ → Type 0) → Gathers a b pending P → Appends b c (take k pending) → ((x front : List ℕ) → P x → IsPrefix front x → Q front) → Wrote a c Q
-gathers_cut a b c k pending P Q g w f =
-    (g.0 ++ take k pending, Appends-trans a b c g.0 (take k pending) g.1 w, f (g.0 ++ pending) (g.0 ++ take k pending) g.2 (prefix_behind g.0 (take k pending) pending (prefix_take k pending)))
-
--- nothing of what was pending is written
-pub gathers_lost : (a b : Bytes) (pending : List ℕ) (P Q : List ℕ → Type 0) → Gathers a b pending P → ((x front : List ℕ) → P x → IsPrefix front x → Q front) → Wrote a b Q
-gathers_lost a b pending P Q g f = (g.0, g.1, f (g.0 ++ pending) g.0 g.2 (prefix_front g.0 pending))
-
-pub gathers_gained : (a b c : Bytes) (pending still text : List ℕ) (P Q : List ℕ → Type 0) → Gathers a b pending P → Gains b pending c still text → ((x : List ℕ) → P x → Q (x ++ text)) → Gathers a c still Q
-gathers_gained a b c pending still text P Q g m f =
-    let joined : (g.0 ++ m.0) ++ still ≡ (g.0 ++ pending) ++ text = append_assoc g.0 m.0 still ∙ ap (λ (w : List ℕ). g.0 ++ w) m.2 ∙ sym (append_assoc g.0 pending text) in
-    (g.0 ++ m.0, Appends-trans a b c g.0 m.0 g.1 m.1, subst Q (sym joined) (f (g.0 ++ pending) g.2))
-
--- ---- what is gained
-
-pub gains_put : (a : Bytes) (pending now text : List ℕ) → now ≡ pending ++ text → Gains a pending a now text
-gains_put a pending now text e = ([], Appends-nil a, e)
-
-pub gains_through : (a b c : Bytes) (p q r s t : List ℕ) → Gains a p b q s → Gains b q c r t → Gains a p c r (s ++ t)
-gains_through a b c p q r s t g h = (
-  g.0 ++ h.0,
-  Appends-trans a b c g.0 h.0 g.1 h.1,
-  append_assoc g.0 h.0 r ∙ ap (λ (w : List ℕ). g.0 ++ w) h.2 ∙ sym (append_assoc g.0 q t) ∙ ap (λ (w : List ℕ). w ++ t) g.2 ∙ append_assoc p s t,
-)
+gains_through : {p q r : Printer} {s t : List ℕ} → Gains p q s → Gains q r t → Gains p r (s ++ t)
+gains_through {p} {q} {r} {s} {t} g h = record {
+  written = g.written ++ h.written;
+  appended = Appends-trans p.held q.held r.held g.written h.written g.appended h.appended;
+  joined = append_assoc g.written h.written r.gathered ∙ ap (λ (w : List ℕ). g.written ++ w) h.joined ∙ sym (append_assoc g.written q.gathered t) ∙ ap (λ (w : List ℕ). w ++ t) g.joined ∙ append_assoc p.gathered s t;
+}
 
 take_behind : (xs ys : List ℕ) (k : ℕ) → take (length xs + k) (xs ++ ys) ≡ xs ++ take k ys
 take_behind [] ys k = let e : 0 + k ≡ k = omega arith in ap (λ (n : ℕ). take n ys) e
@@ -62,9 +32,52 @@ take_behind (x ∷ xs) ys k =
     let e : suc (length xs) + k ≡ suc (length xs + k) = omega arith in
     ap (λ (n : ℕ). take n (x ∷ (xs ++ ys))) e ∙ ap (λ (w : List ℕ). x ∷ w) (take_behind xs ys k)
 
--- a front of what is pending now is written
-pub gains_front : (a b c : Bytes) (p q text : List ℕ) → Gains a p b q text → AppendsPrefix b c q → AppendsPrefix a c (p ++ text)
-gains_front a b c p q text g f = (
-  length g.0 + f.0,
-  subst (Appends a c) (sym (take_behind g.0 q f.0) ∙ ap (take (length g.0 + f.0)) g.2) (Appends-trans a b c g.0 (take f.0 q) g.1 f.1),
-)
+module _ {p q : Printer} {P : List ℕ → Type 0} (g : GainsSome P p q) (Q : List ℕ → Type 0) where
+  -- and then a text
+  pub some_then : {r : Printer} {text : List ℕ} → Gains q r text → ((x : List ℕ) → P x → Q (x ++ text)) → GainsSome Q p r
+  some_then h f = record { text = _; gained = gains_through g.gained h; is = f g.text g.is }
+
+  -- and then a write failed
+  pub some_lost : (r : Printer) (text : List ℕ) → AppendsFront q.held r.held (q.gathered ++ text) → ((x : List ℕ) → P x → Q (x ++ text)) → LosesSome Q p r
+  some_lost r text h f = record {
+    text = g.text ++ text;
+    reached = (
+      length g.gained.written + h.0,
+      subst (Appends p.held r.held)
+          (sym (take_behind g.gained.written (q.gathered ++ text) h.0)
+          ∙ ap (take (length g.gained.written + h.0)) (sym (append_assoc g.gained.written q.gathered text) ∙ ap (λ (w : List ℕ). w ++ text) g.gained.joined ∙ append_assoc p.gathered g.text text))
+          (Appends-trans p.held q.held r.held g.gained.written (take h.0 (q.gathered ++ text)) g.gained.appended h.1),
+    );
+    is = f g.text g.is;
+  }
+
+  -- and then the run was broken off
+  pub some_broke : (stop : Stop) (r : Printer) (R : List ℕ → Type 0) → BreaksOff R stop q r → ((x part : List ℕ) → P x → R part → Q (x ++ part)) → BreaksOff Q stop p r
+  some_broke NoMemory r R b f = some_then b.gained (λ x is. f x b.text is b.is)
+  some_broke Fault r R b f = some_lost r b.text b.reached (λ x is. f x b.text is b.is)
+
+module _ {p q : Printer} {P : List ℕ → Type 0} (g : GainsSome P p q) where
+  -- what it means is changed
+  pub some_is : (Q : List ℕ → Type 0) → ((x : List ℕ) → P x → Q x) → GainsSome Q p q
+  some_is Q f = record { text = g.text; gained = g.gained; is = f g.text g.is }
+
+  -- what was gathered is written, or a write fails there
+  pub some_flushed : {r : Printer} → Gains q r [] → GainsSome P p r
+  some_flushed h = some_then g P h (λ x is. subst P (sym (append-nil x)) is)
+
+  pub some_lost_here : (r : Printer) → AppendsFront q.held r.held q.gathered → LosesSome P p r
+  some_lost_here r h = some_lost g P r [] (subst (AppendsFront q.held r.held) (sym (append-nil q.gathered)) h) (λ x is. subst P (sym (append-nil x)) is)
+
+-- ---- a printer that had gathered nothing
+
+pub wrote_all : {a b : Bytes} {out : List ℕ} {P : List ℕ → Type 0} (c : Bytes) → GainsSome P (printer a []) (printer b out) → Appends b c out → Wrote a c P
+wrote_all {a} {b} {out} {P} c g w = (g.gained.written ++ out, Appends-trans a b c g.gained.written out g.gained.appended w, subst P (sym g.gained.joined) g.is)
+
+pub wrote_front : {a c : Bytes} {q : List ℕ} {P : List ℕ → Type 0} (Q : List ℕ → Type 0) → LosesSome P (printer a []) (printer c q) → ((x front : List ℕ) → P x → IsFront front x → Q front) → Wrote a c Q
+wrote_front Q l f = (take l.reached.0 l.text, l.reached.1, f l.text (take l.reached.0 l.text) l.is (front_take l.reached.0 l.text))
+
+-- where the run was broken off, and what is gathered is written as far as that goes, but for a fault
+pub wrote_broken : {P : List ℕ → Type 0} (Q : List ℕ → Type 0) (a b c : Bytes) (out : List ℕ) (stop : Stop) → BreaksOff P stop (printer a []) (printer b out) → (stop ≡ NoMemory → AppendsFront b c out) → (stop ≡ Fault → c ≡ b)
+    → ((x front : List ℕ) → P x → IsFront front x → Q front) → Wrote a c Q
+wrote_broken Q a b c out NoMemory g salvaged same f = wrote_front Q (some_lost_here g (printer c []) (salvaged refl)) f
+wrote_broken Q a b c out Fault l salvaged same f = subst (λ (x : Bytes). Wrote a x Q) (sym (same refl)) (wrote_front Q l f)

@@ -2,15 +2,12 @@ pub mod Fronts
 pub mod Gathering
 pub mod NamedRoots
 pub mod Commands
-pub mod Counts
 pub mod Blocks
-pub mod Lines
 pub mod Determined
 pub mod Passing
 pub mod OnTheWay
 pub mod Performing
 pub mod Playing
-pub mod Stepping
 pub mod OneText
 pub mod AskedInstants
 pub mod StepExistence

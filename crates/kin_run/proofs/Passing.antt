@@ -15,7 +15,7 @@ use Rattle.kin_cert.specs.Blocks.{failure_of}
 use Rattle.kin_script.specs.PrintedJournal.{failure_line, block_lines, journal_lines}
 use Rattle.kin_script.specs.Replay.{State, at, state_setting}
 use Rattle.kin_script.specs.Text.{IsPassedText}
-use Rattle.kin_run.specs.Performed.{IsCutOf}
+use Rattle.kin_run.specs.Performed.{IsFrontOfEach}
 use Rattle.kin_run.specs.States.{printed_if}
 
 -- From start, the journal up to the last moment is these blocks, and then the journal from now.
@@ -59,7 +59,7 @@ is_text true s w bs j = (bs, j, refl)
 
 -- what was printed on the way is a front of all that there is to print
 pub cut_on_the_way : (journal : Bool) (s : State) (now : Moment) (w : Shape) (bs : List Block)
-    → ArePassed (state_setting s) s.moment now (at w) bs → IsCutOf (IsPassedText journal s w) (lines_if journal bs)
+    → ArePassed (state_setting s) s.moment now (at w) bs → IsFrontOfEach (IsPassedText journal s w) (lines_if journal bs)
 cut_on_the_way false s now w bs p text e = record { more = []; joined = e }
 cut_on_the_way true s now w bs p text e =
     let x = p.back e.0 e.1 in

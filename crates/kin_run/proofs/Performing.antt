@@ -1,62 +1,60 @@
--- What came of a command, from what came of its parts.
-use Rattle.std.proofs.Common.{◌≡◌, ℕ, Bool, List, ◌++◌, refl, sym, subst}
+-- What came of a deed, from what came of its parts.
+use Rattle.std.proofs.Common.{◌≡◌, ℕ, Bool, List, ◌++◌, ◌∙◌, refl, subst}
+use Rattle.std.specs.Prelude.{Result, Ok, Err, OnOk, OnErr}
 use Rattle.kin_num.specs.declared.instant.Shape.{Shape}
+use Rattle.kin_num.specs.Canonical.{IsCanonical}
 use Rattle.kin_num.specs.Order.{IsEarlier}
-use Rattle.kin_script.specs.declared.command.Command.{Command}
-use Rattle.kin_script.specs.Deeds.{Deed, Question, goes_to, asks, deed_of}
 use Rattle.kin_num.specs.Quadratic.{Quadratic}
-use Rattle.kin_script.specs.Replay.{State, at, IsNamedRoot, IsAllowed, IsRefused, LeadsTo}
-use Rattle.kin_script.specs.Text.{Step, Prints, IsAnswerLine, IsPassedText}
-use Rattle.std.specs.Prelude.{Result, Ok, Err}
+use Rattle.kin_script.specs.Deeds.{Question, goes_to, goes_on, asks}
+use Rattle.kin_script.specs.Printed.{PutsFront}
+use Rattle.kin_script.specs.Replay.{State, at, IsNamedRoot, IsAllowed, LeadsToNext}
+use Rattle.kin_script.specs.Text.{Step, Prints, IsPassedText, IsNextText, IsReplyLine}
+use Rattle.kin_script.proofs.Questions.{one_reply_line}
 use Rattle.kin_run.specs.declared.perform.Halt.{Halt}
 use Rattle.kin_run.specs.declared.perform.Halt.TheVariants.{Refused, Broken}
 use Rattle.kin_run.specs.declared.write.Stop.{Stop}
 use Rattle.kin_run.specs.declared.write.Stop.TheVariants.{Fault, NoMemory}
-use Rattle.kin_run.specs.Performed.{IsCutOf, IsCutOfStep, BreaksOff, AnswersTo, Performs}
-use Rattle.kin_run.specs.Written.{Gains}
-use Rattle.kin_run.proofs.Commands.{NotRefused, goes_allowed, asks_allowed}
-use Rattle.kin_run.proofs.Gathering.{Bytes, gains_put}
+use Rattle.kin_run.specs.Performed.{IsFrontOfEach, PutsLine, BreaksOff, RepliesTo, Performs}
+use Rattle.kin_run.specs.Written.{Printer, printer, GainsSome}
+use Rattle.kin_run.proofs.Commands.{goes_allowed}
+use Rattle.kin_run.proofs.Gathering.{Bytes, gains_put, some_is}
 use Rattle.kin_run.proofs.NamedRoots.{one_named_root}
 
--- ---- a command that only puts a line
-module _ (s : State) (c : Command) (allowed : IsAllowed s c) (held : Bytes) (before now : List ℕ) where
-  pub line_done : (t : State) (text : List ℕ) → now ≡ before ++ text → Prints s (deed_of c) text → LeadsTo s (deed_of c) t → (x : List ℕ) × Gains held before held now x × Step s c x t
-  line_done t text e prints leads = (text, gains_put held before now text e, record { allowed = allowed; prints = prints; leads = leads })
+-- ---- to an instant
+module _ (s : State) (upper : Bool) (z : Quadratic) (w : Shape) (named : IsNamedRoot upper z w) (later : ¬ (IsEarlier (at w) s.moment)) where
+  pub moved : {p q : Printer} (t : State) → t ≡ record s { moment = at w } → GainsSome (IsPassedText s.journal s w) p q → GainsSome (λ text. Step s (goes_to upper z) text t) p q
+  moved t e x = some_is x (λ text. Step s (goes_to upper z) text t) (λ text is. record { allowed = goes_allowed s upper z w named later; prints = (w, named, is); leads = (w, named, e) })
 
-  pub line_cut : (IsLine : List ℕ → Type 0) → ((x : List ℕ) → Prints s (deed_of c) x → IsLine x) → (front : List ℕ) × (now ≡ before ++ front) × IsCutOf IsLine front
-      → IsAllowed s c × BreaksOff (IsCutOfStep s c) NoMemory held before held now
-  line_cut IsLine same f = (allowed, (f.0, gains_put held before now f.0 f.1, λ x t step. f.2 x (same x step.prints)))
+  cut : (front : List ℕ) → IsFrontOfEach (IsPassedText s.journal s w) front → IsFrontOfEach (Prints s (goes_to upper z)) front
+  cut front h text is = h text (subst (λ (v : Shape). IsPassedText s.journal s v text) (one_named_root upper z is.0 w is.1 named) is.2)
 
--- ---- a command that goes to an instant
-module _ (s : State) (c : Command) (upper : Bool) (z : Quadratic) (goes : deed_of c ≡ goes_to upper z) (w : Shape) (named : IsNamedRoot upper z w) (later : ¬ (IsEarlier (at w) s.moment)) (a : Bytes) (p : List ℕ) (b : Bytes) (q : List ℕ) where
-  allowed : IsAllowed s c
-  allowed = subst (λ (d : Deed). NotRefused s d) (sym goes) (goes_allowed s upper z w named later)
+  pub moving_broke : (stop : Stop) (p q : Printer) → BreaksOff (IsFrontOfEach (IsPassedText s.journal s w)) stop p q → IsAllowed s (goes_to upper z) × BreaksOff (IsFrontOfEach (Prints s (goes_to upper z))) stop p q
+  moving_broke NoMemory p q x = (goes_allowed s upper z w named later, some_is x (IsFrontOfEach (Prints s (goes_to upper z))) cut)
+  moving_broke Fault p q x = (goes_allowed s upper z w named later, record { text = x.text; reached = x.reached; is = cut x.text x.is })
 
-  pub moved : (t : State) → t ≡ record s { moment = at w } → (text : List ℕ) × Gains a p b q text × IsPassedText s.journal s w text → (text : List ℕ) × Gains a p b q text × Step s c text t
-  moved t e x = (
-    x.0,
-    x.1,
-    record {
-      allowed = allowed;
-      prints = subst (λ (d : Deed). Prints s d x.0) (sym goes) (w, named, x.2);
-      leads = subst (λ (d : Deed). LeadsTo s d t) (sym goes) (w, named, e);
-    },
-  )
+-- ---- to the next failures
+module _ (s : State) (held : Bytes) (before now : List ℕ) where
+  pub went_on : (t : State) → (text : List ℕ) × (now ≡ before ++ text) × IsNextText s text → LeadsToNext s t → GainsSome (λ text. Step s goes_on text t) (printer held before) (printer held now)
+  went_on t put leads = record { text = put.0; gained = gains_put held before now put.0 put.1; is = record { allowed = λ r h. h; prints = put.2; leads = leads } }
 
-  cut : (front : List ℕ) → IsCutOf (IsPassedText s.journal s w) front → IsCutOfStep s c front
-  cut front h text t step =
-      let printed : Prints s (goes_to upper z) text = subst (λ (d : Deed). Prints s d text) goes step.prints in
-      h text (subst (λ (v : Shape). IsPassedText s.journal s v text) (one_named_root upper z printed.0 w printed.1 named) printed.2)
+  pub going_broke : (front : List ℕ) × (now ≡ before ++ front) × IsFrontOfEach (IsNextText s) front → IsAllowed s goes_on × BreaksOff (IsFrontOfEach (Prints s goes_on)) NoMemory (printer held before) (printer held now)
+  going_broke put = ((λ r h. h), record { text = put.0; gained = gains_put held before now put.0 put.1; is = put.2 })
 
-  pub moving_broke : (stop : Stop) → BreaksOff (IsCutOf (IsPassedText s.journal s w)) stop a p b q → IsAllowed s c × BreaksOff (IsCutOfStep s c) stop a p b q
-  moving_broke NoMemory x = (allowed, (x.0, x.1, cut x.0 x.2))
-  moving_broke Fault x = (allowed, (x.0, x.1, cut x.0 x.2))
+-- ---- to a question
+pub replied : {E : Type 0} (s : State) (q : Question) (result : Result E Halt) (held : Bytes) (before now : List ℕ) → RepliesTo s q result before now → Performs s (asks q) result (printer held before) (printer held now) s
+replied s q (Ok x) held before now a = record { text = a.1.0; gained = gains_put held before now a.1.0 a.1.1; is = record { allowed = λ r h. h.1 a.0; prints = a.1.2; leads = refl } }
+replied s q (Err (Refused r)) held before now a = ((a.0, a.1), (λ i. printer held (a.2 i)), refl)
+replied s q (Err (Broken NoMemory)) held before now a = ((λ r h. h.1 a.0), record { text = a.1.0; gained = gains_put held before now a.1.0 a.1.1; is = a.1.2 })
+replied s q (Err (Broken Fault)) held before now a = absurd a
 
--- ---- a command that asks
-pub asked : {E : Type 0} (s : State) (c : Command) (q : Question) → deed_of c ≡ asks q → (result : Result E Halt) (held : Bytes) (before now : List ℕ) → AnswersTo s q result before now → Performs s c result held before held now s
-asked s c q is (Ok x) held before now a =
-    line_done s c (subst (λ (d : Deed). NotRefused s d) (sym is) (asks_allowed s q a.0)) held before now s a.1.0 a.1.1 (subst (λ (d : Deed). Prints s d a.1.0) (sym is) a.1.2) (subst (λ (d : Deed). LeadsTo s d s) (sym is) refl)
-asked s c q is (Err (Refused r)) held before now a = (subst (λ (d : Deed). IsRefused s d r) (sym is) (a.0, a.1), refl, a.2, refl)
-asked s c q is (Err (Broken NoMemory)) held before now a =
-    line_cut s c (subst (λ (d : Deed). NotRefused s d) (sym is) (asks_allowed s q a.0)) held before now (IsAnswerLine s q) (λ x p. subst (λ (d : Deed). Prints s d x) is p) a.1
-asked s c q is (Err (Broken Fault)) held before now a = absurd a
+-- ---- a line
+
+-- where there is one such line alone, what was put of it is what was put of each
+pub puts_known : {E : Type 0} (IsLine : List ℕ → Type 0) (line : List ℕ) (result : Result (Unit {0}) E) (before now : List ℕ) → IsLine line → ((text : List ℕ) → IsLine text → text ≡ line)
+    → OnOk result (now ≡ before ++ line) → OnErr result (PutsFront before now line) → PutsLine IsLine result before now
+puts_known IsLine line (Ok x) before now own only ok err = (line, ok, own)
+puts_known IsLine line (Err e) before now own only ok err = (err.front, err.put, λ text is. record { more = err.rest; joined = only text is ∙ err.cut })
+
+-- a front of the line of a question
+pub reply_cut : (s : State) → IsCanonical s.moment.at → (q : Question) (line before now : List ℕ) → IsReplyLine s q line → PutsFront before now line → (front : List ℕ) × (now ≡ before ++ front) × IsFrontOfEach (IsReplyLine s q) front
+reply_cut s canonical q line before now own put = (put.front, put.put, λ text is. record { more = put.rest; joined = one_reply_line s canonical q text line is own ∙ put.cut })

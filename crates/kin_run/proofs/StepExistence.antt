@@ -1,37 +1,26 @@
--- Every command in its range is refused, or prints a text and leads to a state that is as sound.
-use Rattle.std.proofs.Common.{◌≡◌, ◌⊎◌, inl, inr, ℕ, Bool, true, false, List, [], length, Option, Some, None, refl, sym, ◌∙◌, length-set}
-use Rattle.std.specs.Prelude.{slice_get, slice_set}
+-- Every deed in its range is refused, or prints a text and leads to a state that is as sound.
+use Rattle.std.proofs.Common.{◌≡◌, ◌⊎◌, inl, inr, ℕ, Bool, true, false, List, [], Some, refl, sym, ◌∙◌, length-set}
+use Rattle.std.specs.Prelude.{slice_set}
 use Rattle.kin_num.specs.declared.instant.Shape.{Shape}
-use Rattle.kin_num.specs.declared.instant.Moment.{Moment}
 use Rattle.kin_num.specs.Canonical.{IsCanonical}
 use Rattle.kin_num.specs.Order.{IsEarlier}
-use Rattle.kin_motion.specs.declared.keep.Keep.{Keep}
-use Rattle.kin_motion.specs.declared.keep.Keep.TheVariants as keep
 use Rattle.kin_motion.specs.Course.{Course, IsSlow, is_live}
-use Rattle.kin_motion.specs.Extremes.{extreme_of}
 use Rattle.kin_motion.specs.Journal.{Block, IsNextBlock, NothingFails}
-use Rattle.kin_motion.specs.Live.{live_facts as facts_now}
-use Rattle.kin_motion.specs.Orders.{order_of}
-use Rattle.kin_motion.specs.Scene.{IsReal}
-use Rattle.kin_motion.proofs.LiveFactLaws.{live_facts_agree}
 use Rattle.kin_motion.proofs.MotionLaws.{slow-set}
-use Rattle.kin_motion.proofs.MotionScenes.{real_at, live_fits}
-use Rattle.kin_motion.proofs.Proved.{order_proved, extreme_proved}
+use Rattle.kin_motion.proofs.MotionScenes.{live_fits}
 use Rattle.kin_cert.specs.Laws.{IsProper}
 use Rattle.kin_cert.proofs.JournalExistence.{earlier_or_not, next_blocks_exist, journals_exist}
-use Rattle.kin_script.specs.declared.command.Command.{Command}
-use Rattle.kin_script.specs.declared.command.Command.TheVariants.{Insert, AtRatio, AtRoot, Next, Order, Extreme, Hull, Closest, Inside, Live}
 use Rattle.kin_script.specs.declared.refusal.Refusal.{Refusal}
 use Rattle.kin_script.specs.declared.refusal.Refusal.TheVariants.{Taken, NotKept, NoRoot, Past}
-use Rattle.kin_script.specs.Printed.{list_line}
-use Rattle.kin_script.specs.PrintedJournal.{journal_lines, count_line, one_line}
-use Rattle.kin_script.specs.Ranges.{IsCommandInRange}
+use Rattle.kin_script.specs.PrintedJournal.{journal_lines}
+use Rattle.kin_script.specs.Ranges.{IsDeedInRange}
 use Rattle.kin_num.specs.Quadratic.{Quadratic}
-use Rattle.kin_script.specs.Deeds.{Deed, Question, puts, goes_to, goes_on, asks, order_along, farthest_along, hull_cycle, closest_pair, points_inside, live_facts, deed_of}
-use Rattle.kin_script.specs.Replay.{State, at, scene_of, state_setting, IsNamedRoot, IsKept, HasNoRoot, IsRefused, LeadsTo}
-use Rattle.kin_script.specs.Text.{IsPassedText, IsAnswerLine, Prints}
-use Rattle.kin_run.proofs.AskedInstants.{ratio_asked, root_asked}
-use Rattle.kin_run.proofs.Commands.{NotRefused, puts_allowed, goes_allowed, asks_allowed}
+use Rattle.kin_script.specs.Deeds.{Deed, Question, puts, goes_to, goes_on, asks}
+use Rattle.kin_script.specs.Replay.{State, at, state_setting, IsNamedRoot, HasNoRoot, IsRefused, IsAllowed, LeadsTo}
+use Rattle.kin_script.specs.Text.{IsPassedText, Prints}
+use Rattle.kin_script.proofs.Questions.{HasLine, has_line}
+use Rattle.kin_run.proofs.AskedInstants.{root_asked}
+use Rattle.kin_run.proofs.Commands.{goes_allowed}
 use Rattle.kin_run.proofs.NamedRoots.{named_canonical}
 
 -- what holds of every state of a run
@@ -43,7 +32,7 @@ pub record IsSound (s : State) : Type 0 where
 pub record Steps (s : State) (d : Deed) : Type 0 where
   pub text : List ℕ
   pub next : State
-  pub allowed : NotRefused s d
+  pub allowed : IsAllowed s d
   pub prints : Prints s d text
   pub leads : LeadsTo s d next
   pub sound : IsSound next
@@ -54,9 +43,6 @@ abbrev pub Ends : State → Deed → Type 0
 Ends s d = ((r : Refusal) × IsRefused s d r) ⊎ Steps s d
 
 module _ (s : State) (sound : IsSound s) where
-  real : IsReal (scene_of s)
-  real = real_at s.motions s.moment sound.canonical
-
   -- ---- motions
   puts_ends : (number : ℕ) (m : Course) → IsSlow m → Ends s (puts number m)
   puts_ends number m slow = by_live (is_live s.motions number) refl
@@ -66,7 +52,7 @@ module _ (s : State) (sound : IsSound s) where
       by_live false e = inr (record {
         text = [];
         next = record s { motions = slice_set s.motions number (Some m) };
-        allowed = puts_allowed s number m (λ live. absurd (let clash : false ≡ true = sym e ∙ live in cc));
+        allowed = λ r h. absurd (let clash : false ≡ true = sym e ∙ h.1 in cc);
         prints = refl;
         leads = refl;
         sound = record {
@@ -81,9 +67,6 @@ module _ (s : State) (sound : IsSound s) where
       })
 
   -- ---- instants
-  moved_sound : (m : Moment) → IsCanonical m.at → IsSound (record s { moment = m })
-  moved_sound m canonical = record { proper = sound.proper; canonical = canonical }
-
   passed_text : (journal : Bool) (w : Shape) → IsCanonical w → ¬ (IsEarlier (at w) s.moment) → (text : List ℕ) × IsPassedText journal s w text
   passed_text false w canonical not_past = ([], refl)
   passed_text true w canonical not_past =
@@ -107,7 +90,7 @@ module _ (s : State) (sound : IsSound s) where
             allowed = goes_allowed s upper p w named not_past;
             prints = (w, named, passed.1);
             leads = (w, named, refl);
-            sound = moved_sound (at w) canonical;
+            sound = record { proper = sound.proper; canonical = canonical };
             size = refl;
           })
 
@@ -119,65 +102,18 @@ module _ (s : State) (sound : IsSound s) where
     allowed = λ r h. h;
     prints = inl (b, is, refl);
     leads = inl (b, is, refl);
-    sound = moved_sound b.moment is.canonical;
+    sound = record { proper = sound.proper; canonical = is.canonical };
     size = refl;
   })
 
-  -- ---- answers
-  abbrev HasLine : Question → Type 0
-  HasLine q = ¬ (IsKept s q) ⊎ (IsKept s q × ((text : List ℕ) × IsAnswerLine s q text))
+  -- ---- replies
+  reply_ends : (q : Question) → HasLine s sound.canonical q → Ends s (asks q)
+  reply_ends q (inl not) = inl (NotKept, (refl, not))
+  reply_ends q (inr (kept, line)) = inr (record { text = line.0; next = s; allowed = λ r h. h.1 kept; prints = line.1; leads = refl; sound = sound; size = refl })
 
-  order_line : (k : ℕ) → HasLine (order_along k)
-  order_line k = by_keep (slice_get s.keeps k) refl
-    where
-      by_keep : (o : Option Keep) → slice_get s.keeps k ≡ o → HasLine (order_along k)
-      by_keep (Some (keep.Order dx dy)) e =
-          inr ((dx, dy, e), (list_line (order_of (scene_of s) dx dy), record { dx = dx; dy = dy; kept = e; order = order_of (scene_of s) dx dy; ordered = order_proved (scene_of s) dx dy real; line = refl }))
-      by_keep (Some (keep.Extreme dx dy)) e = inl (λ h. let clash = sym e ∙ h.2 in cc)
-      by_keep (Some keep.Hull) e = inl (λ h. let clash = sym e ∙ h.2 in cc)
-      by_keep (Some keep.Closest) e = inl (λ h. let clash = sym e ∙ h.2 in cc)
-      by_keep (Some keep.Range) e = inl (λ h. let clash = sym e ∙ h.2 in cc)
-      by_keep None e = inl (λ h. let clash = sym e ∙ h.2 in cc)
-
-  extreme_line : (k : ℕ) → HasLine (farthest_along k)
-  extreme_line k = by_keep (slice_get s.keeps k) refl
-    where
-      by_keep : (o : Option Keep) → slice_get s.keeps k ≡ o → HasLine (farthest_along k)
-      by_keep (Some (keep.Extreme dx dy)) e =
-          inr ((dx, dy, e), (one_line (extreme_of (scene_of s) dx dy), record { dx = dx; dy = dy; kept = e; point = extreme_of (scene_of s) dx dy; extreme = extreme_proved (scene_of s) dx dy real; line = refl }))
-      by_keep (Some (keep.Order dx dy)) e = inl (λ h. let clash = sym e ∙ h.2 in cc)
-      by_keep (Some keep.Hull) e = inl (λ h. let clash = sym e ∙ h.2 in cc)
-      by_keep (Some keep.Closest) e = inl (λ h. let clash = sym e ∙ h.2 in cc)
-      by_keep (Some keep.Range) e = inl (λ h. let clash = sym e ∙ h.2 in cc)
-      by_keep None e = inl (λ h. let clash = sym e ∙ h.2 in cc)
-
-  live_line : HasLine live_facts
-  live_line =
-      let facts = facts_now s.size s.keeps (scene_of s) in
-      let listed = live_facts_agree s.size s.keeps (scene_of s) real (live_fits s.size s.motions s.moment sound.proper.slots) in
-      inr (tt, (count_line (length facts), (length facts, (facts, listed, refl), refl)))
-
-  -- one row for each question
-  line_of : (q : Question) → HasLine q
-  line_of (order_along k) = order_line k
-  line_of (farthest_along k) = extreme_line k
-  line_of live_facts = live_line
-  line_of hull_cycle = inl (λ h. h)
-  line_of closest_pair = inl (λ h. h)
-  line_of (points_inside r) = inl (λ h. h)
-
-  asks_ends : (q : Question) → HasLine q → Ends s (asks q)
-  asks_ends q (inl not) = inl (NotKept, (refl, not))
-  asks_ends q (inr (kept, line)) = inr (record { text = line.0; next = s; allowed = asks_allowed s q kept; prints = line.1; leads = refl; sound = sound; size = refl })
-
-  pub command_ends : (c : Command) → IsCommandInRange s.size c → Ends s (deed_of c)
-  command_ends (Insert number m) range = puts_ends number m range.1
-  command_ends (AtRatio n d) range = goes_ends true _ (inr (ratio_asked n d range))
-  command_ends (AtRoot a b c upper) range = goes_ends upper _ (root_asked a b c upper range)
-  command_ends Next range = goes_on_ends (next_blocks_exist s.motions s.size s.keeps s.moment sound.proper sound.canonical)
-  command_ends (Order k) range = asks_ends _ (line_of (order_along k))
-  command_ends (Extreme k) range = asks_ends _ (line_of (farthest_along k))
-  command_ends Hull range = asks_ends _ (line_of hull_cycle)
-  command_ends Closest range = asks_ends _ (line_of closest_pair)
-  command_ends (Inside r) range = asks_ends _ (line_of (points_inside r))
-  command_ends Live range = asks_ends _ (line_of live_facts)
+  -- ---- one row for each deed
+  pub deed_ends : (d : Deed) → IsDeedInRange d → Ends s d
+  deed_ends (puts number m) range = puts_ends number m range
+  deed_ends (goes_to upper p) range = goes_ends upper p (root_asked upper p range)
+  deed_ends goes_on range = goes_on_ends (next_blocks_exist s.motions s.size s.keeps s.moment sound.proper sound.canonical)
+  deed_ends (asks q) range = reply_ends q (has_line s sound.canonical (live_fits s.size s.motions s.moment sound.proper.slots) q)

@@ -3,8 +3,6 @@ use Rattle.std.proofs.Common.{◌≡◌, inl, inr, ℕ, zero, suc, ◌^◌, List
 use Rattle.std.proofs.lemmas.List.{length-replicate}
 use Rattle.std.specs.Prelude.{All}
 use Rattle.std.proofs.lemmas.List.Elements.{All-head, All-tail, All-weaker}
-use Rattle.kin_motion.specs.declared.keep.Keep.{Keep}
-use Rattle.kin_motion.specs.declared.keep.Keep.TheVariants as keep
 use Rattle.kin_motion.specs.Course.{motion_of}
 use Rattle.kin_motion.specs.Live.{IsSmallKeep}
 use Rattle.kin_script.specs.declared.script.Script.{Script}
@@ -13,13 +11,14 @@ use Rattle.kin_script.specs.Ranges.{IsKeepInRange, IsCommandInRange, IsWithin}
 use Rattle.kin_script.specs.Deeds.{deed_of}
 use Rattle.kin_script.specs.Replay.{State, start}
 use Rattle.kin_script.specs.Text.{Text, Ending, bad_line, refused_line}
+use Rattle.kin_script.proofs.Questions.{deed_in_range, small_keep}
 use Rattle.kin_script.proofs.ScriptRanges.{script_within}
 use Rattle.kin_run.specs.declared.status.Status.{Status}
 use Rattle.kin_run.specs.declared.status.Status.TheVariants as status
 use Rattle.kin_run.specs.Headline.{IsAnswer, IsTextOf, TextsExist}
 use Rattle.kin_run.proofs.Commands.{start_canonical}
 use Rattle.kin_run.proofs.Playing.{Line}
-use Rattle.kin_run.proofs.StepExistence.{IsSound, Ends, command_ends}
+use Rattle.kin_run.proofs.StepExistence.{IsSound, Ends, deed_ends}
 
 -- ---- the text of commands
 abbrev HasText : State → List Line → Type 0
@@ -27,7 +26,7 @@ HasText s cs = (text : List ℕ) × (ending : Ending) × Text s cs text ending
 
 text_exists : (cs : List Line) (s : State) → IsSound s → All (λ c. IsCommandInRange s.size c.1) cs → HasText s cs
 text_exists [] s sound range = ([], None, (refl, refl))
-text_exists (c ∷ cs) s sound range = by_end (command_ends s sound c.1 (All-head (λ d. IsCommandInRange s.size d.1) c cs range)) (text_exists cs)
+text_exists (c ∷ cs) s sound range = by_end (deed_ends s sound (deed_of c.1) (deed_in_range s.size c.1 (All-head (λ d. IsCommandInRange s.size d.1) c cs range))) (text_exists cs)
   where
     rest_range : (t : State) → t.size ≡ s.size → All (λ d. IsCommandInRange t.size d.1) cs
     rest_range t e = subst (λ (size : ℕ). All (λ d. IsCommandInRange size d.1) cs) (sym e) (All-tail (λ d. IsCommandInRange s.size d.1) c cs range)
@@ -43,13 +42,6 @@ none_moves : (n i : ℕ) → motion_of (replicate n None) i ≡ None
 none_moves zero i = refl
 none_moves (suc n) zero = refl
 none_moves (suc n) (suc i) = none_moves n i
-
-small_keep : (k : Keep) → IsKeepInRange k → IsSmallKeep k
-small_keep (keep.Order dx dy) h = (h.dx_small, h.dy_small)
-small_keep (keep.Extreme dx dy) h = (h.dx_small, h.dy_small)
-small_keep keep.Hull h = tt
-small_keep keep.Closest h = tt
-small_keep keep.Range h = tt
 
 start_sound : (s : Script) → IsWithin s → IsSound (start s.size s.keeps s.journal)
 start_sound s within = record {

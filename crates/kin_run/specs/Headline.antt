@@ -10,7 +10,7 @@ use Rattle.kin_run.specs.declared.status.Status.TheVariants as status
 use Rattle.kin_run.specs.declared.status.Side.TheVariants.{Read, Write}
 use Rattle.kin_run.specs.declared.write.Stop.{Stop}
 use Rattle.kin_run.specs.declared.write.Stop.TheVariants as stop
-use Rattle.kin_run.specs.Written.{IsPrefix}
+use Rattle.kin_run.specs.Written.{IsFront}
 
 -- the input is a script, and this is its text, with its ending
 pub record IsTextOf (input text : List ℕ) (ending : Ending) : Type 0 where
@@ -30,7 +30,7 @@ IsAnswer input status.NoMemory text = ⊥
 
 -- a front of the input's text, whichever that is
 abbrev pub IsCut : List ℕ → List ℕ → Type 0
-IsCut input written = (answer : Status) (text : List ℕ) → IsAnswer input answer text → IsPrefix written text
+IsCut input written = (answer : Status) (text : List ℕ) → IsAnswer input answer text → IsFront written text
 
 -- what was written, by the status, of an input that was taken whole
 abbrev pub Writes : List ℕ → Status → List ℕ → Type 0

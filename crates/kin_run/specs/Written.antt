@@ -1,9 +1,10 @@
--- What a sink has gained.
+-- What is written, and what is gathered and still to be written.
 use Rattle.std.specs.Prelude.{◌≡◌, ℕ, List, ◌++◌, Option}
 use Rattle.std.specs.Io.KnownBytes.{Appends}
+use Rattle.kin_io.specs.Ends.{AppendsFront}
 
 -- a front of the text
-pub record IsPrefix (front text : List ℕ) : Type 0 where
+pub record IsFront (front text : List ℕ) : Type 0 where
   pub more : List ℕ
   pub joined : text ≡ front ++ more
 
@@ -11,6 +12,28 @@ pub record IsPrefix (front text : List ℕ) : Type 0 where
 abbrev pub Wrote : Option (List ℕ) → Option (List ℕ) → (List ℕ → Type 0) → Type 0
 Wrote before now property = (bytes : List ℕ) × Appends before now bytes × property bytes
 
--- what was written now, and is pending now, is what was pending and then the text
-abbrev pub Gains : Option (List ℕ) → List ℕ → Option (List ℕ) → List ℕ → List ℕ → Type 0
-Gains before pending now still_pending text = (written : List ℕ) × Appends before now written × (written ++ still_pending ≡ pending ++ text)
+-- a sink and the buffer behind it: what the sink holds, where that is known, and what is gathered and not yet written
+pub record Printer : Type 0 where
+  pub held : Option (List ℕ)
+  pub gathered : List ℕ
+
+abbrev pub printer : Option (List ℕ) → List ℕ → Printer
+printer held gathered = record { held = held; gathered = gathered }
+
+-- all bytes so far are those from before and then this text; how many of them the sink has doesn't matter
+pub record Gains (p q : Printer) (text : List ℕ) : Type 0 where
+  pub written : List ℕ
+  pub appended : Appends p.held q.held written
+  pub joined : written ++ q.gathered ≡ p.gathered ++ text
+
+-- all bytes so far are those from before and then such a text
+pub record GainsSome (IsText : List ℕ → Type 0) (p q : Printer) : Type 0 where
+  pub text : List ℕ
+  pub gained : Gains p q text
+  pub is : IsText text
+
+-- a write has failed: a front of what was gathered and then such a text has reached the sink
+pub record LosesSome (IsText : List ℕ → Type 0) (p q : Printer) : Type 0 where
+  pub text : List ℕ
+  pub reached : AppendsFront p.held q.held (p.gathered ++ text)
+  pub is : IsText text

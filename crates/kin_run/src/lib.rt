@@ -8,12 +8,13 @@
 
 pub use kin_script::refusal::Refusal;
 
-mod answer;
 mod asked;
 pub mod laws;
+mod next;
 mod pass;
 mod perform;
 mod play;
+mod reply;
 pub mod run;
 pub mod status;
 #[cfg(test)]

@@ -10,8 +10,9 @@ ghost use Rattle.kin_script.specs.Replay.{at};
 ghost use Rattle.kin_script.specs.Text.{IsPassedText};
 ghost use Rattle.kin_world.specs.Worlds.{IsWhole};
 ghost use Rattle.kin_run.specs.declared.write.Stop.TheVariants.{Fault as FaultOf};
-ghost use Rattle.kin_run.specs.Performed.{PutsText};
+ghost use Rattle.kin_run.specs.Performed.{Puts};
 ghost use Rattle.kin_run.specs.States.{state_of, printed_if};
+ghost use Rattle.kin_run.specs.Written.{printer};
 
 use crate::write::{Stop, flush_if_due};
 use kin_cert::Block;
@@ -44,7 +45,7 @@ pub fn put_if_on(out: &mut Vec<u8>, journal: bool, block: &Block) -> Result<(), 
 }
 
 /// Passes all failures up to the asked instant, which isn't before now. Where the journal is on,
-/// the sink is given each block before the next is computed.
+/// the sink is given each block before the next is computed; else no block is listed.
 pub fn pass<K: Sink, L: Ledger>(
     world: &mut World,
     journal: bool,
@@ -56,7 +57,7 @@ pub fn pass<K: Sink, L: Ledger>(
     requires whole { IsWhole world.old }
     requires canonical { IsCanonical asked }
     requires later { ¬ (IsEarlier (at asked) world.old.moment) }
-    ensures text { PutsText (IsPassedText journal (state_of journal world.old) asked) result (K.held sink.old) out.old.items (K.held sink.new) out.new.items }
+    ensures text { Puts (IsPassedText journal (state_of journal world.old) asked) result (printer (K.held sink.old) out.old.items) (printer (K.held sink.new) out.new.items) }
     ensures moved { OnOk result (state_of journal world.new ≡ record (state_of journal world.old) { moment = at asked }) }
     ensures whole { OnOk result (IsWhole world.new) }
     ensures later { K.faults sink.old ≤ K.faults sink.new }
@@ -66,6 +67,10 @@ pub fn pass<K: Sink, L: Ledger>(
         at: asked,
         phase: Phase::At,
     };
+    if !journal {
+        while world.pass(&limit, steps)?.is_some() {}
+        return Ok(());
+    }
     while let Some(block) = world.step(&limit, steps)? {
         put_if_on(out, journal, &block)?;
         flush_if_due(journal, out, sink)?;

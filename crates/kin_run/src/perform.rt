@@ -1,27 +1,27 @@
 //! One command: its refusals first, then what it does.
 
-ghost use Rattle.std.specs.Prelude.{◌≡◌, ◌≢◌, ◌≤◌, ◌<◌, ◌^◌, ℕ, List, Bool, Option, OnOk, IfErr, IsErrOf};
+ghost use Rattle.std.specs.Prelude.{◌≡◌, ◌≢◌, ◌≤◌, ◌<◌, ◌^◌, Bool, OnOk, IfErr, IsErrOf};
 ghost use Rattle.kin_io.specs.Causes.{Rose};
 ghost use Rattle.kin_num.specs.Canonical.{IsCanonical};
-ghost use Rattle.kin_script.specs.declared.command.Command.{Command as CommandOf};
-ghost use Rattle.kin_script.specs.declared.command.Command.TheVariants.{Insert as InsertOf, Next as NextOf};
-ghost use Rattle.kin_script.specs.Deeds.{deed_of, goes_to, order_along, farthest_along, live_facts};
-ghost use Rattle.kin_script.specs.Ranges.{IsCommandInRange};
 ghost use Rattle.kin_num.specs.Quadratic.{Quadratic};
+ghost use Rattle.kin_script.specs.Deeds.{deed_of, puts, goes_to};
+ghost use Rattle.kin_script.specs.Ranges.{IsCommandInRange};
 ghost use Rattle.kin_script.specs.Replay.{IsNamedRoot};
 ghost use Rattle.kin_world.specs.Worlds.{IsWhole};
 ghost use Rattle.kin_run.specs.declared.perform.Halt.TheVariants.{Broken as BrokenOff};
 ghost use Rattle.kin_run.specs.declared.write.Stop.TheVariants.{Fault as FaultOf, NoMemory as WantOfMemory};
-ghost use Rattle.kin_run.specs.Performed.{Performs, AnswersTo, OnRefused};
+ghost use Rattle.kin_run.specs.Performed.{Performs, OnRefused};
 ghost use Rattle.kin_run.specs.States.{state_of};
+ghost use Rattle.kin_run.specs.Written.{Printer, printer};
 
-use crate::answer::{put_extreme, put_live, put_next, put_order};
 use crate::asked::{is_before, named_root};
+use crate::next::put_next;
 use crate::pass::pass;
+use crate::reply::put_reply;
 use crate::write::Stop;
 use kin_instant::ratio::ratio;
 use kin_io::sink::Sink;
-use kin_motion::{Keep, Motion};
+use kin_motion::Motion;
 use kin_num::{Instant, NoMemory, Steps};
 use kin_script::command::Command;
 use kin_script::refusal::Refusal;
@@ -60,7 +60,7 @@ fn insert<L: Ledger>(
 ) -> Result<(), Halt>
     requires whole { IsWhole world.old }
     requires room { no < 2 ^ world.old.size }
-    ensures performs { (journal : Bool) (held : Option (List ℕ)) (out : List ℕ) → Performs (state_of journal world.old) (InsertOf no m) result held out held out (state_of journal world.new) }
+    ensures performs { (journal : Bool) (p : Printer) → Performs (state_of journal world.old) (puts no m) result p p (state_of journal world.new) }
     ensures refused { OnRefused result (world.new ≡ world.old) }
     ensures whole { OnOk result (IsWhole world.new) }
     ensures no_fault { IfErr result (λ halt. halt ≢ BrokenOff FaultOf) }
@@ -83,7 +83,7 @@ fn move_to<K: Sink, L: Ledger>(
 ) -> Result<(), Halt>
     requires whole { IsWhole world.old }
     requires canonical { IsCanonical asked }
-    ensures performs { (c : CommandOf) (upper : Bool) (p : Quadratic) → deed_of c ≡ goes_to upper p → IsNamedRoot upper p asked → Performs (state_of journal world.old) c result (K.held sink.old) out.old.items (K.held sink.new) out.new.items (state_of journal world.new) }
+    ensures performs { (upper : Bool) (p : Quadratic) → IsNamedRoot upper p asked → Performs (state_of journal world.old) (goes_to upper p) result (printer (K.held sink.old) out.old.items) (printer (K.held sink.new) out.new.items) (state_of journal world.new) }
     ensures refused { OnRefused result (world.new ≡ world.old) }
     ensures whole { OnOk result (IsWhole world.new) }
     ensures later { K.faults sink.old ≤ K.faults sink.new }
@@ -94,63 +94,6 @@ fn move_to<K: Sink, L: Ledger>(
     }
     pass(world, journal, asked, out, sink, steps)?;
     Ok(())
-}
-
-/// Moves to the next failures, and appends what `next` prints.
-fn move_to_next<L: Ledger>(
-    world: &mut World,
-    journal: bool,
-    out: &mut Vec<u8>,
-    steps: &mut Steps<L>,
-) -> Result<(), Halt>
-    requires whole { IsWhole world.old }
-    ensures performs { (held : Option (List ℕ)) → Performs (state_of journal world.old) NextOf result held out.old.items held out.new.items (state_of journal world.new) }
-    ensures refused { OnRefused result (world.new ≡ world.old) }
-    ensures whole { OnOk result (IsWhole world.new) }
-    ensures no_fault { IfErr result (λ halt. halt ≢ BrokenOff FaultOf) }
-{
-    put_next(world, journal, out, steps)?;
-    Ok(())
-}
-
-/// Appends the line with the number of live facts.
-fn answer_live(world: &World, out: &mut Vec<u8>) -> Result<(), Halt>
-    requires { IsWhole world.now }
-    ensures answers { (journal : Bool) → AnswersTo (state_of journal world.now) live_facts result out.old.items out.new.items }
-    ensures no_fault { IfErr result (λ halt. halt ≢ BrokenOff FaultOf) }
-{
-    put_live(world, out)?;
-    Ok(())
-}
-
-/// Appends the line of a kept order.
-fn answer_order(world: &World, s: u32, out: &mut Vec<u8>) -> Result<(), Halt>
-    requires { IsWhole world.now }
-    ensures answers { (journal : Bool) → AnswersTo (state_of journal world.now) (order_along s) result out.old.items out.new.items }
-    ensures no_fault { IfErr result (λ halt. halt ≢ BrokenOff FaultOf) }
-{
-    match world.keep(s) {
-        Some(Keep::Order { .. }) => {
-            put_order(world, s, out)?;
-            Ok(())
-        }
-        _ => Err(Halt::Refused(Refusal::NotKept)),
-    }
-}
-
-/// Appends the line of a kept extreme point.
-fn answer_extreme(world: &World, s: u32, out: &mut Vec<u8>) -> Result<(), Halt>
-    requires { IsWhole world.now }
-    ensures answers { (journal : Bool) → AnswersTo (state_of journal world.now) (farthest_along s) result out.old.items out.new.items }
-    ensures no_fault { IfErr result (λ halt. halt ≢ BrokenOff FaultOf) }
-{
-    match world.keep(s) {
-        Some(Keep::Extreme { .. }) => {
-            put_extreme(world, s, out)?;
-            Ok(())
-        }
-        _ => Err(Halt::Refused(Refusal::NotKept)),
-    }
 }
 
 /// Carries out a command, and appends what it prints. A refused one leaves the world as it was.
@@ -164,7 +107,7 @@ pub fn perform<K: Sink, L: Ledger>(
 ) -> Result<(), Halt>
     requires whole { IsWhole world.old }
     requires range { IsCommandInRange world.old.size command.now }
-    ensures performs { Performs (state_of journal world.old) command.now result (K.held sink.old) out.old.items (K.held sink.new) out.new.items (state_of journal world.new) }
+    ensures performs { Performs (state_of journal world.old) (deed_of command.now) result (printer (K.held sink.old) out.old.items) (printer (K.held sink.new) out.new.items) (state_of journal world.new) }
     ensures refused { OnRefused result (world.new ≡ world.old) }
     ensures whole { OnOk result (IsWhole world.new) }
     ensures later { K.faults sink.old ≤ K.faults sink.new }
@@ -177,12 +120,7 @@ pub fn perform<K: Sink, L: Ledger>(
             Some(asked) => move_to(world, journal, asked, out, sink, steps),
             None => Err(Halt::Refused(Refusal::NoRoot)),
         },
-        Command::Next => move_to_next(world, journal, out, steps),
-        Command::Live => answer_live(world, out),
-        Command::Order { s } => answer_order(world, s, out),
-        Command::Extreme { s } => answer_extreme(world, s, out),
-        Command::Hull | Command::Closest | Command::Inside { .. } => {
-            Err(Halt::Refused(Refusal::NotKept))
-        }
+        Command::Next => Ok(put_next(world, journal, out, steps)?),
+        _ => put_reply(world, command, out),
     }
 }

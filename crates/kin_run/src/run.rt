@@ -16,7 +16,7 @@ use crate::status::{Side, Status};
 use crate::text::bad_text;
 use crate::write::{Stop, flush};
 use kin_io::sink::Sink;
-use kin_io::source::{Source, Taken, read_all};
+use kin_io::source::{Source, Untaken, read_all};
 use kin_num::Steps;
 use kin_script::read::{ReadError, read};
 use kin_script::script::Script;
@@ -106,7 +106,7 @@ fn refuse_script<K: Sink>(alloc: Global, input: &[u8], line: u32, sink: &mut K) 
 }
 
 /// Holds a whole input against the grammar, and runs it.
-fn answer<K: Sink>(alloc: Global, input: &[u8], sink: &mut K) -> Status
+fn run_bytes<K: Sink>(alloc: Global, input: &[u8], sink: &mut K) -> Status
     requires { length input.now ≤ 2 ^ 20 }
     ensures writes { Wrote (K.held sink.old) (K.held sink.new) (Writes input.now result) }
     ensures later { K.faults sink.old ≤ K.faults sink.new }
@@ -126,10 +126,10 @@ fn run_input<S: Source, K: Sink>(alloc: Global, source: &mut S, sink: &mut K) ->
     ensures write_fault { result ≡ Status.Fault Side.Write → Rose (K.faults sink.old) (K.faults sink.new) }
 {
     match read_all(alloc, source, LIMIT) {
-        Ok(input) => answer(alloc, &input, sink),
-        Err(Taken::Fault) => Status::Fault(Side::Read),
-        Err(Taken::TooLong) => Status::TooLong,
-        Err(Taken::NoMemory) => Status::NoMemory,
+        Ok(input) => run_bytes(alloc, &input, sink),
+        Err(Untaken::Fault) => Status::Fault(Side::Read),
+        Err(Untaken::TooLong) => Status::TooLong,
+        Err(Untaken::NoMemory) => Status::NoMemory,
     }
 }
 

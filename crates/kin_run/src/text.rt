@@ -1,6 +1,6 @@
 //! The lines that a run writes of its own.
 
-ghost use Rattle.std.specs.Prelude.{◌≡◌, ◌++◌, IfOk, OnOk};
+ghost use Rattle.std.specs.Prelude.{◌≡◌, ◌++◌, IfOk, OnOk, OnErr};
 ghost use Rattle.kin_script.specs.Text.{bad_line, refused_line};
 
 use kin_num::memory::NoMemory;
@@ -19,13 +19,29 @@ pub fn bad_text(alloc: Global, line: u32) -> Result<Vec<u8>, NoMemory>
     Ok(out)
 }
 
-/// Appends the line of a refused command.
-pub fn put_refused(out: &mut Vec<u8>, line: u32, refusal: Refusal) -> Result<(), NoMemory>
-    ensures { OnOk result (out.new.items ≡ out.old.items ++ refused_line line refusal) }
+/// The line of a refused command.
+fn refused_text(alloc: Global, line: u32, refusal: Refusal) -> Result<Vec<u8>, NoMemory>
+    ensures { IfOk result (λ out. out.items ≡ refused_line line refusal) }
 {
-    put_bytes(out, b"refused ")?;
-    put_number(out, line)?;
-    put_bytes(out, b" ")?;
-    put_bytes(out, refusal.name().as_bytes())?;
-    put_bytes(out, b"\n")
+    let mut out = Vec::new(alloc);
+    put_bytes(&mut out, b"refused ")?;
+    put_number(&mut out, line)?;
+    put_bytes(&mut out, b" ")?;
+    put_bytes(&mut out, refusal.name().as_bytes())?;
+    put_bytes(&mut out, b"\n")?;
+    Ok(out)
+}
+
+/// Appends the line of a refused command, or nothing.
+pub fn put_refused(
+    alloc: Global,
+    out: &mut Vec<u8>,
+    line: u32,
+    refusal: Refusal,
+) -> Result<(), NoMemory>
+    ensures ok { OnOk result (out.new.items ≡ out.old.items ++ refused_line line refusal) }
+    ensures err { OnErr result (out.new.items ≡ out.old.items) }
+{
+    let text = refused_text(alloc, line, refusal)?;
+    put_bytes(out, &text)
 }

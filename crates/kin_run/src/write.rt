@@ -3,16 +3,16 @@
 ghost use Rattle.std.specs.Prelude.{◌≡◌, [], OnOk, OnErr};
 ghost use Rattle.std.specs.Io.KnownBytes.{Appends};
 ghost use Rattle.kin_io.specs.Causes.{HasCause};
-ghost use Rattle.kin_io.specs.Ends.{AppendsPrefix};
+ghost use Rattle.kin_io.specs.Ends.{AppendsFront};
 ghost use Rattle.kin_run.specs.declared.write.Stop.TheVariants.{Fault as FaultOf, NoMemory as WantOfMemory};
-ghost use Rattle.kin_run.specs.Written.{Gains};
+ghost use Rattle.kin_run.specs.Written.{Gains, printer};
 
 use kin_io::sink::{Sink, write_all};
 use kin_io::source::Failed;
 use kin_num::NoMemory;
 
 /// How many bytes are gathered before they are written.
-const BLOCK: usize = 1 << 16;
+const MANY: usize = 1 << 16;
 
 /// Why a run was broken off.
 #[derive(Clone, Copy, Debug, PartialEq, Eq)]
@@ -41,7 +41,7 @@ impl From<Failed> for Stop {
 pub fn flush<K: Sink>(out: &mut Vec<u8>, sink: &mut K) -> Result<(), Failed>
     ensures all { OnOk result (Appends (K.held sink.old) (K.held sink.new) out.old.items) }
     ensures nothing_left { OnOk result (out.new.items ≡ []) }
-    ensures front { AppendsPrefix (K.held sink.old) (K.held sink.new) out.old.items }
+    ensures front { AppendsFront (K.held sink.old) (K.held sink.new) out.old.items }
     ensures cause { HasCause (K.faults sink.old) (K.faults sink.new) result }
 {
     write_all(sink, out)?;
@@ -51,11 +51,11 @@ pub fn flush<K: Sink>(out: &mut Vec<u8>, sink: &mut K) -> Result<(), Failed>
 
 /// Writes what was gathered, at once or once it is much.
 pub fn flush_if_due<K: Sink>(at_once: bool, out: &mut Vec<u8>, sink: &mut K) -> Result<(), Failed>
-    ensures gained { OnOk result (Gains (K.held sink.old) out.old.items (K.held sink.new) out.new.items []) }
-    ensures front { OnErr result (AppendsPrefix (K.held sink.old) (K.held sink.new) out.old.items) }
+    ensures gained { OnOk result (Gains (printer (K.held sink.old) out.old.items) (printer (K.held sink.new) out.new.items) []) }
+    ensures front { OnErr result (AppendsFront (K.held sink.old) (K.held sink.new) out.old.items) }
     ensures cause { HasCause (K.faults sink.old) (K.faults sink.new) result }
 {
-    if at_once || out.len() >= BLOCK {
+    if at_once || out.len() >= MANY {
         return flush(out, sink);
     }
     Ok(())

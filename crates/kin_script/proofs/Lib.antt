@@ -14,3 +14,7 @@ pub mod EachGiven
 pub mod ScriptRanges
 pub mod PrintedNumbers
 pub mod TextsTell
+pub mod Counts
+pub mod Questions
+mod GeneratedLaws
+mod GeneratedRows

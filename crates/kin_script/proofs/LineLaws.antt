@@ -1,10 +1,10 @@
 -- The first line of the bytes.
 use Rattle.std.proofs.Common.{◌≡◌, ℕ, ◌+◌, ◌-◌, ◌<◌, ◌≤◌, Bool, true, false, cond, nat_lt, List, [], ◌∷◌, length, take, drop, Some, None, refl, sym, ap, ◌∙◌, arith}
-use Rattle.std.proofs.lemmas.Grind.{common_steps}
 use Rattle.std.proofs.lemmas.Option.{cond_some}
 use Rattle.std.proofs.lemmas.Bool.{ltb-true, ltb-false}
 use Rattle.std.proofs.lemmas.List.Splits.{slice_split_first, length-slice_split}
 use Rattle.std.specs.List.{slice_split, onto_first, position, position_or_len}
+use Rattle.std.proofs.lemmas.List.{take_rest}
 use Rattle.kin_script.specs.Lines.{is_line_feed, without_empty_end, lines_of}
 
 module _ {X : Type 0} (p : X → Bool) where
@@ -32,9 +32,6 @@ module _ {X : Type 0} (p : X → Bool) where
   pub one_piece : (xs : List X) → position p xs ≡ None → slice_split p xs ≡ xs ∷ []
   one_piece xs e = uncut xs (ltb-false _ _ (none_at (nat_lt (position_or_len p xs) (length xs)) (position_or_len p xs) e))
 
-pub rest_is : {X : Type 0} (xs : List X) (i : ℕ) → take (length xs - i) (drop i xs) ≡ drop i xs
-rest_is xs i = grind (arith, common_steps)
-
 more_lines : (x : List ℕ) (ps : List (List ℕ)) → 0 < length ps → without_empty_end (x ∷ ps) ≡ x ∷ without_empty_end ps
 more_lines x [] h = absurd (omega arith)
 more_lines [] (p ∷ ps) h = refl
@@ -53,7 +50,7 @@ lines_of-cut bs at e =
     let pieces : slice_split is_line_feed bs ≡ take at bs ∷ slice_split is_line_feed (drop (at + 1) bs) = rw (← f.0) (slice_split_first is_line_feed bs 0 lt) in
     ap without_empty_end pieces
     ∙ more_lines (take at bs) (slice_split is_line_feed (drop (at + 1) bs)) (omega (arith, length-slice_split is_line_feed (drop (at + 1) bs)))
-    ∙ ap (λ (t : List ℕ). take at bs ∷ without_empty_end (slice_split is_line_feed t)) (sym (rest_is bs (at + 1)))
+    ∙ ap (λ (t : List ℕ). take at bs ∷ without_empty_end (slice_split is_line_feed t)) (sym (take_rest bs (at + 1)))
 
 -- a last line without one
 pub lines_of-whole : (bs : List ℕ) → 0 < length bs → position is_line_feed bs ≡ None → lines_of bs ≡ bs ∷ lines_of []

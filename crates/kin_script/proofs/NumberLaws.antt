@@ -5,9 +5,6 @@ use Rattle.std.proofs.lemmas.List.{drop_all}
 use Rattle.kin_script.specs.Lines.{Word}
 use Rattle.kin_script.specs.Numbers.{is_digit, digits_after, up_to, numeral_of}
 
-pub is_digit-yes : (d : ℕ) → 48 ≤ d → d ≤ 57 → is_digit d ≡ true
-is_digit-yes d h k = grind (arith, nat_tests)
-
 next_digit : (n d : ℕ) (ds : List ℕ) → is_digit d ≡ true → digits_after n (d ∷ ds) ≡ digits_after (10 * n + (d - 48)) ds
 unfolding digits_after
 next_digit n d ds h = rw h refl

@@ -17,7 +17,7 @@ use Rattle.kin_script.specs.declared.script.Script.{Script}
 use Rattle.kin_script.specs.Lines.{Word}
 use Rattle.kin_script.specs.Left.{Numbered}
 use Rattle.kin_script.specs.Numbers.{up_to, at_least, starts_with_minus, numeral_of, natural_of, integer_of, ratio_limit, ratio_at_slash, ratio_of}
-use Rattle.kin_script.specs.Commands.{natural_at, integer_at, motion_at, insert_of, side_at, quadratic_at, root_of, at_of, order_of, extreme_of, box_of, command_of, size_of, direction_of, keep_of, journal_of, header_line_of}
+use Rattle.kin_script.specs.Commands.{natural_at, integer_at, motion_at, insert_of, side_at, quadratic_at, root_of, at_of, order_of, extreme_of, box_of, command_of, size_of, direction_at, keep_of, journal_of, header_line_of}
 use Rattle.kin_script.specs.Grammar.{IsScript}
 use Rattle.kin_script.specs.Ranges.{IsDirection, IsKeepInRange, IsHeaderLineInRange, IsRootInRange, IsCommandInRange, IsWithin}
 use Rattle.kin_script.specs.Written.{SaysHeaderLine, SaysCommand, keeps_of, worded_lines, IsWritten}
@@ -171,8 +171,8 @@ unfolding size_of
 size_range [] = each_none _
 size_range (name ∷ ws) = each_way _ _ _ _ (each_then _ _ _ _ (natural_at_range 1 12 ws) (λ k h. each_last _ k.0 k.1 h)) (each_none _)
 
-direction_range : (ws : List Word) → Each (λ d. IsDirection d.0 d.1) (direction_of ws)
-unfolding direction_of
+direction_range : (ws : List Word) → Each (λ d. IsDirection d.0 d.1) (direction_at ws)
+unfolding direction_at
 direction_range ws =
     each_then _ _ _ _ (integer_at_range 16 ws) (λ dx hx.
     each_then _ _ _ _ (integer_at_range 16 dx.1) (λ dy hy.

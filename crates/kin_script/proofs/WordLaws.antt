@@ -1,12 +1,12 @@
 -- The first word of a line, and the words behind it.
 use Rattle.std.proofs.Common.{◌≡◌, ℕ, suc, ◌+◌, ◌-◌, ◌<◌, Bool, true, false, cond, not, List, [], ◌∷◌, length, get_or, take, drop, drop-cons, add-one, Some, None, refl, sym, ap, subst, ◌∙◌, arith}
 use Rattle.std.proofs.lemmas.Bool.Decides.{nat_tests}
-use Rattle.std.proofs.lemmas.List.{length-take}
+use Rattle.std.proofs.lemmas.List.{length-take, take_rest}
 use Rattle.std.proofs.lemmas.List.Sums.{passes_at_first}
 use Rattle.std.proofs.lemmas.List.Splits.{slice_split_first}
 use Rattle.std.specs.Prelude.{filter, ◌==◌}
 use Rattle.std.specs.List.{slice_split, position, position_or_len}
-use Rattle.kin_script.proofs.LineLaws.{place_found, one_piece, rest_is}
+use Rattle.kin_script.proofs.LineLaws.{place_found, one_piece}
 use Rattle.kin_script.specs.Lines.{is_blank, pieces_of}
 
 abbrev is_some_word : List ℕ → Bool
@@ -50,7 +50,7 @@ first_piece bs at e some word =
     let nonempty : 0 < length (take at bs) = omega (arith, f.0, f.1, behind, length-take at bs) in
     let inside : position_or_len is_blank bs < length bs = omega (arith, f.0, f.1) in
     let blank : is_blank (get_or bs at 0) ≡ true = subst (λ (i : ℕ). is_blank (get_or bs i 0) ≡ true) f.0 (passes_at_first is_blank bs 0 inside) in
-    let rest : pieces_of (take (length bs - at) (drop at bs)) ≡ pieces_of (drop (at + 1) bs) = ap pieces_of (rest_is bs at) ∙ passes_blank bs at f.1 blank in
+    let rest : pieces_of (take (length bs - at) (drop at bs)) ≡ pieces_of (drop (at + 1) bs) = ap pieces_of (take_rest bs at) ∙ passes_blank bs at f.1 blank in
     front_piece bs at f.0 inside nonempty ∙ ap (λ (t : List (List ℕ)). take at bs ∷ t) (sym rest)
 
 pub only_piece : (bs : List ℕ) → position is_blank bs ≡ None → 0 < length bs → pieces_of bs ≡ bs ∷ pieces_of []

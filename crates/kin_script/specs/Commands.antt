@@ -114,8 +114,8 @@ size_of (name ∷ ws) = if bytes_eq name (codes "size") then (do
   last k.0 k.1) else None
 
 -- the direction DX DY, not both 0
-unfoldable pub direction_of : List Word → Option (ℤ × ℤ)
-direction_of ws = do
+unfoldable pub direction_at : List Word → Option (ℤ × ℤ)
+direction_at ws = do
   dx ← integer_at 16 ws
   dy ← integer_at 16 dx.1
   if unsigned_abs dx.0 + unsigned_abs dy.0 == 0 then None else last (dx.0, dy.0) dy.1
@@ -124,8 +124,8 @@ direction_of ws = do
 unfoldable pub keep_of : List Word → Option Keep
 keep_of [] = None
 keep_of (kind ∷ ws) =
-    if bytes_eq kind (codes "order") then option_map (λ d. keep.Order d.0 d.1) (direction_of ws)
-    else if bytes_eq kind (codes "extreme") then option_map (λ d. keep.Extreme d.0 d.1) (direction_of ws)
+    if bytes_eq kind (codes "order") then option_map (λ d. keep.Order d.0 d.1) (direction_at ws)
+    else if bytes_eq kind (codes "extreme") then option_map (λ d. keep.Extreme d.0 d.1) (direction_at ws)
     else None
 
 -- whether the journal is on: on, off

@@ -12,3 +12,4 @@ pub mod Written
 pub mod Deeds
 pub mod Replay
 pub mod Text
+pub mod Generated

@@ -1,5 +1,7 @@
 -- The ranges of what a script holds.
-use Rattle.std.specs.Prelude.{ℕ, ◌+◌, ◌<◌, ◌≤◌, ◌^◌, ℤ, pos, ◌≤ℤ◌, unsigned_abs, IsTrue, All, AllPairs}
+use Rattle.std.specs.Prelude.{◌≡◌, ◌⊎◌, ℕ, ◌+◌, ◌<◌, ◌≤◌, ◌^◌, ℤ, pos, ◌≤ℤ◌, unsigned_abs, Bool, true, IsTrue, All, AllPairs}
+use Rattle.kin_num.specs.Quadratic.{Quadratic}
+use Rattle.kin_num.specs.Instants.{line}
 use Rattle.kin_motion.specs.declared.keep.Keep.{Keep}
 use Rattle.kin_motion.specs.declared.keep.Keep.TheVariants as keep
 use Rattle.kin_motion.specs.Course.{IsSlow}
@@ -7,6 +9,7 @@ use Rattle.kin_motion.specs.Keeps.{are_few}
 use Rattle.kin_motion.specs.Boxes.{IsRectInRange}
 use Rattle.kin_script.specs.declared.command.Command.{Command}
 use Rattle.kin_script.specs.declared.command.Command.TheVariants.{Insert, AtRatio, AtRoot, Next, Order, Extreme, Hull, Closest, Inside, Live}
+use Rattle.kin_script.specs.Deeds.{Deed, puts, goes_to, goes_on, asks}
 use Rattle.kin_script.specs.declared.line.HeaderLine.{HeaderLine}
 use Rattle.kin_script.specs.declared.line.HeaderLine.TheVariants as header_line
 use Rattle.kin_script.specs.declared.script.Script.{Script}
@@ -54,6 +57,17 @@ IsCommandInRange size Hull = Unit {0}
 IsCommandInRange size Closest = Unit {0}
 IsCommandInRange size (Inside r) = IsRectInRange r
 IsCommandInRange size Live = Unit {0}
+
+-- the instant is asked for as a fraction, or as a root of a quadratic
+abbrev pub IsAskedFor : Bool → Quadratic → Type 0
+IsAskedFor upper p = ((n : ℤ) × (d : ℤ) × IsRatioInRange n d × (p ≡ line n d) × (upper ≡ true)) ⊎ IsRootInRange p.a p.b p.c
+
+-- the numbers of what a command does
+abbrev pub IsDeedInRange : Deed → Type 0
+IsDeedInRange (puts number motion) = IsSlow motion
+IsDeedInRange (goes_to upper p) = IsAskedFor upper p
+IsDeedInRange goes_on = Unit {0}
+IsDeedInRange (asks q) = Unit {0}
 
 -- every number of the script is in its range
 pub record IsWithin (s : Script) : Type 0 where

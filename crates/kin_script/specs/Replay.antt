@@ -14,8 +14,7 @@ use Rattle.kin_motion.specs.declared.keep.Keep.TheVariants as keep
 use Rattle.kin_motion.specs.Course.{Course, is_live}
 use Rattle.kin_motion.specs.Scene.{Scene, scene_at}
 use Rattle.kin_motion.specs.Journal.{Setting, setting_of, Block, IsNextBlock, NothingFails}
-use Rattle.kin_script.specs.declared.command.Command.{Command}
-use Rattle.kin_script.specs.Deeds.{Deed, Question, puts, goes_to, goes_on, asks, order_along, farthest_along, live_facts, deed_of}
+use Rattle.kin_script.specs.Deeds.{Deed, Question, puts, goes_to, goes_on, asks, order_along, farthest_along, live_facts}
 use Rattle.kin_script.specs.declared.refusal.Refusal.{Refusal}
 use Rattle.kin_script.specs.declared.refusal.Refusal.TheVariants.{Taken, NotKept, NoRoot, Past}
 
@@ -60,11 +59,11 @@ IsNamedRoot true p w = IsRootOf p w × ((v : Shape) → IsRootOf p v → ¬ (IsL
 IsNamedRoot false p w = IsRootOf p w × ((v : Shape) → IsRootOf p v → ¬ (IsLess v w))
 
 -- what is asked for is kept; nothing but orders and extreme points is
-abbrev pub IsKept : State → Question → Type 0
-IsKept s (order_along k) = (dx : ℤ) × (dy : ℤ) × (slice_get s.keeps k ≡ Some (keep.Order dx dy))
-IsKept s (farthest_along k) = (dx : ℤ) × (dy : ℤ) × (slice_get s.keeps k ≡ Some (keep.Extreme dx dy))
-IsKept s live_facts = Unit {0}
-IsKept s _ = ⊥
+abbrev pub IsProvided : State → Question → Type 0
+IsProvided s (order_along k) = (dx : ℤ) × (dy : ℤ) × (slice_get s.keeps k ≡ Some (keep.Order dx dy))
+IsProvided s (farthest_along k) = (dx : ℤ) × (dy : ℤ) × (slice_get s.keeps k ≡ Some (keep.Extreme dx dy))
+IsProvided s live_facts = Unit {0}
+IsProvided s _ = ⊥
 
 -- the polynomial has no real root
 abbrev pub HasNoRoot : Quadratic → Type 0
@@ -79,15 +78,11 @@ abbrev pub IsRefused : State → Deed → Refusal → Type 0
 IsRefused s (puts number m) r = (r ≡ Taken) × IsTrue (is_live s.motions number)
 IsRefused s (goes_to upper p) r = ((r ≡ NoRoot) × HasNoRoot p) ⊎ ((r ≡ Past) × IsPast s upper p)
 IsRefused s goes_on r = ⊥
-IsRefused s (asks q) r = (r ≡ NotKept) × ¬ (IsKept s q)
-
--- a command is refused where what it does is
-abbrev pub Refuses : State → Command → Refusal → Type 0
-Refuses s c r = IsRefused s (deed_of c) r
+IsRefused s (asks q) r = (r ≡ NotKept) × ¬ (IsProvided s q)
 
 -- no refusal stands
-abbrev pub IsAllowed : State → Command → Type 0
-IsAllowed s c = (r : Refusal) → ¬ (Refuses s c r)
+abbrev pub IsAllowed : State → Deed → Type 0
+IsAllowed s d = (r : Refusal) → ¬ (IsRefused s d r)
 
 -- to the moment of the next block; where no live fact ever fails, nothing changes
 abbrev pub LeadsToNext : State → State → Type 0

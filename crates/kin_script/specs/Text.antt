@@ -12,7 +12,7 @@ use Rattle.kin_script.specs.declared.refusal.Refusal.{Refusal}
 use Rattle.std.specs.Fmt.{decimal}
 use Rattle.kin_script.specs.Printed.{list_line, name_of}
 use Rattle.kin_script.specs.PrintedJournal.{block_lines, journal_lines, now_line, none_line, count_line, one_line}
-use Rattle.kin_script.specs.Replay.{State, at, scene_of, state_setting, IsNamedRoot, Refuses, IsAllowed, LeadsTo}
+use Rattle.kin_script.specs.Replay.{State, at, scene_of, state_setting, IsNamedRoot, IsRefused, IsAllowed, LeadsTo}
 
 -- the line that names the first line outside the grammar
 abbrev pub bad_line : ℕ → List ℕ
@@ -55,24 +55,24 @@ abbrev pub IsLiveLine : State → List ℕ → Type 0
 IsLiveLine s text = (n : ℕ) × IsLiveCount s.size s.keeps (scene_of s) n × (text ≡ count_line n)
 
 -- the line that answers a question
-abbrev pub IsAnswerLine : State → Question → List ℕ → Type 0
-IsAnswerLine s (order_along k) text = IsOrderLine s k text
-IsAnswerLine s (farthest_along k) text = IsExtremeLine s k text
-IsAnswerLine s live_facts text = IsLiveLine s text
-IsAnswerLine s _ text = ⊥
+abbrev pub IsReplyLine : State → Question → List ℕ → Type 0
+IsReplyLine s (order_along k) text = IsOrderLine s k text
+IsReplyLine s (farthest_along k) text = IsExtremeLine s k text
+IsReplyLine s live_facts text = IsLiveLine s text
+IsReplyLine s _ text = ⊥
 
 -- what a deed that is not refused prints
 abbrev pub Prints : State → Deed → List ℕ → Type 0
 Prints s (puts number m) text = text ≡ []
 Prints s (goes_to upper p) text = (w : Shape) × IsNamedRoot upper p w × IsPassedText s.journal s w text
 Prints s goes_on text = IsNextText s text
-Prints s (asks q) text = IsAnswerLine s q text
+Prints s (asks q) text = IsReplyLine s q text
 
--- a command that is not refused, from a state to a state
-pub record Step (s : State) (c : Command) (text : List ℕ) (t : State) : Type 0 where
-  pub allowed : IsAllowed s c
-  pub prints : Prints s (deed_of c) text
-  pub leads : LeadsTo s (deed_of c) t
+-- a deed that is not refused, from a state to a state
+pub record Step (s : State) (d : Deed) (text : List ℕ) (t : State) : Type 0 where
+  pub allowed : IsAllowed s d
+  pub prints : Prints s d text
+  pub leads : LeadsTo s d t
 
 -- the line and the refusal in which a run ends, if a command is refused
 abbrev pub Ending : Type 0
@@ -80,10 +80,10 @@ Ending = Option (ℕ × Refusal)
 
 -- the run ends here: a command is refused
 abbrev pub EndsAt : State → ℕ × Command → List ℕ → Ending → Type 0
-EndsAt s c text ending = (r : Refusal) × Refuses s c.1 r × (text ≡ refused_line c.0 r) × (ending ≡ Some (c.0, r))
+EndsAt s c text ending = (r : Refusal) × IsRefused s (deed_of c.1) r × (text ≡ refused_line c.0 r) × (ending ≡ Some (c.0, r))
 
 -- the text of numbered commands from a state on, and its ending
 abbrev pub Text : State → List (ℕ × Command) → List ℕ → Ending → Type 0
 Text s [] text ending = (text ≡ []) × (ending ≡ None)
 Text s (c ∷ cs) text ending = EndsAt s c text ending ⊎
-    ((first : List ℕ) × (rest : List ℕ) × (t : State) × Step s c.1 first t × Text t cs rest ending × (text ≡ first ++ rest))
+    ((first : List ℕ) × (rest : List ℕ) × (t : State) × Step s (deed_of c.1) first t × Text t cs rest ending × (text ≡ first ++ rest))

@@ -7,11 +7,13 @@
 #![tactic(auto)]
 
 pub use command::Command;
+pub use generated::generate;
 pub use read::ReadError;
 pub use refusal::Refusal;
 pub use script::{Commands, Keeps, Script};
 
 pub mod command;
+mod generated;
 pub mod laws;
 mod line;
 mod lines;

@@ -2,7 +2,7 @@
 
 ghost use Rattle.std.specs.Prelude.{◌≡◌, ℕ, ◌≤◌, IfSome, option_map};
 ghost use Rattle.kin_script.specs.declared.command.Command.TheVariants.{AtRoot};
-ghost use Rattle.kin_script.specs.Commands.{insert_of, quadratic_at, root_of, at_of, order_of, extreme_of, box_of, command_of, size_of, direction_of, keep_of, journal_of, header_line_of};
+ghost use Rattle.kin_script.specs.Commands.{insert_of, quadratic_at, root_of, at_of, order_of, extreme_of, box_of, command_of, size_of, direction_at, keep_of, journal_of, header_line_of};
 ghost use Rattle.kin_script.specs.Ranges.{IsCommandInRange, IsRootInRange, IsKeepInRange, IsDirection, IsHeaderLineInRange};
 
 use crate::command::Command;
@@ -16,6 +16,7 @@ pub enum HeaderLine {
     Journal(bool),
 }
 
+/// What follows the word `insert`: a number and its motion.
 #[tactic(auto, unfolding(crate::specs::Commands::insert_of))]
 fn insert(size: u32, words: &mut Words<'_>) -> Option<Command>
     requires low { 1 ≤ size }
@@ -43,6 +44,7 @@ fn quadratic(words: &mut Words<'_>) -> Option<(i32, i32, i32)>
     Some((a, b, c))
 }
 
+/// What follows `at root`: a quadratic and which of its roots.
 #[tactic(auto, unfolding(crate::specs::Commands::root_of))]
 fn root(words: &mut Words<'_>) -> Option<Command>
     ensures value { result ≡ root_of words.old }
@@ -53,6 +55,7 @@ fn root(words: &mut Words<'_>) -> Option<Command>
     words.last(at_root(a, b, c, upper))
 }
 
+/// The numbers of a root in the width of a command.
 fn at_root(a: i32, b: i32, c: i32, upper: bool) -> Command
     ensures { result ≡ AtRoot a b c upper }
 {
@@ -64,6 +67,7 @@ fn at_root(a: i32, b: i32, c: i32, upper: bool) -> Command
     }
 }
 
+/// What follows the word `at`: a fraction, or a root.
 #[tactic(auto, unfolding(crate::specs::Commands::at_of))]
 fn at(words: &mut Words<'_>) -> Option<Command>
     ensures value { result ≡ at_of words.old }
@@ -80,6 +84,7 @@ fn at(words: &mut Words<'_>) -> Option<Command>
     })
 }
 
+/// What follows the word `order`: the number of a structure.
 #[tactic(auto, unfolding(crate::specs::Commands::order_of))]
 fn order(words: &mut Words<'_>) -> Option<Command>
     ensures value { result ≡ order_of words.old }
@@ -89,6 +94,7 @@ fn order(words: &mut Words<'_>) -> Option<Command>
     words.last(Command::Order { s })
 }
 
+/// What follows the word `extreme`: the number of a structure.
 #[tactic(auto, unfolding(crate::specs::Commands::extreme_of))]
 fn extreme(words: &mut Words<'_>) -> Option<Command>
     ensures value { result ≡ extreme_of words.old }
@@ -98,6 +104,7 @@ fn extreme(words: &mut Words<'_>) -> Option<Command>
     words.last(Command::Extreme { s })
 }
 
+/// What follows the word `inside`: the bounds of a rectangle.
 #[tactic(auto, unfolding(crate::specs::Commands::box_of))]
 fn inside(words: &mut Words<'_>) -> Option<Command>
     ensures value { result ≡ box_of words.old }
@@ -157,9 +164,9 @@ pub fn size_of(mut words: Words<'_>) -> Option<u32>
 }
 
 /// A direction: two numbers, not both 0.
-#[tactic(auto, unfolding(crate::specs::Commands::direction_of))]
+#[tactic(auto, unfolding(crate::specs::Commands::direction_at))]
 fn direction(words: &mut Words<'_>) -> Option<(i32, i32)>
-    ensures value { result ≡ direction_of words.old }
+    ensures value { result ≡ direction_at words.old }
     ensures range { IfSome result (λ d. IsDirection d.0 d.1) }
 {
     let dx = words.integer(16)?;

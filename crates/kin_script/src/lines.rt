@@ -36,6 +36,7 @@ pub struct Line<'a> {
 }
 
 impl<'a> Lines<'a> {
+    /// The lines of these bytes, from the first on.
     pub fn of(bytes: &'a [u8]) -> Lines<'a>
         requires { length bytes.now ≤ 2 ^ 20 }
         ensures { result ≡ record { number = 1; lines = lines_of bytes.now } }

@@ -41,6 +41,7 @@ struct Draft {
 }
 
 impl Draft {
+    /// A script of this size that has no further line yet.
     fn new(alloc: Global, size: u32) -> Draft
         requires low { 1 ≤ size }
         requires high { size ≤ 12 }
@@ -109,6 +110,7 @@ impl Draft {
         }
     }
 
+    /// The script, where no line is left.
     fn finish(self) -> Script
         requires { IsDraftInRange self }
         ensures value { result ≡ finished self [] }

@@ -23,6 +23,7 @@ impl Model for Keeps {
 }
 
 impl Keeps {
+    /// An empty list.
     pub fn new(alloc: Global) -> Keeps
         ensures { result ≡ [] }
     {
@@ -31,18 +32,21 @@ impl Keeps {
         }
     }
 
+    /// The list of these items.
     pub fn from_vec(items: Vec<Keep>) -> Keeps
         ensures { result ≡ items.items }
     {
         Keeps { items }
     }
 
+    /// Its items, given back.
     pub fn into_vec(self) -> Vec<Keep>
         ensures { result.items ≡ self }
     {
         self.items
     }
 
+    /// Its items, lent.
     pub fn as_slice(&self) -> &[Keep]
         ensures { result.now ≡ self.now }
     {
@@ -58,12 +62,14 @@ impl Keeps {
         Ok(())
     }
 
+    /// How many items it has.
     pub fn len(&self) -> usize
         ensures { result ≡ length self.now }
     {
         self.items.len()
     }
 
+    /// Whether it has none.
     pub fn is_empty(&self) -> bool
         ensures { result ≡ (length self.now == 0) }
     {
@@ -87,6 +93,7 @@ impl Model for Commands {
 }
 
 impl Commands {
+    /// An empty list.
     pub fn new(alloc: Global) -> Commands
         ensures { result ≡ [] }
     {
@@ -95,18 +102,21 @@ impl Commands {
         }
     }
 
+    /// The list of these items.
     pub fn from_vec(items: Vec<(u32, Command)>) -> Commands
         ensures { result ≡ items.items }
     {
         Commands { items }
     }
 
+    /// Its items, given back.
     pub fn into_vec(self) -> Vec<(u32, Command)>
         ensures { result.items ≡ self }
     {
         self.items
     }
 
+    /// Its items, lent.
     pub fn as_slice(&self) -> &[(u32, Command)]
         ensures { result.now ≡ self.now }
     {
@@ -122,12 +132,14 @@ impl Commands {
         Ok(())
     }
 
+    /// How many items it has.
     pub fn len(&self) -> usize
         ensures { result ≡ length self.now }
     {
         self.items.len()
     }
 
+    /// Whether it has none.
     pub fn is_empty(&self) -> bool
         ensures { result ≡ (length self.now == 0) }
     {

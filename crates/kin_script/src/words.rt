@@ -136,6 +136,7 @@ fn text_of(line: &[u8]) -> &[u8]
     }
 }
 
+/// Whether the byte parts two words: a space or a tab.
 fn is_blank_byte(b: u8) -> bool
     ensures { result ≡ is_blank b }
 {
@@ -155,6 +156,7 @@ fn skip_blanks(bytes: &[u8]) -> &[u8]
     &[]
 }
 
+/// Where the first blank stands.
 fn blank_place(bytes: &[u8]) -> Option<usize>
     ensures { result ≡ position is_blank bytes.now }
 {

@@ -1,9 +1,10 @@
 use Rattle.std.proofs.Common.{codes, ◌++◌, refl}
 use Rattle.std.proofs.lemmas.Result.{on_ok_weaker, on_err_weaker}
+use Rattle.kin_basics.proofs.Results.{on_err}
 use Rattle.kin_cert.specs.Blocks.{failure_of}
 use Rattle.kin_script.specs.Printed.{moment_text}
 use Rattle.kin_script.specs.PrintedJournal.{failure_line}
-use Rattle.kin_print.proofs.Fronts.{on_err, both, front_first, front_behind, front_of_both}
+use Rattle.kin_print.proofs.Fronts.{both, front_first, front_behind, front_of_both}
 use Rattle.kin_print.proofs.Failures.{owner_of, form_of, signs_of, behind_moment, failure_pieces}
 use Rattle.kin_print.proofs.failure.put_failure.Goals as goal
 

@@ -1,11 +1,12 @@
 use Rattle.std.proofs.Common.{subst}
 use Rattle.std.specs.List.{flat_map}
 use Rattle.std.proofs.lemmas.Result.{on_ok_weaker, on_err_weaker}
+use Rattle.kin_basics.proofs.Results.{on_err}
 use Rattle.kin_script.specs.Printed.{PutsFront}
 use Rattle.kin_script.specs.PrintedJournal.{kind_text, form_text}
 use Rattle.kin_motion.specs.Forms.{numbers_of}
 use Rattle.kin_print.specs.Pieces.{spaced}
-use Rattle.kin_print.proofs.Fronts.{on_err, both, front_first, front_of_both}
+use Rattle.kin_print.proofs.Fronts.{both, front_first, front_of_both}
 use Rattle.kin_print.proofs.Failures.{form_pieces}
 use Rattle.kin_print.proofs.failure.put_form.Goals as goal
 

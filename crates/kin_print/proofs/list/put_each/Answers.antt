@@ -1,5 +1,6 @@
+use Rattle.kin_basics.proofs.Results.{on_err}
 use Rattle.kin_print.specs.Pieces.{spaced}
-use Rattle.kin_print.proofs.Fronts.{on_err, front_at}
+use Rattle.kin_print.proofs.Fronts.{front_at}
 use Rattle.kin_print.proofs.list.put_each.Goals as goal
 
 pub returns-in_err-put_spaced-clause-err : goal.returns-in_err-put_spaced-clause-err

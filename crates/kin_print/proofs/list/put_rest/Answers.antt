@@ -1,7 +1,8 @@
 use Rattle.std.proofs.Common.{codes}
 use Rattle.std.specs.List.{flat_map}
+use Rattle.kin_basics.proofs.Results.{on_err}
 use Rattle.kin_print.specs.Pieces.{spaced}
-use Rattle.kin_print.proofs.Fronts.{on_err, front_first}
+use Rattle.kin_print.proofs.Fronts.{front_first}
 use Rattle.kin_print.proofs.list.put_rest.Goals as goal
 
 pub returns-in_err-put_each-clause-err : goal.returns-in_err-put_each-clause-err

@@ -1,5 +1,6 @@
+use Rattle.kin_basics.proofs.Results.{on_err}
 use Rattle.kin_script.specs.Printed.{instant_text, phase_text}
-use Rattle.kin_print.proofs.Fronts.{on_err, front_first}
+use Rattle.kin_print.proofs.Fronts.{front_first}
 use Rattle.kin_print.proofs.moment.put_moment.Goals as goal
 
 pub returns-in_err-put_instant-clause-err : goal.returns-in_err-put_instant-clause-err

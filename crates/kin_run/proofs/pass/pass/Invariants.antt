@@ -1,15 +1,25 @@
 use Rattle.std.proofs.Common.{◌≤◌}
 use Rattle.kin_num.specs.Grains.{moments_left}
 use Rattle.kin_world.specs.Worlds.{IsWhole}
+use Rattle.kin_run.specs.Written.{printer}
 use Rattle.kin_run.proofs.OnTheWay.{IsOnTheWay}
 use Rattle.kin_run.proofs.pass.pass.Given as goal
 
 abbrev pub invariant-loop-block : goal.invariant-loop-block
 invariant-loop-block g l = record {
-  on : IsOnTheWay l.journal l.fn.world l.fn.asked l.world (g.K.Sink.held l.fn.sink) l.fn.out.items (g.K.Sink.held l.sink) l.out.items;
+  on : IsOnTheWay l.journal l.fn.world l.fn.asked l.world (printer (g.K.Sink.held l.fn.sink) l.fn.out.items) (printer (g.K.Sink.held l.sink) l.out.items);
   whole : IsWhole l.world;
   later : g.K.Sink.faults l.fn.sink ≤ g.K.Sink.faults l.sink;
 }
 
 abbrev pub decreases-loop-block : goal.decreases-loop-block
 decreases-loop-block g l = moments_left l.world.moment
+
+abbrev pub invariant-loop : goal.invariant-loop
+invariant-loop g l = record {
+  on : IsOnTheWay l.journal l.fn.world l.fn.asked l.world (printer (g.K.Sink.held l.fn.sink) l.fn.out.items) (printer (g.K.Sink.held l.fn.sink) l.fn.out.items);
+  whole : IsWhole l.world;
+}
+
+abbrev pub decreases-loop : goal.decreases-loop
+decreases-loop g l = moments_left l.world.moment

@@ -1,29 +1,22 @@
 use Rattle.std.proofs.Common.{refl, sym, subst, inr}
 use Rattle.std.proofs.lemmas.Result.{err_from_is_err_and}
 use Rattle.kin_num.specs.Order.{IsEarlier}
-use Rattle.kin_script.specs.declared.refusal.Refusal.TheVariants.{Past}
-use Rattle.kin_script.specs.Deeds.{Deed}
-use Rattle.kin_script.specs.Replay.{at, IsRefused}
+use Rattle.kin_script.specs.Replay.{at}
 use Rattle.kin_run.specs.States.{state_of}
+use Rattle.kin_run.specs.Written.{printer}
 use Rattle.kin_run.proofs.Performing.{moved, moving_broke}
 use Rattle.kin_run.proofs.perform.move_to.Goals as goal
 
 pub returns-in_err-pass-clause-performs : goal.returns-in_err-pass-clause-performs
-returns-in_err-pass-clause-performs g c = λ command upper p goes named.
+returns-in_err-pass-clause-performs g c = λ upper p named.
     let e = err_from_is_err_and c.from_residual.result c.from_residual.ensures.1 in
     let later : ¬ (IsEarlier (at c.args.asked) c.args.world.now.moment) = λ h. let t = c.if-is_before.ensures.1 (subst (IsEarlier (at c.args.asked)) (sym c.now.ensures.value) h) in cc in
-    rw (e.1, e.2)
-    (moving_broke (state_of c.args.journal c.args.world.now) command upper p goes c.args.asked named later (g.K.Sink.held c.args.sink.now) c.args.out.now.items (g.K.Sink.held c.pass.new.sink) c.pass.new.out.items
-    c.in_err-pass.field-0.0 c.in_err-pass.ensures.text)
+    rw (e.1, e.2) (moving_broke (state_of c.args.journal c.args.world.now) upper p c.args.asked named later c.in_err-pass.field-0.0 (printer (g.K.Sink.held c.args.sink.now) c.args.out.now.items) (printer (g.K.Sink.held c.pass.new.sink) c.pass.new.out.items) c.in_err-pass.ensures.text)
 
 pub returns-clause-performs : goal.returns-clause-performs
-returns-clause-performs g c = λ command upper p goes named.
+returns-clause-performs g c = λ upper p named.
     let later : ¬ (IsEarlier (at c.args.asked) c.args.world.now.moment) = λ h. let t = c.if-is_before.ensures.1 (subst (IsEarlier (at c.args.asked)) (sym c.now.ensures.value) h) in cc in
-    moved (state_of c.args.journal c.args.world.now) command upper p goes c.args.asked named later (g.K.Sink.held c.args.sink.now) c.args.out.now.items (g.K.Sink.held c.pass.new.sink) c.pass.new.out.items
-    (state_of c.args.journal c.pass.new.world) c.in_ok-pass.ensures.moved c.in_ok-pass.ensures.text
+    moved (state_of c.args.journal c.args.world.now) upper p c.args.asked named later (state_of c.args.journal c.pass.new.world) c.in_ok-pass.ensures.moved c.in_ok-pass.ensures.text
 
 pub returns-then-is_before-clause-performs : goal.returns-then-is_before-clause-performs
-returns-then-is_before-clause-performs g c = λ command upper p goes named.
-    let s = state_of c.args.journal c.args.world.now in
-    let past : IsEarlier (at c.args.asked) s.moment = subst (IsEarlier (at c.args.asked)) c.now.ensures.value (c.if-is_before.ensures.0 refl) in
-    (subst (λ (d : Deed). IsRefused s d Past) (sym goes) (inr (refl, (c.args.asked, named, past))), refl, refl, refl)
+returns-then-is_before-clause-performs g c = λ upper p named. (inr (refl, (c.args.asked, named, subst (IsEarlier (at c.args.asked)) c.now.ensures.value (c.if-is_before.ensures.0 refl))), refl, refl)

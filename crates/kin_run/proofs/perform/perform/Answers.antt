@@ -1,13 +1,16 @@
-use Rattle.std.proofs.Common.{◌≡◌, refl, true, arith, to_z, of_z, w64}
+use Rattle.std.proofs.Common.{◌≡◌, sym, subst, true, arith, to_z, of_z, w64}
 use Rattle.std.specs.Prelude.{pos, ◌<ℤ◌}
 use Rattle.std.proofs.lemmas.Int.{ints, to_z-of_z}
+use Rattle.std.proofs.lemmas.Result.{err_from_is_err_and}
 use Rattle.kin_num.specs.Instants.{line}
-use Rattle.kin_script.specs.declared.command.Command.TheVariants.{AtRatio, Order, Extreme, Live}
+use Rattle.kin_script.specs.Deeds.{Deed}
 use Rattle.kin_script.specs.Ranges.{IsRatioInRange}
-use Rattle.kin_script.specs.Deeds.{order_along, farthest_along, live_facts}
 use Rattle.kin_script.specs.Replay.{IsNamedRoot}
+use Rattle.kin_script.proofs.Questions.{asks_otherwise}
+use Rattle.kin_run.specs.Performed.{Performs}
 use Rattle.kin_run.specs.States.{state_of}
-use Rattle.kin_run.proofs.Performing.{asked}
+use Rattle.kin_run.specs.Written.{printer}
+use Rattle.kin_run.proofs.Performing.{went_on, going_broke, replied}
 use Rattle.kin_run.proofs.NamedRoots.{ratio_named}
 use Rattle.kin_run.proofs.perform.perform.Goals as goal
 
@@ -20,16 +23,21 @@ returns-in-AtRatio-clause-performs g c =
     let d_is : to_z w64 (of_z w64 d) ≡ d = grind (arith, to_z-of_z, range.d_small) in
     let positive : pos 0 <ℤ d = omega (arith, ints, range.d_low) in
     let asked : IsNamedRoot true (line n d) c.ratio.result = ratio_named n d c.ratio.result positive (rw (n_is, d_is) at c.ratio.ensures.value) c.ratio.ensures.canonical in
-    rw c.in-AtRatio.is (c.move_to.ensures.performs (AtRatio n d) true (line n d) refl asked)
+    rw c.in-AtRatio.is (c.move_to.ensures.performs true (line n d) asked)
 
-pub returns-in-Order-clause-performs : goal.returns-in-Order-clause-performs
-returns-in-Order-clause-performs g c =
-    rw c.in-Order.is (asked (state_of c.args.journal c.args.world.now) (Order c.in-Order.s) (order_along c.in-Order.s) refl c.answer_order.result (g.K.Sink.held c.args.sink.now) c.args.out.now.items c.answer_order.new.out.items (c.answer_order.ensures.answers c.args.journal))
+pub returns-in_err-put_next-in-Next-clause-performs : goal.returns-in_err-put_next-in-Next-clause-performs
+returns-in_err-put_next-in-Next-clause-performs g c =
+    let e = err_from_is_err_and c.from_residual.result c.from_residual.ensures.1 in
+    rw (c.in-Next.is, e.1, e.2) (going_broke (state_of c.args.journal c.args.world.now) (g.K.Sink.held c.args.sink.now) c.args.out.now.items c.put_next.new.out.items c.in_err-put_next-in-Next.ensures.line)
 
-pub returns-in-Extreme-clause-performs : goal.returns-in-Extreme-clause-performs
-returns-in-Extreme-clause-performs g c =
-    rw c.in-Extreme.is (asked (state_of c.args.journal c.args.world.now) (Extreme c.in-Extreme.s) (farthest_along c.in-Extreme.s) refl c.answer_extreme.result (g.K.Sink.held c.args.sink.now) c.args.out.now.items c.answer_extreme.new.out.items (c.answer_extreme.ensures.answers c.args.journal))
+pub returns-in_ok-put_next-in-Next-clause-performs : goal.returns-in_ok-put_next-in-Next-clause-performs
+returns-in_ok-put_next-in-Next-clause-performs g c =
+    rw c.in-Next.is (went_on (state_of c.args.journal c.args.world.now) (g.K.Sink.held c.args.sink.now) c.args.out.now.items c.put_next.new.out.items (state_of c.args.journal c.put_next.new.world) c.in_ok-put_next-in-Next.ensures.line c.in_ok-put_next-in-Next.ensures.leads)
 
-pub returns-in-Live-clause-performs : goal.returns-in-Live-clause-performs
-returns-in-Live-clause-performs g c =
-    rw c.in-Live.is (asked (state_of c.args.journal c.args.world.now) Live live_facts refl c.answer_live.result (g.K.Sink.held c.args.sink.now) c.args.out.now.items c.answer_live.new.out.items (c.answer_live.ensures.answers c.args.journal))
+pub returns-in_default-clause-performs : goal.returns-in_default-clause-performs
+returns-in_default-clause-performs g c =
+    let d = c.in_default in
+    let q = asks_otherwise c.args.command.now d.not-Insert d.not-AtRatio d.not-AtRoot d.not-Next in
+    let s = state_of c.args.journal c.args.world.now in
+    subst (λ (x : Deed). Performs s x c.put_reply.result (printer (g.K.Sink.held c.args.sink.now) c.args.out.now.items) (printer (g.K.Sink.held c.args.sink.now) c.put_reply.new.out.items) s) (sym q.1)
+    (replied s q.0 c.put_reply.result (g.K.Sink.held c.args.sink.now) c.args.out.now.items c.put_reply.new.out.items (c.put_reply.ensures.reply c.args.journal q.0 q.1))

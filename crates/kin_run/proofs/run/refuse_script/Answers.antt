@@ -1,6 +1,6 @@
 use Rattle.std.proofs.Common.{take, subst}
-use Rattle.kin_run.specs.Written.{IsPrefix}
-use Rattle.kin_run.proofs.Fronts.{prefix_take}
+use Rattle.kin_run.specs.Written.{IsFront}
+use Rattle.kin_run.proofs.Fronts.{front_take}
 use Rattle.kin_run.proofs.OneText.{cut_of_bad}
 use Rattle.kin_run.proofs.run.refuse_script.Goals as goal
 
@@ -9,5 +9,5 @@ returns-clause-writes g c =
     let text = c.in-Ok.out.items in
     let front = c.in-Err.ensures.front in
     let written = take front.0 text in
-    let cut = cut_of_bad c.args.input.now written c.args.line c.requires (subst (IsPrefix written) c.in-Ok.ensures (prefix_take front.0 text)) in
+    let cut = cut_of_bad c.args.input.now written c.args.line c.requires (subst (IsFront written) c.in-Ok.ensures (front_take front.0 text)) in
     (written, front.1, cut)

@@ -1,11 +1,10 @@
-//! The lines of the questions, and of the next failures.
+//! The next failures.
 
-ghost use Rattle.std.specs.Prelude.{◌≡◌, ◌++◌, ℤ, Bool, Option, List, ℕ, Some, OnOk, OnErr, slice_get};
-ghost use Rattle.kin_motion.specs.declared.keep.Keep.TheVariants as keep;
+ghost use Rattle.std.specs.Prelude.{◌≡◌, ◌++◌, OnOk, OnErr};
 ghost use Rattle.kin_script.specs.Printed.{PutsFront};
 ghost use Rattle.kin_script.specs.PrintedJournal.{now_line};
 ghost use Rattle.kin_script.specs.Replay.{LeadsToNext};
-ghost use Rattle.kin_script.specs.Text.{IsOrderLine, IsExtremeLine, IsLiveLine, IsNextText};
+ghost use Rattle.kin_script.specs.Text.{IsNextText};
 ghost use Rattle.kin_world.specs.Worlds.{IsWhole};
 ghost use Rattle.kin_run.specs.Performed.{PutsLine};
 ghost use Rattle.kin_run.specs.States.{state_of, printed_if};
@@ -13,36 +12,9 @@ ghost use Rattle.kin_run.specs.States.{state_of, printed_if};
 use crate::pass::put_if_on;
 use kin_cert::Block;
 use kin_num::{Moment, NoMemory, Steps};
-use kin_print::{put_bytes, put_count, put_list, put_moment, put_one};
+use kin_print::{put_bytes, put_moment};
 use kin_world::world::World;
 use std::sync::ledger::Ledger;
-
-/// Appends the line of the kept order `s`.
-pub fn put_order(world: &World, s: u32, out: &mut Vec<u8>) -> Result<(), NoMemory>
-    requires whole { IsWhole world.now }
-    requires kept { (dx : ℤ) × (dy : ℤ) × (slice_get world.now.keeps s ≡ Some (keep.Order dx dy)) }
-    ensures { (journal : Bool) → PutsLine (IsOrderLine (state_of journal world.now) s) result out.old.items out.new.items }
-{
-    let order = world.order(s)?;
-    put_list(out, &order)
-}
-
-/// Appends the line of the kept extreme point `s`.
-pub fn put_extreme(world: &World, s: u32, out: &mut Vec<u8>) -> Result<(), NoMemory>
-    requires whole { IsWhole world.now }
-    requires kept { (dx : ℤ) × (dy : ℤ) × (slice_get world.now.keeps s ≡ Some (keep.Extreme dx dy)) }
-    ensures { (journal : Bool) → PutsLine (IsExtremeLine (state_of journal world.now) s) result out.old.items out.new.items }
-{
-    put_one(out, world.extreme(s))
-}
-
-/// Appends the line with the number of live facts.
-pub fn put_live(world: &World, out: &mut Vec<u8>) -> Result<(), NoMemory>
-    requires { IsWhole world.now }
-    ensures { (journal : Bool) → PutsLine (IsLiveLine (state_of journal world.now)) result out.old.items out.new.items }
-{
-    put_count(out, world.live() as u64)
-}
 
 /// Appends the line with the moment that `next` moved to.
 fn put_now(out: &mut Vec<u8>, now: &Moment) -> Result<(), NoMemory>

@@ -1,15 +1,16 @@
 use Rattle.std.proofs.Common.{[], ◌++◌, inl, inr, refl, sym, ap}
 use Rattle.std.proofs.lemmas.List.{append-nil}
 use Rattle.std.proofs.lemmas.Result.{err_from_is_err_and, on_err_weaker}
+use Rattle.kin_basics.proofs.Results.{on_ok}
 use Rattle.kin_script.specs.PrintedJournal.{none_line, now_line}
 use Rattle.kin_script.specs.Text.{IsNextText}
 use Rattle.kin_print.proofs.Fronts.{nothing}
 use Rattle.kin_world.specs.Worlds.{HasMoved, HasPassed}
 use Rattle.kin_run.specs.States.{state_of, printed_if}
 use Rattle.kin_run.proofs.Blocks.{one_next, not_back, not_reached}
-use Rattle.kin_run.proofs.Fronts.{prefix_nil}
-use Rattle.kin_run.proofs.Lines.{puts_known, on_ok}
-use Rattle.kin_run.proofs.answer.put_next.Goals as goal
+use Rattle.kin_run.proofs.Fronts.{front_nil}
+use Rattle.kin_run.proofs.Performing.{puts_known}
+use Rattle.kin_run.proofs.next.put_next.Goals as goal
 
 pub returns-in_default-clause-line : goal.returns-in_default-clause-line
 returns-in_default-clause-line g c =
@@ -34,7 +35,7 @@ unreachable-requires g c =
 pub returns-in_err-block-clause-line : goal.returns-in_err-block-clause-line
 returns-in_err-block-clause-line g c =
     let e = err_from_is_err_and c.from_residual.result c.from_residual.ensures.1 in
-    rw e.1 ([], sym (append-nil c.args.out.now.items), λ text is. prefix_nil text)
+    rw e.1 ([], sym (append-nil c.args.out.now.items), λ text is. front_nil text)
 
 pub returns-clause-line : goal.returns-clause-line
 returns-clause-line g c =

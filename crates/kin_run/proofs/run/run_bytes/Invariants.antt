@@ -1,4 +1,4 @@
-use Rattle.kin_run.proofs.run.answer.Given as goal
+use Rattle.kin_run.proofs.run.run_bytes.Given as goal
 
 abbrev pub ghosts-run_script : goal.ghosts-run_script
 ghosts-run_script g a = record { name = a.blank.name; parts = a.blank.parts }
