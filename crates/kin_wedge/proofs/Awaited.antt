@@ -1,23 +1,15 @@
 -- Offers bring a candidate to the first of its octant.
-use Rattle.std.proofs.Common.{◌≡◌, ◌≢◌, refl, sym, ap, ◌∙◌, subst, arith, List, [], ◌∷◌, ℕ, zero, suc, ◌<◌, Bool, true, false, ◌&&◌, length, Some, None, Option, inl, inr, ◌⊎◌}
-use Rattle.std.specs.Prelude.{Contains, MatchOption, cond}
+use Rattle.std.proofs.Common.{◌≡◌, refl, sym, ap, ◌∙◌, subst, arith, List, [], ◌∷◌, ℕ, Bool, true, false, Some, None, Option, inl, inr, ◌⊎◌}
+use Rattle.std.specs.Prelude.{Contains, cond}
 use Rattle.std.proofs.lemmas.Option.{same_Some}
-use Rattle.slab.proofs.SlabLemmas.{Contains-cons_cases}
+use Rattle.std.proofs.lemmas.Bool.{cases_Bool}
+use Rattle.kin_basics.proofs.Members.{contains_cases}
 use Rattle.kin_motion.specs.Octants.{Octant, Reading}
 use Rattle.kin_motion.specs.Changes.{stands_before}
 use Rattle.kin_motion.specs.Sets.{AreDistinct}
 use Rattle.kin_wedge.specs.Rows.{row_of, stands_after, is_in_wedge, IsFirst, IsFirstAnswer}
 use Rattle.kin_wedge.specs.Touched.{IsAwaited, IsRenewed}
-use Rattle.kin_wedge.proofs.Places.{before_through_list, one_before, first_is_in, second_is_in}
-
-true_or_not : (b : Bool) → (b ≡ true) ⊎ (b ≡ false)
-true_or_not true = inl refl
-true_or_not false = inr refl
-
-both_true : (a b : Bool) → a && b ≡ true → (a ≡ true) × (b ≡ true)
-both_true true true h = (refl, refl)
-both_true true false h = absurd cc
-both_true false b h = absurd cc
+use Rattle.kin_wedge.proofs.Places.{before_through_list}
 
 none_in : {A : Type 0} {B : Type 0} (x : A) → Contains [] x → B
 none_in x h = absurd (omega (arith, h.1))
@@ -46,7 +38,7 @@ module _ (rows : List (List ℕ)) (apart : (part : ℕ) → AreDistinct (row_of 
 
     -- all offers are taken
     pub awaited_done : (now : Option ℕ) → IsAwaited rows o p now [] → IsFirstAnswer rows o p now
-    awaited_done None a = λ q. at q (true_or_not (is_in_wedge rows o p q))
+    awaited_done None a = λ q. at q (cases_Bool (is_in_wedge rows o p q))
       where
         at : (q : ℕ) → (is_in_wedge rows o p q ≡ true) ⊎ (is_in_wedge rows o p q ≡ false) → is_in_wedge rows o p q ≡ false
         at q (inl t) = absurd (over (a.none q refl t))
@@ -55,7 +47,7 @@ module _ (rows : List (List ℕ)) (apart : (part : ℕ) → AreDistinct (row_of 
             over (inl h) = none_in _ h
             over (inr h) = none_in _ h
         at q (inr f) = f
-    awaited_done (Some c) a = at (true_or_not (is_in_wedge rows o p c))
+    awaited_done (Some c) a = at (cases_Bool (is_in_wedge rows o p c))
       where
         at : (is_in_wedge rows o p c ≡ true) ⊎ (is_in_wedge rows o p c ≡ false) → IsFirst rows o p c
         at (inl t) = record { member = t; first = λ q k. over q (a.good c q refl t k) }
@@ -69,18 +61,18 @@ module _ (rows : List (List ℕ)) (apart : (part : ℕ) → AreDistinct (row_of 
     -- one offer is taken
     pub awaited_step : (old new x : Option ℕ) (offers : List (Option ℕ)) → IsAwaited rows o p old (x ∷ offers) → IsRenewed rows o p old x new → IsAwaited rows o p new offers
     awaited_step old new None offers a r = first-exact new offers (r.looked_up refl)
-    awaited_step None new (Some n) offers a r = at (true_or_not (is_in_wedge rows o p n))
+    awaited_step None new (Some n) offers a r = at (cases_Bool (is_in_wedge rows o p n))
       where
         rest : (q : ℕ) → is_in_wedge rows o p q ≡ true → (n ≡ q) ⊎ (Contains offers (Some q) ⊎ Contains offers None)
         rest q k = both (a.none q refl k)
           where
             both : Contains (Some n ∷ offers) (Some q) ⊎ Contains (Some n ∷ offers) None → (n ≡ q) ⊎ (Contains offers (Some q) ⊎ Contains offers None)
-            both (inl h) = here (Contains-cons_cases _ _ _ h)
+            both (inl h) = here (contains_cases _ _ _ h)
               where
                 here : (Some n ≡ Some q) ⊎ Contains offers (Some q) → (n ≡ q) ⊎ (Contains offers (Some q) ⊎ Contains offers None)
                 here (inl e) = inl (same_Some n q e)
                 here (inr h) = inr (inl h)
-            both (inr h) = there (Contains-cons_cases _ _ _ h)
+            both (inr h) = there (contains_cases _ _ _ h)
               where
                 there : (Some n ≡ None) ⊎ Contains offers None → (n ≡ q) ⊎ (Contains offers (Some q) ⊎ Contains offers None)
                 there (inl e) = absurd cc
@@ -105,7 +97,7 @@ module _ (rows : List (List ℕ)) (apart : (part : ℕ) → AreDistinct (row_of 
             other : (q : ℕ) → is_in_wedge rows o p q ≡ true → (n ≡ q) ⊎ (Contains offers (Some q) ⊎ Contains offers None) → Contains offers (Some q) ⊎ Contains offers None
             other q k (inl s) = absurd (let g : true ≡ false = sym k ∙ ap (is_in_wedge rows o p) (sym s) ∙ f in cc)
             other q k (inr h) = h
-    awaited_step (Some c) new (Some n) offers a r = by (true_or_not (is_in_wedge rows o p c))
+    awaited_step (Some c) new (Some n) offers a r = by (cases_Bool (is_in_wedge rows o p c))
       where
         rest : is_in_wedge rows o p c ≡ true → (q : ℕ) → is_in_wedge rows o p q ≡ true → ((q ≡ c) ⊎ (stands_after rows o.third c q ≡ true)) ⊎ ((n ≡ q) ⊎ (Contains offers (Some q) ⊎ Contains offers None))
         rest m q k = both (a.good c q refl m k)
@@ -120,8 +112,8 @@ module _ (rows : List (List ℕ)) (apart : (part : ℕ) → AreDistinct (row_of 
 
             both : ((q ≡ c) ⊎ (stands_after rows o.third c q ≡ true)) ⊎ (Contains (Some n ∷ offers) (Some q) ⊎ Contains (Some n ∷ offers) None) → ((q ≡ c) ⊎ (stands_after rows o.third c q ≡ true)) ⊎ ((n ≡ q) ⊎ (Contains offers (Some q) ⊎ Contains offers None))
             both (inl h) = inl h
-            both (inr (inl h)) = inr (here (Contains-cons_cases _ _ _ h))
-            both (inr (inr h)) = inr (there (Contains-cons_cases _ _ _ h))
+            both (inr (inl h)) = inr (here (contains_cases _ _ _ h))
+            both (inr (inr h)) = inr (there (contains_cases _ _ _ h))
 
         -- the candidate stays
         stays : is_in_wedge rows o p c ≡ true → new ≡ Some c → ((q : ℕ) → is_in_wedge rows o p q ≡ true → n ≡ q → (q ≡ c) ⊎ (stands_after rows o.third c q ≡ true)) → IsAwaited rows o p new offers
@@ -152,11 +144,11 @@ module _ (rows : List (List ℕ)) (apart : (part : ℕ) → AreDistinct (row_of 
 
         by : (is_in_wedge rows o p c ≡ true) ⊎ (is_in_wedge rows o p c ≡ false) → IsAwaited rows o p new offers
         by (inr f) = first-exact new offers (r.lost c refl f)
-        by (inl t) = within (true_or_not (is_in_wedge rows o p n))
+        by (inl t) = within (cases_Bool (is_in_wedge rows o p n))
           where
             within : (is_in_wedge rows o p n ≡ true) ⊎ (is_in_wedge rows o p n ≡ false) → IsAwaited rows o p new offers
             within (inr f) = stays t (r.kept c n refl t refl (inl f)) (λ q k s. absurd (let g : true ≡ false = sym k ∙ ap (is_in_wedge rows o p) (sym s) ∙ f in cc))
-            within (inl i) = order (true_or_not (stands_after rows o.third n c))
+            within (inl i) = order (cases_Bool (stands_after rows o.third n c))
               where
                 order : (stands_after rows o.third n c ≡ true) ⊎ (stands_after rows o.third n c ≡ false) → IsAwaited rows o p new offers
                 order (inl b) = gives_way t i b (r.better c n refl t refl i b)

@@ -1,12 +1,13 @@
 -- The hits that are still to come, from one node to the next.
-use Rattle.std.proofs.Common.{◌≡◌, ◌≢◌, refl, sym, ap, ◌∙◌, subst, arith, List, [], ◌∷◌, ℕ, zero, suc, ◌+◌, ◌<◌, ◌≤◌, Bool, true, false, cond, nat_eq, length, drop, Some, None, Option, ◌/◌, ◌%◌, add-one}
-use Rattle.std.specs.Prelude.{slice_get, slice_index_or, MatchOption}
+use Rattle.std.proofs.Common.{◌≡◌, refl, sym, ap, ◌∙◌, arith, List, [], ◌∷◌, ℕ, zero, suc, ◌+◌, ◌<◌, Bool, true, false, cond, nat_eq, length, drop, Some, None, Option, ◌/◌, ◌%◌, add-one}
+use Rattle.std.specs.Prelude.{slice_get, MatchOption}
 use Rattle.std.proofs.lemmas.Bool.Decides.{nat_tests}
-use Rattle.std.proofs.lemmas.Option.{same_Some, slice_get_within}
+use Rattle.std.proofs.lemmas.Option.{same_Some}
+use Rattle.std.proofs.lemmas.List.{drop_all}
 use Rattle.kin_links.specs.declared.links.NodeId.{NodeId}
 use Rattle.kin_links.specs.Family.{Linked, Standing, AreApart, IsNodeAt}
-use Rattle.kin_links.proofs.Reading.{drop_from, drop_past}
-use Rattle.kin_wedge.specs.Cursors.{pair_of, pairs_of, suffix, rest_from, list_of, IsCursor}
+use Rattle.kin_links.proofs.Reading.{drop_from}
+use Rattle.kin_wedge.specs.Cursors.{pairs_of, suffix, rest_from, list_of, IsCursor}
 
 -- a node that stands at one place of a list begins the rest from there on
 suffix_is : (xs : List (Linked ℕ)) (p : ℕ) (x : Linked ℕ) → slice_get xs p ≡ Some x → ((q : ℕ) (y : Linked ℕ) → slice_get xs q ≡ Some y → y.node ≡ x.node → q ≡ p) → suffix xs x.node ≡ drop p xs
@@ -41,7 +42,7 @@ module _ (lists : List (List (Linked ℕ))) (l : ℕ) (n : ℕ) (p t : ℕ) (her
     rest_here = suffix_is (list_of lists l) p _ here (only p n _ here refl) ∙ drop_from (list_of lists l) p _ here
 
     rest_next : (next : Option NodeId) → MatchOption next (p + 1 ≡ length (list_of lists l)) (λ m. IsNodeAt (list_of lists l) (p + 1) m.0) → rest_from (list_of lists l) next ≡ drop (suc p) (list_of lists l)
-    rest_next None h = sym (drop_past (list_of lists l) (suc p) (omega (arith, h)))
+    rest_next None h = sym (drop_all (suc p) (list_of lists l) (omega (arith, h)))
     rest_next (Some m) h =
         ap (suffix (list_of lists l)) (sym h.2) ∙ suffix_is (list_of lists l) (p + 1) h.0 h.1 (only (p + 1) h.0.node h.0 h.1 refl) ∙ ap (λ (k : ℕ). drop k (list_of lists l)) (add-one p)
 

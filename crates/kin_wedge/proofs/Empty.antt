@@ -5,7 +5,7 @@ use Rattle.std.proofs.lemmas.List.{length-replicate}
 use Rattle.std.proofs.lemmas.Option.{same_Some}
 use Rattle.kin_links.specs.Family.{Linked}
 use Rattle.kin_wedge.specs.declared.table.Hit.{Hit}
-use Rattle.kin_wedge.specs.Tables.{AreEmpty, AreMirrored, IsListed, IsHeld, candidates_of}
+use Rattle.kin_wedge.specs.Tables.{AreEmpty, AreMirrored, candidates_of}
 
 pub none_yet : AreEmpty [] 0
 none_yet = record { count = refl; each = λ l xs e. absurd cc }

@@ -1,13 +1,15 @@
 -- The list of a number's hits has exactly the slots whose candidate it is.
-use Rattle.std.proofs.Common.{◌≡◌, ◌≢◌, refl, sym, ap, ap₂, ◌∙◌, subst, arith, List, [], ◌∷◌, ℕ, zero, suc, ◌+◌, ◌*◌, ◌/◌, ◌%◌, ◌<◌, length, Some, None, Option, get_or, map}
-use Rattle.std.specs.Prelude.{slice_get, slice_index_or, Contains}
+use Rattle.std.proofs.Common.{◌≡◌, refl, sym, ap, ◌∙◌, subst, arith, List, [], ◌∷◌, ℕ, zero, suc, ◌+◌, ◌*◌, ◌/◌, ◌%◌, ◌<◌, length, Some, None, Option, ◌≤◌}
+use Rattle.std.specs.Prelude.{slice_get, Contains}
 use Rattle.std.proofs.lemmas.Option.{same_Some, slice_get-get_or, slice_get_within}
-use Rattle.kin_links.specs.Family.{Linked, Standing, AreApart}
+use Rattle.kin_basics.proofs.Members.{contains_none}
+use Rattle.kin_motion.proofs.SetLaws.{distinct_none}
+use Rattle.kin_links.specs.Family.{Linked, AreApart}
 use Rattle.kin_wedge.specs.declared.table.Hit.{Hit}
 use Rattle.kin_wedge.specs.Cursors.{pair_of, pairs_of, list_of}
-use Rattle.kin_wedge.specs.Tables.{candidate_in, candidates_of, IsListed, IsHeld, AreMirrored, AreHits}
+use Rattle.kin_wedge.specs.Tables.{candidates_of, AreMirrored, AreHits}
 use Rattle.kin_wedge.proofs.Cursors.{list_there}
-use Rattle.kin_wedge.proofs.Mirrors.{candidate-get, candidates-length}
+use Rattle.kin_wedge.proofs.Mirrors.{candidate-get}
 
 -- what stands at a place of the pairs
 pair_from : (xs : List (Linked ℕ)) (i : ℕ) (h : ℕ × ℕ) → slice_get (pairs_of xs) i ≡ Some h → (x : Linked ℕ) × (slice_get xs i ≡ Some x) × (pair_of x ≡ h)
@@ -75,3 +77,17 @@ module _ (held : List (Option Hit)) (lists : List (List (Linked ℕ))) (mirrored
           (apart x.0.node
           (record { list = c; place = i; items = list_of lists c; item = x.0.item; listed = listed; at = x.1 })
           (record { list = c; place = j; items = list_of lists c; item = y.0.item; listed = listed; at = y.1 ∙ ap (λ (k : ℕ). Some (record { node = k; item = y.0.item })) (sym node) })).1
+
+-- a number without a list is the candidate of no slot
+pub no_hits : (held : List (Option Hit)) (lists : List (List (Linked ℕ))) → AreMirrored held lists → (c : ℕ) → length held ≤ 8 * c → AreHits (candidates_of held) c []
+no_hits held lists mirrored c past = record {
+  once = distinct_none;
+  all = λ slot e.
+      let h = held_from held slot c e in
+      let l = mirrored.forth slot h.0 h.1 in
+      let w = slice_get_within lists h.0.candidate l.items l.listed in
+      let r = mirrored.room in
+      let s = h.2 in
+      absurd (omega (arith, w, r, s, past));
+  only = λ h k. absurd (contains_none h k);
+}

@@ -1,9 +1,9 @@
 -- An offer to all slots whose candidate a number is.
-use Rattle.std.proofs.Common.{◌≡◌, refl, sym, ap, ap₂, ◌∙◌, subst, arith, List, [], ◌∷◌, ℕ, ◌+◌, ◌*◌, ◌/◌, ◌%◌, ◌<◌, length, Some, Option, inl, inr, ◌⊎◌}
+use Rattle.std.proofs.Common.{◌≡◌, refl, sym, ap, ◌∙◌, subst, arith, List, [], ◌∷◌, ℕ, ◌+◌, ◌*◌, ◌/◌, ◌%◌, ◌<◌, length, Some, Option, inl, inr, ◌⊎◌}
 use Rattle.std.specs.Prelude.{slice_get, Contains}
 use Rattle.std.proofs.lemmas.Option.{slice_get_within, same_Some}
+use Rattle.kin_basics.proofs.Members.{contains_tail, contains_cases}
 use Rattle.kin_motion.specs.Octants.{Octant, octants}
-use Rattle.slab.proofs.SlabLemmas.{Contains-cons, Contains-cons_cases}
 use Rattle.kin_wedge.specs.declared.touch.Touch.{Touch}
 use Rattle.kin_wedge.specs.Tables.{AreHits}
 use Rattle.kin_wedge.specs.Touched.{IsOffered, HasTouched}
@@ -32,7 +32,7 @@ module _ (candidates : List (Option ℕ)) (c : ℕ) (Wanted : ℕ → Type 0) (x
   pub offered_more : (first now next : List Touch) (left rest : List (ℕ × ℕ)) (h : ℕ × ℕ) → left ≡ h ∷ rest → AreOfferedBut candidates c Wanted x first now left → (Wanted h.1 → IsOffered next (8 * h.0 + h.1) x) → HasTouched candidates now next → AreOfferedBut candidates c Wanted x first next rest
   offered_more first now next left rest h e a o t = record {
     done = λ slot w k. at slot w (a.done slot w k);
-    hits = λ p k. a.hits p (subst (λ (xs : List (ℕ × ℕ)). Contains xs p) (sym e) (Contains-cons h p rest k));
+    hits = λ p k. a.hits p (subst (λ (xs : List (ℕ × ℕ)). Contains xs p) (sym e) (contains_tail h p rest k));
     touched = touched_through candidates first now next a.touched t;
   }
     where
@@ -44,7 +44,7 @@ module _ (candidates : List (Option ℕ)) (c : ℕ) (Wanted : ℕ → Type 0) (x
       here slot w (inr k) = inl k
 
       at : (slot : ℕ) → Wanted (slot % 8) → Contains left (slot / 8, slot % 8) ⊎ IsOffered now slot x → Contains rest (slot / 8, slot % 8) ⊎ IsOffered next slot x
-      at slot w (inl k) = here slot w (Contains-cons_cases h (slot / 8, slot % 8) rest (subst (λ (xs : List (ℕ × ℕ)). Contains xs (slot / 8, slot % 8)) e k))
+      at slot w (inl k) = here slot w (contains_cases h (slot / 8, slot % 8) rest (subst (λ (xs : List (ℕ × ℕ)). Contains xs (slot / 8, slot % 8)) e k))
       at slot w (inr k) = inr (t.keeps slot x k)
 
   pub offered_done : (first now : List Touch) (left : List (ℕ × ℕ)) → left ≡ [] → AreOfferedBut candidates c Wanted x first now left → (slot : ℕ) → Wanted (slot % 8) → slice_get candidates slot ≡ Some (Some c) → IsOffered now slot x

@@ -1,10 +1,10 @@
 -- The lists of hits mirror the candidates, also after one of them is cleared or filled.
-use Rattle.std.proofs.Common.{◌≡◌, ◌≢◌, refl, sym, ap, ap₂, ◌∙◌, subst, arith, List, [], ◌∷◌, ℕ, zero, suc, ◌+◌, ◌*◌, ◌-◌, ◌<◌, ◌≤◌, ◌⊎◌, length, set, length-set, Some, None, Option, inl, inr, map, get_or}
+use Rattle.std.proofs.Common.{◌≡◌, ◌≢◌, refl, sym, ap, ap₂, ◌∙◌, subst, arith, List, [], ◌∷◌, ℕ, zero, suc, ◌*◌, ◌<◌, ◌≤◌, ◌⊎◌, length, set, length-set, Some, None, Option, inl, inr, get_or}
 use Rattle.std.specs.Prelude.{slice_get, insert, remove}
 use Rattle.std.proofs.lemmas.Bool.{cases_eq, cases_order}
 use Rattle.std.proofs.lemmas.Option.{slice_get_within, slice_get_read, same_Some}
+use Rattle.kin_basics.proofs.Places.{get-insert_above, get-insert_at, get-remove_below, get-remove_above, get-set_same, get-set_other}
 use Rattle.kin_links.specs.Family.{Linked, Standing, AreApart, HasLinked}
-use Rattle.kin_links.proofs.Edits.{get-insert_above, get-insert_at, get-remove_below, get-remove_above, get-set_same, get-set_other}
 use Rattle.kin_links.proofs.Counting.{stood}
 use Rattle.kin_links.proofs.Moves.{which_list}
 use Rattle.kin_wedge.specs.declared.table.Hit.{Hit}

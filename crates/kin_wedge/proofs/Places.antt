@@ -1,7 +1,7 @@
 -- Which of two numbers stands before the other, by their places.
-use Rattle.std.proofs.Common.{◌≡◌, ◌≢◌, refl, sym, ap, ◌∙◌, subst, arith, List, [], ◌∷◌, ℕ, zero, suc, ◌+◌, ◌<◌, ◌≤◌, Bool, true, false, ◌||◌, ◌&&◌, nat_eq, length, Some, inl, inr, ◌⊎◌}
+use Rattle.std.proofs.Common.{◌≡◌, refl, sym, ap, ◌∙◌, arith, List, [], ◌∷◌, ℕ, zero, suc, ◌<◌, Bool, true, false, ◌||◌, ◌&&◌, nat_eq, Some, inl, inr, ◌⊎◌}
 use Rattle.std.specs.Prelude.{slice_get}
-use Rattle.std.proofs.lemmas.Bool.{cases_order}
+use Rattle.std.proofs.lemmas.Bool.{cases_order, false_from_ne_true}
 use Rattle.std.proofs.lemmas.Bool.Decides.{nat_tests}
 use Rattle.std.proofs.lemmas.Option.{same_Some}
 use Rattle.kin_motion.specs.Numbers.{is_in}
@@ -46,14 +46,10 @@ before_from_places (x ∷ xs) (suc p) (suc q) i j a b h = let r = before_from_pl
     at true r = refl
     at false r = r
 
-pub not_true : (b : Bool) → (b ≡ true → ⊥) → b ≡ false
-not_true true h = absurd (h refl)
-not_true false h = refl
-
 module _ (xs : List ℕ) (apart : AreDistinct xs) where
   -- by the places that are known
   pub before_by_places : (p q i j : ℕ) → slice_get xs p ≡ Some i → slice_get xs q ≡ Some j → (q ≡ p) ⊎ (q < p) → stands_before xs i j ≡ false
-  before_by_places p q i j a b h = not_true _ (λ t. let r = places_from_before xs i j t in let e = apart p r.first i a r.at-first in let f = apart q r.second j b r.at-second in let o = r.order in late h e f o)
+  before_by_places p q i j a b h = false_from_ne_true _ (λ t. let r = places_from_before xs i j t in let e = apart p r.first i a r.at-first in let f = apart q r.second j b r.at-second in let o = r.order in late h e f o)
     where
       late : {x y : ℕ} → (q ≡ p) ⊎ (q < p) → p ≡ x → q ≡ y → x < y → ⊥
       late (inl g) e f o = omega (arith, g, e, f, o)

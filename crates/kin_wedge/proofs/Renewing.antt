@@ -1,21 +1,14 @@
 -- A candidate after an offer is in its octant.
-use Rattle.std.proofs.Common.{◌≡◌, refl, sym, ap, ◌∙◌, subst, arith, ◌+◌, ◌*◌, ◌<◌, List, ℕ, Bool, true, false, cond, ◌&&◌, Some, None, Option, inl, inr, ◌⊎◌}
+use Rattle.std.proofs.Common.{◌≡◌, refl, sym, ap, ◌∙◌, arith, ◌*◌, ◌<◌, List, ℕ, Bool, true, false, cond, Some, None, Option, inl, inr, ◌⊎◌}
 use Rattle.std.specs.Prelude.{slice_get}
 use Rattle.std.proofs.lemmas.Option.{same_Some}
+use Rattle.std.proofs.lemmas.Bool.{cases_Bool, and_parts}
 use Rattle.kin_motion.specs.Numbers.{is_in}
 use Rattle.kin_motion.specs.Changes.{stands_before}
 use Rattle.kin_motion.specs.Octants.{Octant, octants}
-use Rattle.kin_wedge.specs.Rows.{row_of, stands_after, is_in_wedge, IsFirst, IsFirstAnswer, HaveSlots}
+use Rattle.kin_wedge.specs.Rows.{row_of, stands_after, is_in_wedge, IsFirstAnswer, HaveSlots}
 use Rattle.kin_wedge.specs.Touched.{IsRenewed}
 use Rattle.kin_wedge.proofs.Places.{first_is_in, second_is_in}
-
-true_or_not : (b : Bool) → (b ≡ true) ⊎ (b ≡ false)
-true_or_not true = inl refl
-true_or_not false = inr refl
-
-first_part : (a b : Bool) → a && b ≡ true → a ≡ true
-first_part true b h = refl
-first_part false b h = absurd cc
 
 module _ (rows : List (List ℕ)) (o : Octant) (p : ℕ) where
   answer_within : (new : Option ℕ) (c : ℕ) → IsFirstAnswer rows o p new → new ≡ Some c → is_in_wedge rows o p c ≡ true
@@ -24,12 +17,12 @@ module _ (rows : List (List ℕ)) (o : Octant) (p : ℕ) where
 
   pub renewed_within : (old offer new : Option ℕ) (c : ℕ) → IsRenewed rows o p old offer new → new ≡ Some c → is_in_wedge rows o p c ≡ true
   renewed_within old None new c r e = answer_within new c (r.looked_up refl) e
-  renewed_within None (Some q) new c r e = at (true_or_not (is_in_wedge rows o p q))
+  renewed_within None (Some q) new c r e = at (cases_Bool (is_in_wedge rows o p q))
     where
       at : (is_in_wedge rows o p q ≡ true) ⊎ (is_in_wedge rows o p q ≡ false) → is_in_wedge rows o p c ≡ true
       at (inl t) = ap (is_in_wedge rows o p) (same_Some c q (sym e ∙ r.taken q refl refl t)) ∙ t
       at (inr f) = absurd (let g : None ≡ Some c = sym (r.still_none q refl refl f) ∙ e in cc)
-  renewed_within (Some d) (Some q) new c r e = at (true_or_not (is_in_wedge rows o p d))
+  renewed_within (Some d) (Some q) new c r e = at (cases_Bool (is_in_wedge rows o p d))
     where
       kept : is_in_wedge rows o p d ≡ true → (is_in_wedge rows o p q ≡ false) ⊎ (stands_after rows o.third q d ≡ false) → is_in_wedge rows o p c ≡ true
       kept t w = ap (is_in_wedge rows o p) (same_Some c d (sym e ∙ r.kept d q refl t refl w)) ∙ t
@@ -39,16 +32,16 @@ module _ (rows : List (List ℕ)) (o : Octant) (p : ℕ) where
       order t i (inr w) = kept t (inr w)
 
       offer : is_in_wedge rows o p d ≡ true → (is_in_wedge rows o p q ≡ true) ⊎ (is_in_wedge rows o p q ≡ false) → is_in_wedge rows o p c ≡ true
-      offer t (inl i) = order t i (true_or_not (stands_after rows o.third q d))
+      offer t (inl i) = order t i (cases_Bool (stands_after rows o.third q d))
       offer t (inr f) = kept t (inl f)
 
       at : (is_in_wedge rows o p d ≡ true) ⊎ (is_in_wedge rows o p d ≡ false) → is_in_wedge rows o p c ≡ true
-      at (inl t) = offer t (true_or_not (is_in_wedge rows o p q))
+      at (inl t) = offer t (cases_Bool (is_in_wedge rows o p q))
       at (inr f) = answer_within new c (r.lost d refl f) e
 
   -- who is in an octant is in the lists, so it has slots
   pub within_slots : (n c : ℕ) → HaveSlots rows n → is_in_wedge rows o p c ≡ true → 8 * c < n
-  within_slots n c slots h = at o.first.from_end (first_part _ _ h)
+  within_slots n c slots h = at o.first.from_end (and_parts _ _ h).0
     where
       member : is_in c (row_of rows o.first.part) ≡ true → 8 * c < n
       member m = let s = slots o.first.part c m in omega (arith, s)

@@ -1,14 +1,14 @@
 -- A scan of an order that begins behind the apex.
-use Rattle.std.proofs.Common.{◌≡◌, ◌≢◌, refl, sym, ap, ◌∙◌, subst, arith, List, ℕ, zero, suc, ◌+◌, ◌-◌, ◌<◌, ◌≤◌, Bool, true, false, cond, length, Some, None, Option, inl, inr, ◌⊎◌, nat_lt}
+use Rattle.std.proofs.Common.{◌≡◌, ◌≢◌, sym, ap, ◌∙◌, arith, List, ℕ, ◌+◌, ◌-◌, ◌<◌, ◌≤◌, Bool, true, false, cond, length, Some, inl, inr, ◌⊎◌, nat_lt}
 use Rattle.std.specs.Prelude.{slice_get}
-use Rattle.std.proofs.lemmas.Bool.{cases_order}
+use Rattle.std.proofs.lemmas.Bool.{cases_order, false_from_ne_true}
 use Rattle.std.proofs.lemmas.Bool.Decides.{nat_tests}
-use Rattle.std.proofs.lemmas.Option.{slice_get_within, same_Some}
+use Rattle.std.proofs.lemmas.Option.{same_Some}
 use Rattle.kin_motion.specs.Numbers.{is_in}
 use Rattle.kin_motion.specs.Changes.{stands_before}
 use Rattle.kin_motion.specs.Sets.{AreDistinct}
 use Rattle.kin_wedge.specs.Scans.{IsAhead, step_to, steps_in}
-use Rattle.kin_wedge.proofs.Places.{before_from_places, before_by_places, places_from_before, first_is_in, second_is_in, not_true}
+use Rattle.kin_wedge.proofs.Places.{before_from_places, before_by_places, places_from_before, first_is_in, second_is_in}
 
 -- the order of two numbers is that of their places
 pub compared : (xs : List ℕ) → AreDistinct xs → (p q i j : ℕ) → slice_get xs p ≡ Some i → slice_get xs q ≡ Some j → nat_lt p q ≡ stands_before xs i j
@@ -21,10 +21,10 @@ compared xs apart p q i j a b = at (cases_order p q)
 
 -- who is not in the list stands before none, and behind none
 pub absent_first : (xs : List ℕ) (i j : ℕ) → is_in i xs ≡ false → false ≡ stands_before xs i j
-absent_first xs i j out = sym (not_true _ (λ t. let m = first_is_in xs i j t in let c : true ≡ false = sym m ∙ out in cc))
+absent_first xs i j out = sym (false_from_ne_true _ (λ t. let m = first_is_in xs i j t in let c : true ≡ false = sym m ∙ out in cc))
 
 pub absent_second : (xs : List ℕ) (i j : ℕ) → is_in j xs ≡ false → false ≡ stands_before xs i j
-absent_second xs i j out = sym (not_true _ (λ t. let m = second_is_in xs i j t in let c : true ≡ false = sym m ∙ out in cc))
+absent_second xs i j out = sym (false_from_ne_true _ (λ t. let m = second_is_in xs i j t in let c : true ≡ false = sym m ∙ out in cc))
 
 pub starts : (xs : List ℕ) → AreDistinct xs → (e : Bool) (place t apex q : ℕ) → slice_get xs place ≡ Some apex → slice_get xs t ≡ Some q → cond e (stands_before xs q apex) (stands_before xs apex q) ≡ true → IsAhead e place 0 t
 starts xs apart true place t apex q a b h = let r = places_from_before xs q apex h in let e = apart t r.first q b r.at-first in let f = apart place r.second apex a r.at-second in let o = r.order in omega (arith, e, f, o)

@@ -1,54 +1,23 @@
 -- Where the lists are the orders of a scene, what stands first in them is the candidate.
-use Rattle.std.proofs.Common.{◌≡◌, ◌≢◌, refl, sym, ap, ap₂, ◌∙◌, subst, arith, List, [], ◌∷◌, ℕ, zero, suc, ◌+◌, ◌<◌, ◌≤◌, Bool, true, false, cond, ◌&&◌, ◌||◌, length, Some, None, Option, inl, inr, ◌⊎◌}
-use Rattle.std.specs.Prelude.{slice_get, filter, MatchOption}
-use Rattle.std.proofs.lemmas.Bool.{cases_eq}
-use Rattle.kin_motion.specs.Numbers.{is_in, IsIn, IsOnce}
-use Rattle.kin_motion.specs.Scene.{Scene, IsReal}
+use Rattle.std.proofs.Common.{◌≡◌, ◌≢◌, refl, sym, ap, ◌∙◌, subst, List, ℕ, ◌<◌, Bool, true, false, cond, Some, None, Option, inl, inr, ◌⊎◌}
+use Rattle.std.specs.Prelude.{slice_get}
+use Rattle.std.proofs.lemmas.Bool.{cases_eq, and_parts, and_from}
+use Rattle.kin_motion.specs.Numbers.{is_in, IsIn}
+use Rattle.kin_motion.specs.Scene.{Scene}
 use Rattle.kin_motion.specs.Changes.{stands_before}
-use Rattle.kin_motion.specs.Orders.{is_before, IsOrder}
-use Rattle.kin_motion.specs.Octants.{Octant, Reading, octants, direction_of, comes_after, is_in_octant, octant_members, IsCandidate, IsCandidateAnswer}
+use Rattle.kin_motion.specs.Orders.{is_before}
+use Rattle.kin_motion.specs.Octants.{Octant, Reading, octants, direction_of, comes_after, is_in_octant, octant_members, IsCandidateAnswer}
 use Rattle.kin_motion.specs.Laws.{HasLineLaws}
 use Rattle.kin_motion.proofs.AgreementLaws.{kept-members}
 use Rattle.kin_motion.proofs.CandidateLaws.{never_after_itself}
 use Rattle.kin_motion.specs.Sets.{AreDistinct}
 use Rattle.kin_list.proofs.OrderingLaws.{stands_in_order}
-use Rattle.kin_list.proofs.RowLaws.{is_in_from_get}
+use Rattle.kin_list.proofs.SettleLaws.{apart_from_once}
 use Rattle.kin_wedge.specs.Seen.{IsOfEight}
-use Rattle.kin_wedge.specs.Rows.{row_of, stands_after, is_in_wedge, IsFirst, IsFirstAnswer, AreOrders}
+use Rattle.kin_wedge.specs.EightLaws.{of_eight}
+use Rattle.kin_wedge.specs.Rows.{row_of, stands_after, is_in_wedge, IsFirstAnswer, AreOrders}
 use Rattle.kin_wedge.proofs.Places.{first_is_in, second_is_in, never_before_self, one_before}
 use Rattle.kin_wedge.proofs.ThirdAfter.{third_after}
-
--- no number stands at two places of a list in which none stands twice
-pub apart_from_once : (xs : List ℕ) → IsOnce xs → AreDistinct xs
-apart_from_once [] once p q x a b = absurd cc
-apart_from_once (y ∷ ys) once zero zero x a b = refl
-apart_from_once (y ∷ ys) once zero (suc q) x a b = absurd (let e : y ≡ x = cc in let t = is_in_from_get ys q x b in let o = once.0 in let c : true ≡ false = sym t ∙ ap (λ n. is_in n ys) (sym e) ∙ o in cc)
-apart_from_once (y ∷ ys) once (suc p) zero x a b = absurd (let e : y ≡ x = cc in let t = is_in_from_get ys p x a in let o = once.0 in let c : true ≡ false = sym t ∙ ap (λ n. is_in n ys) (sym e) ∙ o in cc)
-apart_from_once (y ∷ ys) once (suc p) (suc q) x a b = ap suc (apart_from_once ys once.1 p q x a b)
-
-both_true : (a b : Bool) → a && b ≡ true → (a ≡ true) × (b ≡ true)
-both_true true true h = (refl, refl)
-both_true true false h = absurd cc
-both_true false b h = absurd cc
-
-and_true : (a b : Bool) → a ≡ true → b ≡ true → a && b ≡ true
-and_true true true h k = refl
-and_true true false h k = absurd cc
-and_true false b h k = absurd cc
-
-same_octant : (a o : Octant) → IsOfEight a → Some a ≡ Some o → IsOfEight o
-same_octant a o h e = let same : a ≡ o = cc in subst IsOfEight same h
-
-pub of_eight : (w : ℕ) (o : Octant) → slice_get octants w ≡ Some o → IsOfEight o
-of_eight zero o e = same_octant _ o (record { first = omega arith; second = omega arith; third = omega arith }) e
-of_eight (suc zero) o e = same_octant _ o (record { first = omega arith; second = omega arith; third = omega arith }) e
-of_eight (suc (suc zero)) o e = same_octant _ o (record { first = omega arith; second = omega arith; third = omega arith }) e
-of_eight (suc (suc (suc zero))) o e = same_octant _ o (record { first = omega arith; second = omega arith; third = omega arith }) e
-of_eight (suc (suc (suc (suc zero)))) o e = same_octant _ o (record { first = omega arith; second = omega arith; third = omega arith }) e
-of_eight (suc (suc (suc (suc (suc zero))))) o e = same_octant _ o (record { first = omega arith; second = omega arith; third = omega arith }) e
-of_eight (suc (suc (suc (suc (suc (suc zero)))))) o e = same_octant _ o (record { first = omega arith; second = omega arith; third = omega arith }) e
-of_eight (suc (suc (suc (suc (suc (suc (suc zero))))))) o e = same_octant _ o (record { first = omega arith; second = omega arith; third = omega arith }) e
-of_eight (suc (suc (suc (suc (suc (suc (suc (suc w)))))))) o e = absurd cc
 
 module _ (s : Scene) (laws : HasLineLaws s) (rows : List (List ℕ)) (orders : AreOrders s rows) where
   -- the lists have the live numbers
@@ -98,23 +67,23 @@ module _ (s : Scene) (laws : HasLineLaws s) (rows : List (List ℕ)) (orders : A
     -- in the octant by the lists is in the octant of the scene
     pub in_octant : (p q : ℕ) → is_in_wedge rows o p q ≡ true → (is_in p s.live ≡ true) × (is_in q s.live ≡ true) × (p ≢ q) × (is_in_octant s o p q ≡ true)
     in_octant p q h =
-        let b = both_true _ _ h in
+        let b = and_parts _ _ h in
         let l = after_live o.first p q known.first b.0 in (
           l.0,
           l.1,
           l.2,
-          and_true _ _ (sym (as_read o.first p q known.first l.2 l.0 l.1) ∙ b.0) (sym (as_read o.second p q known.second l.2 l.0 l.1) ∙ b.1),
+          and_from _ _ (sym (as_read o.first p q known.first l.2 l.0 l.1) ∙ b.0) (sym (as_read o.second p q known.second l.2 l.0 l.1) ∙ b.1),
         )
 
     pub in_wedge : (p q : ℕ) → is_in p s.live ≡ true → is_in q s.live ≡ true → is_in_octant s o p q ≡ true → is_in_wedge rows o p q ≡ true
     in_wedge p q a b h = at (cases_eq p q)
       where
         k : (comes_after s o.first p q ≡ true) × (comes_after s o.second p q ≡ true)
-        k = both_true _ _ h
+        k = and_parts _ _ h
 
         at : (p ≡ q) ⊎ (p ≢ q) → is_in_wedge rows o p q ≡ true
         at (inl e) = absurd (never_after_itself s laws o.first p (ap (comes_after s o.first p) e ∙ k.0))
-        at (inr n) = and_true _ _ (as_read o.first p q known.first n a b ∙ k.0) (as_read o.second p q known.second n a b ∙ k.1)
+        at (inr n) = and_from _ _ (as_read o.first p q known.first n a b ∙ k.0) (as_read o.second p q known.second n a b ∙ k.1)
 
     -- a member of the octant stands behind the apex in the third list
     pub third_behind : (p q : ℕ) → is_in_wedge rows o p q ≡ true → stands_after rows o.third p q ≡ true
@@ -132,7 +101,7 @@ module _ (s : Scene) (laws : HasLineLaws s) (rows : List (List ℕ)) (orders : A
         at (inr (inr l)) false = inr (inr l)
 
     in_members : (p q : ℕ) → is_in p s.live ≡ true → IsIn q (octant_members s o p) → is_in_wedge rows o p q ≡ true
-    in_members p q a h = let b = both_true _ _ (sym (kept-members (is_in_octant s o p) s.live q) ∙ h) in in_wedge p q a b.0 b.1
+    in_members p q a h = let b = and_parts _ _ (sym (kept-members (is_in_octant s o p) s.live q) ∙ h) in in_wedge p q a b.0 b.1
 
     -- the first by the lists is the candidate
     pub candidate : (p : ℕ) (answer : Option ℕ) → is_in p s.live ≡ true → IsFirstAnswer rows o p answer → IsCandidateAnswer s o p answer
@@ -140,7 +109,7 @@ module _ (s : Scene) (laws : HasLineLaws s) (rows : List (List ℕ)) (orders : A
     candidate p (Some c) a h =
         let l = in_octant p c h.member in
         record {
-          member = kept-members (is_in_octant s o p) s.live c ∙ and_true _ _ l.1 l.3;
+          member = kept-members (is_in_octant s o p) s.live c ∙ and_from _ _ l.1 l.3;
           first = λ q k. other q (in_members p q a k) (h.first q (in_members p q a k));
         }
       where

@@ -1,18 +1,11 @@
 -- What the exchanges, the number that enters and the one that leaves can have changed is offered.
-use Rattle.std.proofs.Common.{◌≡◌, ◌≢◌, refl, sym, ap, ap₂, ◌∙◌, subst, List, ℕ, Bool, true, false, cond, ◌&&◌, Some, None, Option, inl, inr, ◌⊎◌}
+use Rattle.std.proofs.Common.{◌≡◌, refl, sym, ap, ap₂, ◌∙◌, subst, List, ℕ, true, false, ◌&&◌, Some, None, Option, inl, inr, ◌⊎◌}
 use Rattle.std.specs.Prelude.{Contains}
 use Rattle.std.proofs.lemmas.Option.{same_Some}
+use Rattle.std.proofs.lemmas.Bool.{and_parts, both_ways}
 use Rattle.kin_motion.specs.Octants.{Octant, Reading}
-use Rattle.kin_wedge.specs.Rows.{stands_after, is_in_wedge, IsFirst, IsFirstAnswer}
+use Rattle.kin_wedge.specs.Rows.{stands_after, is_in_wedge, IsFirstAnswer}
 use Rattle.kin_wedge.specs.Touched.{IsAwaited}
-
-both_true : (a b : Bool) → a && b ≡ true → (a ≡ true) × (b ≡ true)
-both_true true true h = (refl, refl)
-both_true true false h = absurd cc
-both_true false b h = absurd cc
-
-clash : {A : Type 0} (b : Bool) → b ≡ true → b ≡ false → A
-clash b h k = absurd (let e : true ≡ false = sym h ∙ k in cc)
 
 -- in the course of a settle a number stays, enters or leaves; an order of two that stay is kept, or they were exchanged in it
 pub record HasPassed (old new : List (List ℕ)) : Type 1 where
@@ -56,10 +49,10 @@ module _ (old new : List (List ℕ)) (passed : HasPassed old new) (o : Octant) (
       of_number q k a (inl b) = within (kept_within q a b)
         where
           within : (is_in_wedge new o p q ≡ is_in_wedge old o p q) ⊎ (passed.Exchanged o.first.part p q ⊎ passed.Exchanged o.second.part p q) → Contains offers (Some q) ⊎ Contains offers None
-          within (inl e) = clash (is_in_wedge old o p q) (sym e ∙ k) (first q)
+          within (inl e) = absurd (both_ways (is_in_wedge old o p q) (first q) (sym e ∙ k))
           within (inr x) = inl (given.bounded q x)
       of_number q k a (inr (inl b)) = inl (given.entered q b k)
-      of_number q k a (inr (inr b)) = absurd (passed.gone_second o.first p q b (both_true _ _ k).0)
+      of_number q k a (inr (inr b)) = absurd (passed.gone_second o.first p q b (and_parts _ _ k).0)
 
       of_apex : (q : ℕ) → is_in_wedge new o p q ≡ true → passed.Stays p ⊎ (passed.Enters p ⊎ passed.Leaves p) → Contains offers (Some q) ⊎ Contains offers None
       of_apex q k (inl a) = of_number q k a (passed.kind q)
@@ -84,13 +77,13 @@ module _ (old new : List (List ℕ)) (passed : HasPassed old new) (o : Octant) (
 
       of_candidate : (q : ℕ) → is_in_wedge new o p q ≡ true → passed.Stays p → passed.Stays q → passed.Stays d ⊎ (passed.Enters d ⊎ passed.Leaves d) → ((q ≡ d) ⊎ (stands_after new o.third d q ≡ true)) ⊎ (Contains offers (Some q) ⊎ Contains offers None)
       of_candidate q k a b (inl s) = of_both q k a b s
-      of_candidate q k a b (inr (inl s)) = absurd (passed.new_second o.first p d s (both_true _ _ first.member).0)
+      of_candidate q k a b (inr (inl s)) = absurd (passed.new_second o.first p d s (and_parts _ _ first.member).0)
       of_candidate q k a b (inr (inr s)) = inr (inr (given.left d refl s))
 
       of_number : (q : ℕ) → is_in_wedge new o p q ≡ true → passed.Stays p → passed.Stays q ⊎ (passed.Enters q ⊎ passed.Leaves q) → ((q ≡ d) ⊎ (stands_after new o.third d q ≡ true)) ⊎ (Contains offers (Some q) ⊎ Contains offers None)
       of_number q k a (inl b) = of_candidate q k a b (passed.kind d)
       of_number q k a (inr (inl b)) = inr (inl (given.entered q b k))
-      of_number q k a (inr (inr b)) = absurd (passed.gone_second o.first p q b (both_true _ _ k).0)
+      of_number q k a (inr (inr b)) = absurd (passed.gone_second o.first p q b (and_parts _ _ k).0)
 
       of_apex : (q : ℕ) → is_in_wedge new o p q ≡ true → passed.Stays p ⊎ (passed.Enters p ⊎ passed.Leaves p) → ((q ≡ d) ⊎ (stands_after new o.third d q ≡ true)) ⊎ (Contains offers (Some q) ⊎ Contains offers None)
       of_apex q k (inl a) = of_number q k a (passed.kind q)
@@ -100,9 +93,9 @@ module _ (old new : List (List ℕ)) (passed : HasPassed old new) (o : Octant) (
       lost_candidate m a (inl s) = within (kept_within d a s)
         where
           within : (is_in_wedge new o p d ≡ is_in_wedge old o p d) ⊎ (passed.Exchanged o.first.part p d ⊎ passed.Exchanged o.second.part p d) → (x : Option ℕ) × Contains offers x
-          within (inl e) = clash (is_in_wedge new o p d) (e ∙ first.member) m
+          within (inl e) = absurd (both_ways (is_in_wedge new o p d) m (e ∙ first.member))
           within (inr x) = (Some d, given.bounded d x)
-      lost_candidate m a (inr (inl s)) = absurd (passed.new_second o.first p d s (both_true _ _ first.member).0)
+      lost_candidate m a (inr (inl s)) = absurd (passed.new_second o.first p d s (and_parts _ _ first.member).0)
       lost_candidate m a (inr (inr s)) = (None, given.left d refl s)
 
       lost_apex : is_in_wedge new o p d ≡ false → passed.Stays p ⊎ (passed.Enters p ⊎ passed.Leaves p) → (x : Option ℕ) × Contains offers x

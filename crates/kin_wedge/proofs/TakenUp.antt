@@ -1,14 +1,13 @@
 -- Touched slots come to their candidates one after another.
-use Rattle.std.proofs.Common.{◌≡◌, ◌≢◌, refl, sym, ap, ◌∙◌, subst, arith, List, [], ◌∷◌, ℕ, ◌+◌, ◌/◌, ◌%◌, ◌<◌, ◌≤◌, Bool, true, false, cond, nat_eq, length, set, drop, get_or, zero, suc, Some, Option, inl, inr, ◌⊎◌}
+use Rattle.std.proofs.Common.{◌≡◌, ◌≢◌, refl, sym, ap, ◌∙◌, subst, arith, List, [], ◌∷◌, ℕ, ◌+◌, ◌/◌, ◌%◌, ◌<◌, ◌≤◌, true, false, cond, nat_eq, length, set, drop, get_or, zero, suc, Some, Option, inl, inr, ◌⊎◌}
 use Rattle.std.specs.Prelude.{slice_get, Contains}
 use Rattle.std.proofs.lemmas.Bool.{cases_eq}
 use Rattle.std.proofs.lemmas.Bool.Decides.{nat_tests}
 use Rattle.std.proofs.lemmas.List.{drop_all}
-use Rattle.std.proofs.lemmas.Option.{same_Some, slice_get_within}
-use Rattle.kin_links.proofs.Edits.{get-set_same, get-set_other}
+use Rattle.kin_basics.proofs.Places.{get-set_same, get-set_other}
 use Rattle.kin_motion.specs.Octants.{Octant, octants}
 use Rattle.kin_wedge.specs.declared.touch.Touch.{Touch}
-use Rattle.kin_wedge.specs.Rows.{AreRows, AreRanked, IsFirstAnswer}
+use Rattle.kin_wedge.specs.Rows.{AreRows, AreRanked}
 use Rattle.kin_wedge.specs.Touched.{offers_for, IsAwaited, IsRenewed, IsOnItsWay, IsAnswered}
 use Rattle.kin_wedge.proofs.Awaited.{awaited_step, awaited_done}
 

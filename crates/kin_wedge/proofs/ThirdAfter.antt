@@ -1,30 +1,12 @@
 -- A member of an octant comes after the apex in the octant's third order.
-use Rattle.std.proofs.Common.{◌≡◌, ◌≢◌, refl, sym, ap, ◌∙◌, ℕ, zero, suc, Bool, true, false, not, ◌&&◌, Some, ℤ, pos, negsuc, ◌+ℤ◌}
+use Rattle.std.proofs.Common.{◌≡◌, ◌≢◌, refl, sym, ap, ◌∙◌, ℕ, zero, suc, Bool, true, false, not, Some, ℤ, pos, negsuc}
 use Rattle.std.specs.Prelude.{slice_get}
-use Rattle.kin_algebra.specs.declared.sign.Sign.{Sign}
-use Rattle.kin_algebra.specs.declared.sign.Sign.TheVariants.{Minus, Zero, Plus}
-use Rattle.kin_algebra.specs.Signs.{SumMayBe}
+use Rattle.std.proofs.lemmas.Bool.{and_parts}
 use Rattle.kin_motion.specs.Scene.{Scene}
-use Rattle.kin_motion.specs.Orders.{leads, is_before}
+use Rattle.kin_motion.specs.Orders.{is_before}
 use Rattle.kin_motion.specs.Octants.{Octant, octants, is_in_octant, comes_after}
 use Rattle.kin_motion.specs.Laws.{HasLineLaws}
-use Rattle.kin_motion.proofs.OctantLaws.{before_turned}
-
-both_true : (a b : Bool) → a && b ≡ true → (a ≡ true) × (b ≡ true)
-both_true true true h = (refl, refl)
-both_true true false h = absurd cc
-both_true false b h = absurd cc
-
--- before along two directions, then along their sum
-leads_along : (t u r : Sign) (i j : ℕ) → SumMayBe t u r → leads t i j ≡ true → leads u i j ≡ true → leads r i j ≡ true
-leads_along Minus u r i j sum a b = absurd cc
-leads_along Zero u r i j sum a b = ap (λ q. leads q i j) sum ∙ b
-leads_along Plus Minus r i j sum a b = absurd cc
-leads_along Plus Zero r i j sum a b = ap (λ q. leads q i j) sum
-leads_along Plus Plus r i j sum a b = ap (λ q. leads q i j) sum
-
-sum_of : (s : Scene) (laws : HasLineLaws s) (dx dy ex ey : ℤ) (i j : ℕ) → is_before s dx dy i j ≡ true → is_before s ex ey i j ≡ true → is_before s (dx +ℤ ex) (dy +ℤ ey) i j ≡ true
-sum_of s laws dx dy ex ey i j = leads_along _ _ _ i j (laws.directions dx dy ex ey i j)
+use Rattle.kin_motion.proofs.OctantLaws.{before_turned, sum_of}
 
 module _ (s : Scene) (laws : HasLineLaws s) where
   -- of two different numbers, that which is not before the other is behind it
@@ -78,14 +60,14 @@ module _ (s : Scene) (laws : HasLineLaws s) where
 
   by_number : (w : ℕ) (o : Octant) → slice_get octants w ≡ Some o → IsThirdAfter o
   unfolding IsThirdAfter
-  by_number zero o e = told _ o (λ p q n h. let k = both_true _ _ h in nought p q k.0 k.1) e
-  by_number (suc zero) o e = told _ o (λ p q n h. let k = both_true _ _ h in first p q n k.0 k.1) e
-  by_number (suc (suc zero)) o e = told _ o (λ p q n h. let k = both_true _ _ h in second p q n k.0 k.1) e
-  by_number (suc (suc (suc zero))) o e = told _ o (λ p q n h. let k = both_true _ _ h in third p q n k.0 k.1) e
-  by_number (suc (suc (suc (suc zero)))) o e = told _ o (λ p q n h. let k = both_true _ _ h in nought q p k.0 k.1) e
-  by_number (suc (suc (suc (suc (suc zero))))) o e = told _ o (λ p q n h. let k = both_true _ _ h in first q p (λ f. n (sym f)) k.0 k.1) e
-  by_number (suc (suc (suc (suc (suc (suc zero)))))) o e = told _ o (λ p q n h. let k = both_true _ _ h in second q p (λ f. n (sym f)) k.0 k.1) e
-  by_number (suc (suc (suc (suc (suc (suc (suc zero))))))) o e = told _ o (λ p q n h. let k = both_true _ _ h in third q p (λ f. n (sym f)) k.0 k.1) e
+  by_number zero o e = told _ o (λ p q n h. let k = and_parts _ _ h in nought p q k.0 k.1) e
+  by_number (suc zero) o e = told _ o (λ p q n h. let k = and_parts _ _ h in first p q n k.0 k.1) e
+  by_number (suc (suc zero)) o e = told _ o (λ p q n h. let k = and_parts _ _ h in second p q n k.0 k.1) e
+  by_number (suc (suc (suc zero))) o e = told _ o (λ p q n h. let k = and_parts _ _ h in third p q n k.0 k.1) e
+  by_number (suc (suc (suc (suc zero)))) o e = told _ o (λ p q n h. let k = and_parts _ _ h in nought q p k.0 k.1) e
+  by_number (suc (suc (suc (suc (suc zero))))) o e = told _ o (λ p q n h. let k = and_parts _ _ h in first q p (λ f. n (sym f)) k.0 k.1) e
+  by_number (suc (suc (suc (suc (suc (suc zero)))))) o e = told _ o (λ p q n h. let k = and_parts _ _ h in second q p (λ f. n (sym f)) k.0 k.1) e
+  by_number (suc (suc (suc (suc (suc (suc (suc zero))))))) o e = told _ o (λ p q n h. let k = and_parts _ _ h in third q p (λ f. n (sym f)) k.0 k.1) e
   by_number (suc (suc (suc (suc (suc (suc (suc (suc w)))))))) o e = absurd cc
 
   pub third_after : (w : ℕ) (o : Octant) (p q : ℕ) → slice_get octants w ≡ Some o → p ≢ q → is_in_octant s o p q ≡ true → comes_after s o.third p q ≡ true

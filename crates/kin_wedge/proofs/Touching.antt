@@ -3,37 +3,37 @@ use Rattle.std.proofs.Common.{◌≡◌, ◌≢◌, ◌+◌, ◌*◌, ◌<◌, N
 use Rattle.std.specs.Prelude.{Contains, slice_get}
 use Rattle.std.proofs.lemmas.Bool.{cases_eq}
 use Rattle.std.proofs.lemmas.Option.{same_Some, slice_get_within}
+use Rattle.kin_basics.proofs.Members.{contains_tail, contains_cases}
 use Rattle.kin_motion.specs.Octants.{Octant, octants}
-use Rattle.slab.proofs.SlabLemmas.{Contains-cons, Contains-cons_cases}
 use Rattle.kin_wedge.specs.declared.touch.Touch.{Touch}
 use Rattle.kin_wedge.specs.Touched.{IsOffered, AreKnown, HasTouched, HasOfferedBoth}
 
 in_front : (xs : List Touch) (y x : Touch) → Contains xs x → Contains (xs ++ y ∷ []) x
 in_front [] y x h = absurd (omega (arith, h.1))
-in_front (z ∷ zs) y x h = at (Contains-cons_cases z x zs h) (in_front zs y x)
+in_front (z ∷ zs) y x h = at (contains_cases z x zs h) (in_front zs y x)
   where
     at : (z ≡ x) ⊎ Contains zs x → (Contains zs x → Contains (zs ++ y ∷ []) x) → Contains (z ∷ zs ++ y ∷ []) x
     at (inl e) rest = (0, omega arith, e)
-    at (inr k) rest = Contains-cons z x (zs ++ y ∷ []) (rest k)
+    at (inr k) rest = contains_tail z x (zs ++ y ∷ []) (rest k)
 
 at_end : (xs : List Touch) (y : Touch) → Contains (xs ++ y ∷ []) y
 at_end [] y = (0, omega arith, refl)
-at_end (z ∷ zs) y = Contains-cons z y (zs ++ y ∷ []) (at_end zs y)
+at_end (z ∷ zs) y = contains_tail z y (zs ++ y ∷ []) (at_end zs y)
 
 front_or_end : (xs : List Touch) (y x : Touch) → Contains (xs ++ y ∷ []) x → Contains xs x ⊎ (y ≡ x)
-front_or_end [] y x h = at (Contains-cons_cases y x [] h)
+front_or_end [] y x h = at (contains_cases y x [] h)
   where
     at : (y ≡ x) ⊎ Contains [] x → Contains [] x ⊎ (y ≡ x)
     at (inl e) = inr e
     at (inr k) = inl k
-front_or_end (z ∷ zs) y x h = at (Contains-cons_cases z x (zs ++ y ∷ []) h) (front_or_end zs y x)
+front_or_end (z ∷ zs) y x h = at (contains_cases z x (zs ++ y ∷ []) h) (front_or_end zs y x)
   where
     at : (z ≡ x) ⊎ Contains (zs ++ y ∷ []) x → (Contains (zs ++ y ∷ []) x → Contains zs x ⊎ (y ≡ x)) → Contains (z ∷ zs) x ⊎ (y ≡ x)
     at (inl e) rest = inl (0, omega arith, e)
     at (inr k) rest = more (rest k)
       where
         more : Contains zs x ⊎ (y ≡ x) → Contains (z ∷ zs) x ⊎ (y ≡ x)
-        more (inl m) = inl (Contains-cons z x zs m)
+        more (inl m) = inl (contains_tail z x zs m)
         more (inr e) = inr e
 
 pub touched_more : (candidates : List (Option ℕ)) (old : List Touch) (t : Touch) → slice_get candidates t.slot ≡ Some t.old → HasTouched candidates old (old ++ t ∷ [])

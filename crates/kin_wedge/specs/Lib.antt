@@ -2,6 +2,12 @@ pub mod Cursors
 pub mod Rows
 pub mod Scans
 pub mod Seen
+pub mod EightLaws
 pub mod Tables
 pub mod Touched
 pub mod Laws
+pub mod Parts
+pub mod Costs
+pub mod Passages
+pub mod Wedging
+pub mod WedgingLaws

@@ -1,5 +1,5 @@
 -- The candidates of the slots, and the lists of hits that mirror them.
-use Rattle.std.specs.Prelude.{◌≡◌, ℕ, ◌+◌, ◌*◌, ◌/◌, ◌%◌, ◌<◌, List, [], ◌∷◌, length, map, Option, Some, None, slice_get, Contains}
+use Rattle.std.specs.Prelude.{◌≡◌, ℕ, ◌+◌, ◌*◌, ◌/◌, ◌%◌, ◌<◌, List, [], length, map, Option, Some, None, slice_get, Contains}
 use Rattle.kin_motion.specs.Sets.{AreDistinct}
 use Rattle.kin_links.specs.Family.{Linked}
 use Rattle.kin_wedge.specs.declared.table.Hit.{Hit}

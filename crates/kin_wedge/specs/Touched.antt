@@ -1,8 +1,8 @@
 -- Slots whose candidate may change, and the numbers that are offered to them.
-use Rattle.std.specs.Prelude.{◌≡◌, ℕ, ◌+◌, ◌*◌, ◌/◌, true, false, cond, nat_eq, List, [], ◌∷◌, Option, Some, None, MatchOption, Contains, slice_get, ◌⊎◌}
+use Rattle.std.specs.Prelude.{◌≡◌, ℕ, ◌+◌, ◌*◌, ◌/◌, true, false, cond, nat_eq, List, [], ◌∷◌, Option, Some, None, Contains, slice_get, ◌⊎◌}
 use Rattle.kin_motion.specs.Octants.{Octant, octants}
 use Rattle.kin_wedge.specs.declared.touch.Touch.{Touch}
-use Rattle.kin_wedge.specs.Rows.{is_in_wedge, stands_after, IsFirst, IsFirstAnswer}
+use Rattle.kin_wedge.specs.Rows.{is_in_wedge, stands_after, IsFirstAnswer}
 
 -- what is offered to a slot, in order; `None` asks for a look-up
 abbrev pub offers_for : ℕ → List Touch → List (Option ℕ)

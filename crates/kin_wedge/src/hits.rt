@@ -1,6 +1,6 @@
 //! The slots that a number is the candidate of.
 
-ghost use Rattle.std.specs.Prelude.{◌≡◌, ◌<◌, length};
+ghost use Rattle.std.specs.Prelude.{◌≡◌, ◌<◌, [], length};
 ghost use Rattle.std.specs.Iterator.{YieldsFirst, item_count};
 ghost use Rattle.kin_links.specs.Family.{AreApart};
 ghost use Rattle.kin_wedge.specs.Cursors.{pairs_of, list_of};
@@ -37,6 +37,17 @@ impl<'a> Hits<'a> {
         let list = no as usize;
         let next = links.first(ListId(list));
         Hits { links, list, next }
+    }
+
+    /// No hits.
+    pub(crate) fn none(links: &'a Links<u32>) -> Hits<'a>
+        ensures { result ≡ [] }
+    {
+        Hits {
+            links,
+            list: 0,
+            next: None,
+        }
     }
 }
 

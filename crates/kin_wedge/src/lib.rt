@@ -3,17 +3,28 @@
 //! pair is found by, as in Basch, Guibas and Hershberger, "Data Structures for Mobile Data", Journal of
 //! Algorithms 31 (1999).
 //!
-//! The crate has the parts of which a kinetic structure over the eight orders is made: the table of
-//! candidates with the hits of each number, the slots that exchanges can have touched, and what a touched
-//! slot gets by an offer or a look-up. No structure is made of them yet.
+//! `Wedges` is `Kinetic`. It keeps eight kinetic lists, the candidate of each point in each octant, and
+//! for each point the list of the slots that it is the candidate of. After a `settle` only those slots
+//! are looked at that an exchange, or the number that enters or leaves, can have touched: a lost
+//! candidate is looked up by a scan that begins behind the apex, every other one is compared with what
+//! is offered to its slot. The sign tests of a `settle` are those of its eight lists.
 #![tactic(auto)]
 
+pub use wedges::Wedges;
+
 pub mod answer;
+mod around;
+pub mod candidates;
+mod changed;
 pub mod hits;
 pub mod laws;
 pub mod octant;
 pub mod orders;
+pub mod part;
+mod push;
 pub mod renew;
 pub mod rows;
+pub mod settle;
 pub mod table;
 pub mod touch;
+pub mod wedges;

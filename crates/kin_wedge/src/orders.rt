@@ -1,25 +1,47 @@
 //! The eight orders.
 
-ghost use Rattle.std.specs.Prelude.{◌≡◌, ◌<◌, Some, slice_get, length};
+ghost use Rattle.std.specs.Prelude.{◌≡◌, ℕ, ◌<◌, ◌≤◌, ◌^◌, Some, slice_get, length, IfOk};
 ghost use Rattle.kin_motion.specs.Changes.{stands_before};
+ghost use Rattle.kin_wedge.specs.Parts.{AreVacant, vacant_listing};
 ghost use Rattle.kin_wedge.specs.Rows.{row_of, stands_after, is_in_wedge, AreRows};
 ghost use Rattle.kin_wedge.specs.Seen.{octant_seen, reading_seen, rows_of, IsOfEight};
 
-use crate::octant::{Octant, Reading};
+use crate::octant::{Octant, Reading, direction};
+use crate::push::push;
 use kin_list::KinList;
+use kin_num::memory::NoMemory;
+use std::alloc::Global;
 
 /// The eight kinetic lists, by part.
 #[derive(Drop)]
 pub struct Orders {
-    lists: Vec<KinList>,
+    pub(crate) lists: Vec<KinList>,
+}
+
+/// The empty list of a part.
+fn new_list(alloc: Global, part: u32, size: u32) -> Result<KinList, NoMemory>
+    requires part { part < 8 }
+    requires low { 1 ≤ size }
+    requires high { size ≤ 12 }
+    ensures { IfOk result (λ l. l ≡ vacant_listing size part) }
+{
+    let (dx, dy) = direction(part);
+    KinList::new(alloc, dx, dy, size)
 }
 
 impl Orders {
-    /// The eight lists.
-    pub fn of(lists: Vec<KinList>) -> Orders
-        ensures { result.lists ≡ lists }
+    /// Eight empty lists for the numbers below `2^size`.
+    pub fn new(alloc: Global, size: u32) -> Result<Orders, NoMemory>
+        requires low { 1 ≤ size }
+        requires high { size ≤ 12 }
+        ensures { IfOk result (λ o. AreVacant size o.lists.items) }
     {
-        Orders { lists }
+        let mut lists = Vec::new(alloc);
+        for part in 0..8 {
+            let list = new_list(alloc, part, size)?;
+            push(&mut lists, list)?;
+        }
+        Ok(Orders { lists })
     }
 
     /// The list of a part.

@@ -14,7 +14,7 @@ use crate::touch::Touch;
 use kin_num::memory::NoMemory;
 
 /// Whether they are the same.
-fn is_same(old: Option<u32>, new: Option<u32>) -> bool
+pub fn is_same(old: Option<u32>, new: Option<u32>) -> bool
     ensures { IsTrue result ↔ (old ≡ new) }
 {
     match (old, new) {

@@ -1,14 +1,23 @@
 //! The rows of the eight orders as they were before a settle follow the exchanges.
 
-ghost use Rattle.std.specs.Prelude.{◌≡◌, ℕ, suc, ◌+◌, ◌*◌, ◌^◌, ◌<◌, Some, true, length, slice_get, OnOk};
+ghost use Rattle.std.specs.Prelude.{◌≡◌, ℕ, suc, ◌+◌, ◌*◌, ◌^◌, ◌<◌, Some, [], true, length, slice_get, IfOk, OnOk};
 ghost use Rattle.kin_motion.specs.Numbers.{is_in};
+ghost use Rattle.kin_list.specs.Listing.{staying, lasting, without};
 ghost use Rattle.kin_list.specs.Rows.{exchange, exchanged};
-ghost use Rattle.kin_wedge.specs.Rows.{WereExchanged};
+ghost use Rattle.kin_wedge.specs.Parts.{swaps_of};
+ghost use Rattle.kin_wedge.specs.Passages.{AreExchangesOffered, AreVacantRows};
+ghost use Rattle.kin_wedge.specs.Rows.{row_of, HaveSlots, WereExchanged};
+ghost use Rattle.kin_wedge.specs.Seen.{rows_of};
 ghost use Rattle.kin_wedge.specs.Touched.{HasTouched, HasOfferedBoth};
 
+use crate::orders::Orders;
+use crate::push::push;
 use crate::table::Table;
 use crate::touch::Touches;
+use kin_list::{KinList, Mark};
 use kin_num::memory::NoMemory;
+use std::alloc::Global;
+use std::marker::Model;
 
 /// Makes one exchange in a row, and notes the slots that it can have touched.
 fn follow_one(
@@ -51,4 +60,123 @@ pub fn follow_row(
         follow_one(row, part, *place, table, touches)?;
     }
     Ok(())
+}
+
+/// The numbers of one order as they were before a settle.
+#[derive(Drop)]
+pub struct Row {
+    numbers: Vec<u32>,
+}
+
+impl Model for Row {
+    ghost use Rattle.std.specs.Prelude.{ℕ, List};
+
+    ghost Value = { List ℕ };
+
+    ghost view = { λ r. r.numbers.items };
+}
+
+impl Row {
+    /// No numbers.
+    fn new(alloc: Global) -> Row
+        ensures { result ≡ [] }
+    {
+        Row {
+            numbers: Vec::new(alloc),
+        }
+    }
+
+    /// Takes out the number of a mark that leaves.
+    fn let_go(&mut self, mark: Mark)
+        ensures { self.new ≡ staying mark self.old }
+    {
+        if let Mark::Leaves(no) = mark {
+            take_out(&mut self.numbers, no);
+        }
+    }
+
+    /// Takes in the number of a mark that has entered a list.
+    fn take_in(&mut self, mark: Mark, list: &KinList) -> Result<(), NoMemory>
+        requires { self.old ≡ lasting mark list.now.items }
+        ensures { OnOk result (self.new ≡ list.now.items) }
+    {
+        if let Mark::Enters(_) = mark {
+            self.numbers.clear();
+            self.numbers.extend_from_slice(list.items())?;
+        }
+        Ok(())
+    }
+
+    /// Makes the exchanges of a list, and notes the slots that they can have touched.
+    fn follow(
+        &mut self,
+        mark: Mark,
+        part: u32,
+        list: &KinList,
+        table: &Table,
+        touches: &mut Touches,
+    ) -> Result<(), NoMemory>
+        requires exchanges { exchanged list.now.swaps (staying mark self.old) ≡ lasting mark list.now.items }
+        requires members { (x : ℕ) → is_in x self.old ≡ true → 8 * x + 7 < length table.now }
+        requires small { length table.now < 2 ^ 32 }
+        ensures row { OnOk result (self.new ≡ list.now.items) }
+        ensures offered { OnOk result ((a b : ℕ) → WereExchanged list.now.swaps (staying mark self.old) a b → HasOfferedBoth table.now part a b touches.new.all.items) }
+        ensures touched { OnOk result (HasTouched table.now touches.old.all.items touches.new.all.items) }
+    {
+        self.let_go(mark);
+        follow_row(&mut self.numbers, part, list.swaps(), table, touches)?;
+        self.take_in(mark, list)
+    }
+}
+
+/// Takes out a number.
+fn take_out(row: &mut Vec<u32>, no: u32)
+    ensures { row.new.items ≡ without no row.old.items }
+{
+    row.retain(|x| *x != no);
+}
+
+/// The rows of the eight orders as they were before a settle.
+#[derive(Drop)]
+pub struct Rows {
+    rows: Vec<Row>,
+}
+
+impl Rows {
+    /// Eight empty rows.
+    pub fn new(alloc: Global) -> Result<Rows, NoMemory>
+        ensures { IfOk result (λ r. AreVacantRows r.rows.items) }
+    {
+        let mut rows = Vec::new(alloc);
+        for part in 0..8u32 {
+            let _ = part;
+            push(&mut rows, Row::new(alloc))?;
+        }
+        Ok(Rows { rows })
+    }
+
+    /// Brings all rows to the orders as they are now, and notes the slots that their exchanges can
+    /// have touched.
+    pub fn follow(
+        &mut self,
+        mark: Mark,
+        orders: &Orders,
+        table: &Table,
+        touches: &mut Touches,
+    ) -> Result<(), NoMemory>
+        requires count { length orders.now.lists.items ≡ 8 }
+        requires rows { length self.old.rows.items ≡ 8 }
+        requires exchanges { (part : ℕ) → exchanged (row_of (swaps_of orders.now.lists.items) part) (staying mark (row_of self.old.rows.items part)) ≡ lasting mark (row_of (rows_of orders.now.lists.items) part) }
+        requires members { HaveSlots self.old.rows.items (length table.now) }
+        requires small { length table.now < 2 ^ 32 }
+        ensures rows { OnOk result (self.new.rows.items ≡ rows_of orders.now.lists.items) }
+        ensures offered { OnOk result (AreExchangesOffered mark (swaps_of orders.now.lists.items) self.old.rows.items table.now touches.new.all.items) }
+        ensures touched { OnOk result (HasTouched table.now touches.old.all.items touches.new.all.items) }
+    {
+        for part in 0..8 {
+            let row = &mut self.rows[part as usize];
+            row.follow(mark, part, orders.list(part), table, touches)?;
+        }
+        Ok(())
+    }
 }

@@ -86,10 +86,15 @@ impl Table {
 
     /// The apexes and octants whose candidate a number is, each once.
     pub fn hits(&self, no: u32) -> Hits<'_>
-        requires { 8 * no < length self.now }
         ensures { AreHits self.now no result }
     {
-        Hits::new(&self.links, no)
+        let list = no as usize;
+        let lists = self.held.len() / 8;
+        if list < lists {
+            Hits::new(&self.links, no)
+        } else {
+            Hits::none(&self.links)
+        }
     }
 }
 

@@ -80,7 +80,7 @@ impl Touches {
     }
 
     /// Offers a number to the slot of an apex and an octant, where that is wanted.
-    fn add_if(
+    pub fn add_if(
         &mut self,
         is_wanted: bool,
         table: &Table,
@@ -115,7 +115,6 @@ impl Touches {
 
     /// Has all slots looked up whose candidate a number is.
     pub fn add_lost(&mut self, table: &Table, no: u32) -> Result<(), NoMemory>
-        requires number { 8 * no < length table.now }
         requires small { length table.now < 2 ^ 32 }
         ensures offered { OnOk result ((slot : ℕ) → slice_get table.now slot ≡ Some (Some no) → IsOffered self.new.all.items slot None) }
         ensures touched { OnOk result (HasTouched table.now self.old.all.items self.new.all.items) }
@@ -128,7 +127,6 @@ impl Touches {
 
     /// Offers a number to the slots whose candidate another is, in the octants that an order ranks.
     fn offer_beside(&mut self, table: &Table, part: u32, of: u32, no: u32) -> Result<(), NoMemory>
-        requires number { 8 * of < length table.now }
         requires small { length table.now < 2 ^ 32 }
         ensures offered { OnOk result ((apex w : ℕ) (o : Bounds) → slice_get octants w ≡ Some o → o.third.part ≡ part → slice_get table.now (8 * apex + w) ≡ Some (Some of) → IsOffered self.new.all.items (8 * apex + w) (Some no)) }
         ensures touched { OnOk result (HasTouched table.now self.old.all.items self.new.all.items) }

@@ -1,5 +1,4 @@
 use Rattle.std.proofs.Common.{◌≡◌, ◌∙◌, sym, ap, subst, ℕ, ◌/◌, ◌%◌, Option, Some}
-use Rattle.std.specs.Prelude.{slice_get}
 use Rattle.std.proofs.lemmas.Option.{same_Some}
 use Rattle.kin_motion.specs.Octants.{Octant}
 use Rattle.kin_wedge.specs.Seen.{octant_seen, rows_of}

@@ -1,4 +1,4 @@
-use Rattle.kin_wedge.proofs.Following.{follow_first, follow_more, follow_row_done, follow_offered}
+use Rattle.kin_wedge.proofs.Following.{follow_more}
 use Rattle.kin_wedge.proofs.rows.follow_row.Goals as goal
 
 pub loop-place-preserved : goal.loop-place-preserved

@@ -1,4 +1,4 @@
-use Rattle.std.proofs.Common.{◌≡◌, ◌∙◌, ap, ◌*◌, ℕ, List, Option, replicate}
+use Rattle.std.proofs.Common.{◌∙◌, ap, ◌*◌, ℕ, Option, replicate}
 use Rattle.std.specs.Prelude.{None}
 use Rattle.kin_wedge.specs.Tables.{candidates_of}
 use Rattle.kin_wedge.proofs.Empty.{mirrored_none, candidates-none}

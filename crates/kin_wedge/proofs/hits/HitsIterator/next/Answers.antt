@@ -1,4 +1,4 @@
-use Rattle.std.proofs.Common.{◌≡◌, ◌∙◌, refl, sym, subst, arith, List, ◌∷◌, ℕ, ◌<◌, length}
+use Rattle.std.proofs.Common.{◌≡◌, refl, sym, subst, arith, List, ◌∷◌, ℕ, ◌<◌, length}
 use Rattle.kin_wedge.specs.Cursors.{IsCursor}
 use Rattle.kin_wedge.proofs.Cursors.{standing, steps, next_cursor}
 use Rattle.kin_wedge.proofs.hits.HitsIterator.next.Goals as goal

@@ -1,16 +1,16 @@
-use Rattle.std.proofs.Common.{◌≡◌, ◌∙◌, sym, ap, subst, refl, List, ℕ, ◌<◌, ◌≤◌, false, true, Some, length, inl, inr}
-use Rattle.std.specs.Prelude.{slice_get, slice_index_or}
+use Rattle.std.proofs.Common.{◌≡◌, ◌∙◌, sym, ap, subst, refl, List, ℕ, ◌<◌, ◌≤◌, false, true, length}
+use Rattle.std.specs.Prelude.{slice_get}
 use Rattle.std.proofs.lemmas.Option.{slice_get_within, get_or_from_slice_get, slice_get-get_or}
+use Rattle.std.proofs.lemmas.Bool.{false_from_ne_true}
 use Rattle.kin_motion.specs.Numbers.{is_in}
-use Rattle.kin_wedge.specs.Rows.{is_in_wedge, row_of}
+use Rattle.kin_wedge.specs.Rows.{is_in_wedge}
 use Rattle.kin_wedge.specs.Scans.{steps_in, step_to}
 use Rattle.kin_wedge.specs.Seen.{octant_seen, rows_of}
-use Rattle.kin_wedge.proofs.Places.{not_true}
 use Rattle.kin_wedge.proofs.Scanning.{starts, goes_on, ends, behind_place, apex_there, found_first}
 use Rattle.kin_wedge.proofs.orders.Orders.look_up.Goals as goal
 
 pub returns-in_default : goal.returns-in_default
-returns-in_default c = λ q. not_true _ (λ m.
+returns-in_default c = λ q. false_from_ne_true _ (λ m.
     let t = apex_there _ c.args.octant.third.from_end c.args.apex q (c.requires.behind q m) in
     let f = ap (is_in c.args.apex) (sym c.list-list.ensures.row) ∙ c.in_default.ensures.none.0 refl in
     let e : true ≡ false = sym t ∙ f in
@@ -45,7 +45,7 @@ returns-then-is_in_octant c =
     }
 
 pub returns : goal.returns
-returns c = λ q. not_true _ (λ m.
+returns c = λ q. false_from_ne_true _ (λ m.
     let row = c.items-items.ensures ∙ c.list-list.ensures.row in
     let t = behind_place _ c.args.octant.third.from_end c.args.apex q (c.requires.behind q m) in
     let here = ap (λ (xs : List ℕ). slice_get xs t.0) row ∙ t.1 in

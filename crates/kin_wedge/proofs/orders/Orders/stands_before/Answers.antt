@@ -1,6 +1,5 @@
-use Rattle.std.proofs.Common.{◌≡◌, ◌∙◌, sym, ap, subst, refl, List, ℕ, nat_lt, false, true, Some}
+use Rattle.std.proofs.Common.{◌∙◌, sym, ap, subst, refl, List, ℕ}
 use Rattle.std.specs.Prelude.{slice_get, IsNone}
-use Rattle.kin_motion.specs.Changes.{stands_before}
 use Rattle.kin_motion.specs.Numbers.{is_in}
 use Rattle.kin_wedge.proofs.Scanning.{compared, absent_first, absent_second}
 use Rattle.kin_wedge.proofs.orders.Orders.stands_before.Goals as goal

@@ -1,5 +1,5 @@
-use Rattle.std.proofs.Common.{◌≡◌, ◌∙◌, sym, ap, List, Option, ℕ, set}
-use Rattle.std.specs.Prelude.{Some, None, OnOk}
+use Rattle.std.proofs.Common.{◌∙◌, sym, ap, List, Option, ℕ, set}
+use Rattle.std.specs.Prelude.{Some, None}
 use Rattle.std.proofs.lemmas.Result.{on_ok_weaker}
 use Rattle.kin_wedge.proofs.Mirrors.{set_twice}
 use Rattle.kin_wedge.proofs.table.Table.put.Goals as goal

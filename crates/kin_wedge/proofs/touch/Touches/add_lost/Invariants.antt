@@ -1,4 +1,3 @@
-use Rattle.std.proofs.Common.{ℕ}
 use Rattle.std.specs.Prelude.{None, ⊤}
 use Rattle.kin_wedge.proofs.Lost.{AreOfferedBut}
 use Rattle.kin_wedge.proofs.touch.Touches.add_lost.Given as goal

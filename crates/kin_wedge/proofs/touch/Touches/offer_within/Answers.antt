@@ -1,5 +1,5 @@
 use Rattle.kin_wedge.specs.Seen.{octant_seen}
-use Rattle.kin_wedge.proofs.Touching.{offered_within_none, offered_within_more, below_eight}
+use Rattle.kin_wedge.proofs.Touching.{offered_within_none, offered_within_more}
 use Rattle.kin_wedge.proofs.touch.Touches.offer_within.Goals as goal
 
 pub loop-w-init : goal.loop-w-init

@@ -1,0 +1,149 @@
+-- The eight rows follow their lists one after another.
+use Rattle.std.proofs.Common.{◌≡◌, ◌≢◌, refl, sym, ap, ap₂, ◌∙◌, subst, arith, List, [], ◌∷◌, ℕ, zero, suc, ◌+◌, ◌<◌, ◌≤◌, Bool, true, false, cond, not, nat_eq, filter, map, set, length, Some, None, Option, inl, inr, ◌⊎◌}
+use Rattle.std.specs.Prelude.{slice_get}
+use Rattle.std.proofs.lemmas.Bool.{cases_eq}
+use Rattle.std.proofs.lemmas.Bool.Decides.{nat_tests}
+use Rattle.std.proofs.lemmas.List.{length-set}
+use Rattle.std.proofs.lemmas.Option.{same_Some}
+use Rattle.kin_list.specs.declared.mark.Mark.{Mark}
+use Rattle.kin_list.specs.Listing.{Listing, staying, without}
+use Rattle.kin_wedge.specs.declared.touch.Touch.{Touch}
+use Rattle.kin_wedge.specs.Parts.{swaps_of}
+use Rattle.kin_wedge.specs.Passages.{AreExchangesOffered}
+use Rattle.kin_wedge.specs.Rows.{row_of, WereExchanged}
+use Rattle.kin_wedge.specs.Seen.{rows_of}
+use Rattle.kin_wedge.specs.Touched.{HasTouched, HasOfferedBoth}
+use Rattle.kin_wedge.proofs.Touching.{touched_none, touched_through, offered_stays}
+
+-- the numbers other than one
+kept_or_not : (who x : ℕ) (xs ys : List ℕ) → ys ≡ without who xs → (b : Bool) → nat_eq x who ≡ b → nat_eq who x ≡ b → cond (not (nat_eq x who)) (x ∷ ys) ys ≡ cond (nat_eq who x) (without who xs) (x ∷ without who xs)
+kept_or_not who x xs ys e true f g = ap (λ (b : Bool). cond (not b) (x ∷ ys) ys) f ∙ e ∙ sym (ap (λ (b : Bool). cond b (without who xs) (x ∷ without who xs)) g)
+kept_or_not who x xs ys e false f g = ap (λ (b : Bool). cond (not b) (x ∷ ys) ys) f ∙ ap (λ (zs : List ℕ). x ∷ zs) e ∙ sym (ap (λ (b : Bool). cond b (without who xs) (x ∷ without who xs)) g)
+
+same_test : (x y : ℕ) → nat_eq y x ≡ nat_eq x y
+same_test x y = grind (arith, nat_tests)
+
+pub filter-others : (who : ℕ) (xs : List ℕ) → filter (λ x. not (nat_eq x who)) xs ≡ without who xs
+filter-others who [] = refl
+filter-others who (x ∷ xs) = kept_or_not who x xs (filter (λ x. not (nat_eq x who)) xs) (filter-others who xs) (nat_eq x who) refl (same_test x who)
+
+-- a row by what stands in its place
+row_from : Option (List ℕ) → List ℕ
+row_from None = []
+row_from (Some xs) = xs
+
+row_read : (rows : List (List ℕ)) (k : ℕ) → row_of rows k ≡ row_from (slice_get rows k)
+unfolding row_from
+row_read [] k = refl
+row_read (r ∷ rs) zero = refl
+row_read (r ∷ rs) (suc k) = row_read rs k
+
+pub row_same : (old new : List (List ℕ)) (k : ℕ) → slice_get new k ≡ slice_get old k → row_of new k ≡ row_of old k
+row_same old new k e = row_read new k ∙ ap row_from e ∙ sym (row_read old k)
+
+pub row_there : (rows : List (List ℕ)) (k : ℕ) (r : List ℕ) → slice_get rows k ≡ Some r → row_of rows k ≡ r
+unfolding row_from
+row_there rows k r e = row_read rows k ∙ ap row_from e
+
+pub row_past : (rows : List (List ℕ)) (k : ℕ) → length rows ≤ k → row_of rows k ≡ []
+row_past [] k h = refl
+row_past (r ∷ rs) zero h = absurd (omega (arith, h))
+row_past (r ∷ rs) (suc k) h = row_past rs k (omega (arith, h))
+
+get-mapped : (f : Listing → List ℕ) (ls : List Listing) (k : ℕ) (l : Listing) → slice_get ls k ≡ Some l → slice_get (map f ls) k ≡ Some (f l)
+get-mapped f [] k l e = absurd cc
+get-mapped f (m ∷ ms) zero l e = ap (λ (x : Listing). Some (f x)) (same_Some m l e)
+get-mapped f (m ∷ ms) (suc k) l e = get-mapped f ms k l e
+
+pub items_there : (ls : List Listing) (k : ℕ) (l : Listing) → slice_get ls k ≡ Some l → row_of (rows_of ls) k ≡ l.items
+items_there ls k l e = row_there (rows_of ls) k l.items (get-mapped (λ (x : Listing). x.items) ls k l e)
+
+items_from : Option Listing → List ℕ
+items_from None = []
+items_from (Some l) = l.items
+
+items_read : (ls : List Listing) (k : ℕ) → row_of (rows_of ls) k ≡ items_from (slice_get ls k)
+unfolding items_from
+items_read [] k = refl
+items_read (l ∷ ls) zero = refl
+items_read (l ∷ ls) (suc k) = items_read ls k
+
+pub items_same : (old new : List Listing) (k : ℕ) → slice_get new k ≡ slice_get old k → row_of (rows_of new) k ≡ row_of (rows_of old) k
+items_same old new k e = items_read new k ∙ ap items_from e ∙ sym (items_read old k)
+
+pub swaps_there : (ls : List Listing) (k : ℕ) (l : Listing) → slice_get ls k ≡ Some l → row_of (swaps_of ls) k ≡ l.swaps
+swaps_there ls k l e = row_there (swaps_of ls) k l.swaps (get-mapped (λ (x : Listing). x.swaps) ls k l e)
+
+pub length-mapped : {A B : Type 0} (f : A → B) (xs : List A) → length (map f xs) ≡ length xs
+length-mapped {A} {B} f [] = refl
+length-mapped {A} {B} f (x ∷ xs) = ap suc (length-mapped f xs)
+
+-- rows with the same numbers
+pub same_rows : (xs ys : List (List ℕ)) → length xs ≡ length ys → ((k : ℕ) → k < length xs → row_of xs k ≡ row_of ys k) → xs ≡ ys
+same_rows [] [] l h = refl
+same_rows [] (y ∷ ys) l h = absurd (omega (arith, l))
+same_rows (x ∷ xs) [] l h = absurd (omega (arith, l))
+same_rows (x ∷ xs) (y ∷ ys) l h = ap₂ (λ (r : List ℕ) (rs : List (List ℕ)). r ∷ rs) (h 0 (omega arith)) (same_rows xs ys (omega (arith, l)) (λ k w. h (suc k) (omega (arith, w))))
+
+get-set_here : (rows : List (List ℕ)) (i : ℕ) (r : List ℕ) → i < length rows → row_of (set rows i r) i ≡ r
+get-set_here [] i r h = absurd (omega (arith, h))
+get-set_here (x ∷ xs) zero r h = refl
+get-set_here (x ∷ xs) (suc i) r h = get-set_here xs i r (omega (arith, h))
+
+get-set_there : (rows : List (List ℕ)) (i k : ℕ) (r : List ℕ) → k ≢ i → row_of (set rows i r) k ≡ row_of rows k
+get-set_there [] i k r n = refl
+get-set_there (x ∷ xs) zero zero r n = absurd (n refl)
+get-set_there (x ∷ xs) zero (suc k) r n = refl
+get-set_there (x ∷ xs) (suc i) zero r n = refl
+get-set_there (x ∷ xs) (suc i) (suc k) r n = get-set_there xs i k r (λ e. n (ap suc e))
+
+-- the first i rows are those of their lists
+pub record AreFollowed (mark : Mark) (lists : List Listing) (candidates : List (Option ℕ)) (old now : List (List ℕ)) (first ts : List Touch) (i : ℕ) : Type 0 where
+  pub count : length now ≡ length old
+  pub done : (part : ℕ) → part < i → row_of now part ≡ row_of (rows_of lists) part
+  pub left : (part : ℕ) → i ≤ part → row_of now part ≡ row_of old part
+  pub offered : (part a b : ℕ) → part < i → WereExchanged (row_of (swaps_of lists) part) (staying mark (row_of old part)) a b → HasOfferedBoth candidates part a b ts
+  pub touched : HasTouched candidates first ts
+
+module _ (mark : Mark) (lists : List Listing) (candidates : List (Option ℕ)) (old : List (List ℕ)) (first : List Touch) where
+  pub followed_none : AreFollowed mark lists candidates old old first first 0
+  followed_none = record { count = refl; done = λ part h. absurd (omega (arith, h)); left = λ part h. refl; offered = λ part a b h. absurd (omega (arith, h)); touched = touched_none candidates first }
+
+  pub followed_more : (now : List (List ℕ)) (row : List ℕ) (ts us : List Touch) (i : ℕ) (l : Listing) → slice_get lists i ≡ Some l → i < length now → AreFollowed mark lists candidates old now first ts i → row ≡ l.items
+      → ((a b : ℕ) → WereExchanged l.swaps (staying mark (row_of now i)) a b → HasOfferedBoth candidates i a b us) → HasTouched candidates ts us → AreFollowed mark lists candidates old (set now i row) first us (i + 1)
+  followed_more now row ts us i l here w a e o t = record {
+    count = length-set now i row ∙ a.count;
+    done = λ part h. done part h (cases_eq part i);
+    left = λ part h. get-set_there now i part row (λ s. omega (arith, s, h)) ∙ a.left part (omega (arith, h));
+    offered = λ part x y h k. offered part x y h k (cases_eq part i);
+    touched = touched_through candidates first ts us a.touched t;
+  }
+    where
+      done : (part : ℕ) → part < i + 1 → (part ≡ i) ⊎ (part ≢ i) → row_of (set now i row) part ≡ row_of (rows_of lists) part
+      done part h (inl s) = ap (row_of (set now i row)) s ∙ get-set_here now i row w ∙ e ∙ sym (items_there lists i l here) ∙ ap (row_of (rows_of lists)) (sym s)
+      done part h (inr n) = get-set_there now i part row n ∙ a.done part (omega (arith, h, n))
+
+      own : (x y : ℕ) → WereExchanged (row_of (swaps_of lists) i) (staying mark (row_of old i)) x y → HasOfferedBoth candidates i x y us
+      own x y k = o x y (subst (λ (sw : List ℕ). WereExchanged sw (staying mark (row_of now i)) x y) (swaps_there lists i l here) (subst (λ (r : List ℕ). WereExchanged (row_of (swaps_of lists) i) (staying mark r) x y) (sym (a.left i (omega arith))) k))
+
+      offered : (part x y : ℕ) → part < i + 1 → WereExchanged (row_of (swaps_of lists) part) (staying mark (row_of old part)) x y → (part ≡ i) ⊎ (part ≢ i) → HasOfferedBoth candidates part x y us
+      offered part x y h k (inl s) = subst (λ (n : ℕ). HasOfferedBoth candidates n x y us) (sym s) (own x y (subst (λ (n : ℕ). WereExchanged (row_of (swaps_of lists) n) (staying mark (row_of old n)) x y) s k))
+      offered part x y h k (inr n) = offered_stays candidates ts us part x y t (a.offered part x y (omega (arith, h, n)) k)
+
+  pub followed_rows : (now : List (List ℕ)) (ts : List Touch) (i : ℕ) → length old ≡ 8 → length lists ≡ 8 → 8 ≤ i → AreFollowed mark lists candidates old now first ts i → now ≡ rows_of lists
+  followed_rows now ts i m n h a =
+      let c = a.count in
+      let r = length-mapped (λ (x : Listing). x.items) lists in
+      same_rows now (rows_of lists) (c ∙ m ∙ sym (r ∙ n)) (λ k w. a.done k (omega (arith, w, c, m, h)))
+
+  pub followed_offers : (now : List (List ℕ)) (ts : List Touch) (i : ℕ) → length lists ≡ 8 → 8 ≤ i → AreFollowed mark lists candidates old now first ts i → AreExchangesOffered mark (swaps_of lists) old candidates ts
+  followed_offers now ts i n h a = λ part x y k. at part x y k (cases_le part)
+    where
+      cases_le : (part : ℕ) → (part < i) ⊎ (8 ≤ part)
+      cases_le part = grind (arith, h)
+
+      at : (part x y : ℕ) → WereExchanged (row_of (swaps_of lists) part) (staying mark (row_of old part)) x y → (part < i) ⊎ (8 ≤ part) → HasOfferedBoth candidates part x y ts
+      at part x y k (inl w) = a.offered part x y w k
+      at part x y k (inr w) =
+          let r = length-mapped (λ (l : Listing). l.swaps) lists in
+          absurd (subst (λ (sw : List ℕ). WereExchanged sw (staying mark (row_of old part)) x y) (row_past (swaps_of lists) part (omega (arith, r, n, w))) k)

@@ -1,0 +1,72 @@
+-- A number that enters is offered to each octant that it is in.
+use Rattle.std.proofs.Common.{◌≡◌, ◌≢◌, sym, ap, ◌∙◌, subst, arith, List, ℕ, ◌+◌, ◌*◌, ◌<◌, ◌≤◌, Bool, true, false, cond, length, Some, Option, inl, inr, ◌⊎◌}
+use Rattle.std.specs.Prelude.{slice_get}
+use Rattle.std.proofs.lemmas.Bool.{cases_eq, and_parts}
+use Rattle.std.proofs.lemmas.Option.{same_Some, slice_get_within}
+use Rattle.kin_motion.specs.Changes.{stands_before}
+use Rattle.kin_motion.specs.Numbers.{is_in}
+use Rattle.kin_motion.specs.Octants.{Octant, octants}
+use Rattle.kin_list.proofs.RowLaws.{get_from_is_in}
+use Rattle.kin_wedge.specs.declared.touch.Touch.{Touch}
+use Rattle.kin_wedge.specs.Passages.{IsOfferedAround}
+use Rattle.kin_wedge.specs.Rows.{row_of, is_in_wedge}
+use Rattle.kin_wedge.specs.Touched.{IsOffered, HasTouched}
+use Rattle.kin_wedge.proofs.Places.{first_is_in, second_is_in}
+use Rattle.kin_wedge.proofs.Touching.{touched_none, touched_through, below_eight}
+
+-- a number is offered to the octants below w of an apex that it is in
+pub record AreOfferedBelow (rows : List (List ℕ)) (candidates : List (Option ℕ)) (apex no : ℕ) (first now : List Touch) (w : ℕ) : Type 0 where
+  pub offered : (v : ℕ) (o : Octant) → v < w → slice_get octants v ≡ Some o → is_in_wedge rows o apex no ≡ true → IsOffered now (8 * apex + v) (Some no)
+  pub touched : HasTouched candidates first now
+
+module _ (rows : List (List ℕ)) (candidates : List (Option ℕ)) (apex no : ℕ) (first : List Touch) where
+  pub below_none : AreOfferedBelow rows candidates apex no first first 0
+  below_none = record { offered = λ v o h. absurd (omega (arith, h)); touched = touched_none candidates first }
+
+  pub below_more : (now next : List Touch) (w : ℕ) (o : Octant) (within : Bool) → AreOfferedBelow rows candidates apex no first now w → slice_get octants w ≡ Some o → within ≡ is_in_wedge rows o apex no
+      → (within ≡ true → IsOffered next (8 * apex + w) (Some no)) → HasTouched candidates now next → AreOfferedBelow rows candidates apex no first next (w + 1)
+  below_more now next w o within a here e f t = record { offered = λ v p h k m. at v p (cases_eq v w) h k m; touched = touched_through candidates first now next a.touched t }
+    where
+      at : (v : ℕ) (p : Octant) → (v ≡ w) ⊎ (v ≢ w) → v < w + 1 → slice_get octants v ≡ Some p → is_in_wedge rows p apex no ≡ true → IsOffered next (8 * apex + v) (Some no)
+      at v p (inl s) h k m =
+          let same : p ≡ o = same_Some p o (sym k ∙ ap (slice_get octants) s ∙ here) in
+          subst (λ (n : ℕ). IsOffered next (8 * apex + n) (Some no)) (sym s) (f (e ∙ ap (λ (x : Octant). is_in_wedge rows x apex no) (sym same) ∙ m))
+      at v p (inr n) h k m = t.keeps (8 * apex + v) (Some no) (a.offered v p (omega (arith, h, n)) k m)
+
+  pub below_all : (now : List Touch) (w : ℕ) → 8 ≤ w → AreOfferedBelow rows candidates apex no first now w → (v : ℕ) (o : Octant) → slice_get octants v ≡ Some o → is_in_wedge rows o apex no ≡ true → IsOffered now (8 * apex + v) (Some no)
+  below_all now w h a v o k m = let b = below_eight v o k in a.offered v o (omega (arith, b, h)) k m
+
+-- a number is offered to each octant of the first i of these apexes that it is in
+pub record AreOfferedTo (rows : List (List ℕ)) (candidates : List (Option ℕ)) (no : ℕ) (first now : List Touch) (apexes : List ℕ) (i : ℕ) : Type 0 where
+  pub offered : (k p v : ℕ) (o : Octant) → k < i → slice_get apexes k ≡ Some p → slice_get octants v ≡ Some o → is_in_wedge rows o p no ≡ true → IsOffered now (8 * p + v) (Some no)
+  pub touched : HasTouched candidates first now
+
+module _ (rows : List (List ℕ)) (candidates : List (Option ℕ)) (no : ℕ) (first : List Touch) (apexes : List ℕ) where
+  pub to_none : AreOfferedTo rows candidates no first first apexes 0
+  to_none = record { offered = λ k p v o h. absurd (omega (arith, h)); touched = touched_none candidates first }
+
+  pub to_more : (now next : List Touch) (i apex : ℕ) → AreOfferedTo rows candidates no first now apexes i → slice_get apexes i ≡ Some apex
+      → ((v : ℕ) (o : Octant) → slice_get octants v ≡ Some o → is_in_wedge rows o apex no ≡ true → IsOffered next (8 * apex + v) (Some no)) → HasTouched candidates now next → AreOfferedTo rows candidates no first next apexes (i + 1)
+  to_more now next i apex a here f t = record { offered = λ k p v o h g m n. at k p v o (cases_eq k i) h g m n; touched = touched_through candidates first now next a.touched t }
+    where
+      at : (k p v : ℕ) (o : Octant) → (k ≡ i) ⊎ (k ≢ i) → k < i + 1 → slice_get apexes k ≡ Some p → slice_get octants v ≡ Some o → is_in_wedge rows o p no ≡ true → IsOffered next (8 * p + v) (Some no)
+      at k p v o (inl s) h g m n =
+          let same : p ≡ apex = same_Some p apex (sym g ∙ ap (slice_get apexes) s ∙ here) in
+          subst (λ (x : ℕ). IsOffered next (8 * x + v) (Some no)) (sym same) (f v o m (ap (λ (x : ℕ). is_in_wedge rows o x no) (sym same) ∙ n))
+      at k p v o (inr d) h g m n = t.keeps (8 * p + v) (Some no) (a.offered k p v o (omega (arith, h, d)) g m n)
+
+-- who is the apex of an octant with a member is in the row of the octant's first order
+pub apex_in : (rows : List (List ℕ)) (o : Octant) (p q : ℕ) → is_in_wedge rows o p q ≡ true → is_in p (row_of rows o.first.part) ≡ true
+apex_in rows o p q h = at o.first.from_end (and_parts _ _ h).0
+  where
+    at : (e : Bool) → cond e (stands_before (row_of rows o.first.part) q p) (stands_before (row_of rows o.first.part) p q) ≡ true → is_in p (row_of rows o.first.part) ≡ true
+    at true k = second_is_in _ q p k
+    at false k = first_is_in _ p q k
+
+-- all members are among the apexes
+pub to_all : (rows : List (List ℕ)) (candidates : List (Option ℕ)) (who : ℕ) (first now : List Touch) (apexes : List ℕ) (i : ℕ) → length apexes ≤ i → ((part p : ℕ) → is_in p (row_of rows part) ≡ true → is_in p apexes ≡ true)
+    → AreOfferedTo rows candidates who first now apexes i → IsOfferedAround rows who now
+to_all rows candidates who first now apexes i h all a = λ p w o k m.
+    let g = get_from_is_in apexes p (all o.first.part p (apex_in rows o p who m)) in
+    let b = slice_get_within apexes g.0 p g.1 in
+    a.offered g.0 p w o (omega (arith, b, h)) g.1 k m

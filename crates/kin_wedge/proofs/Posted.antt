@@ -1,0 +1,83 @@
+-- The failed facts of a part are those that its list is told, and its report is that of its part.
+use Rattle.std.proofs.Common.{◌≡◌, refl, sym, ap, ◌∙◌, subst, arith, List, [], ◌∷◌, ◌++◌, ℕ, ◌+◌, Bool, true, false, cond, map, filter}
+use Rattle.std.specs.Prelude.{Contains}
+use Rattle.std.proofs.lemmas.Bool.Decides.{nat_tests}
+use Rattle.kin_basics.proofs.Members.{contains_head, contains_tail}
+use Rattle.kin_motion.specs.declared.fact.Placed.{Placed}
+use Rattle.kin_motion.specs.Deltas.{Change}
+use Rattle.kin_motion.specs.Kinetics.{ListsFailing, HasGained, HasChanged}
+use Rattle.kin_motion.specs.Parts.{moved_by}
+use Rattle.kin_motion.specs.Scene.{Scene}
+use Rattle.kin_motion.proofs.ClosestFactLaws.{part_of_order}
+use Rattle.kin_motion.proofs.PartLaws.{moved_facts_change, moved_facts_fail}
+use Rattle.kin_list.specs.declared.mark.Mark.{Mark}
+use Rattle.kin_list.specs.declared.mark.Mark.TheVariants.{Rest, Enters, Leaves, Broken}
+use Rattle.kin_list.specs.Listing.{Listing, IsSettledListing, names_leaving}
+use Rattle.kin_wedge.specs.Parts.{in_part, is_of_part, AreAtNought}
+
+-- a fact that was moved to part 0 and back
+moved_back : (part : ℕ) (p : Placed) → p.part ≡ part → moved_by part (in_part 0 p) ≡ p
+moved_back part p h = let e : part + 0 ≡ p.part = omega (arith, h) in λ t. record { part = e t; fact = p.fact }
+
+moved_back_if : (part : ℕ) (p : Placed) (xs ys : List Placed) → map (moved_by part) (map (in_part 0) xs) ≡ ys → (b : Bool) → is_of_part part p ≡ b
+    → map (moved_by part) (map (in_part 0) (cond (is_of_part part p) (p ∷ xs) xs)) ≡ cond (is_of_part part p) (p ∷ ys) ys
+moved_back_if part p xs ys e true f =
+    let same : p.part ≡ part = grind (arith, nat_tests, f) in
+    ap (λ (b : Bool). map (moved_by part) (map (in_part 0) (cond b (p ∷ xs) xs))) f
+    ∙ (λ t. moved_back part p same t ∷ e t)
+    ∙ sym (ap (λ (b : Bool). cond b (p ∷ ys) ys) f)
+moved_back_if part p xs ys e false f =
+    ap (λ (b : Bool). map (moved_by part) (map (in_part 0) (cond b (p ∷ xs) xs))) f ∙ e ∙ sym (ap (λ (b : Bool). cond b (p ∷ ys) ys) f)
+
+all_moved_back : (part : ℕ) (ps : List Placed) → map (moved_by part) (map (in_part 0) (filter (is_of_part part) ps)) ≡ filter (is_of_part part) ps
+all_moved_back part [] = refl
+all_moved_back part (p ∷ ps) = moved_back_if part p (filter (is_of_part part) ps) (filter (is_of_part part) ps) (all_moved_back part ps) (is_of_part part p) refl
+
+-- which facts are spared is no matter of their part
+spared_anywhere : (mark : Mark) (part : ℕ) (facts failed : List Placed) (s : Scene) → ListsFailing facts (λ p. names_leaving mark (moved_by part p)) s failed → ListsFailing facts (names_leaving mark) s failed
+spared_anywhere Rest part facts failed s h = h
+spared_anywhere (Enters i) part facts failed s h = h
+spared_anywhere (Leaves i) part facts failed s h = h
+spared_anywhere Broken part facts failed s h = h
+
+pub failing_told : (part : ℕ) (mark : Mark) (facts failed picked : List Placed) (s : Scene) → picked ≡ map (in_part 0) (filter (is_of_part part) failed)
+    → ListsFailing (map (moved_by part) facts) (names_leaving mark) s (filter (is_of_part part) failed) → ListsFailing facts (names_leaving mark) s picked
+failing_told part mark facts failed picked s e h =
+    subst (ListsFailing facts (names_leaving mark) s) (sym e)
+    (spared_anywhere mark part facts (map (in_part 0) (filter (is_of_part part) failed)) s
+    ((moved_facts_fail part facts (map (in_part 0) (filter (is_of_part part) failed)) (names_leaving mark) s).1
+    (subst (ListsFailing (map (moved_by part) facts) (names_leaving mark) s) (sym (all_moved_back part failed)) h)))
+
+-- the facts of a settled list are in part 0
+pub nought_settled : (l : Listing) (s : Scene) → IsSettledListing l s → AreAtNought l.facts
+nought_settled l s h = λ p c. part_of_order s l.dx l.dy 0 p ((h.exact.each p).0 c)
+
+same_move : (part : ℕ) (xs : List Placed) → AreAtNought xs → map (in_part part) xs ≡ map (moved_by part) xs
+same_move part [] h = refl
+same_move part (x ∷ xs) h =
+    let z = h x (contains_head x xs) in
+    let e : part ≡ part + x.part = omega (arith, z) in
+    let rest = same_move part xs (λ p c. h p (contains_tail x p xs c)) in
+    λ t. record { part = e t; fact = x.fact } ∷ rest t
+
+none : Change
+none = record { dropped = []; born = [] }
+
+-- one side of the report
+side : (part : ℕ) (mine : List Placed) (which : Placed → Type 0) (before after : List Placed) (moved_which : Placed → Type 0) → ((p : Placed) → which p → p.part ≡ 0) → HasGained [] mine which
+    → HasGained [] (map (moved_by part) mine) moved_which → after ≡ before ++ map (in_part part) mine → HasGained before after moved_which
+side part mine which before after moved_which nought g h e = record {
+  more = h.more;
+  joined = e ∙ ap (λ (v : List Placed). before ++ v) (same_move part mine (λ p c. nought p ((g.exactly.each p).0 (subst (λ (v : List Placed). Contains v p) g.joined c))) ∙ h.joined);
+  exactly = h.exactly;
+}
+
+pub report_told : (part : ℕ) (old new : List Placed) (delta out mid out' : Change) → AreAtNought old → AreAtNought new → HasChanged old new (record { dropped = []; born = [] }) delta
+    → mid ≡ record { dropped = out.dropped ++ map (in_part part) delta.dropped; born = out.born } → out' ≡ record { dropped = mid.dropped; born = mid.born ++ map (in_part part) delta.born }
+    → HasChanged (map (moved_by part) old) (map (moved_by part) new) out out'
+report_told part old new delta out mid out' o n h e f =
+    let m = moved_facts_change part old new (record { dropped = []; born = [] }) delta h in
+    record {
+      dropped = side part delta.dropped _ out.dropped out'.dropped _ (λ p w. o p w.0) h.dropped m.dropped (ap (λ (c : Change). c.dropped) f ∙ ap (λ (c : Change). c.dropped) e);
+      born = side part delta.born _ out.born out'.born _ (λ p w. n p w.0) h.born m.born (ap (λ (c : Change). c.born) f ∙ ap (λ (c : Change). c.born ++ map (in_part part) delta.born) e);
+    }

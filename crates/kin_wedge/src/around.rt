@@ -1,0 +1,113 @@
+//! What a number that enters or leaves can have changed.
+
+ghost use Rattle.std.specs.Prelude.{◌≡◌, ℕ, ◌+◌, ◌*◌, ◌<◌, ◌^◌, Some, true, length, slice_get, OnOk};
+ghost use Rattle.kin_motion.specs.Numbers.{is_in};
+ghost use Rattle.kin_motion.specs.Octants.{Octant as Bounds, octants};
+ghost use Rattle.kin_wedge.specs.Passages.{IsNumberOf, IsLookedUp, IsLost, IsMarkOffered, IsOfferedAround};
+ghost use Rattle.kin_wedge.specs.Rows.{row_of, is_in_wedge, AreRows, HaveSlots};
+ghost use Rattle.kin_wedge.specs.Seen.{rows_of};
+ghost use Rattle.kin_wedge.specs.Touched.{IsOffered, HasTouched};
+
+use crate::octant::orders_of;
+use crate::orders::Orders;
+use crate::table::Table;
+use crate::touch::Touches;
+use kin_list::Mark;
+use kin_num::memory::NoMemory;
+
+/// Offers a number to the octant of an apex that it is in.
+fn offer_to(
+    orders: &Orders,
+    table: &Table,
+    touches: &mut Touches,
+    apex: u32,
+    no: u32,
+) -> Result<(), NoMemory>
+    requires rows { AreRows (rows_of orders.now.lists.items) }
+    requires slot { 8 * apex + 7 < length table.now }
+    requires small { length table.now < 2 ^ 32 }
+    ensures offered { OnOk result ((w : ℕ) (o : Bounds) → slice_get octants w ≡ Some o → is_in_wedge (rows_of orders.now.lists.items) o apex no ≡ true → IsOffered touches.new.all.items (8 * apex + w) (Some no)) }
+    ensures touched { OnOk result (HasTouched table.now touches.old.all.items touches.new.all.items) }
+{
+    for w in 0..8 {
+        let within = orders.is_in_octant(orders_of(w), apex, no);
+        touches.add_if(within, table, apex, w, no)?;
+    }
+    Ok(())
+}
+
+/// Offers a number to all members, each in the octant that it is in.
+fn offer_to_all(
+    orders: &Orders,
+    table: &Table,
+    touches: &mut Touches,
+    no: u32,
+) -> Result<(), NoMemory>
+    requires rows { AreRows (rows_of orders.now.lists.items) }
+    requires members { HaveSlots (rows_of orders.now.lists.items) (length table.now) }
+    requires alike { (part x : ℕ) → is_in x (row_of (rows_of orders.now.lists.items) part) ≡ true → is_in x (row_of (rows_of orders.now.lists.items) 0) ≡ true }
+    requires small { length table.now < 2 ^ 32 }
+    ensures offered { OnOk result (IsOfferedAround (rows_of orders.now.lists.items) no touches.new.all.items) }
+    ensures touched { OnOk result (HasTouched table.now touches.old.all.items touches.new.all.items) }
+{
+    for apex in orders.list(0).items() {
+        offer_to(orders, table, touches, *apex, no)?;
+    }
+    Ok(())
+}
+
+/// Notes what a number that enters can have changed.
+fn note_entering(
+    orders: &Orders,
+    table: &Table,
+    touches: &mut Touches,
+    no: u32,
+) -> Result<(), NoMemory>
+    requires rows { AreRows (rows_of orders.now.lists.items) }
+    requires members { HaveSlots (rows_of orders.now.lists.items) (length table.now) }
+    requires alike { (part x : ℕ) → is_in x (row_of (rows_of orders.now.lists.items) part) ≡ true → is_in x (row_of (rows_of orders.now.lists.items) 0) ≡ true }
+    requires small { length table.now < 2 ^ 32 }
+    requires slot { 8 * no + 7 < length table.now }
+    ensures looked_up { OnOk result (IsLookedUp no touches.new.all.items) }
+    ensures offered { OnOk result (IsOfferedAround (rows_of orders.now.lists.items) no touches.new.all.items) }
+    ensures touched { OnOk result (HasTouched table.now touches.old.all.items touches.new.all.items) }
+{
+    offer_to_all(orders, table, touches, no)?;
+    touches.add_apex(table, no)?;
+    Ok(())
+}
+
+/// Notes what a number that leaves can have changed.
+fn note_leaving(table: &Table, touches: &mut Touches, no: u32) -> Result<(), NoMemory>
+    requires small { length table.now < 2 ^ 32 }
+    requires slot { 8 * no + 7 < length table.now }
+    ensures looked_up { OnOk result (IsLookedUp no touches.new.all.items) }
+    ensures lost { OnOk result (IsLost table.now no touches.new.all.items) }
+    ensures touched { OnOk result (HasTouched table.now touches.old.all.items touches.new.all.items) }
+{
+    touches.add_lost(table, no)?;
+    touches.add_apex(table, no)?;
+    Ok(())
+}
+
+/// Notes what the number of a mark can have changed.
+pub fn note_mark(
+    orders: &Orders,
+    table: &Table,
+    touches: &mut Touches,
+    mark: Mark,
+) -> Result<(), NoMemory>
+    requires rows { AreRows (rows_of orders.now.lists.items) }
+    requires members { HaveSlots (rows_of orders.now.lists.items) (length table.now) }
+    requires alike { (part x : ℕ) → is_in x (row_of (rows_of orders.now.lists.items) part) ≡ true → is_in x (row_of (rows_of orders.now.lists.items) 0) ≡ true }
+    requires small { length table.now < 2 ^ 32 }
+    requires slot { (i : ℕ) → IsNumberOf mark i → 8 * i + 7 < length table.now }
+    ensures offered { OnOk result (IsMarkOffered mark (rows_of orders.now.lists.items) table.now touches.new.all.items) }
+    ensures touched { OnOk result (HasTouched table.now touches.old.all.items touches.new.all.items) }
+{
+    match mark {
+        Mark::Enters(no) => note_entering(orders, table, touches, no),
+        Mark::Leaves(no) => note_leaving(table, touches, no),
+        _ => Ok(()),
+    }
+}

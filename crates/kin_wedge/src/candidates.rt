@@ -1,0 +1,94 @@
+//! The candidates follow the orders.
+
+ghost use Rattle.std.specs.Prelude.{◌≡◌, ℕ, ◌+◌, ◌*◌, ◌<◌, ◌≤◌, ◌^◌, [], None, true, length, replicate, IfOk, OnOk};
+ghost use Rattle.kin_motion.specs.Numbers.{is_in};
+ghost use Rattle.kin_wedge.specs.Parts.{swaps_of};
+ghost use Rattle.kin_wedge.specs.Passages.{AreAnswered, AreChanged, AreExchangesOffered, AreVacantRows, IsMarkOffered, IsNumberOf, IsPassage};
+ghost use Rattle.kin_wedge.specs.Rows.{row_of, AreRows, AreRanked, HaveSlots};
+ghost use Rattle.kin_wedge.specs.Seen.{rows_of};
+ghost use Rattle.kin_wedge.specs.Touched.{AreKnown};
+
+use crate::around::note_mark;
+use crate::changed::list_changed;
+use crate::orders::Orders;
+use crate::renew::renew_all;
+use crate::rows::Rows;
+use crate::table::{Table, new_table};
+use crate::touch::Touches;
+use kin_list::Mark;
+use kin_num::memory::NoMemory;
+use std::alloc::Global;
+
+/// The candidates, with what it takes to follow the orders.
+#[derive(Drop)]
+pub struct Candidates {
+    pub(crate) table: Table,
+    pub(crate) rows: Rows,
+    pub(crate) touches: Touches,
+    /// The slots whose candidate the last settle has changed.
+    pub(crate) changed: Vec<u32>,
+}
+
+impl Candidates {
+    /// No candidates, with eight slots for each number below `2^size`.
+    pub fn new(alloc: Global, size: u32) -> Result<Candidates, NoMemory>
+        requires { size ≤ 12 }
+        ensures table { IfOk result (λ c. c.table ≡ replicate (8 * 2 ^ size) None) }
+        ensures rows { IfOk result (λ c. AreVacantRows c.rows.rows.items) }
+        ensures changed { IfOk result (λ c. c.changed.items ≡ []) }
+    {
+        Ok(Candidates {
+            table: new_table(alloc, size)?,
+            rows: Rows::new(alloc)?,
+            touches: Touches::new(alloc),
+            changed: Vec::new(alloc),
+        })
+    }
+
+    /// Notes the slots that a settle of the orders can have touched.
+    fn note(&mut self, mark: Mark, orders: &Orders) -> Result<(), NoMemory>
+        requires rows { AreRows (rows_of orders.now.lists.items) }
+        requires alike { (part x : ℕ) → is_in x (row_of (rows_of orders.now.lists.items) part) ≡ true → is_in x (row_of (rows_of orders.now.lists.items) 0) ≡ true }
+        requires members { HaveSlots (rows_of orders.now.lists.items) (length self.old.table) }
+        requires old_rows { length self.old.rows.rows.items ≡ 8 }
+        requires old_members { HaveSlots self.old.rows.rows.items (length self.old.table) }
+        requires small { length self.old.table < 2 ^ 32 }
+        requires passage { IsPassage mark (swaps_of orders.now.lists.items) self.old.rows.rows.items (rows_of orders.now.lists.items) }
+        requires slot { (i : ℕ) → IsNumberOf mark i → 8 * i + 7 < length self.old.table }
+        ensures rows { OnOk result (self.new.rows.rows.items ≡ rows_of orders.now.lists.items) }
+        ensures exchanges { OnOk result (AreExchangesOffered mark (swaps_of orders.now.lists.items) self.old.rows.rows.items self.old.table self.new.touches.all.items) }
+        ensures number { OnOk result (IsMarkOffered mark (rows_of orders.now.lists.items) self.old.table self.new.touches.all.items) }
+        ensures known { OnOk result (AreKnown self.old.table self.new.touches.all.items) }
+        ensures table { self.new.table ≡ self.old.table }
+    {
+        self.touches.clear();
+        self.rows
+            .follow(mark, orders, &self.table, &mut self.touches)?;
+        note_mark(orders, &self.table, &mut self.touches, mark)?;
+        Ok(())
+    }
+
+    /// Brings the candidates to the orders as they are now. `mark` stood before they settled.
+    pub fn follow(&mut self, mark: Mark, orders: &Orders) -> Result<(), NoMemory>
+        requires rows { AreRows (rows_of orders.now.lists.items) }
+        requires ranked { AreRanked (rows_of orders.now.lists.items) }
+        requires alike { (part x : ℕ) → is_in x (row_of (rows_of orders.now.lists.items) part) ≡ true → is_in x (row_of (rows_of orders.now.lists.items) 0) ≡ true }
+        requires members { HaveSlots (rows_of orders.now.lists.items) (length self.old.table) }
+        requires old_rows { length self.old.rows.rows.items ≡ 8 }
+        requires old_members { HaveSlots self.old.rows.rows.items (length self.old.table) }
+        requires small { length self.old.table < 2 ^ 32 }
+        requires passage { IsPassage mark (swaps_of orders.now.lists.items) self.old.rows.rows.items (rows_of orders.now.lists.items) }
+        requires slot { (i : ℕ) → IsNumberOf mark i → 8 * i + 7 < length self.old.table }
+        requires answered { AreAnswered self.old.rows.rows.items self.old.table }
+        ensures rows { OnOk result (self.new.rows.rows.items ≡ rows_of orders.now.lists.items) }
+        ensures answered { OnOk result (AreAnswered (rows_of orders.now.lists.items) self.new.table) }
+        ensures changed { OnOk result (AreChanged self.old.table self.new.table self.new.changed.items) }
+        ensures length { length self.new.table ≡ length self.old.table }
+    {
+        self.note(mark, orders)?;
+        let touches = self.touches.all();
+        renew_all(orders, &mut self.table, touches)?;
+        list_changed(&self.table, touches, &mut self.changed)?;
+        Ok(())
+    }
+}
