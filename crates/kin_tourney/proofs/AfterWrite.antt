@@ -1,17 +1,10 @@
 -- What a list has at an index after a write.
-use Rattle.std.proofs.Common.{◌≡◌, ◌≢◌, ◌⊎◌, inl, inr, refl, ap, ◌∙◌, arith, List, ℕ, ◌<◌, length, Bool, true, false, nat_eq, set, get_or}
-use Rattle.std.proofs.lemmas.Bool.Decides.{nat_tests}
+use Rattle.std.proofs.Common.{◌≡◌, ◌≢◌, ◌⊎◌, inl, inr, ap, ◌∙◌, List, ℕ, ◌<◌, length, set, get_or}
 use Rattle.std.proofs.lemmas.List.{get_or-set_same, get_or-set_other}
-
-pub same_or_not : (i j : ℕ) → (i ≡ j) ⊎ (i ≢ j)
-same_or_not i j = at (nat_eq i j) refl
-  where
-    at : (t : Bool) → nat_eq i j ≡ t → (i ≡ j) ⊎ (i ≢ j)
-    at true e = inl (grind (arith, nat_tests, e))
-    at false e = inr (grind (arith, nat_tests, e))
+use Rattle.std.proofs.lemmas.Bool.{cases_eq}
 
 pub read_set : {A : Type 0} (xs : List A) (i j : ℕ) (a d : A) → i < length xs → ((j ≡ i) × (get_or (set xs i a) j d ≡ a)) ⊎ ((j ≢ i) × (get_or (set xs i a) j d ≡ get_or xs j d))
-read_set {A} xs i j a d inside = at (same_or_not j i)
+read_set {A} xs i j a d inside = at (cases_eq j i)
   where
     at : (j ≡ i) ⊎ (j ≢ i) → ((j ≡ i) × (get_or (set xs i a) j d ≡ a)) ⊎ ((j ≢ i) × (get_or (set xs i a) j d ≡ get_or xs j d))
     at (inl e) = inl (e, ap (λ k. get_or (set xs i a) k d) e ∙ get_or-set_same xs i a d inside)

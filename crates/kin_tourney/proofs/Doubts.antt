@@ -4,8 +4,9 @@ use Rattle.std.proofs.lemmas.Bool.Decides.{nat_tests}
 use Rattle.std.proofs.lemmas.List.{get_or-set_same, get_or-set_other, get_or_past, get_or_default, length-set}
 use Rattle.std.proofs.lemmas.List.Sums.{sum_by-set, get_or-le-sum_by}
 use Rattle.std.proofs.lemmas.Nat.{pow-add}
+use Rattle.std.proofs.lemmas.Bool.{cases_eq}
 use Rattle.kin_motion.specs.declared.fact.Placed.{Placed}
-use Rattle.kin_tourney.proofs.AfterWrite.{same_or_not, read_set}
+use Rattle.kin_tourney.proofs.AfterWrite.{read_set}
 use Rattle.kin_tourney.specs.declared.doubt.Doubt.{Doubt}
 use Rattle.kin_tourney.specs.declared.doubt.Doubt.TheVariants.{Clear, Below, Here}
 use Rattle.kin_tourney.specs.Standings.{doubt_in, doubt_count, is_doubt, IsClosed}
@@ -15,11 +16,6 @@ pub doubt_cases : (d : Doubt) → (d ≡ Clear) ⊎ (d ≢ Clear)
 doubt_cases Clear = inl refl
 doubt_cases Below = inr (λ e. absurd cc)
 doubt_cases Here = inr (λ e. absurd cc)
-
-pub here_cases : (d : Doubt) → (d ≡ Here) ⊎ (d ≢ Here)
-here_cases Here = inl refl
-here_cases Below = inr (λ e. absurd cc)
-here_cases Clear = inr (λ e. absurd cc)
 
 pub here_is_doubt : Here ≢ Clear
 here_is_doubt e = absurd cc
@@ -228,7 +224,7 @@ module _ (old now mid : List Doubt) (failed : List Placed) (i : ℕ) (d : Placed
       at (inr k) = was (sym k.1 ∙ e) (spread.each v)
 
   failed_next : (k : ℕ) (x : Placed) → k < i + 1 → doubt_in (set mid part Here) (slice_index_or failed k x).part ≡ Here
-  failed_next k x low = at (same_or_not k i)
+  failed_next k x low = at (cases_eq k i)
     where
       at : (k ≡ i) ⊎ (k ≢ i) → doubt_in (set mid part Here) (slice_index_or failed k x).part ≡ Here
       at (inl e) =

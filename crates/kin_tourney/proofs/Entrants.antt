@@ -3,6 +3,8 @@ use Rattle.std.proofs.Common.{◌≡◌, ◌≢◌, ◌⊎◌, inl, inr, refl, s
 use Rattle.std.specs.Prelude.{Option, Some, None, Contains, slice_index_or}
 use Rattle.std.proofs.lemmas.Bool.Decides.{nat_tests}
 use Rattle.std.proofs.lemmas.List.{get_or-map, get_or-append_right, get_or_append_left, length-map, get_or_past}
+use Rattle.std.proofs.lemmas.Bool.{cases_eq}
+use Rattle.kin_basics.proofs.Options.{none_or_some}
 use Rattle.kin_algebra.specs.declared.sign.Sign.{Sign}
 use Rattle.kin_algebra.specs.declared.sign.Sign.TheVariants.{Zero}
 use Rattle.kin_motion.specs.declared.form.Form.{Form}
@@ -15,10 +17,6 @@ use Rattle.kin_tourney.specs.Locals.{HasNoFact, IsMatch, IsPlayed}
 use Rattle.kin_tourney.specs.Standings.{Standings, IsTree, IsRight, best_in, fact_in, named_at, entry_at, entry_in, entry_with, item_of, match_of, winners_of, placed_facts}
 use Rattle.kin_tourney.proofs.Entries.{entry_in_slot}
 use Rattle.kin_tourney.proofs.Placements.{fact_of_placed, placed_of_fact, placed_facts_once}
-use Rattle.kin_tourney.proofs.AfterWrite.{same_or_not}
-
-none_is_some : {A : Type 0} {a : A} {o : Option A} → o ≡ None → o ≡ Some a → ⊥
-none_is_some {A} {a} {o} e f = let k : None ≡ Some a = sym e ∙ f in cc
 
 -- the entry that wins a match
 abbrev pub winning : {Item : Type 0} → Key Item → (Form → Sign) → Option (Entry Item) → Option (Entry Item) → Option (Entry Item)
@@ -124,7 +122,7 @@ module _ {Item : Type 0} (s : Scene) (key : Key Item) (t : Standings Item) (tree
   seen v = slice_index_or (winners_of t) v None
 
   no_fact : (v : ℕ) → fact_in t.facts v ≡ None → HasNoFact (placed_facts t) v
-  no_fact v e p there f = none_is_some e (ap (fact_in t.facts) (sym f) ∙ fact_of_placed t.facts p there)
+  no_fact v e p there f = none_or_some e (ap (fact_in t.facts) (sym f) ∙ fact_of_placed t.facts p there)
 
   is_match : (v : ℕ) (l r : Option (Entry Item)) → fact_in t.facts v ≡ (match_of key s.sign l r).1 → IsMatch s key (placed_facts t) v (item_of (winning key s.sign l r)) (item_of l) (item_of r)
   is_match v None None e = (refl, no_fact v e)
@@ -144,13 +142,13 @@ module _ {Item : Type 0} (s : Scene) (key : Key Item) (t : Standings Item) (tree
     where
       at : (b : Bool) → nat_lt p.part (length t.facts) ≡ b → p.part < 2 ^ t.size
       at true e = let inside : p.part < length t.facts = grind (arith, nat_tests, e) in let a = tree.facts_room in let b = tree.items_room in omega arith
-      at false e = absurd (none_is_some (get_or_past t.facts p.part None (grind (arith, nat_tests, e))) (fact_of_placed t.facts p there))
+      at false e = absurd (none_or_some (get_or_past t.facts p.part None (grind (arith, nat_tests, e))) (fact_of_placed t.facts p there))
 
   part_some : (p : Placed) → Contains (placed_facts t) p → 0 < p.part
-  part_some p there = at (same_or_not p.part 0)
+  part_some p there = at (cases_eq p.part 0)
     where
       at : (p.part ≡ 0) ⊎ (p.part ≢ 0) → 0 < p.part
-      at (inl e) = absurd (none_is_some no_root (ap (fact_in t.facts) (sym e) ∙ fact_of_placed t.facts p there))
+      at (inl e) = absurd (none_or_some no_root (ap (fact_in t.facts) (sym e) ∙ fact_of_placed t.facts p there))
       at (inr n) = omega arith
 
   one_placed : (p q : Placed) → Contains (placed_facts t) p → Contains (placed_facts t) q → p.part ≡ q.part → p ≡ q

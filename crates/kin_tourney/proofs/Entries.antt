@@ -2,7 +2,7 @@
 use Rattle.std.proofs.Common.{◌≡◌, ◌⊎◌, inl, inr, refl, sym, ap, ◌∙◌, subst, arith, List, ℕ, ◌+◌, ◌*◌, ◌-◌, ◌^◌, ◌<◌, ◌≤◌, length, Bool, true, false, cond, nat_lt}
 use Rattle.std.specs.Prelude.{Option, Some, None}
 use Rattle.std.proofs.lemmas.Bool.Decides.{nat_tests}
-use Rattle.std.proofs.Math.Pow.{pow_mono}
+use Rattle.std.proofs.lemmas.Option.{same_Some}
 use Rattle.kin_algebra.specs.declared.sign.Sign.{Sign}
 use Rattle.kin_motion.specs.declared.form.Form.{Form}
 use Rattle.kin_motion.specs.Tournaments.{Key, item_in, is_under}
@@ -10,20 +10,11 @@ use Rattle.kin_tourney.specs.declared.entry.Entry.{Entry}
 use Rattle.kin_tourney.specs.Standings.{Standings, IsTree, best_in, named_at, entry_at, entry_in, entry_with, match_of, match_at}
 use Rattle.kin_tourney.specs.Under.{is_under-leaf, is_under-left, is_under-right}
 
-pub room_small : {Item : Type 0} (t : Standings Item) → IsTree t → length t.items ≤ 2 ^ 15
-room_small {Item} t h = let k = h.items_room in let s = h.small in let p : 2 ^ t.size ≤ 2 ^ 15 = pow_mono s in omega arith
-
-same_entry : {A : Type 0} {a b : A} → Some a ≡ Some b → a ≡ b
-same_entry {A} {a} {b} e = cc
-
-none_some : {A : Type 0} {a : A} {o : Option A} → o ≡ None → o ≡ Some a → ⊥
-none_some {A} {a} {o} e f = let k : None ≡ Some a = sym e ∙ f in cc
-
 -- the slot of an entry is the one that the node names, and holds its item
 entry_with_slot : {Item : Type 0} (i : ℕ) (o : Option Item) (e : Entry Item) → entry_with i o ≡ Some e → (i ≡ e.slot) × (o ≡ Some e.item)
 entry_with_slot {Item} i None e h = absurd cc
 entry_with_slot {Item} i (Some a) e h =
-    let k = same_entry h in (ap (λ (x : Entry Item). x.slot) k, ap (λ (x : Entry Item). Some x.item) k)
+    let k = same_Some _ _ h in (ap (λ (x : Entry Item). x.slot) k, ap (λ (x : Entry Item). Some x.item) k)
 
 pub entry_in_slot : {Item : Type 0} (items : List (Option Item)) (o : Option ℕ) (e : Entry Item) → entry_in items o ≡ Some e → (o ≡ Some e.slot) × (item_in items e.slot ≡ Some e.item)
 entry_in_slot {Item} items None e h = absurd cc
@@ -39,7 +30,7 @@ named_under {Item} t h v i inside e = at (nat_lt v (length t.items)) refl e
     at true f g = (h.best_low v i g, h.best_under v i g)
     at false f g =
         let past : length t.items ≤ v = grind (arith, nat_tests, f) in
-        let same : v - length t.items ≡ i = same_entry g in
+        let same : v - length t.items ≡ i = same_Some _ _ g in
         let room = h.items_room in
         let leaf : 2 ^ t.size + i ≡ v = omega arith in
         (omega arith, subst (λ u. is_under t.size u i ≡ true) leaf (is_under-leaf t.size i))
@@ -48,13 +39,13 @@ named_under {Item} t h v i inside e = at (nat_lt v (length t.items)) refl e
 match_slot : {Item : Type 0} (key : Key Item) (sign : Form → Sign) (l r : Option (Entry Item)) (i : ℕ) → (match_of key sign l r).0 ≡ Some i
     → ((e : Entry Item) × (l ≡ Some e) × (e.slot ≡ i)) ⊎ ((e : Entry Item) × (r ≡ Some e) × (e.slot ≡ i))
 match_slot {Item} key sign None None i h = absurd cc
-match_slot {Item} key sign (Some l) None i h = inl (l, refl, same_entry h)
-match_slot {Item} key sign None (Some r) i h = inr (r, refl, same_entry h)
+match_slot {Item} key sign (Some l) None i h = inl (l, refl, same_Some _ _ h)
+match_slot {Item} key sign None (Some r) i h = inr (r, refl, same_Some _ _ h)
 match_slot {Item} key sign (Some l) (Some r) i h = at (key.left_wins (sign (key.form l.item r.item)) l.item r.item) h
   where
     at : (b : Bool) → Some (cond b l.slot r.slot) ≡ Some i → ((e : Entry Item) × (Some l ≡ Some e) × (e.slot ≡ i)) ⊎ ((e : Entry Item) × (Some r ≡ Some e) × (e.slot ≡ i))
-    at true g = inl (l, refl, same_entry g)
-    at false g = inr (r, refl, same_entry g)
+    at true g = inl (l, refl, same_Some _ _ g)
+    at false g = inr (r, refl, same_Some _ _ g)
 
 -- so it stands under the node
 pub match_under : {Item : Type 0} (key : Key Item) (sign : Form → Sign) (t : Standings Item) → IsTree t → (v i : ℕ) → 0 < v → v < length t.items → (match_at key sign t v).0 ≡ Some i → (i < length t.items) × (is_under t.size v i ≡ true)

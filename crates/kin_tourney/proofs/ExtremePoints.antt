@@ -4,6 +4,8 @@ use Rattle.std.specs.Prelude.{Option, Some, None}
 use Rattle.std.proofs.lemmas.Bool.Decides.{nat_tests}
 use Rattle.std.proofs.lemmas.Nat.{pow-add}
 use Rattle.std.proofs.Math.Pow.{pow_pos}
+use Rattle.std.proofs.lemmas.Bool.{or_left, or_right}
+use Rattle.std.proofs.Math.Nat.{pow-succ'}
 use Rattle.kin_algebra.specs.declared.sign.Sign.TheVariants.{Minus, Zero, Plus}
 use Rattle.kin_algebra.specs.Signs.{opposite_of}
 use Rattle.kin_motion.specs.declared.form.Form.TheVariants.{Line}
@@ -13,33 +15,29 @@ use Rattle.kin_motion.specs.Extremes.{IsExtreme, IsExtremePoint, along_key, left
 use Rattle.kin_motion.specs.Numbers.{IsIn}
 use Rattle.kin_motion.specs.Scene.{Scene, IsReal}
 use Rattle.kin_motion.specs.Tournaments.{beats, comes_to, is_under, IsBest}
-use Rattle.kin_motion.proofs.AskableMerges.{own_number}
 use Rattle.kin_motion.proofs.PointSlots.{slot_holds, point_in_slot}
 use Rattle.kin_motion.proofs.RealLaws.{real_line_laws}
+use Rattle.kin_motion.proofs.Members.{in_head}
 use Rattle.kin_tourney.specs.declared.along.Along.{Along}
 use Rattle.kin_tourney.specs.Points.{HasPoints, IsSettledAlong}
 use Rattle.kin_tourney.specs.Tournament.{Tournament, winner_at}
-use Rattle.kin_tourney.specs.Under.{by_left, by_right}
 
 -- ---- every slot stands under the root
-one_more : (h : ℕ) → 2 ^ suc h ≡ 2 * 2 ^ h
-one_more h = let p = pow-add 2 h 1 in let q : 2 ^ suc h ≡ 2 ^ (h + 1) = ap (λ (k : ℕ). 2 ^ k) (let r : suc h ≡ h + 1 = omega arith in r) in omega arith
-
 comes_to-root : (h u : ℕ) → 1 ≤ u → u < 2 * 2 ^ h → comes_to h u 1 ≡ true
 comes_to-root zero u some low = let same : u ≡ 1 = omega arith in grind (arith, nat_tests, same)
-comes_to-root (suc h) u some low = at (nat_eq u 1) refl (λ l. comes_to-root h (u / 2) l (let p = one_more h in omega arith))
+comes_to-root (suc h) u some low = at (nat_eq u 1) refl (λ l. comes_to-root h (u / 2) l (let p = pow-succ' 2 h in omega arith))
   where
     at : (b : Bool) → nat_eq u 1 ≡ b → (1 ≤ u / 2 → comes_to h (u / 2) 1 ≡ true) → comes_to (suc h) u 1 ≡ true
-    at true e rest = by_left (nat_eq u 1) (comes_to h (u / 2) 1) e
-    at false e rest = let n : u ≢ 1 = grind (arith, nat_tests, e) in by_right (nat_eq u 1) (comes_to h (u / 2) 1) (rest (omega arith))
+    at true e rest = or_left (nat_eq u 1) (comes_to h (u / 2) 1) e
+    at false e rest = let n : u ≢ 1 = grind (arith, nat_tests, e) in or_right (nat_eq u 1) (comes_to h (u / 2) 1) (rest (omega arith))
 
-under_root : (size i : ℕ) → i < 2 ^ size → is_under size 1 i ≡ true
+pub under_root : (size i : ℕ) → i < 2 ^ size → is_under size 1 i ≡ true
 under_root size i low = comes_to-root size (2 ^ size + i) (omega (arith, pow_pos size)) (omega arith)
 
 -- ---- the winner at the root is the extreme point
 no_number : (xs : List ℕ) → ((i : ℕ) → ¬ (IsIn i xs)) → xs ≡ []
 no_number [] none = refl
-no_number (x ∷ xs) none = absurd (none x (own_number x xs))
+no_number (x ∷ xs) none = absurd (none x (in_head x xs))
 
 module _ (s : Scene) (real : IsReal s) (dx dy : ℤ) where
   not_farther : (i j : ℕ) → (i ≡ j) ⊎ (beats s (along_key dx dy) i j ≡ true) → s.sign (Line dx dy (pos 0) i j) ≢ Plus

@@ -4,16 +4,17 @@ use Rattle.std.specs.Prelude.{Option, Some, None, Contains}
 use Rattle.std.proofs.lemmas.Bool.Decides.{nat_tests}
 use Rattle.std.proofs.lemmas.List.{length-set, length-replicate, get_or-set_same, get_or-set_other, get_or-replicate, get_or_past}
 use Rattle.std.proofs.Math.Pow.{pow_pos}
+use Rattle.std.proofs.lemmas.Bool.{cases_eq}
+use Rattle.kin_basics.proofs.Options.{none_or_some}
 use Rattle.kin_algebra.specs.declared.sign.Sign.TheVariants.{Zero}
 use Rattle.kin_motion.specs.declared.fact.Fact.{Fact}
 use Rattle.kin_motion.specs.declared.fact.Placed.{Placed}
 use Rattle.kin_motion.specs.Scene.{Scene}
 use Rattle.kin_motion.specs.Tournaments.{Key, item_in}
 use Rattle.kin_tourney.specs.declared.doubt.Doubt.TheVariants.{Clear, Below, Here}
-use Rattle.kin_tourney.specs.Tournament.{IsAtRest, IsSettled}
+use Rattle.kin_tourney.specs.Tournament.{IsSettled}
 use Rattle.kin_tourney.specs.Standings.{Standings, IsTree, IsClosed, IsRight, fact_in, doubt_in, named_at, entry_at, entry_in, entry_with, item_of, match_of, placed_from, seen_as}
 use Rattle.kin_tourney.specs.Sound.{IsSound}
-use Rattle.kin_tourney.proofs.AfterWrite.{same_or_not}
 use Rattle.kin_tourney.proofs.Marks.{count_of_top}
 use Rattle.kin_motion.specs.Contents.{IsWinner}
 use Rattle.kin_tourney.proofs.Placements.{fact_of_placed, placed_facts_once}
@@ -28,9 +29,6 @@ same_all {A} n i a = at (nat_lt i n) refl
     at : (b : Bool) → nat_lt i n ≡ b → get_or (replicate n a) i a ≡ a
     at true e = get_or-replicate n i a a (grind (arith, nat_tests, e))
     at false e = get_or_past (replicate n a) i a (let past : n ≤ i = grind (arith, nat_tests, e) in let k = length-replicate n a in omega arith)
-
-none_some : {A : Type 0} {a : A} {o : Option A} → o ≡ None → o ≡ Some a → ⊥
-none_some {A} {a} {o} e f = let k : None ≡ Some a = sym e ∙ f in cc
 
 module _ (Item : Type 0) (size : ℕ) where
   top_set : doubt_in (set (replicate (2 ^ size) Clear) 0 Here) 0 ≡ Here
@@ -56,8 +54,8 @@ module _ (Item : Type 0) (size : ℕ) where
     best_room = len None;
     facts_room = len None;
     doubts_room = length-set (replicate (2 ^ size) Clear) 0 Here ∙ len Clear;
-    best_low = λ v i e. absurd (none_some (same_all (2 ^ size) v None) e);
-    best_under = λ v i e. absurd (none_some (same_all (2 ^ size) v None) e);
+    best_low = λ v i e. absurd (none_or_some (same_all (2 ^ size) v None) e);
+    best_under = λ v i e. absurd (none_or_some (same_all (2 ^ size) v None) e);
     closed = closed;
   }
 
@@ -79,7 +77,7 @@ module _ (Item : Type 0) (size : ℕ) where
   }
     where
       way : (v : ℕ) → doubt_in (set (replicate (2 ^ size) Clear) 0 Here) v ≢ Below
-      way v e = at (same_or_not v 0)
+      way v e = at (cases_eq v 0)
         where
           at : (v ≡ 0) ⊎ (v ≢ 0) → ⊥
           at (inl z) = absurd (let k : Here ≡ Below = sym top_set ∙ ap (doubt_in (set (replicate (2 ^ size) Clear) 0 Here)) (sym z) ∙ e in cc)
@@ -90,9 +88,6 @@ module _ (Item : Type 0) (size : ℕ) where
           ap (λ (o : Option ℕ). (o, fact_in (fresh Item size).facts v)) (same_all (2 ^ size) v None) ∙ ap (λ (o : Option Fact). (None, o)) (same_all (2 ^ size) v None)
           ∙ sym (ap (λ x. match_of key (λ f. Zero) x (entry_at (fresh Item size) (2 * v + 1))) (no_entry (named_at (fresh Item size) (2 * v))) ∙ ap (λ x. match_of key (λ f. Zero) None x) (no_entry (named_at (fresh Item size) (2 * v + 1))))
 
-  pub fresh_rest : {K : Type 0} (k : K) → IsAtRest (seen_as k (fresh Item size) true)
-  fresh_rest {K} k = record { whole = refl; unmarked = λ i. same_all (2 ^ size) i false }
-
   pub no_facts : (n m : ℕ) → placed_from n (replicate m None) ≡ []
   no_facts n zero = refl
   no_facts n (suc m) = no_facts (n + 1) m
@@ -102,17 +97,17 @@ module _ (Item : Type 0) (size : ℕ) where
     room = items_len;
     ready = record {
       whole = refl;
-      apart = λ i j a e f. absurd (none_some (no_item i) e);
-      live = λ i a e. absurd (none_some (no_item i) e);
+      apart = λ i j a e f. absurd (none_or_some (no_item i) e);
+      live = λ i a e. absurd (none_or_some (no_item i) e);
     };
     tournament = record {
       winners = λ v some inside. subst (λ w. IsWinner s key size (fresh Item size).items v w) (sym (winner_seen (fresh Item size) (fresh_tree small) v ∙ ap item_of (no_entry (named_at (fresh Item size) v)))) (λ i h. no_item i);
       exact = record {
         once = placed_facts_once (fresh Item size).facts;
-        each = λ p. ((λ there. absurd (nothing p there)), (λ f. absurd (none_some (no_item f.left_best.slot) f.left_best.held)));
+        each = λ p. ((λ there. absurd (nothing p there)), (λ f. absurd (none_or_some (no_item f.left_best.slot) f.left_best.held)));
       };
     };
   }
     where
       nothing : (p : Placed) → Contains (placed_from 0 (replicate (2 ^ size) None)) p → ⊥
-      nothing p there = none_some (same_all (2 ^ size) p.part None) (fact_of_placed (fresh Item size).facts p there)
+      nothing p there = none_or_some (same_all (2 ^ size) p.part None) (fact_of_placed (fresh Item size).facts p there)

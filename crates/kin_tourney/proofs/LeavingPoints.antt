@@ -1,9 +1,10 @@
 -- A fact that names a point that leaves stands above its slot.
-use Rattle.std.proofs.Common.{◌≡◌, ◌≢◌, ◌⊎◌, inl, inr, refl, sym, ap, ◌∙◌, subst, arith, List, [], ◌∷◌, ℕ, zero, suc, ◌+◌, ◌*◌, ◌^◌, ◌<◌, ◌≤◌, Bool, true, false, ◌&&◌, ◌||◌, nat_eq, length, slice_set}
-use Rattle.std.specs.Prelude.{Contains, Option, Some}
+use Rattle.std.proofs.Common.{◌≡◌, ◌≢◌, sym, ap, ◌∙◌, subst, arith, List, [], ◌∷◌, ℕ, zero, suc, ◌+◌, ◌*◌, ◌^◌, ◌<◌, ◌≤◌, Bool, true, false, ◌&&◌, ◌||◌, nat_eq, length, slice_set}
+use Rattle.std.specs.Prelude.{Contains}
 use Rattle.std.proofs.lemmas.Bool.Decides.{nat_tests}
+use Rattle.std.proofs.lemmas.Bool.{or_right}
 use Rattle.kin_motion.specs.declared.fact.Placed.{Placed}
-use Rattle.kin_motion.specs.Extremes.{along_key, point_slots}
+use Rattle.kin_motion.specs.Extremes.{along_key}
 use Rattle.kin_motion.specs.Forms.{names}
 use Rattle.kin_motion.specs.Scene.{Scene}
 use Rattle.kin_motion.specs.Tournaments.{IsBest, IsNodeFact, is_under, item_in}
@@ -11,7 +12,7 @@ use Rattle.kin_motion.proofs.PointSlots.{slot_holds}
 use Rattle.kin_tourney.specs.declared.along.Along.{Along}
 use Rattle.kin_tourney.specs.Points.{HasPoints, IsSettledAlong}
 use Rattle.kin_tourney.specs.Tournament.{Tournament, is_above_mark, is_above_mark_from}
-use Rattle.kin_tourney.specs.Under.{by_right, is_under-left, is_under-right, is_under-le, is_under-none}
+use Rattle.kin_tourney.specs.Under.{is_under-left, is_under-right, is_under-le, is_under-none}
 
 -- a node over a marked slot is above a mark
 above_marked : (size v i k : ℕ) (marked : List Bool) → k < length marked → is_under size v (i + k) ≡ true → is_above_mark_from size v i (slice_set marked k true) ≡ true
@@ -21,7 +22,7 @@ above_marked size v i zero (m ∷ ms) low e =
     ap (λ b. (true && b) || is_above_mark_from size v (i + 1) ms) (subst (λ j. is_under size v j ≡ true) same e)
 above_marked size v i (suc k) (m ∷ ms) low e =
     let same : i + suc k ≡ i + 1 + k = omega arith in
-    by_right (m && is_under size v i) _ (above_marked size v (i + 1) k ms (omega (arith, low)) (subst (λ j. is_under size v j ≡ true) same e))
+    or_right (m && is_under size v i) _ (above_marked size v (i + 1) k ms (omega (arith, low)) (subst (λ j. is_under size v j ≡ true) same e))
 
 module _ (a : ℕ) (t : Tournament Along ℕ) (s : Scene) (has : HasPoints t s.live) (settled : IsSettledAlong t s) (low : a < 2 ^ t.size) where
   -- the best of some slots is the point of its slot

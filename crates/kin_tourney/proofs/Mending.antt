@@ -2,19 +2,21 @@
 use Rattle.std.proofs.Common.{◌≡◌, ◌≢◌, ◌⊎◌, inl, inr, refl, sym, ap, ◌∙◌, subst, arith, List, ℕ, ◌+◌, ◌*◌, ◌-◌, ◌/◌, ◌<◌, length, true, false, cond, nat_lt, set}
 use Rattle.std.specs.Prelude.{Option, Some}
 use Rattle.std.proofs.lemmas.List.{get_or-set_other}
+use Rattle.std.proofs.lemmas.Bool.{cases_eq}
 use Rattle.kin_algebra.specs.declared.sign.Sign.{Sign}
 use Rattle.kin_motion.specs.declared.form.Form.{Form}
 use Rattle.kin_motion.specs.declared.fact.Fact.{Fact}
 use Rattle.kin_motion.specs.Deltas.{Change}
 use Rattle.kin_motion.specs.Kinetics.{HasChanged}
 use Rattle.kin_motion.specs.Tournaments.{Key}
+use Rattle.kin_motion.proofs.ChangeLaws.{nothing_changed}
 use Rattle.kin_tourney.specs.declared.doubt.Doubt.TheVariants.{Clear, Here}
 use Rattle.kin_tourney.specs.Tournament.{mark_in}
 use Rattle.kin_tourney.specs.Standings.{Standings, IsTree, IsRight, best_in, fact_in, doubt_in, doubt_count, entry_in, entry_at, match_of, match_at, placed_facts}
 use Rattle.kin_tourney.specs.Repairs.{IsDoubtful, IsReplayed, IsRenewed, IsCleared}
-use Rattle.kin_tourney.proofs.AfterWrite.{same_or_not, read_set}
+use Rattle.kin_tourney.proofs.AfterWrite.{read_set}
 use Rattle.kin_tourney.proofs.Doubts.{here_is_doubt, count_kept, count_lowered}
-use Rattle.kin_tourney.proofs.Placements.{changed_on, changed_none}
+use Rattle.kin_tourney.proofs.Placements.{changed_on}
 use Rattle.kin_tourney.proofs.Trees.{above_in_doubt}
 
 -- the measure falls where a node is cleared
@@ -34,7 +36,7 @@ module _ {Item : Type 0} (key : Key Item) (sign : Form → Sign) where
     pub changed : HasChanged (placed_facts start) (placed_facts t) before after
 
   pub mending_starts : (t : Standings Item) (c : Change) → IsDoubtful key sign t → IsMending t 0 t c c
-  mending_starts t c h = record { doubtful = h; same_size = refl; same_items = refl; untouched = λ v some n d. refl; changed = changed_none (placed_facts t) c }
+  mending_starts t c h = record { doubtful = h; same_size = refl; same_items = refl; untouched = λ v some n d. refl; changed = nothing_changed (placed_facts t) c }
 
   entry_same : (t u : Standings Item) → t.items ≡ u.items → (v : ℕ) → best_in t.best v ≡ best_in u.best v → entry_at t v ≡ entry_at u v
   entry_same t u items v best =
@@ -75,7 +77,7 @@ module _ {Item : Type 0} (key : Key Item) (sign : Form → Sign) where
     still v n = at r.doubts
       where
         kept : (best_in mid.best node ≡ best_in t.best node) ⊎ (v ≢ node / 2) → (u : ℕ) → u / 2 ≡ v → best_in mid.best u ≡ best_in t.best u
-        kept same u up = own (same_or_not u node) same
+        kept same u up = own (cases_eq u node) same
           where
             own : (u ≡ node) ⊎ (u ≢ node) → (best_in mid.best node ≡ best_in t.best node) ⊎ (v ≢ node / 2) → best_in mid.best u ≡ best_in t.best u
             own (inr m) same = r.other_best u m
@@ -95,7 +97,7 @@ module _ {Item : Type 0} (key : Key Item) (sign : Form → Sign) where
     played_right = r.played ∙ sym (match_same mid t r.same_items node (r.other_best (2 * node) (omega arith)) (r.other_best (2 * node + 1) (omega arith)))
 
     right_next : (v : ℕ) → 0 < v → v < length mid.items → doubt_in mid.doubts v ≢ Here → IsRight key sign mid v
-    right_next v big low n = own (same_or_not v node)
+    right_next v big low n = own (cases_eq v node)
       where
         own : (v ≡ node) ⊎ (v ≢ node) → IsRight key sign mid v
         own (inl e) = subst (IsRight key sign mid) (sym e) played_right

@@ -3,50 +3,31 @@ use Rattle.std.proofs.Common.{◌≡◌, ◌≢◌, ◌⊎◌, inl, inr, refl, s
 use Rattle.std.specs.Prelude.{Option, Some, None, Contains, IsFalse, slice_index_or}
 use Rattle.std.proofs.lemmas.Bool.Decides.{nat_tests}
 use Rattle.std.proofs.lemmas.List.{length-set, get_or-set_other, get_or_past, get_or_default}
+use Rattle.std.proofs.lemmas.Bool.{cases_eq}
 use Rattle.kin_algebra.specs.declared.sign.Sign.{Sign}
-use Rattle.kin_algebra.specs.declared.sign.Sign.TheVariants.{Minus, Zero, Plus}
+use Rattle.kin_algebra.proofs.Signs.{equal_or_not}
 use Rattle.kin_motion.specs.declared.form.Form.{Form}
 use Rattle.kin_motion.specs.declared.fact.Fact.{Fact}
 use Rattle.kin_motion.specs.declared.fact.Placed.{Placed}
 use Rattle.kin_motion.specs.Scene.{Scene}
-use Rattle.kin_motion.specs.Kinetics.{ListsFailing}
 use Rattle.kin_motion.specs.Tournaments.{Key, is_under}
 use Rattle.kin_tourney.specs.declared.doubt.Doubt.{Doubt}
 use Rattle.kin_tourney.specs.declared.doubt.Doubt.TheVariants.{Clear, Below, Here}
-use Rattle.kin_tourney.specs.declared.entry.Entry.{Entry}
-use Rattle.kin_tourney.specs.Tournament.{mark_in, mark_count, is_above_mark}
-use Rattle.kin_tourney.specs.Standings.{Standings, IsTree, IsRight, best_in, fact_in, doubt_in, doubt_count, named_at, entry_at, entry_in, match_of, placed_facts}
+use Rattle.kin_tourney.specs.Tournament.{mark_in, mark_count, is_above_mark, CoversFailing}
+use Rattle.kin_tourney.specs.Standings.{Standings, IsTree, IsRight, best_in, fact_in, doubt_in, doubt_count, named_at, entry_at, entry_in, match_of, placed_facts, entry_with}
 use Rattle.kin_tourney.specs.Repairs.{IsSpread, IsDoubted, IsDoubtful}
 use Rattle.kin_tourney.specs.Sound.{IsSound}
-use Rattle.kin_tourney.proofs.AfterWrite.{same_or_not, read_set}
+use Rattle.kin_tourney.proofs.AfterWrite.{read_set}
 use Rattle.kin_tourney.proofs.Marks.{leaf_doubt, mark_under, mark_more, mark_again, mark_none, count_of_top, clear_but_top}
 use Rattle.kin_tourney.specs.Under.{is_under-left, is_under-right}
 use Rattle.kin_tourney.proofs.Entries.{named_under}
 use Rattle.kin_tourney.proofs.Placements.{fact_of_placed, placed_of_fact}
 use Rattle.kin_tourney.proofs.Entrants.{right_where_held, right_at_one}
 
-sign_cases : (a b : Sign) → (a ≡ b) ⊎ (a ≢ b)
-sign_cases Minus Minus = inl refl
-sign_cases Minus Zero = inr (λ e. absurd cc)
-sign_cases Minus Plus = inr (λ e. absurd cc)
-sign_cases Zero Minus = inr (λ e. absurd cc)
-sign_cases Zero Zero = inl refl
-sign_cases Zero Plus = inr (λ e. absurd cc)
-sign_cases Plus Minus = inr (λ e. absurd cc)
-sign_cases Plus Zero = inr (λ e. absurd cc)
-sign_cases Plus Plus = inl refl
-
 clear_or_here : (d : Doubt) → d ≢ Below → d ≢ Here → d ≡ Clear
 clear_or_here Clear n m = refl
 clear_or_here Below n m = absurd (n refl)
 clear_or_here Here n m = absurd (m refl)
-
-index_low : (marked : List Bool) (i : ℕ) → mark_in marked i ≡ true → i < length marked
-index_low marked i e = at (nat_lt i (length marked)) refl
-  where
-    at : (b : Bool) → nat_lt i (length marked) ≡ b → i < length marked
-    at true f = grind (arith, nat_tests, f)
-    at false f = absurd (let k : false ≡ true = sym (get_or_past marked i false (grind (arith, nat_tests, f))) ∙ e in cc)
 
 module _ {Item : Type 0} (key : Key Item) where
   -- a node above a mark is in doubt
@@ -58,15 +39,11 @@ module _ {Item : Type 0} (key : Key Item) where
   -- ---- a mark
   entry_elsewhere : (items : List (Option Item)) (slot : ℕ) (item : Option Item) (o : Option ℕ) → (o ≡ Some slot → ⊥) → entry_in (set items slot item) o ≡ entry_in items o
   entry_elsewhere items slot item None other = refl
-  entry_elsewhere items slot item (Some i) other = at (same_or_not i slot)
+  entry_elsewhere items slot item (Some i) other = at (cases_eq i slot)
     where
       at : (i ≡ slot) ⊎ (i ≢ slot) → entry_in (set items slot item) (Some i) ≡ entry_in items (Some i)
       at (inl e) = absurd (other (ap Some e))
-      at (inr n) = ap (λ x. entry_in_with i x) (get_or-set_other items slot i item None n)
-        where
-          entry_in_with : ℕ → Option Item → Option (Entry Item)
-          entry_in_with i None = None
-          entry_in_with i (Some a) = Some (record { slot = i; item = a })
+      at (inr n) = ap (entry_with i) (get_or-set_other items slot i item None n)
 
   module _ (t new : Standings Item) (tree : IsTree t) (tree' : IsTree new) (sound : IsSound key t) (slot : ℕ) (inside : slot < length t.items) (item : Option Item)
       (same : new ≡ record t { items = set t.items slot item; marked = set t.marked slot true; doubts = new.doubts })
@@ -174,7 +151,7 @@ module _ {Item : Type 0} (key : Key Item) where
 
   -- ---- a repair starts
   pub doubtful_starts : (t new : Standings Item) (s : Scene) (failed : List Placed) → IsTree t → IsTree new → IsSound key t → new ≡ record t { doubts = new.doubts }
-      → ListsFailing (placed_facts t) (λ p. is_above_mark t.size t.marked p.part) s failed → IsDoubted t.doubts new.doubts failed (length failed) → IsDoubtful key s.sign new
+      → CoversFailing (placed_facts t) (λ p. is_above_mark t.size t.marked p.part) s failed → IsDoubted t.doubts new.doubts failed (length failed) → IsDoubtful key s.sign new
   doubtful_starts t new s failed tree tree' sound same failing doubted =
       subst (λ (x : Standings Item). IsDoubtful key s.sign x) (sym same) (record {
         tree = subst IsTree same tree';
@@ -200,16 +177,16 @@ module _ {Item : Type 0} (key : Key Item) where
           failed_here f (k, low, e) = subst (λ (p : Placed). doubt_in new.doubts p.part ≡ Here) e (doubted.failed_here k (record { part = v; fact = f }) low)
 
           holds : (f : Fact) → fact_in t.facts v ≡ Some f → s.sign f.form ≡ f.sign
-          holds f e = decide (sign_cases (s.sign f.form) f.sign)
+          holds f e = decide (equal_or_not (s.sign f.form) f.sign)
             where
               decide : (s.sign f.form ≡ f.sign) ⊎ (s.sign f.form ≢ f.sign) → s.sign f.form ≡ f.sign
               decide (inl k) = k
-              decide (inr k) = absurd (n (failed_here f ((failing.each (record { part = v; fact = f })).1 (placed_of_fact t.facts (record { part = v; fact = f }) e, not_spared (is_above_mark t.size t.marked v) refl, k))))
+              decide (inr k) = absurd (n (failed_here f (failing.all (record { part = v; fact = f }) (placed_of_fact t.facts (record { part = v; fact = f }) e) (not_spared (is_above_mark t.size t.marked v) refl) k)))
 
           at : (sign : Sign) × IsRight key (λ f. sign) t v → IsRight key s.sign t v
           at (sign, right) = right_where_held key t v sign s.sign right holds
 
-  pub parts_inside : (t : Standings Item) (s : Scene) (failed : List Placed) → IsTree t → ListsFailing (placed_facts t) (λ p. is_above_mark t.size t.marked p.part) s failed
+  pub parts_inside : (t : Standings Item) (s : Scene) (failed : List Placed) → IsTree t → CoversFailing (placed_facts t) (λ p. is_above_mark t.size t.marked p.part) s failed
       → (k : ℕ) (d : Placed) → k < length failed → (slice_index_or failed k d).part < length t.items
   parts_inside t s failed tree failing k d low = at (nat_lt p.part (length t.facts)) refl
     where
@@ -218,7 +195,7 @@ module _ {Item : Type 0} (key : Key Item) where
 
       at : (b : Bool) → nat_lt p.part (length t.facts) ≡ b → p.part < length t.items
       at true e = let inside : p.part < length t.facts = grind (arith, nat_tests, e) in let r = tree.facts_room in omega arith
-      at false e = absurd (none_there (get_or_past t.facts p.part None (grind (arith, nat_tests, e))) (fact_of_placed t.facts p ((failing.each p).0 (k, low, get_or_default failed k p d low)).0))
+      at false e = absurd (none_there (get_or_past t.facts p.part None (grind (arith, nat_tests, e))) (fact_of_placed t.facts p (failing.only p (k, low, get_or_default failed k p d low))))
         where
           none_there : {o : Option Fact} → o ≡ None → o ≡ Some p.fact → ⊥
           none_there {o} e f = let z : None ≡ Some p.fact = sym e ∙ f in cc
@@ -235,7 +212,7 @@ module _ {Item : Type 0} (key : Key Item) where
   }
     where
       no_way_last : (v : ℕ) → doubt_in t.doubts v ≢ Below
-      no_way_last v e = at (same_or_not v 0)
+      no_way_last v e = at (cases_eq v 0)
         where
           at : (v ≡ 0) ⊎ (v ≢ 0) → ⊥
           at (inl z) = absurd (let k : Here ≡ Below = sym h.tree.closed.top ∙ ap (doubt_in t.doubts) (sym z) ∙ e in cc)

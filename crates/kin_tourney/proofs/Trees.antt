@@ -4,12 +4,13 @@ use Rattle.std.specs.Prelude.{Option, Some, None, IfSome}
 use Rattle.std.proofs.lemmas.List.{length-set, get_or-set_other, get_or_read}
 use Rattle.std.proofs.lemmas.Nat.{pow-add}
 use Rattle.std.proofs.Math.Pow.{pow_mono}
+use Rattle.std.proofs.lemmas.Bool.{cases_eq}
 use Rattle.kin_motion.specs.declared.fact.Fact.{Fact}
 use Rattle.kin_motion.specs.Tournaments.{is_under}
 use Rattle.kin_tourney.specs.declared.doubt.Doubt.{Doubt}
 use Rattle.kin_tourney.specs.declared.doubt.Doubt.TheVariants.{Clear, Here}
 use Rattle.kin_tourney.specs.Standings.{Standings, IsTree, IsClosed, best_in, doubt_in}
-use Rattle.kin_tourney.proofs.AfterWrite.{same_or_not, read_set}
+use Rattle.kin_tourney.proofs.AfterWrite.{read_set}
 use Rattle.kin_tourney.proofs.Doubts.{closed_raised}
 
 odd_power : (k v : ℕ) → 0 < v → 2 ^ k ≢ 2 * v + 1
@@ -21,7 +22,7 @@ pub odd_room : {Item : Type 0} (t : Standings Item) → IsTree t → (v : ℕ) �
 odd_room {Item} t h v some e = odd_power t.size v some (sym h.items_room ∙ e)
 
 pub right_inside : {Item : Type 0} (t : Standings Item) → IsTree t → (v : ℕ) → 0 < v → 2 * v < length t.items → 2 * v + 1 < length t.items
-right_inside {Item} t h v some inside = at (same_or_not (length t.items) (2 * v + 1))
+right_inside {Item} t h v some inside = at (cases_eq (length t.items) (2 * v + 1))
   where
     at : (length t.items ≡ 2 * v + 1) ⊎ (length t.items ≢ 2 * v + 1) → 2 * v + 1 < length t.items
     at (inl e) = absurd (odd_room t h v some e)
@@ -90,7 +91,7 @@ all_clear ds h root v some = from v v some (omega arith)
   where
     from : (far v : ℕ) → 0 < v → v ≤ far → doubt_in ds v ≡ Clear
     from zero v some near = absurd (omega arith)
-    from (suc far) v some near = at (same_or_not v 1) (from far (v / 2))
+    from (suc far) v some near = at (cases_eq v 1) (from far (v / 2))
       where
         at : (v ≡ 1) ⊎ (v ≢ 1) → (0 < v / 2 → v / 2 ≤ far → doubt_in ds (v / 2) ≡ Clear) → doubt_in ds v ≡ Clear
         at (inl e) rest = ap (doubt_in ds) e ∙ root

@@ -10,6 +10,7 @@ use Rattle.kin_motion.specs.Numbers.{IsIn}
 use Rattle.kin_motion.specs.Tournaments.{item_in}
 use Rattle.kin_motion.proofs.LiveLaws.{live-members}
 use Rattle.std.specs.Prelude.{ℤ, pos, ◌+ℤ◌, ◌*ℤ◌, ◌≤◌, ◌^◌, unsigned_abs}
+use Rattle.std.proofs.lemmas.Option.{same_Some}
 use Rattle.kin_algebra.specs.Signs.{sign_of}
 use Rattle.kin_algebra.proofs.Ring.{by_ring, quotes}
 use Rattle.kin_num.specs.declared.instant.Shape.TheVariants.{Ratio}
@@ -20,9 +21,6 @@ use Rattle.kin_num.specs.Instants.{sign_at, sign_at_instant}
 
 whole_value : (a b c t : ℤ) → a *ℤ (t *ℤ t +ℤ pos 0 *ℤ pos 0 *ℤ pos 0) +ℤ b *ℤ t *ℤ pos 1 +ℤ c *ℤ pos 1 *ℤ pos 1 ≡ a *ℤ (t *ℤ t) +ℤ b *ℤ t +ℤ c
 whole_value a b c t = by_ring (a ∷ b ∷ c ∷ t ∷ []) _ _ (search quotes depth 20) (search quotes depth 20) refl
-
-same_some : {A : Type 0} {a b : A} → Some a ≡ Some b → a ≡ b
-same_some {A} {a} {b} e = cc
 
 pub sign_at_whole : (p : Quadratic) (t : ℤ) → sign_at p (record { at = Ratio t (pos 1); phase = At }) ≡ sign_of (p.a *ℤ (t *ℤ t) +ℤ p.b *ℤ t +ℤ p.c)
 unfolding sign_at sign_at_instant
@@ -43,11 +41,11 @@ whole_canonical t small = record {
 -- two points in two slots are live
 pub both_live : (ms : List (Option Course)) (first second : Course) → length ms ≡ 2 ^ 1 → (i a : ℕ) → item_in (set (set (replicate (2 ^ 1) None) 0 (Some 0)) 1 (Some 1)) i ≡ Some a
     → IsIn a (live_of (set (set ms 0 (Some first)) 1 (Some second)))
-both_live ms first second room zero a e = subst (λ k. IsIn k (live_of both)) (same_some e) (live-members both 0 ∙ ap is_some (get_or-set_other (set ms 0 (Some first)) 1 0 (Some second) None (omega arith) ∙ get_or-set_same ms 0 (Some first) None (let q : 2 ^ 1 ≡ 2 = refl in omega arith)))
+both_live ms first second room zero a e = subst (λ k. IsIn k (live_of both)) (same_Some _ _ e) (live-members both 0 ∙ ap is_some (get_or-set_other (set ms 0 (Some first)) 1 0 (Some second) None (omega arith) ∙ get_or-set_same ms 0 (Some first) None (let q : 2 ^ 1 ≡ 2 = refl in omega arith)))
   where
     both : List (Option Course)
     both = set (set ms 0 (Some first)) 1 (Some second)
-both_live ms first second room (suc zero) a e = subst (λ k. IsIn k (live_of both)) (same_some e) (live-members both 1 ∙ ap is_some (get_or-set_same (set ms 0 (Some first)) 1 (Some second) None (let k = length-set ms 0 (Some first) in let q : 2 ^ 1 ≡ 2 = refl in omega arith)))
+both_live ms first second room (suc zero) a e = subst (λ k. IsIn k (live_of both)) (same_Some _ _ e) (live-members both 1 ∙ ap is_some (get_or-set_same (set ms 0 (Some first)) 1 (Some second) None (let k = length-set ms 0 (Some first) in let q : 2 ^ 1 ≡ 2 = refl in omega arith)))
   where
     both : List (Option Course)
     both = set (set ms 0 (Some first)) 1 (Some second)

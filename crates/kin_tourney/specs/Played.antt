@@ -6,19 +6,18 @@ use Rattle.std.proofs.lemmas.List.{get_or_past}
 use Rattle.std.proofs.lemmas.Nat.{pow-add}
 use Rattle.std.proofs.Math.Pow.{pow_pos}
 use Rattle.std.proofs.lemmas.List.Elements.{All-contains}
+use Rattle.kin_basics.proofs.Options.{none_or_some}
 use Rattle.kin_algebra.specs.declared.sign.Sign.{Sign}
 use Rattle.kin_motion.specs.declared.fact.Placed.{Placed}
 use Rattle.kin_motion.specs.Scene.{Scene, Holds, placed_at}
 use Rattle.kin_motion.specs.Kinetics.{AllHold}
 use Rattle.kin_motion.specs.Tournaments.{Key, beats, IsBest, IsNodeFact, item_in, is_under}
 use Rattle.kin_motion.specs.Contents.{IsWinner, IsSettledTournament}
+use Rattle.kin_motion.proofs.NodeLaws.{node_with_slot}
 use Rattle.kin_tourney.specs.Fair.{IsFair}
 use Rattle.kin_tourney.specs.Locals.{HasNoFact, IsMatch, IsPlayed}
-use Rattle.kin_tourney.specs.Under.{is_under-leaf, is_under-leaf_alone, is_under-none, is_under-le, is_under-left, is_under-right, is_under-cases}
+use Rattle.kin_tourney.specs.Under.{is_under-leaf, is_under-leaf_alone, is_under-left, is_under-right, is_under-cases}
 use Rattle.kin_tourney.specs.Bests.{other_false, one_best, best_of_left, joined, joined_same}
-
-none_some : {A : Type 0} {a : A} {o : Option A} → o ≡ None → o ≡ Some a → ⊥
-none_some {A} {a} {o} e f = let k : None ≡ Some a = sym e ∙ f in cc
 
 module _ {Item : Type 0} (s : Scene) (key : Key Item) (size : ℕ) (slots : List (Option Item)) (room : length slots ≡ 2 ^ size) (fair : IsFair s key slots) where
   -- an item stands in a slot of the tree
@@ -29,7 +28,7 @@ module _ {Item : Type 0} (s : Scene) (key : Key Item) (size : ℕ) (slots : List
       at true f = grind (arith, nat_tests, f)
       at false f =
           let past : 2 ^ size ≤ i = grind (arith, nat_tests, f) in
-          absurd (none_some (get_or_past slots i None (omega arith)) e)
+          absurd (none_or_some (get_or_past slots i None (omega arith)) e)
 
   -- the winner of an inner node from those of its halves
   module _ (v : ℕ) (some : 0 < v) (inside : v < 2 ^ size) where
@@ -76,9 +75,15 @@ module _ {Item : Type 0} (s : Scene) (key : Key Item) (size : ℕ) (slots : List
 
   one_winner : (v : ℕ) (w x : Option Item) → IsWinner s key size slots v w → IsWinner s key size slots v x → w ≡ x
   one_winner v None None h k = refl
-  one_winner v (Some a) None h k = absurd (none_some (k h.slot h.among) h.held)
-  one_winner v None (Some b) h k = absurd (none_some (h k.slot k.among) k.held)
+  one_winner v (Some a) None h k = absurd (none_or_some (k h.slot h.among) h.held)
+  one_winner v None (Some b) h k = absurd (none_or_some (h k.slot k.among) k.held)
   one_winner v (Some a) (Some b) h k = ap Some (one_best s key slots fair (is_under size v) a b h k)
+
+  -- a node with a fact is an inner one
+  inner_part : (p : Placed) → IsNodeFact s key size slots p → (0 < p.part) × (p.part < 2 ^ size)
+  inner_part p f =
+      let inner = node_with_slot size p.part f.left_best.slot (low f.left_best.slot f.left f.left_best.held) f.left_best.among in
+      (omega (arith, inner.0), inner.1)
 
   -- from the nodes to the definition
   module _ (winner : ℕ → Option Item) (facts : List Placed) (played : IsPlayed s key size slots winner facts) where
@@ -136,25 +141,13 @@ module _ {Item : Type 0} (s : Scene) (key : Key Item) (size : ℕ) (slots : List
 
     fact_of_node : (p : Placed) → (f : IsNodeFact s key size slots p) → (l r w : Option Item)
         → IsWinner s key size slots (2 * p.part) l → IsWinner s key size slots (2 * p.part + 1) r → IsMatch s key facts p.part w l r → Contains facts p
-    fact_of_node p f None r w hl hr m = absurd (none_some (hl f.left_best.slot f.left_best.among) f.left_best.held)
-    fact_of_node p f (Some a) None w hl hr m = absurd (none_some (hr f.right_best.slot f.right_best.among) f.right_best.held)
+    fact_of_node p f None r w hl hr m = absurd (none_or_some (hl f.left_best.slot f.left_best.among) f.left_best.held)
+    fact_of_node p f (Some a) None w hl hr m = absurd (none_or_some (hr f.right_best.slot f.right_best.among) f.right_best.held)
     fact_of_node p f (Some a) (Some b) w hl hr m =
         let left : a ≡ f.left = one_best s key slots fair (is_under size (2 * p.part)) a f.left hl f.left_best in
         let right : b ≡ f.right = one_best s key slots fair (is_under size (2 * p.part + 1)) b f.right hr f.right_best in
         let same : placed_at s p.part (key.form a b) ≡ p = ap (λ x. placed_at s p.part (key.form x b)) left ∙ ap (λ x. placed_at s p.part (key.form f.left x)) right ∙ sym f.fact in
         subst (Contains facts) same m.1
-
-    inner_part : (p : Placed) → IsNodeFact s key size slots p → (0 < p.part) × (p.part < 2 ^ size)
-    inner_part p f =
-        let below = is_under-le size (2 * p.part) f.left_best.slot f.left_best.among in
-        let slot = low f.left_best.slot f.left f.left_best.held in
-        (some (nat_eq p.part 0) refl, omega arith)
-      where
-        some : (t : Bool) → nat_eq p.part 0 ≡ t → 0 < p.part
-        some true e =
-            let root : 2 * p.part ≡ 0 = grind (arith, nat_tests, e) in
-            absurd (is_under-none size f.left_best.slot (subst (λ v. is_under size v f.left_best.slot ≡ true) root f.left_best.among))
-        some false e = grind (arith, nat_tests, e)
 
     pub settled_from_played : IsSettledTournament s key size slots winner facts
     settled_from_played = record {
@@ -175,7 +168,7 @@ module _ {Item : Type 0} (s : Scene) (key : Key Item) (size : ℕ) (slots : List
 
     leaf_won : (i : ℕ) → i < 2 ^ size → (w o : Option Item) → item_in slots i ≡ o → IsWinner s key size slots (2 ^ size + i) w → w ≡ o
     leaf_won i inside None None e h = refl
-    leaf_won i inside None (Some b) e h = absurd (none_some (h i (is_under-leaf size i)) e)
+    leaf_won i inside None (Some b) e h = absurd (none_or_some (h i (is_under-leaf size i)) e)
     leaf_won i inside (Some a) o e h = let same : h.slot ≡ i = is_under-leaf_alone size h.slot i (low h.slot a h.held) h.among in sym h.held ∙ ap (item_in slots) same ∙ e
 
     no_fact : (v : ℕ) → ((x y : Item) → IsBest s key slots (is_under size (2 * v)) x → IsBest s key slots (is_under size (2 * v + 1)) y → ⊥) → HasNoFact facts v
@@ -184,11 +177,11 @@ module _ {Item : Type 0} (s : Scene) (key : Key Item) (size : ℕ) (slots : List
         none f.left f.right (subst (λ u. IsBest s key slots (is_under size (2 * u)) f.left) e f.left_best) (subst (λ u. IsBest s key slots (is_under size (2 * u + 1)) f.right) e f.right_best)
 
     node_won : (v : ℕ) → 0 < v → v < 2 ^ size → (l r w : Option Item) → IsWinner s key size slots (2 * v) l → IsWinner s key size slots (2 * v + 1) r → IsWinner s key size slots v w → IsMatch s key facts v w l r
-    node_won v some inside None None w hl hr h = (one_winner v w None h (empty_both v some inside hl hr), no_fact v (λ x y p q. none_some (hl p.slot p.among) p.held))
+    node_won v some inside None None w hl hr h = (one_winner v w None h (empty_both v some inside hl hr), no_fact v (λ x y p q. none_or_some (hl p.slot p.among) p.held))
     node_won v some inside (Some a) None w hl hr h =
-        (one_winner v w (Some a) h (best_of_left s key slots fair (is_under size (2 * v)) (is_under size (2 * v + 1)) (is_under size v) (apart v some inside) (up_left v some inside) a hl hr), no_fact v (λ x y p q. none_some (hr q.slot q.among) q.held))
+        (one_winner v w (Some a) h (best_of_left s key slots fair (is_under size (2 * v)) (is_under size (2 * v + 1)) (is_under size v) (apart v some inside) (up_left v some inside) a hl hr), no_fact v (λ x y p q. none_or_some (hr q.slot q.among) q.held))
     node_won v some inside None (Some b) w hl hr h =
-        (one_winner v w (Some b) h (best_of_left s key slots fair (is_under size (2 * v + 1)) (is_under size (2 * v)) (is_under size v) (turned v some inside) (up_right v some inside) b hr hl), no_fact v (λ x y p q. none_some (hl p.slot p.among) p.held))
+        (one_winner v w (Some b) h (best_of_left s key slots fair (is_under size (2 * v + 1)) (is_under size (2 * v)) (is_under size v) (turned v some inside) (up_right v some inside) b hr hl), no_fact v (λ x y p q. none_or_some (hl p.slot p.among) p.held))
     node_won v some inside (Some a) (Some b) w hl hr h = (
       one_winner v w (Some (cond (beats s key a b) a b)) h (of_both v some inside a b hl hr),
       (settled.exact.each (placed_at s v (key.form a b))).1 (record { left = a; right = b; left_best = hl; right_best = hr; fact = refl }),
@@ -200,25 +193,13 @@ module _ {Item : Type 0} (s : Scene) (key : Key Item) (size : ℕ) (slots : List
         let right : f.right ≡ g.right = one_best s key slots fair (is_under size (2 * q.part + 1)) f.right g.right (subst (λ u. IsBest s key slots (is_under size (2 * u + 1)) f.right) e f.right_best) g.right_best in
         f.fact ∙ ap (λ u. placed_at s u (key.form f.left f.right)) e ∙ ap (λ x. placed_at s q.part (key.form x f.right)) left ∙ ap (λ x. placed_at s q.part (key.form g.left x)) right ∙ sym g.fact
 
-    part_inside : (p : Placed) → IsNodeFact s key size slots p → (0 < p.part) × (p.part < 2 ^ size)
-    part_inside p f =
-        let below = is_under-le size (2 * p.part) f.left_best.slot f.left_best.among in
-        let slot = low f.left_best.slot f.left f.left_best.held in
-        (some (nat_eq p.part 0) refl, omega arith)
-      where
-        some : (t : Bool) → nat_eq p.part 0 ≡ t → 0 < p.part
-        some true e =
-            let root : 2 * p.part ≡ 0 = grind (arith, nat_tests, e) in
-            absurd (is_under-none size f.left_best.slot (subst (λ v. is_under size v f.left_best.slot ≡ true) root f.left_best.among))
-        some false e = grind (arith, nat_tests, e)
-
     pub played_from_settled : IsPlayed s key size slots winner facts
     played_from_settled = record {
       leaves = λ i inside. leaf_won i inside (winner (2 ^ size + i)) (item_in slots i) refl (won (2 ^ size + i) (omega (arith, pow_pos size)) (omega arith));
       matches = λ v some inside. node_won v some inside (winner (2 * v)) (winner (2 * v + 1)) (winner v) (won (2 * v) (omega arith) (omega arith)) (won (2 * v + 1) (omega arith) (omega arith)) (won v some (omega arith));
       once = settled.exact.once;
       one_fact = λ p q there there'. one_there p q ((settled.exact.each p).0 there) ((settled.exact.each q).0 there');
-      inner = λ p there. part_inside p ((settled.exact.each p).0 there);
+      inner = λ p there. inner_part p ((settled.exact.each p).0 there);
     }
 
 -- where the facts hold in another scene, the matches end the same way there

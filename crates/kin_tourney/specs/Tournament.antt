@@ -1,8 +1,8 @@
 -- A tournament as its callers see it.
-use Rattle.std.specs.Prelude.{◌≡◌, ℕ, ◌+◌, ◌^◌, Bool, false, ◌&&◌, ◌||◌, List, [], ◌∷◌, length, Option, Some, None, slice_index_or, IsTrue}
+use Rattle.std.specs.Prelude.{◌≡◌, ℕ, ◌+◌, ◌^◌, Bool, false, ◌&&◌, ◌||◌, List, [], ◌∷◌, length, Option, Some, None, slice_index_or, Contains, IsTrue, IsFalse}
 use Rattle.std.specs.List.{count_by}
 use Rattle.kin_motion.specs.declared.fact.Placed.{Placed}
-use Rattle.kin_motion.specs.Scene.{Scene}
+use Rattle.kin_motion.specs.Scene.{Scene, Holds}
 use Rattle.kin_motion.specs.Tournaments.{Key, item_in, is_under}
 use Rattle.kin_motion.specs.Contents.{IsSettledTournament}
 use Rattle.kin_tourney.specs.Names.{AreLive}
@@ -54,3 +54,8 @@ pub record IsSettled {K Item : Type 0} (names : Item → List ℕ) (key : Key It
   pub room : length t.slots ≡ 2 ^ t.size
   pub ready : IsReady names t s
   pub tournament : IsSettledTournament s key t.size t.slots (winner_at t) t.facts
+
+-- the list has facts alone, and of those that aren't spared all that don't hold
+pub record CoversFailing (facts : List Placed) (is_spared : Placed → Bool) (s : Scene) (failed : List Placed) : Type 0 where
+  pub only : (p : Placed) → Contains failed p → Contains facts p
+  pub all : (p : Placed) → Contains facts p → IsFalse (is_spared p) → ¬ (Holds s p.fact) → Contains failed p

@@ -15,7 +15,7 @@ pub use keyed::Keyed;
 pub use tourney::Tourney;
 
 pub mod along;
-mod doubt;
+pub mod doubt;
 mod entry;
 pub mod keyed;
 mod points;

@@ -96,8 +96,8 @@ impl<K: Keyed> Tourney<K> {
 impl<K: Keyed> Kinetic for Tourney<K> {
     ghost use Rattle.std.specs.Prelude.{◌≡◌, ◌+◌, ◌*◌, ◌≤◌, false, OnOk, OnErr, length};
     ghost use Rattle.kin_motion.specs.Scene.{IsReal};
-    ghost use Rattle.kin_motion.specs.Kinetics.{ListsFailing, HasChanged};
-    ghost use Rattle.kin_tourney.specs.Tournament.{IsAtRest, IsReady, IsSettled, is_above_mark, mark_count};
+    ghost use Rattle.kin_motion.specs.Kinetics.{HasChanged};
+    ghost use Rattle.kin_tourney.specs.Tournament.{IsAtRest, IsReady, IsSettled, is_above_mark, mark_count, CoversFailing};
     ghost use Rattle.kin_tourney.specs.Determined.{determined_law};
 
     ghost facts = { λ t. t.facts };
@@ -125,7 +125,7 @@ impl<K: Keyed> Kinetic for Tourney<K> {
     ) -> Result<(), NoMemory>
         requires real { IsReal (O.scene now.now) }
         requires ready { IsReady K.names self.old (O.scene now.now) }
-        requires failing { ListsFailing self.old.facts (λ p. is_above_mark self.old.size self.old.marked p.part) (O.scene now.now) failed.now }
+        requires failing { CoversFailing self.old.facts (λ p. is_above_mark self.old.size self.old.marked p.part) (O.scene now.now) failed.now }
         ensures rest { OnOk result (IsAtRest self.new) }
         ensures settled { OnOk result (IsSettled K.names (K.key self.new.key) self.new (O.scene now.now)) }
         ensures delta { OnOk result (HasChanged self.old.facts self.new.facts out.old out.new) }

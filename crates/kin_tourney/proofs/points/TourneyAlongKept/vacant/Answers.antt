@@ -1,12 +1,11 @@
-use Rattle.std.proofs.Common.{◌≡◌, sym, subst, arith, [], ℕ, Result, Ok, Err, refl}
+use Rattle.std.proofs.Common.{sym, subst, arith, Result, Ok, Err}
 use Rattle.std.specs.Prelude.{IfOk}
 use Rattle.std.proofs.lemmas.Int.{to_z-of_z}
 use Rattle.kin_motion.specs.Live.{IsSmallKeep}
 use Rattle.kin_motion.specs.Extremes.{along_key}
-use Rattle.kin_motion.specs.Scene.{Scene}
 use Rattle.kin_tourney.specs.declared.along.Along.{Along}
-use Rattle.kin_tourney.specs.Points.{HasPoints, IsSettledAlong, point_names}
-use Rattle.kin_tourney.specs.Tournament.{Tournament, IsSettled}
+use Rattle.kin_tourney.specs.Points.{point_names}
+use Rattle.kin_tourney.specs.Tournament.{IsSettled}
 use Rattle.kin_tourney.proofs.EnterPoints.{no_points, points_for}
 use Rattle.kin_tourney.proofs.points.TourneyAlongKept.vacant.Goals as goal
 

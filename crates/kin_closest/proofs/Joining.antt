@@ -1,0 +1,78 @@
+-- What the orders and the tournament report together, and that their facts are bounded.
+use Rattle.std.proofs.Common.{◌≡◌, ◌⊎◌, inl, inr, sym, ap, subst, arith, List, [], ◌++◌, ℕ, ◌+◌, ◌*◌, ◌^◌, ◌<◌, ◌≤◌, length, map}
+use Rattle.std.specs.Prelude.{Option, Some, Contains}
+use Rattle.std.proofs.Math.Pow.{pow_mono}
+use Rattle.std.proofs.lemmas.Option.{slice_get_within}
+use Rattle.kin_motion.specs.declared.fact.Placed.{Placed}
+use Rattle.kin_motion.specs.Deltas.{Change}
+use Rattle.kin_motion.specs.Kinetics.{HasGained, HasChanged}
+use Rattle.kin_motion.specs.Parts.{moved_by}
+use Rattle.kin_motion.specs.Scene.{Scene}
+use Rattle.kin_motion.specs.Tournaments.{IsNodeFact}
+use Rattle.kin_motion.specs.ClosestPairs.{Near, distance_key}
+use Rattle.kin_motion.proofs.ChangeLaws.{both_changed}
+use Rattle.kin_motion.proofs.PartLaws.{moved_facts_change}
+use Rattle.kin_motion.proofs.SetLaws.{contains_mapped}
+use Rattle.kin_tourney.specs.Tournament.{Tournament, IsSettled}
+use Rattle.kin_tourney.specs.Under.{is_under-le}
+use Rattle.kin_closest.specs.DistanceKey.{pair_names}
+use Rattle.kin_near.proofs.BestPairs.{held_there}
+
+-- the fact of a node is in the part of an inner node
+pub node_low : (s : Scene) (size : ℕ) (slots : List (Option Near)) (p : Placed) → length slots ≡ 2 ^ size → IsNodeFact s distance_key size slots p → p.part < 2 ^ size
+node_low s size slots p room f =
+    let le : 2 * p.part ≤ 2 ^ size + f.left_best.slot = is_under-le size (2 * p.part) f.left_best.slot f.left_best.among in
+    let low = slice_get_within slots f.left_best.slot (Some f.left) (held_there slots f.left_best.slot f.left f.left_best.held) in
+    omega (arith, le, low, room)
+
+-- so all its facts are in parts below 2^15
+pub facts_low : {K : Type 0} (t : Tournament K Near) (s : Scene) → IsSettled pair_names distance_key t s → t.size ≤ 15 → (p : Placed) → Contains t.facts p → p.part < 2 ^ 15
+facts_low {K} t s settled small p c =
+    let low = node_low s t.size t.slots p settled.room ((settled.tournament.exact.each p).0 c) in
+    let most : 2 ^ t.size ≤ 2 ^ 15 = pow_mono small in
+    omega (arith, low, most)
+
+-- what is gained by nothing is of this kind
+pub all_gained : (mine : List Placed) (which : Placed → Type 0) → HasGained [] mine which → (p : Placed) → Contains mine p → which p
+all_gained mine which h p c = (h.exactly.each p).0 (subst (λ (xs : List Placed). Contains xs p) h.joined c)
+
+-- what a report that began empty tells
+pub told_dropped : (old new : List Placed) (none out : Change) → none ≡ record { dropped = []; born = [] } → HasChanged old new none out → (p : Placed) → Contains out.dropped p → Contains old p
+told_dropped old new none out e h p c = (all_gained out.dropped _ (subst (λ (d : Change). HasChanged old new d out) e h).dropped p c).0
+
+pub told_born : (old new : List Placed) (none out : Change) → none ≡ record { dropped = []; born = [] } → HasChanged old new none out → (p : Placed) → Contains out.born p → Contains new p
+told_born old new none out e h p c = (all_gained out.born _ (subst (λ (d : Change). HasChanged old new d out) e h).born p c).0
+
+-- where these are gained by nothing, they are gained by what was there
+gained_after : (before mine : List Placed) (which : Placed → Type 0) → HasGained [] mine which → HasGained before (before ++ mine) which
+gained_after before mine which h = record { more = h.more; joined = ap (λ (xs : List Placed). before ++ xs) h.joined; exactly = h.exactly }
+
+-- what the tournament reports is passed on
+pub passed_on : (pairs pairs' : List Placed) (delta out out' : Change) → HasChanged pairs pairs' (record { dropped = []; born = [] }) delta
+    → out' ≡ record { dropped = out.dropped ++ map (moved_by 8) delta.dropped; born = out.born ++ map (moved_by 8) delta.born } → HasChanged (map (moved_by 8) pairs) (map (moved_by 8) pairs') out out'
+passed_on pairs pairs' delta out out' h e =
+    let m = moved_facts_change 8 pairs pairs' (record { dropped = []; born = [] }) delta h in
+    subst (HasChanged (map (moved_by 8) pairs) (map (moved_by 8) pairs') out) (sym e)
+    (record { dropped = gained_after out.dropped (map (moved_by 8) delta.dropped) _ m.dropped; born = gained_after out.born (map (moved_by 8) delta.born) _ m.born })
+
+-- the reports of the orders and of the tournament are that of both
+pub joined : (orders orders' pairs pairs' : List Placed) (out mid out' : Change) → ((p : Placed) → Contains orders p → p.part < 8) → ((p : Placed) → Contains orders' p → p.part < 8)
+    → HasChanged orders orders' out mid → HasChanged (map (moved_by 8) pairs) (map (moved_by 8) pairs') mid out' → HasChanged (orders ++ map (moved_by 8) pairs) (orders' ++ map (moved_by 8) pairs') out out'
+joined orders orders' pairs pairs' out mid out' low low' first second = both_changed orders orders' (map (moved_by 8) pairs) (map (moved_by 8) pairs') out mid out' apart first second
+  where
+    high : (p : Placed) (xs : List Placed) → Contains (map (moved_by 8) xs) p → 8 ≤ p.part
+    high p xs c = let m = contains_mapped (moved_by 8) xs p c in let f : p.part ≡ 8 + m.0.part = ap (λ (q : Placed). q.part) m.2 in omega (arith, f)
+
+    apart : (p : Placed) → Contains orders p ⊎ Contains orders' p → Contains (map (moved_by 8) pairs) p ⊎ Contains (map (moved_by 8) pairs') p → ⊥
+    apart p a b = clash (below a) (above b)
+      where
+        below : Contains orders p ⊎ Contains orders' p → p.part < 8
+        below (inl c) = low p c
+        below (inr c) = low' p c
+
+        above : Contains (map (moved_by 8) pairs) p ⊎ Contains (map (moved_by 8) pairs') p → 8 ≤ p.part
+        above (inl c) = high p pairs c
+        above (inr c) = high p pairs' c
+
+        clash : p.part < 8 → 8 ≤ p.part → ⊥
+        clash h k = omega (arith, h, k)

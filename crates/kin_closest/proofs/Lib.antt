@@ -1,0 +1,7 @@
+pub mod Telling
+pub mod Readiness
+pub mod Splitting
+pub mod Joining
+pub mod Vacancy
+pub mod Settling
+pub mod Leaving

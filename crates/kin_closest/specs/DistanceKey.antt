@@ -1,0 +1,34 @@
+-- The laws of the key of the closest pair.
+use Rattle.std.specs.Prelude.{◌≡◌, ◌≢◌, ℕ, true, not, List, [], ◌∷◌}
+use Rattle.std.proofs.lemmas.List.Elements.{All-head, All-tail}
+use Rattle.kin_motion.specs.declared.form.Form.TheVariants.{Dist}
+use Rattle.kin_motion.specs.ClosestPairs.{Near, distance_key}
+use Rattle.kin_motion.specs.Forms.{IsAskable}
+use Rattle.kin_motion.specs.Numbers.{IsIn}
+use Rattle.kin_motion.specs.Scene.{Scene, IsReal}
+use Rattle.kin_motion.specs.Tournaments.{beats}
+use Rattle.kin_motion.proofs.DistanceLaws.{nearer_total, nearer_transitive, real_distance_laws}
+use Rattle.kin_tourney.specs.Names.{AreLive}
+
+-- the numbers that a pair names
+abbrev pub pair_names : Near → List ℕ
+pair_names p = p.i ∷ p.j ∷ []
+
+-- the form names live numbers
+pub distance_askable : (live : List ℕ) (p q : Near) → AreLive live (pair_names p) → AreLive live (pair_names q) → IsAskable live (Dist p.i p.j q.i q.j)
+distance_askable live p q here there = (first p.i p.j here, second p.i p.j here, first q.i q.j there, second q.i q.j there)
+  where
+    first : (i j : ℕ) → AreLive live (i ∷ j ∷ []) → IsIn i live
+    first i j k = All-head (λ n. IsIn n live) i (j ∷ []) k
+
+    second : (i j : ℕ) → AreLive live (i ∷ j ∷ []) → IsIn j live
+    second i j k = All-head (λ n. IsIn n live) j [] (All-tail (λ n. IsIn n live) i (j ∷ []) k)
+
+-- of two different pairs one is closer, or as close and less
+pub distance_total : (s : Scene) (p q : Near) → IsReal s → AreLive s.live (pair_names p) → AreLive s.live (pair_names q) → p ≢ q → beats s distance_key q p ≡ not (beats s distance_key p q)
+distance_total s p q real here there n = nearer_total s (real_distance_laws s real) p q n
+
+-- closer than a closer one is closer
+pub distance_transitive : (s : Scene) (p q r : Near) → IsReal s → AreLive s.live (pair_names p) → AreLive s.live (pair_names q) → AreLive s.live (pair_names r)
+    → beats s distance_key p q ≡ true → beats s distance_key q r ≡ true → beats s distance_key p r ≡ true
+distance_transitive s p q r real a b c = nearer_transitive s (real_distance_laws s real) p q r

@@ -1,0 +1,5 @@
+pub mod DistanceKey
+pub mod Sorting
+pub mod Told
+pub mod Closing
+pub mod ClosingLaws

@@ -1,0 +1,81 @@
+//! What the halves of a closest pair are told.
+
+ghost use Rattle.std.specs.Prelude.{◌≡◌, ◌+◌, ◌*◌, ◌≤◌, ◌<◌, ◌^◌, OnOk, filter, length, map, Contains};
+ghost use Rattle.kin_motion.specs.declared.fact.Placed.{Placed as Put};
+ghost use Rattle.kin_motion.specs.ClosestPairs.{distance_key};
+ghost use Rattle.kin_motion.specs.Kinetics.{HasChanged};
+ghost use Rattle.kin_motion.specs.Parts.{moved_by};
+ghost use Rattle.kin_motion.specs.Scene.{IsReal};
+ghost use Rattle.kin_tourney.specs.Tournament.{IsAtRest, IsReady, IsSettled, is_above_mark, mark_count, CoversFailing};
+ghost use Rattle.kin_closest.specs.DistanceKey.{pair_names};
+ghost use Rattle.kin_closest.specs.Sorting.{is_of_order, is_of_pair, taken_back};
+
+use crate::distance::Distance;
+use crate::sorting::{pass_on, sort_out};
+use kin_motion::fact::{Delta, Placed};
+use kin_motion::kinetic::Kinetic;
+use kin_motion::signs::Signs;
+use kin_num::memory::NoMemory;
+use kin_num::steps::Steps;
+use kin_tourney::Tourney;
+use std::alloc::Global;
+use std::sync::ledger::Ledger;
+
+/// The failed facts of the orders and those of the tournament, and what the tournament reports, each of these in its own
+/// parts. The memory is kept from settle to settle.
+#[derive(Drop)]
+pub(crate) struct Mail {
+    orders: Vec<Placed>,
+    pairs: Vec<Placed>,
+    delta: Delta,
+}
+
+impl Mail {
+    pub(crate) fn new(alloc: Global) -> Mail {
+        Mail {
+            orders: Vec::new(alloc),
+            pairs: Vec::new(alloc),
+            delta: Delta::new(alloc),
+        }
+    }
+
+    /// Sorts failed facts out.
+    pub(crate) fn sort(&mut self, failed: &[Placed]) -> Result<(), NoMemory>
+        ensures orders { OnOk result (self.new.orders.items ≡ filter is_of_order failed.now) }
+        ensures pairs { OnOk result (self.new.pairs.items ≡ map taken_back (filter is_of_pair failed.now)) }
+    {
+        sort_out(failed, &mut self.orders, &mut self.pairs)
+    }
+
+    /// The failed facts of the orders.
+    pub(crate) fn orders(&self) -> &[Placed]
+        ensures { result.now ≡ self.now.orders.items }
+    {
+        &self.orders
+    }
+
+    /// Settles the tournament, and passes on what it reports.
+    pub(crate) fn settle_pairs<O: Signs, L: Ledger>(
+        &mut self,
+        pairs: &mut Tourney<Distance>,
+        now: &O,
+        out: &mut Delta,
+        steps: &mut Steps<L>,
+    ) -> Result<(), NoMemory>
+        requires real { IsReal (O.scene now.now) }
+        requires ready { IsReady pair_names pairs.old (O.scene now.now) }
+        requires failing { CoversFailing pairs.old.facts (λ p. is_above_mark pairs.old.size pairs.old.marked p.part) (O.scene now.now) self.old.pairs.items }
+        requires small { pairs.old.size ≤ 15 }
+        requires low { (p : Put) → Contains pairs.old.facts p → p.part < 2 ^ 15 }
+        ensures rest { OnOk result (IsAtRest pairs.new) }
+        ensures settled { OnOk result (IsSettled pair_names distance_key pairs.new (O.scene now.now)) }
+        ensures delta { OnOk result (HasChanged (map (moved_by 8) pairs.old.facts) (map (moved_by 8) pairs.new.facts) out.old out.new) }
+        ensures same { OnOk result (pairs.new ≡ record pairs.old { marked = pairs.new.marked; winners = pairs.new.winners; facts = pairs.new.facts }) }
+        ensures room { OnOk result (length pairs.new.marked ≡ length pairs.old.marked) }
+        ensures cost { OnOk result (steps.new ≤ steps.old + pairs.old.size * (mark_count pairs.old.marked + length self.old.pairs.items)) }
+    {
+        self.delta.clear();
+        pairs.settle(now, &self.pairs, &mut self.delta, steps)?;
+        pass_on(&self.delta, out)
+    }
+}

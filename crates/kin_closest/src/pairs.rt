@@ -1,0 +1,47 @@
+//! The tournament of the pairs of points and their candidates.
+
+ghost use Rattle.std.specs.Prelude.{◌≡◌, ℕ, ◌+◌, ◌/◌, ◌^◌, ◌<◌, true, Some, length, slice_get, slice_set};
+ghost use Rattle.kin_motion.specs.ClosestFacts.{near_of};
+ghost use Rattle.kin_wedge.specs.Wedging.{candidate_told};
+ghost use Rattle.kin_closest.specs.Told.{AreTold};
+
+use crate::distance::Distance;
+use crate::pair::Pair;
+use kin_tourney::Tourney;
+use kin_wedge::Wedges;
+
+/// Tells a slot of the candidate that it has now.
+fn tell(pairs: &mut Tourney<Distance>, slot: u32, candidate: Option<u32>)
+    requires { slot < 2 ^ pairs.old.size }
+    ensures { pairs.new ≡ record pairs.old { slots = slice_set pairs.old.slots slot (near_of slot (slot / 8) candidate); marked = slice_set pairs.old.marked slot true; winners = pairs.new.winners } }
+{
+    match candidate {
+        Some(candidate) => pairs.set(slot, Pair::new(slot, slot / 8, candidate)),
+        None => pairs.clear(slot),
+    }
+}
+
+/// Tells these slots of their candidates.
+fn tell_each(pairs: &mut Tourney<Distance>, wedges: &Wedges, slots: &[u32])
+    requires size { pairs.old.size ≡ wedges.now.size + 3 }
+    requires slots_room { length pairs.old.slots ≡ 2 ^ pairs.old.size }
+    requires marks_room { length pairs.old.marked ≡ 2 ^ pairs.old.size }
+    requires within { (k i : ℕ) → slice_get slots.now k ≡ Some i → i < 2 ^ (wedges.now.size + 3) }
+    ensures { AreTold (candidate_told wedges.now) slots.now (length slots.now) pairs.old pairs.new }
+{
+    for slot in slots {
+        let slot = *slot;
+        tell(pairs, slot, wedges.candidate(slot / 8, slot % 8));
+    }
+}
+
+/// Tells all slots that have another candidate than before the last settle.
+pub(crate) fn tell_all(pairs: &mut Tourney<Distance>, wedges: &Wedges)
+    requires size { pairs.old.size ≡ wedges.now.size + 3 }
+    requires slots_room { length pairs.old.slots ≡ 2 ^ pairs.old.size }
+    requires marks_room { length pairs.old.marked ≡ 2 ^ pairs.old.size }
+    requires within { (k i : ℕ) → slice_get wedges.now.changed k ≡ Some i → i < 2 ^ (wedges.now.size + 3) }
+    ensures { AreTold (candidate_told wedges.now) wedges.now.changed (length wedges.now.changed) pairs.old pairs.new }
+{
+    tell_each(pairs, wedges, wedges.changed());
+}

@@ -1,0 +1,9 @@
+pub mod Coordinates
+pub mod Nearness
+pub mod Coincidence
+pub mod Numbers
+pub mod ThreePoints
+pub mod SwappedPairs
+pub mod ClosestPoints
+pub mod BestPairs
+pub mod SettledPairs
