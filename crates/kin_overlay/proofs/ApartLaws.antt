@@ -1,97 +1,41 @@
 -- Where the common numbers stand in one order, no number is put that is dropped.
 use Rattle.std.proofs.Common.{◌≡◌, ◌≢◌, ◌⊎◌, inl, inr, refl, sym, ap, ap₂, ◌∙◌, subst, arith, List, [], ◌∷◌, ◌++◌, ℕ, zero, suc, ◌<◌, Bool, true, false, cond, ◌||◌, nat_eq, length, take, drop, Some}
 use Rattle.std.specs.Prelude.{slice_get, filter}
-use Rattle.std.proofs.lemmas.Bool.Decides.{nat_tests}
 use Rattle.std.proofs.lemmas.List.{append-nil, append_assoc, take-append-drop}
 use Rattle.std.proofs.Math.Seq.{drop-append_seam}
+use Rattle.std.proofs.lemmas.Bool.{or_cases, eqb-true, false_from_ne_true, both_ways}
+use Rattle.std.proofs.lemmas.List.Elements.{filter-append}
 use Rattle.kin_motion.specs.Edits.{Edit, edited, all_edited, dropped_by_one, dropped_by, put_by}
 use Rattle.kin_motion.specs.Numbers.{is_in, IsOnce}
+use Rattle.kin_motion.proofs.Members.{in_head, in_tail, in_either, in_left, in_right}
 use Rattle.kin_overlay.specs.Diffs.{KeepOrder}
 
--- ---- tests
-either : (a b : Bool) → a || b ≡ true → (a ≡ true) ⊎ (b ≡ true)
-either true b h = inl refl
-either false b h = inr h
-
-same_number : (x y : ℕ) → nat_eq x y ≡ true → x ≡ y
-same_number x y h = grind (arith, nat_tests, h)
-
-itself : (x : ℕ) (xs : List ℕ) → is_in x (x ∷ xs) ≡ true
-itself x xs = grind (arith, nat_tests)
-
-further : (x y : ℕ) (xs : List ℕ) → is_in x xs ≡ true → is_in x (y ∷ xs) ≡ true
-further x y xs h = at (nat_eq x y)
-  where
-    at : (b : Bool) → b || is_in x xs ≡ true
-    at true = refl
-    at false = h
-
--- what isn't true is false
-not_true : (b : Bool) → (b ≡ true → ⊥) → b ≡ false
-not_true true f = absurd (f refl)
-not_true false f = refl
-
-clash : {X : Type 0} (b : Bool) → b ≡ true → b ≡ false → X
-clash {X} b p q = absurd (let e : true ≡ false = sym p ∙ q in cc)
-
 -- ---- membership
-in-append : (x : ℕ) (xs ys : List ℕ) → is_in x (xs ++ ys) ≡ true → (is_in x xs ≡ true) ⊎ (is_in x ys ≡ true)
-in-append x [] ys h = inr h
-in-append x (z ∷ zs) ys h = at (either (nat_eq x z) (is_in x (zs ++ ys)) h) (in-append x zs ys)
-  where
-    at : (nat_eq x z ≡ true) ⊎ (is_in x (zs ++ ys) ≡ true) → (is_in x (zs ++ ys) ≡ true → (is_in x zs ≡ true) ⊎ (is_in x ys ≡ true)) → (is_in x (z ∷ zs) ≡ true) ⊎ (is_in x ys ≡ true)
-    at (inl e) rest = inl (ap (λ (b : Bool). b || is_in x zs) e)
-    at (inr k) rest = more (rest k)
-      where
-        more : (is_in x zs ≡ true) ⊎ (is_in x ys ≡ true) → (is_in x (z ∷ zs) ≡ true) ⊎ (is_in x ys ≡ true)
-        more (inl l) = inl (further x z zs l)
-        more (inr m) = inr m
-
-in-left : (x : ℕ) (xs ys : List ℕ) → is_in x xs ≡ true → is_in x (xs ++ ys) ≡ true
-in-left x [] ys h = absurd cc
-in-left x (z ∷ zs) ys h = at (either (nat_eq x z) (is_in x zs) h) (in-left x zs ys)
-  where
-    at : (nat_eq x z ≡ true) ⊎ (is_in x zs ≡ true) → (is_in x zs ≡ true → is_in x (zs ++ ys) ≡ true) → is_in x (z ∷ (zs ++ ys)) ≡ true
-    at (inl e) rest = ap (λ (b : Bool). b || is_in x (zs ++ ys)) e
-    at (inr k) rest = further x z (zs ++ ys) (rest k)
-
-in-right : (x : ℕ) (xs ys : List ℕ) → is_in x ys ≡ true → is_in x (xs ++ ys) ≡ true
-in-right x [] ys h = h
-in-right x (z ∷ zs) ys h = further x z (zs ++ ys) (in-right x zs ys h)
-
 once-right : (xs ys : List ℕ) → IsOnce (xs ++ ys) → IsOnce ys
 once-right [] ys o = o
 once-right (x ∷ xs) ys o = once-right xs ys o.1
 
 -- ---- filters
-filter-append : (f : ℕ → Bool) (xs ys : List ℕ) → filter f (xs ++ ys) ≡ filter f xs ++ filter f ys
-filter-append f [] ys = refl
-filter-append f (x ∷ xs) ys = at (f x) (filter-append f xs ys)
-  where
-    at : (b : Bool) → filter f (xs ++ ys) ≡ filter f xs ++ filter f ys → cond b (x ∷ filter f (xs ++ ys)) (filter f (xs ++ ys)) ≡ cond b (x ∷ filter f xs) (filter f xs) ++ filter f ys
-    at true e = ap (λ (l : List ℕ). x ∷ l) e
-    at false e = e
-
 filter-same : (f g : ℕ → Bool) (xs : List ℕ) → ((x : ℕ) → is_in x xs ≡ true → f x ≡ g x) → filter f xs ≡ filter g xs
 filter-same f g [] e = refl
-filter-same f g (x ∷ xs) e = ap₂ (λ (b : Bool) (l : List ℕ). cond b (x ∷ l) l) (e x (itself x xs)) (filter-same f g xs (λ y h. e y (further y x xs h)))
+filter-same f g (x ∷ xs) e = ap₂ (λ (b : Bool) (l : List ℕ). cond b (x ∷ l) l) (e x (in_head x xs)) (filter-same f g xs (λ y h. e y (in_tail y x xs h)))
 
 filter-none : (f : ℕ → Bool) (xs : List ℕ) → ((x : ℕ) → is_in x xs ≡ true → f x ≡ false) → filter f xs ≡ []
 filter-none f [] e = refl
-filter-none f (x ∷ xs) e = ap (λ (b : Bool). cond b (x ∷ filter f xs) (filter f xs)) (e x (itself x xs)) ∙ filter-none f xs (λ y h. e y (further y x xs h))
+filter-none f (x ∷ xs) e = ap (λ (b : Bool). cond b (x ∷ filter f xs) (filter f xs)) (e x (in_head x xs)) ∙ filter-none f xs (λ y h. e y (in_tail y x xs h))
 
 -- a member that passes is the first one, or something stands before it
 filter-some : (f : ℕ → Bool) (xs : List ℕ) (x : ℕ) → is_in x xs ≡ true → f x ≡ true → (y : ℕ) × (ys : List ℕ) × (filter f xs ≡ y ∷ ys) × (is_in y xs ≡ true)
 filter-some f [] x h t = absurd cc
-filter-some f (z ∷ zs) x h t = at (f z) refl (either (nat_eq x z) (is_in x zs) h) (λ k. filter-some f zs x k t)
+filter-some f (z ∷ zs) x h t = at (f z) refl (or_cases (nat_eq x z) (is_in x zs) h) (λ k. filter-some f zs x k t)
   where
     at : (b : Bool) → f z ≡ b → (nat_eq x z ≡ true) ⊎ (is_in x zs ≡ true) → (is_in x zs ≡ true → (y : ℕ) × (ys : List ℕ) × (filter f zs ≡ y ∷ ys) × (is_in y zs ≡ true))
         → (y : ℕ) × (ys : List ℕ) × (filter f (z ∷ zs) ≡ y ∷ ys) × (is_in y (z ∷ zs) ≡ true)
-    at true q w rest = (z, filter f zs, ap (λ (b : Bool). cond b (z ∷ filter f zs) (filter f zs)) q, itself z zs)
-    at false q (inl e) rest = clash (f z) (ap f (sym (same_number x z e)) ∙ t) q
+    at true q w rest = (z, filter f zs, ap (λ (b : Bool). cond b (z ∷ filter f zs) (filter f zs)) q, in_head z zs)
+    at false q (inl e) rest = absurd (both_ways (f z) q (ap f (sym (eqb-true x z e)) ∙ t))
     at false q (inr k) rest =
         let r = rest k in
-        (r.0, r.1, ap (λ (b : Bool). cond b (z ∷ filter f zs) (filter f zs)) q ∙ r.2, further r.0 z zs r.3)
+        (r.0, r.1, ap (λ (b : Bool). cond b (z ∷ filter f zs) (filter f zs)) q ∙ r.2, in_tail r.0 z zs r.3)
 
 -- ---- at the front of a list
 pub not-in-front : (xs : List ℕ) (n x : ℕ) → ((k y : ℕ) → k < n → slice_get xs k ≡ Some y → x ≢ y) → is_in x (take n xs) ≡ false
@@ -99,20 +43,20 @@ not-in-front [] zero x f = refl
 not-in-front [] (suc n) x f = refl
 not-in-front (z ∷ zs) zero x f = refl
 not-in-front (z ∷ zs) (suc n) x f =
-    not_true (is_in x (z ∷ take n zs)) (λ h. at (either (nat_eq x z) (is_in x (take n zs)) h) (not-in-front zs n x (λ m y l e. f (suc m) y (omega arith) e)))
+    false_from_ne_true (is_in x (z ∷ take n zs)) (λ h. at (or_cases (nat_eq x z) (is_in x (take n zs)) h) (not-in-front zs n x (λ m y l e. f (suc m) y (omega arith) e)))
   where
     at : (nat_eq x z ≡ true) ⊎ (is_in x (take n zs) ≡ true) → is_in x (take n zs) ≡ false → ⊥
-    at (inl e) out = f zero z (omega arith) refl (same_number x z e)
-    at (inr k) out = clash (is_in x (take n zs)) k out
+    at (inl e) out = f zero z (omega arith) refl (eqb-true x z e)
+    at (inr k) out = absurd (both_ways (is_in x (take n zs)) out k)
 
 strange-front : (xs others : List ℕ) (n : ℕ) → ((k y : ℕ) → k < n → slice_get xs k ≡ Some y → is_in y others ≡ false) → (x : ℕ) → is_in x (take n xs) ≡ true → is_in x others ≡ false
 strange-front [] others zero f x h = absurd cc
 strange-front [] others (suc n) f x h = absurd cc
 strange-front (z ∷ zs) others zero f x h = absurd cc
-strange-front (z ∷ zs) others (suc n) f x h = at (either (nat_eq x z) (is_in x (take n zs)) h) (strange-front zs others n (λ m y l e. f (suc m) y (omega arith) e) x)
+strange-front (z ∷ zs) others (suc n) f x h = at (or_cases (nat_eq x z) (is_in x (take n zs)) h) (strange-front zs others n (λ m y l e. f (suc m) y (omega arith) e) x)
   where
     at : (nat_eq x z ≡ true) ⊎ (is_in x (take n zs) ≡ true) → (is_in x (take n zs) ≡ true → is_in x others ≡ false) → is_in x others ≡ false
-    at (inl e) rest = ap (λ (y : ℕ). is_in y others) (same_number x z e) ∙ f zero z (omega arith) refl
+    at (inl e) rest = ap (λ (y : ℕ). is_in y others) (eqb-true x z e) ∙ f zero z (omega arith) refl
     at (inr k) rest = rest k
 
 pub front-strange : (xs others : List ℕ) (n gone : ℕ) → gone ≡ n → ((k y : ℕ) → k < n → slice_get xs k ≡ Some y → is_in y others ≡ false) → (x : ℕ) → is_in x (take gone xs) ≡ true → is_in x others ≡ false
@@ -154,11 +98,11 @@ order-tail x xs ys k = record {
     without us vs out = filter-same (λ z. is_in z (x ∷ vs)) (λ z. is_in z vs) us (λ z h. at z h (nat_eq z x) refl)
       where
         at : (z : ℕ) → is_in z us ≡ true → (b : Bool) → nat_eq z x ≡ b → nat_eq z x || is_in z vs ≡ is_in z vs
-        at z h true e = clash (is_in z us) h (ap (λ (y : ℕ). is_in y us) (same_number z x e) ∙ out)
+        at z h true e = absurd (both_ways (is_in z us) (ap (λ (y : ℕ). is_in y us) (eqb-true z x e) ∙ out) h)
         at z h false e = ap (λ (b : Bool). b || is_in z vs) e
 
     first : (us vs : List ℕ) → filter (λ z. is_in z (x ∷ vs)) (x ∷ us) ≡ x ∷ filter (λ z. is_in z (x ∷ vs)) us
-    first us vs = ap (λ (b : Bool). cond b (x ∷ filter (λ z. is_in z (x ∷ vs)) us) (filter (λ z. is_in z (x ∷ vs)) us)) (itself x vs)
+    first us vs = ap (λ (b : Bool). cond b (x ∷ filter (λ z. is_in z (x ∷ vs)) us) (filter (λ z. is_in z (x ∷ vs)) us)) (in_head x vs)
 
     tails : filter (λ z. is_in z (x ∷ ys)) xs ≡ filter (λ z. is_in z (x ∷ xs)) ys
     tails = let both : x ∷ filter (λ z. is_in z (x ∷ ys)) xs ≡ x ∷ filter (λ z. is_in z (x ∷ xs)) ys = sym (first xs ys) ∙ k.same ∙ first ys xs in cc
@@ -170,8 +114,8 @@ apart-alike es start old new old' new' x xs ys e f p q w =
     let to' : new' ≡ ys = q ∙ ap (λ (l : List ℕ). drop 1 l) f in
     subst (λ (l : List ℕ). IsApart es start l new') (sym to) (subst (λ (l : List ℕ). IsApart es start xs l) (sym to') (record {
       order = order-tail x xs ys a.order;
-      put = λ z h. not_true (is_in z xs) (λ k. clash (is_in z (x ∷ xs)) (further z x xs k) (a.put z h));
-      gone = λ z h. not_true (is_in z ys) (λ k. clash (is_in z (x ∷ ys)) (further z x ys k) (a.gone z h));
+      put = λ z h. false_from_ne_true (is_in z xs) (λ k. absurd (both_ways (is_in z (x ∷ xs)) (a.put z h) (in_tail z x xs k)));
+      gone = λ z h. false_from_ne_true (is_in z ys) (λ k. absurd (both_ways (is_in z (x ∷ ys)) (a.gone z h) (in_tail z x ys k)));
       apart = a.apart;
     }))
 
@@ -195,7 +139,7 @@ module _ (es : List Edit) (start old new front rest tail put : List ℕ) (place 
 
   -- no number that is put stands in the old list
   put-new : KeepOrder old new → (x : ℕ) → is_in x put ≡ true → is_in x old ≡ false
-  put-new k x h = not_true (is_in x old) (λ there. at rest refl (filter-some (λ z. is_in z old) put x h there))
+  put-new k x h = false_from_ne_true (is_in x old) (λ there. at rest refl (filter-some (λ z. is_in z old) put x h there))
     where
       at : (r : List ℕ) → rest ≡ r → (y : ℕ) × (ys : List ℕ) × (filter (λ z. is_in z old) put ≡ y ∷ ys) × (is_in y put ≡ true) → ⊥
       at [] e (y, ys, q, inside) =
@@ -205,7 +149,7 @@ module _ (es : List Edit) (start old new front rest tail put : List ℕ) (place 
           let both : filter (λ z. is_in z new) (c ∷ cs) ≡ (y ∷ ys) ++ filter (λ z. is_in z old) tail = sym (ap (λ (l : List ℕ). filter (λ z. is_in z new) l) e) ∙ same-rest k ∙ ap (λ (l : List ℕ). l ++ filter (λ z. is_in z old) tail) q in
           let first : c ∷ filter (λ z. is_in z new) cs ≡ y ∷ (ys ++ filter (λ z. is_in z old) tail) = sym (ap (λ (b : Bool). cond b (c ∷ filter (λ z. is_in z new) cs) (filter (λ z. is_in z new) cs)) (next c cs e)) ∙ both in
           let same : c ≡ y = cc in
-          clash (is_in y put) inside (ap₂ (λ (z : ℕ) (l : List ℕ). is_in z l) (sym same) put-is ∙ others c cs e)
+          absurd (both_ways (is_in y put) (ap₂ (λ (z : ℕ) (l : List ℕ). is_in z l) (sym same) put-is ∙ others c cs e) inside)
 
   order-rest : KeepOrder old new → KeepOrder rest tail
   order-rest k = record {
@@ -218,20 +162,20 @@ module _ (es : List Edit) (start old new front rest tail put : List ℕ) (place 
   }
     where
       in-tail : (x : ℕ) → is_in x rest ≡ true → (b : Bool) → is_in x new ≡ b → is_in x tail ≡ is_in x new
-      in-tail x h true q = at (in-append x put tail (ap (λ (l : List ℕ). is_in x l) (sym new-is) ∙ q))
+      in-tail x h true q = at (in_either x put tail (ap (λ (l : List ℕ). is_in x l) (sym new-is) ∙ q))
         where
           at : (is_in x put ≡ true) ⊎ (is_in x tail ≡ true) → is_in x tail ≡ is_in x new
-          at (inl p) = clash (is_in x old) (ap (λ (l : List ℕ). is_in x l) old-is ∙ in-right x (take gone old) rest h) (put-new k x p)
+          at (inl p) = absurd (both_ways (is_in x old) (put-new k x p) (ap (λ (l : List ℕ). is_in x l) old-is ∙ in_right x (take gone old) rest h))
           at (inr t) = t ∙ sym q
-      in-tail x h false q = not_true (is_in x tail) (λ t. clash (is_in x new) (ap (λ (l : List ℕ). is_in x l) new-is ∙ in-right x put tail t) q) ∙ sym q
+      in-tail x h false q = false_from_ne_true (is_in x tail) (λ t. absurd (both_ways (is_in x new) q (ap (λ (l : List ℕ). is_in x l) new-is ∙ in_right x put tail t))) ∙ sym q
 
       in-rest : (x : ℕ) → is_in x tail ≡ true → (b : Bool) → is_in x old ≡ b → is_in x old ≡ is_in x rest
-      in-rest x h true q = at (in-append x (take gone old) rest (ap (λ (l : List ℕ). is_in x l) (sym old-is) ∙ q))
+      in-rest x h true q = at (in_either x (take gone old) rest (ap (λ (l : List ℕ). is_in x l) (sym old-is) ∙ q))
         where
           at : (is_in x (take gone old) ≡ true) ⊎ (is_in x rest ≡ true) → is_in x old ≡ is_in x rest
-          at (inl g) = clash (is_in x new) (ap (λ (l : List ℕ). is_in x l) new-is ∙ in-right x put tail h) (strange x g)
+          at (inl g) = absurd (both_ways (is_in x new) (strange x g) (ap (λ (l : List ℕ). is_in x l) new-is ∙ in_right x put tail h))
           at (inr r) = q ∙ sym r
-      in-rest x h false q = q ∙ sym (not_true (is_in x rest) (λ r. clash (is_in x old) (ap (λ (l : List ℕ). is_in x l) old-is ∙ in-right x (take gone old) rest r) q))
+      in-rest x h false q = q ∙ sym (false_from_ne_true (is_in x rest) (λ r. absurd (both_ways (is_in x old) q (ap (λ (l : List ℕ). is_in x l) old-is ∙ in_right x (take gone old) rest r))))
 
   abbrev stretch : Edit
   stretch = record { place = place; drop = gone; put = put }
@@ -247,25 +191,25 @@ module _ (es : List Edit) (start old new front rest tail put : List ℕ) (place 
       let new-put = put-new w.order in
       record {
         order = order-rest w.order;
-        put = λ x h. put-rest x (in-append x (put_by es) put (ap (λ (l : List ℕ). is_in x l) (sym (put-push es stretch)) ∙ h)) new-put;
-        gone = λ x h. gone-tail x (in-append x (dropped_by es start) (take gone old) (ap (λ (l : List ℕ). is_in x l) (sym gone-is) ∙ h));
-        apart = λ x h. not_true (is_in x (dropped_by (es ++ stretch ∷ []) start)) (λ d.
-            never x (in-append x (put_by es) put (ap (λ (l : List ℕ). is_in x l) (sym (put-push es stretch)) ∙ h)) (in-append x (dropped_by es start) (take gone old) (ap (λ (l : List ℕ). is_in x l) (sym gone-is) ∙ d)) new-put);
+        put = λ x h. put-rest x (in_either x (put_by es) put (ap (λ (l : List ℕ). is_in x l) (sym (put-push es stretch)) ∙ h)) new-put;
+        gone = λ x h. gone-tail x (in_either x (dropped_by es start) (take gone old) (ap (λ (l : List ℕ). is_in x l) (sym gone-is) ∙ h));
+        apart = λ x h. false_from_ne_true (is_in x (dropped_by (es ++ stretch ∷ []) start)) (λ d.
+            never x (in_either x (put_by es) put (ap (λ (l : List ℕ). is_in x l) (sym (put-push es stretch)) ∙ h)) (in_either x (dropped_by es start) (take gone old) (ap (λ (l : List ℕ). is_in x l) (sym gone-is) ∙ d)) new-put);
       }
     where
       in-old : (x : ℕ) → is_in x (take gone old) ≡ true → is_in x old ≡ true
-      in-old x h = ap (λ (l : List ℕ). is_in x l) old-is ∙ in-left x (take gone old) rest h
+      in-old x h = ap (λ (l : List ℕ). is_in x l) old-is ∙ in_left x (take gone old) rest h
 
       put-rest : (x : ℕ) → (is_in x (put_by es) ≡ true) ⊎ (is_in x put ≡ true) → ((y : ℕ) → is_in y put ≡ true → is_in y old ≡ false) → is_in x rest ≡ false
-      put-rest x (inl h) f = not_true (is_in x rest) (λ r. clash (is_in x old) (ap (λ (l : List ℕ). is_in x l) old-is ∙ in-right x (take gone old) rest r) (w.put x h))
-      put-rest x (inr h) f = not_true (is_in x rest) (λ r. clash (is_in x old) (ap (λ (l : List ℕ). is_in x l) old-is ∙ in-right x (take gone old) rest r) (f x h))
+      put-rest x (inl h) f = false_from_ne_true (is_in x rest) (λ r. absurd (both_ways (is_in x old) (w.put x h) (ap (λ (l : List ℕ). is_in x l) old-is ∙ in_right x (take gone old) rest r)))
+      put-rest x (inr h) f = false_from_ne_true (is_in x rest) (λ r. absurd (both_ways (is_in x old) (f x h) (ap (λ (l : List ℕ). is_in x l) old-is ∙ in_right x (take gone old) rest r)))
 
       gone-tail : (x : ℕ) → (is_in x (dropped_by es start) ≡ true) ⊎ (is_in x (take gone old) ≡ true) → is_in x tail ≡ false
-      gone-tail x (inl h) = not_true (is_in x tail) (λ t. clash (is_in x new) (ap (λ (l : List ℕ). is_in x l) new-is ∙ in-right x put tail t) (w.gone x h))
-      gone-tail x (inr h) = not_true (is_in x tail) (λ t. clash (is_in x new) (ap (λ (l : List ℕ). is_in x l) new-is ∙ in-right x put tail t) (strange x h))
+      gone-tail x (inl h) = false_from_ne_true (is_in x tail) (λ t. absurd (both_ways (is_in x new) (w.gone x h) (ap (λ (l : List ℕ). is_in x l) new-is ∙ in_right x put tail t)))
+      gone-tail x (inr h) = false_from_ne_true (is_in x tail) (λ t. absurd (both_ways (is_in x new) (strange x h) (ap (λ (l : List ℕ). is_in x l) new-is ∙ in_right x put tail t)))
 
       never : (x : ℕ) → (is_in x (put_by es) ≡ true) ⊎ (is_in x put ≡ true) → (is_in x (dropped_by es start) ≡ true) ⊎ (is_in x (take gone old) ≡ true) → ((y : ℕ) → is_in y put ≡ true → is_in y old ≡ false) → ⊥
-      never x (inl p) (inl d) f = clash (is_in x (dropped_by es start)) d (w.apart x p)
-      never x (inl p) (inr g) f = clash (is_in x old) (in-old x g) (w.put x p)
-      never x (inr p) (inl d) f = clash (is_in x new) (ap (λ (l : List ℕ). is_in x l) new-is ∙ in-left x put tail p) (w.gone x d)
-      never x (inr p) (inr g) f = clash (is_in x old) (in-old x g) (f x p)
+      never x (inl p) (inl d) f = absurd (both_ways (is_in x (dropped_by es start)) (w.apart x p) d)
+      never x (inl p) (inr g) f = absurd (both_ways (is_in x old) (w.put x p) (in-old x g))
+      never x (inr p) (inl d) f = absurd (both_ways (is_in x new) (w.gone x d) (ap (λ (l : List ℕ). is_in x l) new-is ∙ in_left x put tail p))
+      never x (inr p) (inr g) f = absurd (both_ways (is_in x old) (f x p) (in-old x g))

@@ -5,6 +5,7 @@ use Rattle.kin_algebra.specs.declared.sign.Sign.{Sign}
 use Rattle.kin_motion.specs.Numbers.{is_in, IsOnce, IsChain}
 use Rattle.kin_motion.specs.Scene.{Scene}
 use Rattle.kin_motion.specs.Merges.{Half.{A, B}, Half, Breakpoint, is_of, other, breakpoints_of, slope_form, is_placed_before, last_of}
+use Rattle.kin_motion.proofs.Members.{in_head, in_tail}
 use Rattle.kin_chain.specs.Merging.{is_in_place}
 use Rattle.kin_overlay.specs.declared.breakpoint.Breakpoint.{Breakpoint as Pair}
 use Rattle.kin_overlay.specs.declared.record.Record.{Record}
@@ -27,24 +28,11 @@ first-shape h (i ∷ j ∷ t) e q =
     let same : record { half = h; left = i; right = j } ≡ e = cc in
     (t, ap₂ (λ (x y : ℕ). x ∷ y ∷ t) (ap (λ (f : Breakpoint). f.left) same) (ap (λ (f : Breakpoint). f.right) same), sym (ap (λ (f : Breakpoint). f.half) same))
 
-pub is_in_head : (x : ℕ) (xs : List ℕ) → is_in x (x ∷ xs) ≡ true
-is_in_head x xs = grind (arith, nat_tests)
-
-pub is_in_tail : (x y : ℕ) (xs : List ℕ) → is_in x xs ≡ true → is_in x (y ∷ xs) ≡ true
-is_in_tail x y xs h = grind (arith, nat_tests, h)
-
-pub not_in_tail : (x y : ℕ) (xs : List ℕ) → is_in x (y ∷ xs) ≡ false → is_in x xs ≡ false
-not_in_tail x y xs h = at (nat_eq x y) h
-  where
-    at : (b : Bool) → b || is_in x xs ≡ false → is_in x xs ≡ false
-    at true k = absurd cc
-    at false k = k
-
 pub first-live : (live : List ℕ) (h : Half) (xs : List ℕ) (e : Pair) → AreLive live xs → first_of (breakpoints_of h xs) ≡ Some (seen e) → IsBreakpointOf live e
 first-live live h xs e known q =
     let s = first-shape h xs (seen e) q in (
-      known e.left (ap (λ (l : List ℕ). is_in e.left l) s.1 ∙ is_in_head e.left (e.right ∷ s.0)),
-      known e.right (ap (λ (l : List ℕ). is_in e.right l) s.1 ∙ is_in_tail e.right e.left (e.right ∷ s.0) (is_in_head e.right s.0)),
+      known e.left (ap (λ (l : List ℕ). is_in e.left l) s.1 ∙ in_head e.left (e.right ∷ s.0)),
+      known e.right (ap (λ (l : List ℕ). is_in e.right l) s.1 ∙ in_tail e.right e.left (e.right ∷ s.0) (in_head e.right s.0)),
     )
 
 -- ---- what is picked
@@ -141,22 +129,6 @@ pub record IsUnderway (s : Scene) (a b : List ℕ) (start : Option Pick) (first 
   pub a_last : last_of (front first) (behind first) ≡ last_of (front a) (behind a)
   pub b_last : last_of (front second) (behind second) ≡ last_of (front b) (behind b)
 
-pub underway : (s : Scene) (a b : List ℕ) (start : Option Pick) → IsPick s a b start → 0 < length a → 0 < length b → AreLive s.live a → AreLive s.live b → IsOnce a → IsOnce b → AreLess a b → IsUnderway s a b start a b start []
-underway s a b start pick a_some b_some a_live b_live a_once b_once less = record {
-  rest = λ qs r. r;
-  pick = pick;
-  a_some = a_some;
-  b_some = b_some;
-  a_live = a_live;
-  b_live = b_live;
-  a_once = a_once;
-  b_once = b_once;
-  less = less;
-  fresh = λ x h. absurd (let clash : false ≡ true = h in cc);
-  a_last = refl;
-  b_last = refl;
-}
-
 pub lefts-push : (x : ℕ) (rs : List Record) (r : Record) → is_in x (left_points (rs ++ r ∷ [])) ≡ true → (is_in x (left_points rs) ≡ true) ⊎ (x ≡ r.at.left)
 lefts-push x [] r h = inr (grind (arith, nat_tests, h))
 lefts-push x (q ∷ rs) r h = at (nat_eq x q.at.left) refl h (lefts-push x rs r)
@@ -167,19 +139,19 @@ lefts-push x (q ∷ rs) r h = at (nat_eq x q.at.left) refl h (lefts-push x rs r)
     at false e k rest = behind-it (rest k)
       where
         behind-it : (is_in x (left_points rs) ≡ true) ⊎ (x ≡ r.at.left) → (is_in x (left_points (q ∷ rs)) ≡ true) ⊎ (x ≡ r.at.left)
-        behind-it (inl l) = inl (is_in_tail x q.at.left (left_points rs) l)
+        behind-it (inl l) = inl (in_tail x q.at.left (left_points rs) l)
         behind-it (inr m) = inr m
 
 pub none-less : (x : ℕ) (xs ys : List ℕ) → AreLess (x ∷ xs) ys → is_in x ys ≡ false
 none-less x xs ys less = at (is_in x ys) refl
   where
     at : (b : Bool) → is_in x ys ≡ b → is_in x ys ≡ false
-    at true h = absurd (let l = less x x (is_in_head x xs) h in omega (arith, l))
+    at true h = absurd (let l = less x x (in_head x xs) h in omega (arith, l))
     at false h = h
 
 pub none-greater : (y : ℕ) (xs ys : List ℕ) → AreLess xs (y ∷ ys) → is_in y xs ≡ false
 none-greater y xs ys less = at (is_in y xs) refl
   where
     at : (b : Bool) → is_in y xs ≡ b → is_in y xs ≡ false
-    at true h = absurd (let l = less y y h (is_in_head y ys) in omega (arith, l))
+    at true h = absurd (let l = less y y h (in_head y ys) in omega (arith, l))
     at false h = h

@@ -4,9 +4,10 @@ use Rattle.std.specs.Prelude.{flat_map, ◌↔◌, IsTrue, option_to_list}
 use Rattle.std.specs.Map.{lookup, keys_of}
 use Rattle.std.specs.List.{IsDistinct}
 use Rattle.std.proofs.lemmas.List.Elements.{Contains-append_left, Contains-append_right, Contains-append_cases}
+use Rattle.kin_basics.proofs.Members.{contains_none, contains_head, contains_tail, contains_cases}
 use Rattle.kin_motion.specs.declared.form.Form.TheVariants.{Line, Turn, Slope, Dist}
 use Rattle.kin_motion.specs.declared.fact.Fact.{Fact}
-use Rattle.kin_motion.proofs.SetLaws.{contains_none, contains_head, contains_tail, contains_cases, contains_map, contains_mapped}
+use Rattle.kin_motion.proofs.SetLaws.{contains_map, contains_mapped}
 use Rattle.kin_overlay.specs.declared.record.Record.{Record}
 use Rattle.kin_overlay.specs.declared.record.Next.{Next}
 use Rattle.kin_overlay.specs.declared.end.End.{End}

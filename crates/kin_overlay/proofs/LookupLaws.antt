@@ -1,12 +1,14 @@
 -- The records of a list, found by their left points.
-use Rattle.std.proofs.Common.{◌≡◌, ◌⊎◌, inl, inr, refl, sym, ap, ◌∙◌, subst, arith, List, [], ◌∷◌, ◌++◌, ℕ, Bool, true, false, cond, ◌||◌, nat_eq, Some, None, Contains}
+use Rattle.std.proofs.Common.{◌≡◌, ◌⊎◌, inl, inr, refl, sym, ap, ◌∙◌, subst, arith, List, [], ◌∷◌, ◌++◌, ℕ, Bool, false, cond, nat_eq, Some, None, Contains}
 use Rattle.std.specs.Map.{lookup, keys_of}
 use Rattle.std.specs.List.{IsDistinct}
 use Rattle.std.specs.Cmp.{IsEquivalence}
 use Rattle.std.proofs.lemmas.Bool.Decides.{nat_tests}
 use Rattle.std.proofs.lemmas.Map.Views.{Contains-from_lookup, lookup-from_Contains}
+use Rattle.std.proofs.lemmas.Bool.{or_parts, eqb-true}
+use Rattle.kin_basics.proofs.Members.{contains_none, contains_cases}
 use Rattle.kin_motion.specs.Numbers.{is_in}
-use Rattle.kin_motion.proofs.SetLaws.{contains_none, contains_cases, contains_map, contains_mapped}
+use Rattle.kin_motion.proofs.SetLaws.{contains_map, contains_mapped}
 use Rattle.kin_overlay.specs.declared.record.Record.{Record}
 use Rattle.kin_overlay.specs.Layout.{AreKeyed, records_of}
 use Rattle.kin_overlay.specs.Remembered.{left_points}
@@ -22,15 +24,11 @@ pub records-push : (es : List Entry) (r : Record) → records_of (es ++ (r.at.le
 records-push [] r = refl
 records-push (e ∷ es) r = ap (λ (rs : List Record). e.1 ∷ rs) (records-push es r)
 
-neither : (a b : Bool) → a || b ≡ false → (a ≡ false) × (b ≡ false)
-neither true b h = absurd cc
-neither false b h = (refl, h)
-
 -- no record is found at a point that none has on its left
 pub absent : (es : List Entry) (i : ℕ) → AreKeyed es → is_in i (left_points (records_of es)) ≡ false → lookup (nat_eq i) es ≡ None
 absent [] i k h = refl
 absent (e ∷ es) i k h =
-    let n = neither (nat_eq i e.1.at.left) (is_in i (left_points (records_of es))) h in
+    let n = or_parts (nat_eq i e.1.at.left) (is_in i (left_points (records_of es))) h in
     let own : nat_eq i e.0 ≡ false = ap (nat_eq i) k.0 ∙ n.0 in
     ap (λ (b : Bool). cond b (Some e.1) (lookup (nat_eq i) es)) own ∙ absent es i k.1 n.1
 
@@ -42,20 +40,17 @@ key_of (d ∷ es) e k h = at (contains_cases d e es h) (key_of es e k.1)
     at (inl q) rest = subst (λ (z : Entry). z.0 ≡ z.1.at.left) q k.0
     at (inr c) rest = rest c
 
-same_number : (x y : ℕ) → nat_eq x y ≡ true → x ≡ y
-same_number x y h = grind (arith, nat_tests, h)
-
 -- a record that is found is in the list, and has the point on its left
 pub found : (es : List Entry) (i : ℕ) (r : Record) → AreKeyed es → lookup (nat_eq i) es ≡ Some r → Contains (records_of es) r × (i ≡ r.at.left)
 found es i r k h =
-    let c = Contains-from_lookup {eq = nat_eq} same_number i r es h in
+    let c = Contains-from_lookup {eq = nat_eq} eqb-true i r es h in
     (contains_map (λ (e : Entry). e.1) es (i, r) c, key_of es (i, r) k c)
 
 numbers : IsEquivalence nat_eq
 numbers = record {
   refl = λ x. grind (arith, nat_tests);
   symm = λ x y. grind (arith, nat_tests);
-  congr = λ x y z h. ap (λ (w : ℕ). nat_eq w z) (same_number x y h);
+  congr = λ x y z h. ap (λ (w : ℕ). nat_eq w z) (eqb-true x y h);
 }
 
 entry-of : (es : List Entry) (r : Record) → AreKeyed es → Contains (records_of es) r → Contains es (r.at.left, r)

@@ -3,11 +3,12 @@ use Rattle.std.proofs.Common.{◌≡◌, ◌⊎◌, inl, inr, refl, sym, ap, ◌
 use Rattle.std.specs.Prelude.{slice_get, flat_map}
 use Rattle.std.proofs.lemmas.List.{append-nil, append_assoc, take_more}
 use Rattle.std.proofs.lemmas.Option.{slice_get_within, get_or_from_slice_get}
+use Rattle.kin_basics.proofs.Members.{contains_none, contains_head, contains_tail, contains_cases}
 use Rattle.kin_motion.specs.declared.fact.Fact.{Fact}
 use Rattle.kin_motion.specs.declared.fact.Placed.{Placed}
 use Rattle.kin_motion.specs.Sets.{AreDistinct}
 use Rattle.kin_motion.specs.Kinetics.{HasGained}
-use Rattle.kin_motion.proofs.SetLaws.{contains_none, contains_head, contains_tail, contains_cases, contains_map, contains_mapped, distinct_head, distinct_tail, exactly_none, exactly_one, exactly_both, exactly_in_words}
+use Rattle.kin_motion.proofs.SetLaws.{contains_map, contains_mapped, distinct_head, distinct_tail, exactly_none, exactly_one, exactly_both, exactly_in_words}
 use Rattle.kin_overlay.specs.declared.record.Record.{Record}
 use Rattle.kin_overlay.specs.Remembered.{placed, all_placed}
 use Rattle.kin_overlay.specs.Reports.{IsToldOne, IsTold}

@@ -1,6 +1,7 @@
 -- One step of the two fingers, and their end.
 use Rattle.std.proofs.Common.{◌≡◌, ◌⊎◌, inl, inr, refl, sym, ap, ap₂, ◌∙◌, subst, arith, List, [], ◌∷◌, ◌++◌, ℕ, ◌+◌, ◌<◌, Bool, true, false, cond, length, Option, Some, None}
 use Rattle.std.proofs.lemmas.List.{append-nil, append_assoc}
+use Rattle.std.proofs.lemmas.Option.{same_Some}
 use Rattle.kin_motion.specs.declared.form.Form.TheVariants.{Turn}
 use Rattle.kin_motion.specs.Forms.{IsAskable}
 use Rattle.kin_motion.specs.Numbers.{is_in, IsIn}
@@ -16,11 +17,9 @@ use Rattle.kin_overlay.specs.Lists.{first_of, front, behind}
 use Rattle.kin_overlay.specs.Seen.{half_of, seen}
 use Rattle.kin_overlay.specs.Remembered.{breakpoints, left_points}
 use Rattle.kin_overlay.specs.Fingers.{chain_of, passed, IsFirstOfBoth, IsPick, next_of, next_for, IsRest, IsMerged, end_at, right_end, AreLive}
-use Rattle.kin_overlay.proofs.FingerLaws.{first-shape, is_in_head, is_in_tail, not_in_tail, IsLinked, link, chain-more, IsUnderway, lefts-push, none-less, none-greater}
+use Rattle.kin_overlay.proofs.FingerLaws.{first-shape, IsLinked, link, chain-more, IsUnderway, lefts-push, none-less, none-greater}
 use Rattle.kin_algebra.specs.declared.sign.Sign.{Sign}
-
-same_some : {X : Type 0} (x y : X) → Some x ≡ Some y → x ≡ y
-same_some {X} x y e = cc
+use Rattle.kin_motion.proofs.Members.{in_head, in_tail, not_in_tail}
 
 -- a step along A
 module _ (s : Scene) (a b : List ℕ) (start : Option Pick) (i j : ℕ) (t bs : List ℕ) (rival : Option Next) (rs : List Record) (next : Option Pick) (k : ℕ) (turn : Sign) where
@@ -37,7 +36,7 @@ module _ (s : Scene) (a b : List ℕ) (start : Option Pick) (i j : ℕ) (t bs : 
       own None q is w h e apart = absurd cc
       own (Some o) q is w A e apart = absurd cc
       own (Some o) q is w B e apart =
-          let v = subst (λ (x : Pick). IsFirstOfBoth s (j ∷ t) bs x) (same_some o q is) w in
+          let v = subst (λ (x : Pick). IsFirstOfBoth s (j ∷ t) bs x) (same_Some o q is) w in
           subst (λ (g : Half). first_of (breakpoints_of g (chain_of g (j ∷ t) bs)) ≡ Some (seen q.at)) e v.own
 
   rest-a : IsFirstOfBoth s (i ∷ j ∷ t) bs p → IsPick s (j ∷ t) bs next → k ≡ front bs → turn ≡ s.sign (Turn i j k)
@@ -57,11 +56,11 @@ module _ (s : Scene) (a b : List ℕ) (start : Option Pick) (i j : ℕ) (t bs : 
     pick = pick;
     a_some = omega arith;
     b_some = u.b_some;
-    a_live = λ x h. u.a_live x (is_in_tail x i (j ∷ t) h);
+    a_live = λ x h. u.a_live x (in_tail x i (j ∷ t) h);
     b_live = u.b_live;
     a_once = u.a_once.1;
     b_once = u.b_once;
-    less = λ x y h l. u.less x y (is_in_tail x i (j ∷ t) h) l;
+    less = λ x y h l. u.less x y (in_tail x i (j ∷ t) h) l;
     fresh = λ x h. at x (lefts-push x rs r h);
     a_last = u.a_last;
     b_last = u.b_last;
@@ -86,7 +85,7 @@ module _ (s : Scene) (a b : List ℕ) (start : Option Pick) (i j : ℕ) (t as' :
       own None q is w h e apart = absurd cc
       own (Some o) q is w B e apart = absurd cc
       own (Some o) q is w A e apart =
-          let v = subst (λ (x : Pick). IsFirstOfBoth s as' (j ∷ t) x) (same_some o q is) w in
+          let v = subst (λ (x : Pick). IsFirstOfBoth s as' (j ∷ t) x) (same_Some o q is) w in
           subst (λ (g : Half). first_of (breakpoints_of g (chain_of g as' (j ∷ t))) ≡ Some (seen q.at)) e v.own
 
   rest-b : IsFirstOfBoth s as' (i ∷ j ∷ t) p' → IsPick s as' (j ∷ t) next → k ≡ front as' → turn ≡ s.sign (Turn i j k)
@@ -107,10 +106,10 @@ module _ (s : Scene) (a b : List ℕ) (start : Option Pick) (i j : ℕ) (t as' :
     a_some = u.a_some;
     b_some = omega arith;
     a_live = u.a_live;
-    b_live = λ x h. u.b_live x (is_in_tail x i (j ∷ t) h);
+    b_live = λ x h. u.b_live x (in_tail x i (j ∷ t) h);
     a_once = u.a_once;
     b_once = u.b_once.1;
-    less = λ x y h l. u.less x y h (is_in_tail y i (j ∷ t) l);
+    less = λ x y h l. u.less x y h (in_tail y i (j ∷ t) l);
     fresh = λ x h. at x (lefts-push x rs r' h);
     a_last = u.a_last;
     b_last = u.b_last;
@@ -160,7 +159,7 @@ shorter s a b start first second first' second' SideB i j rival rs u qa qb =
 
 front_in : (xs : List ℕ) → 0 < length xs → is_in (front xs) xs ≡ true
 front_in [] l = absurd (omega arith)
-front_in (x ∷ xs) l = is_in_head x xs
+front_in (x ∷ xs) l = in_head x xs
 
 -- the turn of what is picked may be asked
 pub turn-askable : (s : Scene) (a b : List ℕ) (start : Option Pick) (first second : List ℕ) (half : Side) (i j : ℕ) (rival : Option Next) (rs : List Record) (k : ℕ)
@@ -168,30 +167,16 @@ pub turn-askable : (s : Scene) (a b : List ℕ) (start : Option Pick) (first sec
     → k ≡ other_current (half_of half) (front first) (front second) → IsAskable s.live (Turn i j k)
 turn-askable s a b start first second SideA i j rival rs k u across =
     let shape = first-shape A first (record { half = A; left = i; right = j }) u.pick.own in (
-      u.a_live i (ap (λ (l : List ℕ). is_in i l) shape.1 ∙ is_in_head i (j ∷ shape.0)),
-      u.a_live j (ap (λ (l : List ℕ). is_in j l) shape.1 ∙ is_in_tail j i (j ∷ shape.0) (is_in_head j shape.0)),
+      u.a_live i (ap (λ (l : List ℕ). is_in i l) shape.1 ∙ in_head i (j ∷ shape.0)),
+      u.a_live j (ap (λ (l : List ℕ). is_in j l) shape.1 ∙ in_tail j i (j ∷ shape.0) (in_head j shape.0)),
       subst (λ (n : ℕ). IsIn n s.live) (sym across) (u.b_live (front second) (front_in second u.b_some)),
     )
 turn-askable s a b start first second SideB i j rival rs k u across =
     let shape = first-shape B second (record { half = B; left = i; right = j }) u.pick.own in (
-      u.b_live i (ap (λ (l : List ℕ). is_in i l) shape.1 ∙ is_in_head i (j ∷ shape.0)),
-      u.b_live j (ap (λ (l : List ℕ). is_in j l) shape.1 ∙ is_in_tail j i (j ∷ shape.0) (is_in_head j shape.0)),
+      u.b_live i (ap (λ (l : List ℕ). is_in i l) shape.1 ∙ in_head i (j ∷ shape.0)),
+      u.b_live j (ap (λ (l : List ℕ). is_in j l) shape.1 ∙ in_tail j i (j ∷ shape.0) (in_head j shape.0)),
       subst (λ (n : ℕ). IsIn n s.live) (sym across) (u.a_live (front first) (front_in first u.a_some)),
     )
-
--- the left point of what is picked is new
-pub left-new : (s : Scene) (a b : List ℕ) (start : Option Pick) (first second : List ℕ) (half : Side) (i j : ℕ) (rival : Option Next) (rs : List Record)
-    → IsUnderway s a b start first second (Some (record { at = record { half = half; left = i; right = j }; rival = rival })) rs → is_in i (left_points rs) ≡ false
-left-new s a b start first second half i j rival rs u = at half u (is_in i (left_points rs)) refl
-  where
-    at : (h : Side) → IsUnderway s a b start first second (Some (record { at = record { half = h; left = i; right = j }; rival = rival })) rs → (c : Bool) → is_in i (left_points rs) ≡ c → is_in i (left_points rs) ≡ false
-    at h v false q = q
-    at SideA v true q =
-        let shape = first-shape A first (record { half = A; left = i; right = j }) v.pick.own in
-        absurd (let clash : false ≡ true = sym (v.fresh i q).0 ∙ ap (λ (l : List ℕ). is_in i l) shape.1 ∙ is_in_head i (j ∷ shape.0) in cc)
-    at SideB v true q =
-        let shape = first-shape B second (record { half = B; left = i; right = j }) v.pick.own in
-        absurd (let clash : false ≡ true = sym (v.fresh i q).1 ∙ ap (λ (l : List ℕ). is_in i l) shape.1 ∙ is_in_head i (j ∷ shape.0) in cc)
 
 -- ---- the end
 pub single : (h : Half) (xs : List ℕ) → 0 < length xs → breakpoints_of h xs ≡ [] → behind xs ≡ []
@@ -261,23 +246,12 @@ module _ (s : Scene) (a b : List ℕ) (start : Option Pick) (first second : List
       none (r ∷ l) m q = cc
 
 -- what is left behind a step is live
+passed_or_not : (live xs : List ℕ) (c : Bool) → AreLive live xs → AreLive live (cond c (behind xs) xs)
+passed_or_not live xs false known = known
+passed_or_not live [] true known = known
+passed_or_not live (x ∷ xs) true known = λ i k. known i (in_tail i x xs k)
+
 pub passed-live : (s : Scene) (a b : List ℕ) (start next : Option Pick) (first second : List ℕ) (h g : Half) (rs : List Record) → IsUnderway s a b start first second next rs
     → AreLive s.live (passed g h (chain_of g first second))
-passed-live s a b start next first second h A rs u = at (is_of A h)
-  where
-    tail_live : (xs : List ℕ) → AreLive s.live xs → AreLive s.live (behind xs)
-    tail_live [] known = known
-    tail_live (x ∷ xs) known = λ i k. known i (is_in_tail i x xs k)
-
-    at : (c : Bool) → AreLive s.live (cond c (behind first) first)
-    at true = tail_live first u.a_live
-    at false = u.a_live
-passed-live s a b start next first second h B rs u = at (is_of B h)
-  where
-    tail_live : (xs : List ℕ) → AreLive s.live xs → AreLive s.live (behind xs)
-    tail_live [] known = known
-    tail_live (x ∷ xs) known = λ i k. known i (is_in_tail i x xs k)
-
-    at : (c : Bool) → AreLive s.live (cond c (behind second) second)
-    at true = tail_live second u.b_live
-    at false = u.b_live
+passed-live s a b start next first second h A rs u = passed_or_not s.live first (is_of A h) u.a_live
+passed-live s a b start next first second h B rs u = passed_or_not s.live second (is_of B h) u.b_live

@@ -179,56 +179,33 @@ module _ (s : Scene) (total : List ℕ) (la lb : ℕ) (c : Step) (chain chain' :
   e = place_of r
 
   -- what is left of a chain behind the breakpoint
-  a-left : (xa : List ℕ) → own_of A (breakpoints (r ∷ rs)) ≡ breakpoints_of A xa → 0 < length xa → front xa ≡ c.a → last_of (front xa) (behind xa) ≡ la
-      → (ys : List ℕ) × (0 < length ys) × (front ys ≡ current_after A e c.a) × (last_of (front ys) (behind ys) ≡ la) × (own_of A (breakpoints rs) ≡ breakpoints_of A ys)
-  a-left xa own some is last = at e.half refl
+  half-left : (h : Half) (x last : ℕ) (xs : List ℕ) → own_of h (breakpoints (r ∷ rs)) ≡ breakpoints_of h xs → 0 < length xs → front xs ≡ x → last_of (front xs) (behind xs) ≡ last
+      → (ys : List ℕ) × (0 < length ys) × (front ys ≡ current_after h e x) × (last_of (front ys) (behind ys) ≡ last) × (own_of h (breakpoints rs) ≡ breakpoints_of h ys)
+  half-left h x last xs own some is ends = at (is_of h e.half) refl
     where
-      at : (h : Half) → e.half ≡ h → (ys : List ℕ) × (0 < length ys) × (front ys ≡ current_after A e c.a) × (last_of (front ys) (behind ys) ≡ la) × (own_of A (breakpoints rs) ≡ breakpoints_of A ys)
-      at B q = (
-        xa,
+      at : (b : Bool) → is_of h e.half ≡ b → (ys : List ℕ) × (0 < length ys) × (front ys ≡ current_after h e x) × (last_of (front ys) (behind ys) ≡ last) × (own_of h (breakpoints rs) ≡ breakpoints_of h ys)
+      at false q = (
+        xs,
         some,
-        is ∙ sym (ap (λ (h : Half). cond (is_of A h) e.right c.a) q),
-        last,
-        sym (ap (λ (h : Half). cond (is_of A h) (e ∷ own_of A (breakpoints rs)) (own_of A (breakpoints rs))) q) ∙ own,
+        is ∙ sym (ap (λ (b : Bool). cond b e.right x) q),
+        ends,
+        sym (ap (λ (b : Bool). cond b (e ∷ own_of h (breakpoints rs)) (own_of h (breakpoints rs))) q) ∙ own,
       )
-      at A q =
-          let own' : e ∷ own_of A (breakpoints rs) ≡ breakpoints_of A xa = sym (ap (λ (h : Half). cond (is_of A h) (e ∷ own_of A (breakpoints rs)) (own_of A (breakpoints rs))) q) ∙ own in
-          let shape = first-shape A xa e (sym (ap (λ (es : List Breakpoint). first_of es) own')) in
-          let tail : e ∷ own_of A (breakpoints rs) ≡ record { half = A; left = e.left; right = e.right } ∷ breakpoints_of A (e.right ∷ shape.0) = own' ∙ ap (breakpoints_of A) shape.1 in (
+      at true q =
+          let own' : e ∷ own_of h (breakpoints rs) ≡ breakpoints_of h xs = sym (ap (λ (b : Bool). cond b (e ∷ own_of h (breakpoints rs)) (own_of h (breakpoints rs))) q) ∙ own in
+          let shape = first-shape h xs e (sym (ap (λ (es : List Breakpoint). first_of es) own')) in
+          let tail : e ∷ own_of h (breakpoints rs) ≡ record { half = h; left = e.left; right = e.right } ∷ breakpoints_of h (e.right ∷ shape.0) = own' ∙ ap (breakpoints_of h) shape.1 in (
             e.right ∷ shape.0,
             omega arith,
-            sym (ap (λ (h : Half). cond (is_of A h) e.right c.a) q),
-            sym (ap (λ (l : List ℕ). last_of (front l) (behind l)) shape.1) ∙ last,
-            (let rest : own_of A (breakpoints rs) ≡ breakpoints_of A (e.right ∷ shape.0) = cc in rest),
-          )
-
-  b-left : (xb : List ℕ) → own_of B (breakpoints (r ∷ rs)) ≡ breakpoints_of B xb → 0 < length xb → front xb ≡ c.b → last_of (front xb) (behind xb) ≡ lb
-      → (ys : List ℕ) × (0 < length ys) × (front ys ≡ current_after B e c.b) × (last_of (front ys) (behind ys) ≡ lb) × (own_of B (breakpoints rs) ≡ breakpoints_of B ys)
-  b-left xb own some is last = at e.half refl
-    where
-      at : (h : Half) → e.half ≡ h → (ys : List ℕ) × (0 < length ys) × (front ys ≡ current_after B e c.b) × (last_of (front ys) (behind ys) ≡ lb) × (own_of B (breakpoints rs) ≡ breakpoints_of B ys)
-      at A q = (
-        xb,
-        some,
-        is ∙ sym (ap (λ (h : Half). cond (is_of B h) e.right c.b) q),
-        last,
-        sym (ap (λ (h : Half). cond (is_of B h) (e ∷ own_of B (breakpoints rs)) (own_of B (breakpoints rs))) q) ∙ own,
-      )
-      at B q =
-          let own' : e ∷ own_of B (breakpoints rs) ≡ breakpoints_of B xb = sym (ap (λ (h : Half). cond (is_of B h) (e ∷ own_of B (breakpoints rs)) (own_of B (breakpoints rs))) q) ∙ own in
-          let shape = first-shape B xb e (sym (ap (λ (es : List Breakpoint). first_of es) own')) in
-          let tail : e ∷ own_of B (breakpoints rs) ≡ record { half = B; left = e.left; right = e.right } ∷ breakpoints_of B (e.right ∷ shape.0) = own' ∙ ap (breakpoints_of B) shape.1 in (
-            e.right ∷ shape.0,
-            omega arith,
-            sym (ap (λ (h : Half). cond (is_of B h) e.right c.b) q),
-            sym (ap (λ (l : List ℕ). last_of (front l) (behind l)) shape.1) ∙ last,
-            (let rest : own_of B (breakpoints rs) ≡ breakpoints_of B (e.right ∷ shape.0) = cc in rest),
+            sym (ap (λ (b : Bool). cond b e.right x) q),
+            sym (ap (λ (l : List ℕ). last_of (front l) (behind l)) shape.1) ∙ ends,
+            (let rest : own_of h (breakpoints rs) ≡ breakpoints_of h (e.right ∷ shape.0) = cc in rest),
           )
 
   pub walk-on : IsWalking s total la lb c chain (r ∷ rs) → IsWalking s total la lb (cell_behind c r) chain' rs
   walk-on w =
-      let left-a = a-left w.xa w.interleaved.of_a w.a_some w.a_is w.a_last in
-      let left-b = b-left w.xb w.interleaved.of_b w.b_some w.b_is w.b_last in
+      let left-a = half-left A c.a la w.xa w.interleaved.of_a w.a_some w.a_is w.a_last in
+      let left-b = half-left B c.b lb w.xb w.interleaved.of_b w.b_some w.b_is w.b_last in
       let above = above-is s c.a c.b r (first_of (breakpoints rs)) w.noted.0 in
       let cell : Cell = record { a = c.a; b = c.b; left = c.left; right = above_at s c.a c.b e; narrow = is_narrow s w.before e } in
       let same : seen_cell (record c { right = above_by r }) ≡ cell = ap₂ (λ (t : Sign) (b : Bool). record { a = c.a; b = c.b; left = c.left; right = t; narrow = b }) above w.narrow in

@@ -9,7 +9,7 @@ ghost use Rattle.kin_overlay.specs.declared.half.Half.TheVariants.{A, B};
 ghost use Rattle.kin_overlay.specs.declared.stage.Stage.TheVariants.{Broken};
 ghost use Rattle.kin_overlay.specs.Diffs.{KeepOrder, ArePutApart};
 ghost use Rattle.kin_overlay.specs.Fingers.{AreLive, AreLess};
-ghost use Rattle.kin_overlay.specs.Overlays.{told, told_chain, names_gone, IsReady, IsAtRest, IsSettled, IsSameMerge};
+ghost use Rattle.kin_overlay.specs.Overlays.{told, told_chain, names_any, names_gone, IsReady, IsAtRest, IsSettled, IsSameMerge};
 
 use crate::diff::diff;
 use crate::edit::{ChainEdit, carry_out};
@@ -19,6 +19,7 @@ use crate::report::tell_missing;
 use crate::stage::Stage;
 use crate::walk::merged_chain;
 use kin_motion::fact::{Delta, Placed};
+use kin_motion::form::Form;
 use kin_motion::kinetic::Kinetic;
 use kin_motion::signs::Signs;
 use kin_num::memory::NoMemory;
@@ -181,6 +182,33 @@ impl Overlay {
     {
         &self.edits
     }
+
+    /// Exchanges these edits with a list of the caller's.
+    pub fn swap_edits(&mut self, edits: &mut Vec<ChainEdit>)
+        ensures merge { self.new ≡ record self.old { edits = edits.old.items } }
+        ensures edits { edits.new.items ≡ self.old.edits }
+    {
+        swap(&mut self.edits, edits);
+    }
+
+    /// Whether a fact names a number that a waiting edit drops.
+    pub fn spares(&self, fact: &Placed) -> bool
+        ensures { result ≡ names_gone self.now fact.now }
+    {
+        names_any(&fact.fact.form, &self.gone)
+    }
+}
+
+/// Whether a form names one of the numbers.
+fn names_any(form: &Form, numbers: &[u32]) -> bool
+    ensures { result ≡ names_any form.now numbers.now }
+{
+    for no in numbers {
+        if form.names(*no) {
+            return true;
+        }
+    }
+    false
 }
 
 impl Kinetic for Overlay {

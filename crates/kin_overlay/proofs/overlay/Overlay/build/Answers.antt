@@ -1,4 +1,4 @@
-use Rattle.std.proofs.Common.{sym, subst, List, [], ℕ}
+use Rattle.std.proofs.Common.{sym, subst, List, [], ℕ, rules}
 use Rattle.kin_motion.specs.Contents.{IsSettledMerge}
 use Rattle.kin_motion.specs.Deltas.{Change}
 use Rattle.kin_motion.specs.Kinetics.{HasChanged}
@@ -29,19 +29,8 @@ invariant_of-result g c =
       distinct = settled.exact.once;
     }
 
-pub returns-clause-settled : goal.returns-clause-settled
-returns-clause-settled g c =
-    let s = g.O.Signs.scene c.args.now.now in
-    let a = c.args.a.now in
-    let b = c.args.b.now in
-    let m = c.merge.new.self in
-    let chain = c.merged_chain.new.chain.items in
-    let settled = merged-settled s c.requires.real a b chain c.args.part m c.requires.a_some c.requires.b_some c.requires.less c.requires.a_chain c.requires.b_chain c.in_ok-merge.ensures (c.in_ok-merged_chain.ensures s a b c.requires.a_some c.requires.b_some c.in_ok-merge.ensures) in
-    subst (λ (l : List ℕ). IsSettledMerge s l c.in_ok-from_slice-2.field-0.items chain c.args.part (all_placed c.args.part (facts_of m))) (sym c.in_ok-from_slice.ensures.items)
-    (subst (λ (l : List ℕ). IsSettledMerge s a l chain c.args.part (all_placed c.args.part (facts_of m))) (sym c.in_ok-from_slice-2.ensures.items) settled)
-
-pub returns-clause-born : goal.returns-clause-born
-returns-clause-born g c =
+pub returns : goal.returns
+returns g c =
     let s = g.O.Signs.scene c.args.now.now in
     let a = c.args.a.now in
     let b = c.args.b.now in
@@ -49,4 +38,15 @@ returns-clause-born g c =
     let chain = c.merged_chain.new.chain.items in
     let settled = merged-settled s c.requires.real a b chain c.args.part m c.requires.a_some c.requires.b_some c.requires.less c.requires.a_chain c.requires.b_chain c.in_ok-merge.ensures (c.in_ok-merged_chain.ensures s a b c.requires.a_some c.requires.b_some c.in_ok-merge.ensures) in
     let done = all-born c.args.part m c.new-none.result c.out.inside.dropped.items c.out.inside.born.items c.tell_missing.new.told.items c.new-none.ensures settled.exact.once c.in_ok-tell_missing.ensures in
-    subst (λ (d : Change). HasChanged [] (all_placed c.args.part (facts_of m)) d (record { dropped = c.out.inside.dropped.items; born = c.tell_missing.new.told.items })) c.out.view_is done
+    record {
+      a = search rules;
+      b = search rules;
+      part = search rules;
+      rest = search rules;
+      settled =
+          subst (λ (l : List ℕ). IsSettledMerge s l c.in_ok-from_slice-2.field-0.items chain c.args.part (all_placed c.args.part (facts_of m))) (sym c.in_ok-from_slice.ensures.items)
+          (subst (λ (l : List ℕ). IsSettledMerge s a l chain c.args.part (all_placed c.args.part (facts_of m))) (sym c.in_ok-from_slice-2.ensures.items) settled);
+      edits = search rules;
+      gone = search rules;
+      born = subst (λ (d : Change). HasChanged [] (all_placed c.args.part (facts_of m)) d (record { dropped = c.out.inside.dropped.items; born = c.tell_missing.new.told.items })) c.out.view_is done;
+    }

@@ -1,4 +1,4 @@
-use Rattle.std.proofs.Common.{sym, subst, List, ℕ}
+use Rattle.std.proofs.Common.{sym, subst, List, ℕ, rules}
 use Rattle.kin_motion.specs.Chains.{IsUpperChain}
 use Rattle.kin_motion.specs.Numbers.{IsOnce}
 use Rattle.kin_motion.proofs.RealLaws.{real_line_laws}
@@ -38,21 +38,8 @@ invariant_of-self-2 g c =
     let settled = merged-settled s c.requires.real o.a.items o.b.items c.merged_chain.new.chain.items o.part m ready.a_some ready.b_some kept.less ready.a_chain ready.b_chain merged (c.in_ok-merged_chain.ensures s o.a.items o.b.items ready.a_some ready.b_some merged) in
     record { less = kept.less; distinct = settled.exact.once }
 
-pub returns-clause-settled : goal.returns-clause-settled
-returns-clause-settled g c =
-    let s = g.O.Signs.scene c.args.now.now in
-    let o = c.self.inside in
-    let m = c.swap.new.x in
-    let ready = subst (λ (v : Merge). IsReady v s) (sym c.self.view_is) c.requires.ready in
-    let kept = whole o.stage o.a.items o.b.items (all_placed o.part (facts_of o.list)) ready.whole c.self.invariant in
-    let merged =
-    subst (λ (l : List ℕ). IsMerged s l o.b.items m) c.deref.ensures.value
-    (subst (λ (l : List ℕ). IsMerged s c.deref.result.now l m) c.deref-2.ensures.value (subst (λ (n : Remembered). IsMerged s c.deref.result.now c.deref-2.result.now n) (sym c.swap.ensures.x_after) c.in_ok-merge.ensures)) in
-    let settled = merged-settled s c.requires.real o.a.items o.b.items c.merged_chain.new.chain.items o.part m ready.a_some ready.b_some kept.less ready.a_chain ready.b_chain merged (c.in_ok-merged_chain.ensures s o.a.items o.b.items ready.a_some ready.b_some merged) in
-    settled
-
-pub returns-clause-delta : goal.returns-clause-delta
-returns-clause-delta g c =
+pub returns : goal.returns
+returns g c =
     let s = g.O.Signs.scene c.args.now.now in
     let o = c.self.inside in
     let m = c.swap.new.x in
@@ -65,5 +52,16 @@ returns-clause-delta g c =
     let dropped = subst (λ (n : Remembered). IsTold o.part (facts_of n) (facts_of o.list) c.out.inside.dropped.items c.tell_missing.new.told.items) (sym c.swap.ensures.x_after) c.in_ok-tell_missing.ensures in
     let born = subst (λ (n : Remembered). IsTold o.part (facts_of o.list) (facts_of n) c.out.inside.born.items c.tell_missing-2.new.told.items) (sym c.swap.ensures.x_after) c.in_ok-tell_missing-2.ensures in
     let done = changed o.part o.list m (record { dropped = c.out.inside.dropped.items; born = c.out.inside.born.items }) (record { dropped = c.tell_missing.new.told.items; born = c.tell_missing-2.new.told.items }) kept.distinct settled.exact.once dropped born in
-    subst (λ (v : Merge). HasChanged v.facts (all_placed o.part (facts_of m)) c.args.out.now (record { dropped = c.tell_missing.new.told.items; born = c.tell_missing-2.new.told.items })) c.self.view_is
-    (subst (λ (d : Change). HasChanged (all_placed o.part (facts_of o.list)) (all_placed o.part (facts_of m)) d (record { dropped = c.tell_missing.new.told.items; born = c.tell_missing-2.new.told.items })) c.out.view_is done)
+    record {
+      rest = search rules;
+      settled = settled;
+      delta =
+          subst (λ (v : Merge). HasChanged v.facts (all_placed o.part (facts_of m)) c.args.out.now (record { dropped = c.tell_missing.new.told.items; born = c.tell_missing-2.new.told.items })) c.self.view_is
+          (subst (λ (d : Change). HasChanged (all_placed o.part (facts_of o.list)) (all_placed o.part (facts_of m)) d (record { dropped = c.tell_missing.new.told.items; born = c.tell_missing-2.new.told.items })) c.out.view_is done);
+      lead = search rules;
+      fit = search rules;
+      apart = search rules;
+      same = search rules;
+      gone = search rules;
+      broken = tt;
+    }

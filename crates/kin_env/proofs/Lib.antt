@@ -1,0 +1,9 @@
+pub mod Tellings
+pub mod Hearing
+pub mod Levels
+pub mod Halves
+pub mod Works
+pub mod Steps
+pub mod Reports
+pub mod Ends
+pub mod Gifts

@@ -1,0 +1,375 @@
+//! The nodes of the tree, and the way through those that have work.
+
+ghost use Rattle.std.specs.Prelude.{◌≡◌, ◌≢◌, ◌⊎◌, ℕ, ◌+◌, ◌*◌, ◌/◌, ◌^◌, ◌-◌, ◌<◌, ◌≤◌, ◌↔◌, true, false, [], ◌++◌, nat_eq, length, filter, replicate, slice_get, slice_set, slice_index_or, Some, None, IfOk, OnOk, MatchOption, IsTrue, IsFalse};
+ghost use Rattle.kin_motion.specs.declared.fact.Placed.{Placed as Put};
+ghost use Rattle.kin_motion.specs.Kinetics.{HasChanged};
+ghost use Rattle.kin_motion.specs.Scene.{IsReal};
+ghost use Rattle.kin_tourney.specs.declared.doubt.Doubt.TheVariants.{Below};
+ghost use Rattle.kin_tourney.specs.Standings.{IsClosed, doubt_in, doubt_count};
+ghost use Rattle.kin_tourney.specs.Repairs.{IsSpread, IsDoubted};
+ghost use Rattle.kin_env.specs.declared.node.Node.{Node as Knot};
+ghost use Rattle.kin_env.specs.Nodes.{merge_at, passed_at, chain_at, edits_at, failed_at, facts_at};
+ghost use Rattle.kin_env.specs.Joints.{Leads, IsTold, IsVisited, IsRestingWith};
+ghost use Rattle.kin_env.specs.Walks.{IsShaped, IsSound, IsWalked, IsNext, IsQuieted, IsWorked, IsRenewed, AreBlank, AreGiven, IsHeard, IsAtPeace, AreRight, IsReady, slot_in, own_chain, tree_facts};
+
+use crate::node::Node;
+use kin_motion::fact::{Delta, Placed};
+use kin_motion::signs::Signs;
+use kin_num::memory::NoMemory;
+use kin_num::steps::Steps;
+use kin_tourney::doubt::{Doubt, doubt_failed, doubt_path};
+use std::alloc::Global;
+use std::mem::swap;
+use std::sync::ledger::Ledger;
+
+/// A tree over `2^size` slots. Node 1 is the root, node v has the halves 2v and 2v + 1, and slot s
+/// is node `2^size + s`.
+#[derive(Drop)]
+pub struct Branches {
+    pub alloc: Global,
+    pub size: u32,
+    /// Which slots hold their number.
+    pub slots: Vec<bool>,
+    pub nodes: Vec<Node>,
+    /// Which nodes have to be looked at. Where one isn't clear, none above it is. Node 0 never is,
+    /// so that every way upwards ends there.
+    pub doubts: Vec<Doubt>,
+}
+
+/// The number of slots.
+fn room_for(size: u32) -> usize
+    requires { size ≤ 15 }
+    ensures value { result ≡ 2 ^ size }
+    ensures small { result ≤ 2 ^ 15 }
+{
+    1usize << size
+}
+
+/// So many empty slots.
+fn no_slots(alloc: Global, count: usize) -> Result<Vec<bool>, NoMemory>
+    ensures { IfOk result (λ v. v.items ≡ replicate count false) }
+{
+    let slots = Vec::from_elem(alloc, false, count)?;
+    Ok(slots)
+}
+
+/// So many nodes of which only node 0 isn't clear.
+fn no_doubts(alloc: Global, count: usize) -> Result<Vec<Doubt>, NoMemory>
+    requires { 0 < count }
+    ensures { IfOk result (λ v. v.items ≡ slice_set (replicate count Doubt.Clear) 0 Doubt.Here) }
+{
+    let mut doubts = Vec::from_elem(alloc, Doubt::Clear, count)?;
+    doubts[0] = Doubt::Here;
+    Ok(doubts)
+}
+
+/// So many nodes without points.
+fn no_points(alloc: Global, count: usize) -> Result<Vec<Node>, NoMemory>
+    ensures room { IfOk result (λ ns. length ns.items ≡ count) }
+    ensures blank { IfOk result (λ ns. AreBlank ns.items) }
+{
+    let mut nodes = Vec::with_capacity(alloc, count)?;
+    for made in 0..count {
+        let _made = made;
+        nodes.push(Node::new(alloc)).map_err(|_| NoMemory)?;
+    }
+    Ok(nodes)
+}
+
+impl Branches {
+    /// No slot holds its number.
+    pub fn new(alloc: Global, size: u32) -> Result<Branches, NoMemory>
+        requires low { 1 ≤ size }
+        requires high { size ≤ 15 }
+        ensures size { IfOk result (λ t. t.size ≡ size) }
+        ensures slots { IfOk result (λ t. t.slots.items ≡ replicate (2 ^ size) false) }
+        ensures blank { IfOk result (λ t. AreBlank t.nodes.items) }
+        ensures sound { IfOk result IsSound }
+    {
+        let room = room_for(size);
+        let slots = no_slots(alloc, room)?;
+        let nodes = no_points(alloc, 2 * room)?;
+        let doubts = no_doubts(alloc, 2 * room)?;
+        Ok(Branches {
+            alloc,
+            size,
+            slots,
+            nodes,
+            doubts,
+        })
+    }
+
+    /// Changes whether a slot holds its number, and puts the slot and those above it into doubt.
+    pub fn put(&mut self, slot: u32, held: bool)
+        requires sound { IsSound self.old }
+        requires slot { slot < 2 ^ self.old.size }
+        ensures size { self.new.size ≡ self.old.size }
+        ensures slots { self.new.slots.items ≡ slice_set self.old.slots.items slot held }
+        ensures nodes { self.new.nodes ≡ self.old.nodes }
+        ensures sound { IsSound self.new }
+    {
+        let leaf = self.slots.len() + slot as usize;
+        self.slots[slot as usize] = held;
+        self.doubt_leaf(leaf);
+    }
+
+    /// Puts a leaf and the nodes above it into doubt.
+    fn doubt_leaf(&mut self, leaf: usize)
+        requires closed { IsClosed self.old.doubts.items }
+        requires inside { leaf < length self.old.doubts.items }
+        ensures same { self.new ≡ record self.old { doubts = self.new.doubts } }
+        ensures closed { IsClosed self.new.doubts.items }
+        ensures spread { IsSpread self.old.doubts.items self.new.doubts.items Below leaf }
+    {
+        doubt_path(&mut self.doubts, leaf, Doubt::Below);
+    }
+
+    /// Puts the nodes of failed facts into doubt.
+    fn doubt_nodes(&mut self, failed: &[Placed])
+        requires closed { IsClosed self.old.doubts.items }
+        requires inside { (k : ℕ) (d : Put) → k < length failed.now → (slice_index_or failed.now k d).part < length self.old.doubts.items }
+        ensures same { self.new ≡ record self.old { doubts = self.new.doubts } }
+        ensures closed { IsClosed self.new.doubts.items }
+        ensures doubted { IsDoubted self.old.doubts.items self.new.doubts.items failed.now (length failed.now) }
+    {
+        doubt_failed(&mut self.doubts, failed);
+    }
+
+    /// The settling law of the tree: repairs everything that has failed at one moment together, and
+    /// takes in the slots that have changed. After it the chain of each node is the upper chain of
+    /// the points under it, and each merge is settled. After want of memory it may not be used again.
+    pub fn settle<O: Signs, L: Ledger>(
+        &mut self,
+        now: &O,
+        failed: &[Placed],
+        out: &mut Delta,
+        steps: &mut Steps<L>,
+    ) -> Result<(), NoMemory>
+        requires real { IsReal (O.scene now.now) }
+        requires sound { IsSound self.old }
+        requires ready { IsReady (O.scene now.now) self.old failed.now }
+        ensures size { OnOk result (self.new.size ≡ self.old.size) }
+        ensures slots { OnOk result (self.new.slots.items ≡ self.old.slots.items) }
+        ensures sound { OnOk result (IsSound self.new) }
+        ensures right { OnOk result (AreRight (O.scene now.now) self.new) }
+        ensures delta { OnOk result (HasChanged (tree_facts self.old.size self.old.nodes.items) (tree_facts self.new.size self.new.nodes.items) out.old out.new) }
+    {
+        self.give_failed(failed)?;
+        self.repair(now, out, steps)
+    }
+
+    /// Gives each failed fact to its node, and puts these nodes into doubt.
+    fn give_failed(&mut self, failed: &[Placed]) -> Result<(), NoMemory>
+        requires shape { IsShaped self.old }
+        requires inside { (k : ℕ) (d : Put) → k < length failed.now → (slice_index_or failed.now k d).part < length self.old.nodes.items }
+        ensures shape { OnOk result (IsShaped self.new) }
+        ensures size { OnOk result (self.new.size ≡ self.old.size) }
+        ensures slots { OnOk result (self.new.slots.items ≡ self.old.slots.items) }
+        ensures given { OnOk result (AreGiven self.old.nodes.items self.new.nodes.items failed.now) }
+        ensures doubted { OnOk result (IsDoubted self.old.doubts.items self.new.doubts.items failed.now (length failed.now)) }
+    {
+        for placed in failed.iter() {
+            let node = &mut self.nodes[placed.part as usize];
+            node.keep_failed(*placed)?;
+        }
+        self.doubt_nodes(failed);
+        Ok(())
+    }
+
+    fn is_clear(&self, node: usize) -> bool
+        requires shape { IsShaped self.now }
+        requires inside { node < 2 * 2 ^ self.now.size }
+        ensures { IsTrue result ↔ (doubt_in self.now.doubts.items node ≡ Doubt.Clear) }
+    {
+        self.doubts[node].is_clear()
+    }
+
+    fn has_work(&self, node: usize) -> bool
+        requires shape { IsShaped self.now }
+        requires inside { node < 2 * 2 ^ self.now.size }
+        ensures { IsTrue result ↔ (doubt_in self.now.doubts.items node ≡ Doubt.Here) }
+    {
+        self.doubts[node].is_here()
+    }
+
+    /// The root where it isn't clear, or 0.
+    fn doubted_root(&self) -> usize
+        requires shape { IsShaped self.now }
+        ensures { (result ≡ 0) × (doubt_in self.now.doubts.items 1 ≡ Doubt.Clear) ⊎ (result ≡ 1) × (doubt_in self.now.doubts.items 1 ≢ Doubt.Clear) }
+    {
+        if self.is_clear(1) { 0 } else { 1 }
+    }
+
+    /// The first half of a node that isn't clear.
+    fn doubted_half(&self, node: usize) -> Option<usize>
+        requires shape { IsShaped self.now }
+        requires some { 0 < node }
+        requires inside { node < 2 * 2 ^ self.now.size }
+        ensures { MatchOption result
+            ((v : ℕ) → 0 < v → v / 2 ≡ node → doubt_in self.now.doubts.items v ≡ Doubt.Clear)
+            (λ half. (half / 2 ≡ node) × (node < half) × (half < 2 * 2 ^ self.now.size) × (doubt_in self.now.doubts.items half ≢ Doubt.Clear)) }
+    {
+        let left = 2 * node;
+        if left >= self.nodes.len() {
+            return None;
+        }
+        if !self.is_clear(left) {
+            return Some(left);
+        }
+        if !self.is_clear(left + 1) {
+            return Some(left + 1);
+        }
+        None
+    }
+
+    /// Takes in whether a slot holds its number.
+    fn visit_leaf(&mut self, leaf: usize) -> Result<(), NoMemory>
+        requires shape { IsShaped self.old }
+        requires low { 2 ^ self.old.size ≤ leaf }
+        requires inside { leaf < 2 * 2 ^ self.old.size }
+        requires none { merge_at self.old.nodes.items leaf ≡ None }
+        ensures same { self.new ≡ record self.old { nodes = self.new.nodes } }
+        ensures room { length self.new.nodes.items ≡ length self.old.nodes.items }
+        ensures others { (u : ℕ) → u ≢ leaf → slice_get self.new.nodes.items u ≡ slice_get self.old.nodes.items u }
+        ensures merge { merge_at self.new.nodes.items leaf ≡ None }
+        ensures passed { OnOk result (passed_at self.new.nodes.items leaf ≡ own_chain (leaf - 2 ^ self.old.size) (slot_in self.old.slots.items (leaf - 2 ^ self.old.size))) }
+        ensures leads { OnOk result (Leads (edits_at self.new.nodes.items leaf) (passed_at self.old.nodes.items leaf) (passed_at self.new.nodes.items leaf)) }
+        ensures failed { failed_at self.new.nodes.items leaf ≡ failed_at self.old.nodes.items leaf }
+    {
+        let slot = leaf - self.slots.len();
+        let number = [slot as u32];
+        let held = self.slots[slot];
+        let node = &mut self.nodes[leaf];
+        node.pass(self.alloc, if held { &number } else { &[] })
+    }
+
+    /// Takes in what has changed of the halves of a node, and repairs what has failed.
+    fn visit<O: Signs, L: Ledger>(
+        &mut self,
+        node: usize,
+        now: &O,
+        out: &mut Delta,
+        steps: &mut Steps<L>,
+    ) -> Result<(), NoMemory>
+        requires real { IsReal (O.scene now.now) }
+        requires shape { IsShaped self.old }
+        requires some { 0 < node }
+        requires inner { node < 2 ^ self.old.size }
+        requires told { (n l r : Knot) → slice_get self.old.nodes.items node ≡ Some n → slice_get self.old.nodes.items (2 * node) ≡ Some l → slice_get self.old.nodes.items (2 * node + 1) ≡ Some r
+            → IsTold node (O.scene now.now) n l r × IsRestingWith l.merge × IsRestingWith r.merge }
+        ensures same { self.new ≡ record self.old { nodes = self.new.nodes } }
+        ensures visited { OnOk result (IsHeard node (O.scene now.now) self.old.nodes.items self.new.nodes.items out.old out.new) }
+    {
+        let mut visited = Node::new(self.alloc);
+        swap(&mut visited, &mut self.nodes[node]);
+        let (left, right) = (&self.nodes[2 * node], &self.nodes[2 * node + 1]);
+        visited.visit(self.alloc, node as u32, left, right, now, out, steps)?;
+        swap(&mut visited, &mut self.nodes[node]);
+        self.nodes[2 * node].edits.clear();
+        self.nodes[2 * node + 1].edits.clear();
+        Ok(())
+    }
+
+    /// Visits a node where it has work, and clears it. Where its chain has changed, the node above
+    /// has work, too.
+    fn renew<O: Signs, L: Ledger>(
+        &mut self,
+        node: usize,
+        now: &O,
+        out: &mut Delta,
+        steps: &mut Steps<L>,
+    ) -> Result<(), NoMemory>
+        requires real { IsReal (O.scene now.now) }
+        requires walked { IsWalked (O.scene now.now) self.old }
+        requires next { IsNext self.old node }
+        ensures walked { OnOk result (IsWalked (O.scene now.now) self.new) }
+        ensures renewed { OnOk result (IsRenewed node self.old self.new out.old out.new) }
+    {
+        self.work(node, now, out, steps)?;
+        self.clear(node);
+        Ok(())
+    }
+
+    /// Visits a node where it has work.
+    fn work<O: Signs, L: Ledger>(
+        &mut self,
+        node: usize,
+        now: &O,
+        out: &mut Delta,
+        steps: &mut Steps<L>,
+    ) -> Result<(), NoMemory>
+        requires real { IsReal (O.scene now.now) }
+        requires walked { IsWalked (O.scene now.now) self.old }
+        requires next { IsNext self.old node }
+        ensures same { self.new ≡ record self.old { nodes = self.new.nodes } }
+        ensures worked { OnOk result (IsWorked (O.scene now.now) self.old.size node self.old.nodes.items self.new.nodes.items out.old out.new) }
+    {
+        if node >= self.slots.len() {
+            return self.visit_leaf(node);
+        }
+        if self.has_work(node) {
+            return self.visit(node, now, out, steps);
+        }
+        Ok(())
+    }
+
+    /// Whether the chain of a node has changed.
+    fn tells(&self, node: usize) -> bool
+        requires inside { node < length self.now.nodes.items }
+        ensures told { IsTrue result → edits_at self.now.nodes.items node ≢ [] }
+        ensures quiet { IsFalse result → edits_at self.now.nodes.items node ≡ [] }
+    {
+        !self.nodes[node].edits.is_empty()
+    }
+
+    /// Clears a node. Where its chain has changed, the node above has work.
+    fn clear(&mut self, node: usize)
+        requires shape { IsShaped self.old }
+        requires inside { node < 2 * 2 ^ self.old.size }
+        ensures same { self.new ≡ record self.old { doubts = self.new.doubts } }
+        ensures quiet { edits_at self.old.nodes.items node ≡ [] → self.new.doubts.items ≡ slice_set self.old.doubts.items node Doubt.Clear }
+        ensures told { edits_at self.old.nodes.items node ≢ [] → self.new.doubts.items ≡ slice_set (slice_set self.old.doubts.items (node / 2) Doubt.Here) node Doubt.Clear }
+    {
+        if self.tells(node) {
+            self.doubts[node / 2] = Doubt::Here;
+        }
+        self.doubts[node] = Doubt::Clear;
+    }
+
+    /// Lets the edits of the root go, which nobody takes in.
+    fn quiet_root(&mut self)
+        requires shape { IsShaped self.old }
+        ensures { IsAtPeace self.old self.new }
+    {
+        self.nodes[1].edits.clear();
+    }
+
+    /// Visits every node in doubt, the halves of a node before the node. The doubts lead the way
+    /// down, and only nodes in doubt are looked at.
+    fn repair<O: Signs, L: Ledger>(
+        &mut self,
+        now: &O,
+        out: &mut Delta,
+        steps: &mut Steps<L>,
+    ) -> Result<(), NoMemory>
+        requires real { IsReal (O.scene now.now) }
+        requires walked { IsWalked (O.scene now.now) self.old }
+        ensures size { OnOk result (self.new.size ≡ self.old.size) }
+        ensures slots { OnOk result (self.new.slots.items ≡ self.old.slots.items) }
+        ensures sound { OnOk result (IsSound self.new) }
+        ensures right { OnOk result (AreRight (O.scene now.now) self.new) }
+        ensures delta { OnOk result (HasChanged (tree_facts self.old.size self.old.nodes.items) (tree_facts self.new.size self.new.nodes.items) out.old out.new) }
+    {
+        let mut node = self.doubted_root();
+        while node > 0 {
+            if let Some(half) = self.doubted_half(node) {
+                node = half;
+            } else {
+                self.renew(node, now, out, steps)?;
+                node /= 2;
+            }
+        }
+        self.quiet_root();
+        Ok(())
+    }
+}
