@@ -2,12 +2,12 @@
 use Rattle.std.proofs.Common.{◌≡◌, ◌≢◌, ◌⊎◌, inl, inr, refl, sym, ap, ap₂, ◌∙◌, subst, arith, List, [], ◌∷◌, ℕ, zero, suc, ◌^◌, ◌<◌, ◌≤◌, length, Bool, true, false, replicate}
 use Rattle.std.specs.Prelude.{Option, Some, None, slice_set}
 use Rattle.std.proofs.lemmas.List.{length-set, length-replicate, get_or-set_same, get_or-set_other}
+use Rattle.std.proofs.lemmas.Bool.{cases_eq}
 use Rattle.kin_motion.specs.Course.{Course, live_of}
 use Rattle.kin_motion.specs.Numbers.{IsIn}
 use Rattle.kin_motion.specs.Tournaments.{item_in}
 use Rattle.kin_tourney.specs.declared.along.Along.{Along}
 use Rattle.kin_tourney.specs.Tournament.{Tournament, IsAtRest, mark_in}
-use Rattle.kin_tourney.proofs.AfterWrite.{same_or_not}
 use Rattle.kin_cases.specs.Contests.{IsHeld}
 
 -- a list of marks without a mark
@@ -64,7 +64,7 @@ module _ (slots : List (Option ℕ)) (slot item : ℕ) (within : slot < length s
 
   -- a slot holds the new item, or what it held
   now_in : (i a : ℕ) → item_in new i ≡ Some a → (i ≡ slot) × (a ≡ item) ⊎ (i ≢ slot) × (item_in slots i ≡ Some a)
-  now_in i a e = at (same_or_not i slot)
+  now_in i a e = at (cases_eq i slot)
     where
       at : (i ≡ slot) ⊎ (i ≢ slot) → (i ≡ slot) × (a ≡ item) ⊎ (i ≢ slot) × (item_in slots i ≡ Some a)
       at (inl same) =
@@ -91,7 +91,7 @@ module _ (slots : List (Option ℕ)) (slot item : ℕ) (within : slot < length s
 
 -- what a slot holds after another was emptied, it held before
 pub still_in : (slots : List (Option ℕ)) (slot : ℕ) → slot < length slots → (i a : ℕ) → item_in (slice_set slots slot None) i ≡ Some a → item_in slots i ≡ Some a
-still_in slots slot within i a e = at (same_or_not i slot)
+still_in slots slot within i a e = at (cases_eq i slot)
   where
     at : (i ≡ slot) ⊎ (i ≢ slot) → item_in slots i ≡ Some a
     at (inl same) = let k : None ≡ Some a = sym (get_or-set_same slots slot None None within) ∙ ap (item_in (slice_set slots slot None)) (sym same) ∙ e in absurd cc

@@ -16,7 +16,7 @@ pub no_member : (ms : List (Option Course)) (items : List ℕ) (n : ℕ) → is_
 no_member ms items n none members = members.same n ∙ live-members ms n ∙ none
 
 -- a new number with its motion
-entered : (ms : List (Option Course)) (items : List ℕ) (n : ℕ) (c : Course) → n < length ms → is_live ms n ≡ false → Lists items (live_of ms) → Lists (n ∷ items) (live_of (slice_set ms n (Some c)))
+pub entered : (ms : List (Option Course)) (items : List ℕ) (n : ℕ) (c : Course) → n < length ms → is_live ms n ≡ false → Lists items (live_of ms) → Lists (n ∷ items) (live_of (slice_set ms n (Some c)))
 entered ms items n c within none members = record {
   once = (no_member ms items n none members, members.once);
   same = λ i. at i (nat_eq i n) refl;

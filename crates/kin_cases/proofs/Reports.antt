@@ -1,12 +1,10 @@
 -- The facts of a structure before and after a report.
-use Rattle.std.proofs.Common.{◌≡◌, ◌⊎◌, inl, inr, sym, ap₂, ◌∙◌, subst, List, [], ◌++◌, Bool}
-use Rattle.std.specs.Prelude.{Contains, IsFalse, Option}
-use Rattle.kin_num.specs.declared.instant.Moment.{Moment}
+use Rattle.std.proofs.Common.{◌≡◌, ◌⊎◌, inl, inr, sym, ◌∙◌, subst, List, [], ◌++◌, Bool}
+use Rattle.std.specs.Prelude.{Contains, IsFalse}
 use Rattle.kin_motion.specs.declared.fact.Placed.{Placed}
 use Rattle.kin_motion.specs.Deltas.{Change}
-use Rattle.kin_motion.specs.Course.{Course}
 use Rattle.kin_motion.specs.Kinetics.{HasChanged, ListsFailing}
-use Rattle.kin_motion.specs.Scene.{Scene, scene_at, Holds}
+use Rattle.kin_motion.specs.Scene.{Scene, Holds}
 use Rattle.kin_motion.specs.Sets.{ListsExactly}
 use Rattle.kin_motion.proofs.SetLaws.{exactly_both, exactly_in_words}
 use Rattle.kin_cert.proofs.SamePlaced.{there_or_not}
@@ -39,18 +37,15 @@ facts_after facts kept old new report told change stay =
     from p h (inr n) = inr (h, n)
 
 -- the facts that fail are handed over
-pub lists_failing : (ms ms' : List (Option Course)) (m m' : Moment) (listed facts failed handed : List Placed) (spared spared' : Placed → Bool)
-    → ms' ≡ ms → m' ≡ m → handed ≡ failed → ((p : Placed) → spared p ≡ spared' p) → ListsExactly listed (Contains facts)
-    → ListsExactly failed (λ p. Contains listed p × (IsFalse (spared p) × ¬ (Holds (scene_at ms' m') p.fact)))
-    → ListsFailing facts spared' (scene_at ms m) handed
-lists_failing ms ms' m m' listed facts failed handed spared spared' same_motions same_moment same_list same told fail =
-    subst (λ (fs : List Placed). ListsFailing facts spared' (scene_at ms m) fs) (sym same_list) (exactly_in_words failed _ _ (λ p. (to p, from p)) fail)
+pub lists_failing : (s s' : Scene) (listed facts failed handed : List Placed) (spared spared' : Placed → Bool)
+    → s' ≡ s → handed ≡ failed → ((p : Placed) → spared p ≡ spared' p) → ListsExactly listed (Contains facts)
+    → ListsExactly failed (λ p. Contains listed p × (IsFalse (spared p) × ¬ (Holds s' p.fact)))
+    → ListsFailing facts spared' s handed
+lists_failing s s' listed facts failed handed spared spared' scene same_list same told fail =
+    subst (λ (fs : List Placed). ListsFailing facts spared' s fs) (sym same_list) (exactly_in_words failed _ _ (λ p. (to p, from p)) fail)
   where
-    scene : scene_at ms' m' ≡ scene_at ms m
-    scene = ap₂ scene_at same_motions same_moment
+    to : (p : Placed) → Contains listed p × (IsFalse (spared p) × ¬ (Holds s' p.fact)) → Contains facts p × IsFalse (spared' p) × ¬ (Holds s p.fact)
+    to p w = ((told.each p).0 w.0, sym (same p) ∙ w.1.0, λ h. w.1.1 (subst (λ (v : Scene). Holds v p.fact) (sym scene) h))
 
-    to : (p : Placed) → Contains listed p × (IsFalse (spared p) × ¬ (Holds (scene_at ms' m') p.fact)) → Contains facts p × IsFalse (spared' p) × ¬ (Holds (scene_at ms m) p.fact)
-    to p w = ((told.each p).0 w.0, sym (same p) ∙ w.1.0, λ h. w.1.1 (subst (λ (s : Scene). Holds s p.fact) (sym scene) h))
-
-    from : (p : Placed) → Contains facts p × IsFalse (spared' p) × ¬ (Holds (scene_at ms m) p.fact) → Contains listed p × (IsFalse (spared p) × ¬ (Holds (scene_at ms' m') p.fact))
-    from p w = ((told.each p).1 w.0, (same p ∙ w.1, λ h. w.2 (subst (λ (s : Scene). Holds s p.fact) scene h)))
+    from : (p : Placed) → Contains facts p × IsFalse (spared' p) × ¬ (Holds s p.fact) → Contains listed p × (IsFalse (spared p) × ¬ (Holds s' p.fact))
+    from p w = ((told.each p).1 w.0, (same p ∙ w.1, λ h. w.2 (subst (λ (v : Scene). Holds v p.fact) scene h)))

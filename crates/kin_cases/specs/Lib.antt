@@ -1,2 +1,4 @@
 pub mod Orders
 pub mod Contests
+pub mod Octants
+pub mod Merges

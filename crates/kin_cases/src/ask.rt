@@ -1,12 +1,12 @@
 //! What the driver asks for itself.
 
-ghost use Rattle.std.specs.Prelude.{◌≡◌, ◌↔◌, ◌<◌, IsTrue};
+ghost use Rattle.std.specs.Prelude.{◌≡◌, ◌↔◌, ◌<◌, IsTrue, IfOk};
+ghost use Rattle.std.specs.List.{All};
 ghost use Rattle.kin_motion.specs.Course.{live_of};
 ghost use Rattle.kin_motion.specs.Forms.{IsAskable};
 ghost use Rattle.kin_motion.specs.Numbers.{IsIn};
-ghost use Rattle.kin_motion.specs.Scene.{scene_at};
 
-use kin_cert::Now;
+use crate::fault::Fault;
 use kin_motion::form::Form;
 use kin_motion::motion::Motions;
 use kin_motion::signs::Signs;
@@ -37,20 +37,52 @@ pub fn is_askable(form: &Form, motions: &Motions) -> bool
     }
 }
 
-fn sign_for<L: Ledger>(now: &Now<'_>, form: &Form, blank: Blank) -> Sign
-    requires askable { IsAskable (live_of now.now.motions.now) form.now }
+/// Whether each number of a list is live.
+pub fn are_live(motions: &Motions, list: &[u32]) -> bool
+    ensures { IsTrue result → All (λ i. IsIn i (live_of motions.now)) list.now }
+{
+    for no in list {
+        if !is_live(motions, *no) {
+            return false;
+        }
+    }
+    true
+}
+
+fn sign_for<O: Signs, L: Ledger>(signs: &O, form: &Form, blank: Blank) -> Sign
+    requires askable { IsAskable (O.scene signs.now).live form.now }
     requires name { blank.name ≡ L.name }
     requires parts { blank.parts ≡ L.parts }
     requires some { 0 < L.parts }
-    ensures { result ≡ (scene_at now.now.motions.now now.now.moment.now).sign form.now }
+    ensures { result ≡ (O.scene signs.now).sign form.now }
 {
-    now.sign(form, &mut Steps::<L>::open(blank))
+    signs.sign(form, &mut Steps::<L>::open(blank))
 }
 
-/// The sign of a form now, by a counter of its own.
-pub fn sign_of(now: &Now<'_>, form: &Form) -> Sign
-    requires { IsAskable (live_of now.now.motions.now) form.now }
-    ensures { result ≡ (scene_at now.now.motions.now now.now.moment.now).sign form.now }
+/// The sign of a form, by a counter of its own.
+fn sign_of<O: Signs>(signs: &O, form: &Form) -> Sign
+    requires { IsAskable (O.scene signs.now).live form.now }
+    ensures { result ≡ (O.scene signs.now).sign form.now }
 {
-    sign_for::<Brand>(now, form, Blank::new(1))
+    sign_for::<O, Brand>(signs, form, Blank::new(1))
+}
+
+/// The signs of forms at one moment, with the motions of the points that they name.
+#[derive(Drop)]
+pub struct Sight<'a, O: Signs> {
+    pub signs: &'a O,
+    pub motions: &'a Motions,
+    ghost live: { (O.scene signs.now).live ≡ live_of motions.now },
+}
+
+impl<O: Signs> Sight<'_, O> {
+    /// The sign of a form, if it may be asked.
+    pub fn sign(&self, form: &Form) -> Result<Sign, Fault>
+        ensures { IfOk result (λ t. t ≡ (O.scene self.now.signs.now).sign form.now) }
+    {
+        if !is_askable(form, self.motions) {
+            return Err(Fault::NotAskable);
+        }
+        Ok(sign_of(self.signs, form))
+    }
 }

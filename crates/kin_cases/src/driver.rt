@@ -3,13 +3,16 @@
 ghost use Rattle.std.specs.Prelude.{◌≡◌, [], IfOk};
 ghost use Rattle.kin_motion.specs.declared.fact.Placed.{Placed as Put};
 ghost use Rattle.kin_motion.specs.Scene.{scene_at};
+ghost use Rattle.kin_motion.specs.Sets.{AreDistinct};
 
+use crate::ask::Sight;
 use crate::failing::{after, failing};
 use crate::fault::Fault;
 use crate::spares::Spares;
 use crate::watch::Watch;
 use kin_motion::fact::{Delta, Placed};
 use kin_motion::kept::Kept;
+use kin_motion::kinetic::Kinetic;
 use kin_num::Steps;
 use std::alloc::Global;
 use std::marker::Model;
@@ -18,13 +21,13 @@ use std::sync::ledger::Ledger;
 /// A structure with the list of its live facts, which is kept by its reports alone. A contract sees
 /// it as its structure.
 #[derive(Drop)]
-pub struct Driver<K: Kept> {
+pub struct Driver<K: Kinetic + Drop> {
     pub(crate) alloc: Global,
     pub(crate) structure: K,
     pub(crate) facts: Vec<Placed>,
 }
 
-impl<K: Kept> Model for Driver<K> {
+impl<K: Kinetic + Drop> Model for Driver<K> {
     ghost use Rattle.std.specs.Prelude.{Contains};
     ghost use Rattle.kin_motion.specs.Sets.{ListsExactly};
 
@@ -35,7 +38,7 @@ impl<K: Kept> Model for Driver<K> {
     ghost invariant = { λ d. ListsExactly d.facts.items (Contains (K.facts d.structure)) };
 }
 
-impl<K: Kept> Driver<K> {
+impl<K: Kinetic + Drop> Driver<K> {
     /// A structure without facts.
     pub fn new(alloc: Global, structure: K) -> Driver<K>
         requires { K.facts structure ≡ [] }
@@ -56,10 +59,14 @@ impl<K: Kept> Driver<K> {
     }
 
     /// Its live facts, in any order.
-    pub fn facts(&self) -> &[Placed] {
+    pub fn facts(&self) -> &[Placed]
+        ensures { AreDistinct result.now }
+    {
         &self.facts
     }
+}
 
+impl<K: Kept> Driver<K> {
     /// Settles the structure at a moment, by the facts that fail there.
     pub fn settle<S: Spares, L: Ledger>(
         self,
@@ -78,7 +85,12 @@ impl<K: Kept> Driver<K> {
             mut structure,
             facts,
         } = self;
-        let failed = failing(alloc, &facts, &now.plain(), spares)?;
+        let plain = now.plain();
+        let sight = Sight {
+            signs: &plain,
+            motions: plain.motions,
+        };
+        let failed = failing(alloc, &facts, &sight, spares)?;
         let mut out = Delta::new(alloc);
         structure.settle_steadily(now, &failed, &mut out, steps)?;
         let facts = after(alloc, &facts, &out)?;

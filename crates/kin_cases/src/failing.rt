@@ -3,28 +3,25 @@
 ghost use Rattle.std.specs.Prelude.{◌≡◌, ◌↔◌, List, [], ◌∷◌, ◌++◌, cond, Contains, IsTrue, IsFalse, IfOk, OnOk};
 ghost use Rattle.kin_motion.specs.declared.fact.Placed.{Placed as Put};
 ghost use Rattle.kin_motion.specs.Kinetics.{HasChanged};
-ghost use Rattle.kin_motion.specs.Scene.{scene_at, Holds};
+ghost use Rattle.kin_motion.specs.Scene.{Holds};
 ghost use Rattle.kin_motion.specs.Sets.{AreDistinct, ListsExactly};
 
-use crate::ask::{is_askable, sign_of};
+use crate::ask::Sight;
 use crate::fault::Fault;
 use crate::spares::Spares;
-use kin_cert::Now;
 use kin_motion::fact::{Delta, Placed};
+use kin_motion::signs::Signs;
 use std::alloc::Global;
 
 /// Whether a fact isn't spared and doesn't hold now.
-fn fails<S: Spares>(fact: &Placed, now: &Now<'_>, spares: &S) -> Result<bool, Fault>
-    ensures { IfOk result (λ b. IsTrue b ↔ (IsFalse (S.is_spared spares.now fact.now) × ¬ (Holds (scene_at now.now.motions.now now.now.moment.now) fact.now.fact))) }
+fn fails<S: Spares, O: Signs>(fact: &Placed, now: &Sight<'_, O>, spares: &S) -> Result<bool, Fault>
+    ensures { IfOk result (λ b. IsTrue b ↔ (IsFalse (S.is_spared spares.now fact.now) × ¬ (Holds (O.scene now.now.signs.now) fact.now.fact))) }
 {
     if spares.spares(fact) {
         return Ok(false);
     }
-    let form = fact.fact.form;
-    if !is_askable(&form, now.motions) {
-        return Err(Fault::NotAskable);
-    }
-    Ok(sign_of(now, &form) != fact.fact.sign)
+    let sign = now.sign(&fact.fact.form)?;
+    Ok(sign != fact.fact.sign)
 }
 
 fn push_if(facts: &mut Vec<Placed>, fact: Placed, is_wanted: bool) -> Result<(), Fault>
@@ -37,14 +34,14 @@ fn push_if(facts: &mut Vec<Placed>, fact: Placed, is_wanted: bool) -> Result<(),
 }
 
 /// Those of the facts that aren't spared and don't hold now.
-pub fn failing<S: Spares>(
+pub fn failing<S: Spares, O: Signs>(
     alloc: Global,
     facts: &[Placed],
-    now: &Now<'_>,
+    now: &Sight<'_, O>,
     spares: &S,
 ) -> Result<Vec<Placed>, Fault>
     requires { AreDistinct facts.now }
-    ensures { IfOk result (λ v. ListsExactly v.items (λ p. Contains facts.now p × (IsFalse (S.is_spared spares.now p) × ¬ (Holds (scene_at now.now.motions.now now.now.moment.now) p.fact)))) }
+    ensures { IfOk result (λ v. ListsExactly v.items (λ p. Contains facts.now p × (IsFalse (S.is_spared spares.now p) × ¬ (Holds (O.scene now.now.signs.now) p.fact)))) }
 {
     let mut failed = Vec::new(alloc);
     for fact in facts {

@@ -12,6 +12,12 @@ pub enum Fault {
     NotAskable,
     /// A number is live already, or has no room.
     NotNew,
+    /// A number isn't live.
+    NotLive,
+    /// A chain is no upper chain of live points, or is empty, or a number of A isn't less than one of B.
+    NotReady,
+    /// A structure isn't what its definition says.
+    Differs,
 }
 
 impl From<NoMemory> for Fault {

@@ -5,19 +5,39 @@
 //! A `Watch` tells signs and counts its calls by itself.
 #![tactic(auto)]
 
+#[cfg(test)]
+mod around;
 pub mod ask;
+#[cfg(test)]
+mod certificates;
+pub mod chains;
 pub mod contest;
 #[cfg(test)]
 mod contests;
+#[cfg(test)]
+mod crowds;
+pub mod definition;
 pub mod driver;
 pub mod failing;
+#[cfg(test)]
+mod failures;
 pub mod fault;
 #[cfg(test)]
 mod many;
 #[cfg(test)]
 mod meetings;
 #[cfg(test)]
+mod merges;
+pub mod merging;
+#[cfg(test)]
 mod moments;
+pub mod octants;
 pub mod order;
+#[cfg(test)]
+mod random;
 pub mod spares;
+#[cfg(test)]
+mod visits;
 pub mod watch;
+#[cfg(test)]
+mod written;

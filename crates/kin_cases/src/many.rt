@@ -1,101 +1,23 @@
 //! Many points, through many failures.
 
-ghost use Rattle.std.specs.Prelude.{◌≡◌, ◌≤◌, ◌<◌, unsigned_abs};
+ghost use Rattle.std.specs.Prelude.{◌≡◌, ◌<◌};
 
-use crate::ask::is_askable;
 use crate::contest::Contest;
+use crate::failures::next_failure;
 use crate::fault::Fault;
 use crate::moments::at;
 use crate::order::Order;
+use crate::random::{after_number, crowd_of_motions, motion_for};
 use crate::watch::{Callers, Tally};
-use kin_cert::Now;
-use kin_cert::first_fail::first_fail;
-use kin_instant::order::compare_moments;
-use kin_instant::sign::sign_at;
-use kin_motion::fact::Placed;
-use kin_motion::{Motion, Motions, poly_of};
-use kin_num::{Moment, Steps};
+use kin_num::Steps;
 use std::alloc::Global;
-use std::cmp::Ordering;
 use std::marker::Brand;
 use std::sync::ledger::{Blank, Ledger};
 use std::test::Fail;
 
-/// When a live fact fails first.
-fn failure_of<L: Ledger>(
-    fact: &Placed,
-    now: &Now<'_>,
-    blank: Blank,
-) -> Result<Option<Moment>, Fault>
-    requires name { blank.name ≡ L.name }
-    requires parts { blank.parts ≡ L.parts }
-    requires some { 0 < L.parts }
-{
-    let form = fact.fact.form;
-    if !is_askable(&form, now.motions) {
-        return Err(Fault::NotAskable);
-    }
-    let p = poly_of(&form, now.motions);
-    let mut steps = Steps::<L>::open(blank);
-    if sign_at(&p, now.moment, &mut steps) != fact.fact.sign {
-        return Err(Fault::NotAskable);
-    }
-    Ok(first_fail(&fact.fact, &p, now.moment, &mut steps))
-}
-
-/// The earlier of two moments, if there is one.
-fn earlier<L: Ledger>(one: Option<Moment>, other: Option<Moment>, blank: Blank) -> Option<Moment>
-    requires name { blank.name ≡ L.name }
-    requires parts { blank.parts ≡ L.parts }
-    requires some { 0 < L.parts }
-{
-    let (Some(m), Some(n)) = (one, other) else {
-        return one.or(other);
-    };
-    match compare_moments(&m, &n, &mut Steps::<L>::open(blank)) {
-        Ordering::Less => Some(m),
-        _ => Some(n),
-    }
-}
-
-/// When the first of these live facts fails.
-fn next_failure(facts: &[Placed], now: &Now<'_>) -> Result<Option<Moment>, Fault> {
-    let mut least = None;
-    for fact in facts {
-        let failure = failure_of::<Brand>(fact, now, Blank::new(1))?;
-        least = earlier::<Brand>(least, failure, Blank::new(1));
-    }
-    Ok(least)
-}
-
-/// Numbers that look random, each from the one before.
-fn after_number(seed: u64) -> u64 {
-    seed.wrapping_mul(6_364_136_223_846_793_005)
-        .wrapping_add(1_442_695_040_888_963_407)
-}
-
-/// A number in -1000..1000 for a seed.
-fn small(seed: u64) -> i32
-    ensures { unsigned_abs result ≤ 1000 }
-{
-    ((seed >> 33) % 2001) as i32 - 1000
-}
-
-/// A motion for a seed.
-fn motion_for(seed: u64) -> Motion {
-    let second = after_number(seed);
-    let third = after_number(second);
-    Motion::new(
-        small(seed),
-        small(second),
-        small(third),
-        small(after_number(third)),
-    )
-}
-
 /// How many failure moments were passed, and how often a sign was asked for: in all, and with the
 /// caller's counter.
-type Passed = (usize, u64, u64);
+pub type Passed = (usize, u64, u64);
 
 /// A list of the numbers below 64.
 fn crowd<L: Ledger>(alloc: Global, tally: &Tally, steps: &mut Steps<L>) -> Result<Order, Fault> {
@@ -132,20 +54,9 @@ fn crowd_passes<L: Ledger>(alloc: Global, blank: Blank) -> Result<Passed, Fault>
     Ok((passed, all, counted))
 }
 
-/// The motions of the numbers below 64.
-fn crowd_of_motions(alloc: Global) -> Result<Motions, Fault> {
-    let mut motions = Motions::new(alloc, 6)?;
-    let mut seed = 1;
-    for no in 0..64 {
-        seed = after_number(seed);
-        motions.set(no, motion_for(seed));
-    }
-    Ok(motions)
-}
-
 /// A tournament of 64 points, each in another slot than its own.
 fn crowded_contest(alloc: Global) -> Result<Contest, Fault> {
-    let mut contest = Contest::new(alloc, crowd_of_motions(alloc)?, 6)?;
+    let mut contest = Contest::new(alloc, crowd_of_motions(alloc, 1)?, 6)?;
     for no in 0..64u32 {
         contest = contest.set((no + 1) % 64, no)?;
     }

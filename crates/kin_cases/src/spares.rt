@@ -60,3 +60,24 @@ impl Spares for SparesAbove<'_> {
         false
     }
 }
+
+/// The facts that name one of these numbers are spared.
+#[derive(Drop)]
+pub struct SparesNamed<'a> {
+    pub gone: &'a [u32],
+}
+
+impl Spares for SparesNamed<'_> {
+    ghost use Rattle.kin_overlay.specs.Overlays.{names_any};
+
+    ghost is_spared = { λ s p. names_any p.fact.form s.gone.now };
+
+    fn spares(&self, fact: &Placed) -> bool {
+        for no in self.gone {
+            if fact.fact.form.names(*no) {
+                return true;
+            }
+        }
+        false
+    }
+}

@@ -1,0 +1,8 @@
+use Rattle.std.proofs.Common.{ℕ, take}
+use Rattle.std.specs.List.{All}
+use Rattle.kin_motion.specs.Course.{live_of}
+use Rattle.kin_motion.specs.Numbers.{IsIn}
+use Rattle.kin_cases.proofs.ask.are_live.Given as goal
+
+abbrev pub invariant-loop-no : goal.invariant-loop-no
+invariant-loop-no l = All (λ (i : ℕ). IsIn i (live_of l.motions)) (take l.no-index l.list)

@@ -1,0 +1,230 @@
+//! A merge that goes from moment to moment, and is compared with its definition at each.
+
+ghost use Rattle.std.specs.Prelude.{◌≡◌};
+ghost use Rattle.kin_motion.specs.Scene.{IsReal};
+
+use crate::ask::Sight;
+use crate::definition::{are_same, are_short, facts_of_merge, is_difference};
+use crate::fault::Fault;
+use crate::merging::Merging;
+use crate::watch::{Tally, Watch};
+use kin_cert::Now;
+use kin_motion::fact::Placed;
+use kin_motion::signs::Signs;
+use kin_motion::{Mirror, Motions};
+use kin_num::{Moment, Steps};
+use std::alloc::Global;
+use std::sync::ledger::Ledger;
+
+/// The part of the merge's facts.
+const PART: u32 = 6;
+
+/// Two sets of numbers, all of the first less than all of the second.
+#[derive(Drop)]
+pub struct Halves {
+    pub left: Vec<u32>,
+    pub right: Vec<u32>,
+}
+
+impl Halves {
+    /// The numbers below `end`, cut at `split`.
+    pub fn new(alloc: Global, split: u32, end: u32) -> Result<Halves, Fault> {
+        let mut left = Vec::new(alloc);
+        let mut right = Vec::new(alloc);
+        for no in 0..end {
+            let half = if no < split { &mut left } else { &mut right };
+            half.push(no).map_err(|_| Fault::NoMemory)?;
+        }
+        Ok(Halves { left, right })
+    }
+}
+
+/// The upper chains of both halves.
+#[derive(Drop)]
+struct Chains {
+    a: Vec<u32>,
+    b: Vec<u32>,
+}
+
+impl Chains {
+    fn of<P: Signs>(alloc: Global, halves: &Halves, sight: &Sight<'_, P>) -> Result<Chains, Fault> {
+        let a = sight.upper_chain(alloc, &halves.left)?;
+        let b = sight.upper_chain(alloc, &halves.right)?;
+        Ok(Chains { a, b })
+    }
+}
+
+/// The chain and the facts of a merge at a moment.
+#[derive(Drop)]
+struct State {
+    chain: Vec<u32>,
+    facts: Vec<Placed>,
+}
+
+impl State {
+    fn of(alloc: Global, merging: &Merging) -> Result<State, Fault> {
+        Ok(State {
+            chain: Vec::from_slice(alloc, merging.chain())?,
+            facts: Vec::from_slice(alloc, merging.facts())?,
+        })
+    }
+
+    /// What the definition says of a merge of these chains.
+    fn defined<P: Signs>(
+        alloc: Global,
+        chains: &Chains,
+        sight: &Sight<'_, P>,
+    ) -> Result<State, Fault> {
+        let mut both = Vec::from_slice(alloc, &chains.a)?;
+        both.extend_from_slice(&chains.b)?;
+        Ok(State {
+            chain: sight.upper_chain(alloc, &both)?,
+            facts: facts_of_merge(alloc, sight, PART, &chains.a, &chains.b)?,
+        })
+    }
+
+    fn is_of(&self, merging: &Merging) -> bool {
+        self.chain.as_slice() == merging.chain() && are_same(&self.facts, merging.facts())
+    }
+}
+
+/// Whether the merge is that of the definition, exactly what changed was reported, and short edits lead
+/// from the chain before.
+fn is_right<P: Signs>(
+    alloc: Global,
+    merging: &Merging,
+    before: &State,
+    chains: &Chains,
+    sight: &Sight<'_, P>,
+) -> Result<bool, Fault> {
+    let defined = State::defined(alloc, chains, sight)?;
+    let is_short = are_short(alloc, merging.edits(), &before.chain, merging.chain())?;
+    let is_told = is_difference(merging.report(), &before.facts, merging.facts());
+    Ok(defined.is_of(merging) && is_told && is_short)
+}
+
+/// What is before a merge is built: no facts, and so that it has no edits, its own chain.
+fn before_all(alloc: Global, merging: &Merging) -> Result<State, Fault> {
+    Ok(State {
+        chain: Vec::from_slice(alloc, merging.chain())?,
+        facts: Vec::new(alloc),
+    })
+}
+
+/// Builds the merge.
+fn begin<P: Signs, O: Signs, L: Ledger>(
+    alloc: Global,
+    halves: &Halves,
+    sight: &Sight<'_, P>,
+    now: &O,
+    steps: &mut Steps<L>,
+) -> Result<Merging, Fault>
+    requires real { IsReal (O.scene now.now) }
+    requires same { P.scene sight.now.signs.now ≡ O.scene now.now }
+{
+    let chains = Chains::of(alloc, halves, sight)?;
+    let merging = Merging::build(alloc, &chains.a, &chains.b, PART, sight, now, steps)?;
+    let before = before_all(alloc, &merging)?;
+    if is_right(alloc, &merging, &before, &chains, sight)? {
+        Ok(merging)
+    } else {
+        Err(Fault::Differs)
+    }
+}
+
+/// Goes on to the merge of another moment.
+fn go_on<P: Signs, O: Signs, L: Ledger>(
+    alloc: Global,
+    merging: Merging,
+    halves: &Halves,
+    sight: &Sight<'_, P>,
+    now: &O,
+    steps: &mut Steps<L>,
+) -> Result<Merging, Fault>
+    requires real { IsReal (O.scene now.now) }
+    requires same { P.scene sight.now.signs.now ≡ O.scene now.now }
+{
+    let before = State::of(alloc, &merging)?;
+    let chains = Chains::of(alloc, halves, sight)?;
+    let merging = merging.go(&chains.a, &chains.b, sight, now, steps)?;
+    if is_right(alloc, &merging, &before, &chains, sight)? {
+        Ok(merging)
+    } else {
+        Err(Fault::Differs)
+    }
+}
+
+/// Builds the merge, or goes on with it.
+fn visit<P: Signs, O: Signs, L: Ledger>(
+    alloc: Global,
+    merging: Option<Merging>,
+    halves: &Halves,
+    sight: &Sight<'_, P>,
+    now: &O,
+    steps: &mut Steps<L>,
+) -> Result<Merging, Fault>
+    requires real { IsReal (O.scene now.now) }
+    requires same { P.scene sight.now.signs.now ≡ O.scene now.now }
+{
+    match merging {
+        Some(merging) => go_on(alloc, merging, halves, sight, now, steps),
+        None => begin(alloc, halves, sight, now, steps),
+    }
+}
+
+/// Points that move, in two halves.
+#[derive(Drop)]
+pub struct Stage {
+    pub alloc: Global,
+    pub motions: Motions,
+    pub halves: Halves,
+    /// How often a sign was asked.
+    pub tally: Tally,
+}
+
+impl Stage {
+    /// The merge of the upper chains at a moment.
+    pub fn upper<'a, L: Ledger>(
+        &'a self,
+        merging: Option<Merging>,
+        moment: &'a Moment,
+        steps: &mut Steps<L>,
+    ) -> Result<Merging, Fault> {
+        let watch = self.watch(moment);
+        let now = watch.plain();
+        let sight = Sight {
+            signs: &now,
+            motions: now.motions,
+        };
+        visit(self.alloc, merging, &self.halves, &sight, &watch, steps)
+    }
+
+    /// The merge of the lower chains at a moment.
+    pub fn lower<'a, L: Ledger>(
+        &'a self,
+        merging: Option<Merging>,
+        moment: &'a Moment,
+        steps: &mut Steps<L>,
+    ) -> Result<Merging, Fault> {
+        let watch = self.watch(moment);
+        let now = watch.plain();
+        let mirror = Mirror { inner: &now };
+        let sight = Sight {
+            signs: &mirror,
+            motions: now.motions,
+        };
+        let turned = Mirror { inner: &watch };
+        visit(self.alloc, merging, &self.halves, &sight, &turned, steps)
+    }
+
+    fn watch<'a>(&'a self, moment: &'a Moment) -> Watch<'a>
+        ensures motions { result.motions.now ≡ self.now.motions }
+        ensures moment { result.moment.now ≡ moment.now }
+    {
+        Watch {
+            motions: &self.motions,
+            moment,
+            tally: &self.tally,
+        }
+    }
+}
