@@ -28,9 +28,10 @@ use Rattle.kin_env.specs.declared.branches.Branches.{Branches}
 use Rattle.kin_env.specs.Nodes.{chain_with, facts_with, merge_from, passed_from, edits_from, failed_from, merge_at, passed_at, chain_at, edits_at, failed_at, facts_at}
 use Rattle.kin_env.specs.Joints.{Leads, IsJoint, IsSettledThere, AreSpared}
 use Rattle.kin_env.specs.Walks.{slot_in, own_chain, IsShaped, AreJoined, IsInner, IsSound, IsWalked, IsRight, AreRight, AreGiven, IsAtPeace, tree_facts}
-use Rattle.kin_env.proofs.Halves.{are_halves, right_above, settled_still, leaf_right}
+use Rattle.kin_env.specs.Halves.{are_halves, right_above, leaf_right}
+use Rattle.kin_env.proofs.Idle.{settled_still}
 use Rattle.kin_env.proofs.Reports.{in_tree, part_is, tree_same}
-use Rattle.kin_env.proofs.Works.{no_edits, live_fits}
+use Rattle.kin_env.proofs.Works.{joint_now, live_fits}
 
 -- where merges, chains and the edits below the root are the same, what is true of all nodes is so still
 joined_same : (size : ℕ) (ns ms : List Node) → ((v : ℕ) → merge_at ms v ≡ merge_at ns v) → ((v : ℕ) → passed_at ms v ≡ passed_at ns v) → ((v : ℕ) → 1 < v → edits_at ms v ≡ edits_at ns v) → AreJoined size ns → AreJoined size ms
@@ -121,10 +122,7 @@ module _ (s : Scene) (real : IsReal s) (t x : Branches) (sound : IsSound t) (sha
           let inner : v < 2 ^ t.size = grind (arith, nat_tests, e) in
           let l = left (omega arith) (shape.closed.below (2 * v) (omega arith) (subst (λ u. doubt_in x.doubts.items u ≡ Clear) (let q : v ≡ 2 * v / 2 = omega arith in q) clear)) in
           let r = right (omega arith) (shape.closed.below (2 * v + 1) (omega arith) (subst (λ u. doubt_in x.doubts.items u ≡ Clear) (let q : v ≡ (2 * v + 1) / 2 = omega arith in q) clear)) in
-          let i = joined.inner v some inner in
-          let joint =
-          subst (λ (a : List ℕ). IsJoint v (merge_at ns v) (passed_at ns v) a (chain_at ns (2 * v + 1))) (no_edits (edits_at ns (2 * v)) i.a (chain_at ns (2 * v)) (quiet (2 * v) (omega arith)) i.a_leads)
-          (subst (λ (b : List ℕ). IsJoint v (merge_at ns v) (passed_at ns v) i.a b) (no_edits (edits_at ns (2 * v + 1)) i.b (chain_at ns (2 * v + 1)) (quiet (2 * v + 1) (omega arith)) i.b_leads) i.joint) in
+          let joint = joint_now t.size ns joined v some inner (quiet (2 * v) (omega arith)) (quiet (2 * v + 1) (omega arith)) in
           let halves = are_halves s t.size fits v some inner real (chain_at ns (2 * v)) (chain_at ns (2 * v + 1)) l.chain r.chain in
           let none = unfailed v some (λ h. here_is_doubt (sym h ∙ clear)) in
           let now = settled_still s real v (merge_at ns v) (passed_at ns v) (chain_at ns (2 * v)) (chain_at ns (2 * v + 1)) spared halves are_spared joint (subst (λ (q : List Placed). ListsFailing (facts_at ns v) spared s q) none (lists v some)) in

@@ -100,7 +100,7 @@ marked_sound t x slot held sound low size_is slots_is nodes_is closed spread = r
     leaf i inside e (inr m) (inr both) = absurd (let z : Below ≡ Clear = sym both.1 ∙ e in cc)
 
 -- ---- a tree without points
-same_all : {A : Type 0} (n i : ℕ) (a : A) → get_or (replicate n a) i a ≡ a
+pub same_all : {A : Type 0} (n i : ℕ) (a : A) → get_or (replicate n a) i a ≡ a
 same_all {A} n i a = at (nat_lt i n) refl
   where
     at : (b : Bool) → nat_lt i n ≡ b → get_or (replicate n a) i a ≡ a

@@ -1,9 +1,10 @@
 pub mod Tellings
 pub mod Hearing
-pub mod Levels
-pub mod Halves
+pub mod Idle
 pub mod Works
 pub mod Steps
 pub mod Reports
 pub mod Ends
 pub mod Gifts
+pub mod Trees
+pub mod Vacancy

@@ -23,8 +23,9 @@ use Rattle.kin_env.specs.Nodes.{chain_with, chain_of, facts_with, merge_from, pa
 use Rattle.kin_env.specs.Joints.{Leads, IsJoint, IsSettledThere, AreHalves, IsTold, IsRestingWith}
 use Rattle.kin_env.specs.Walks.{slot_in, own_chain, AreJoined, IsInner, IsWalked, IsNext, IsRight, IsQuieted, IsWorked, IsHeard}
 use Rattle.kin_env.proofs.Tellings.{none_failed}
-use Rattle.kin_env.proofs.Levels.{halves_apart}
-use Rattle.kin_env.proofs.Halves.{are_halves, right_above, settled_still, leaf_right}
+use Rattle.kin_env.specs.Levels.{halves_apart}
+use Rattle.kin_env.specs.Halves.{are_halves, right_above, leaf_right}
+use Rattle.kin_env.proofs.Idle.{settled_still}
 
 -- no edits lead nowhere
 pub no_edits : (es : List Edit) (a b : List ℕ) → es ≡ [] → Leads es a b → a ≡ b
@@ -45,6 +46,13 @@ resting_at size ns j v some = at (nat_lt v (2 ^ size)) refl
     at : (t : Bool) → nat_lt v (2 ^ size) ≡ t → IsRestingWith (merge_at ns v)
     at true e = let i = j.inner v some (grind (arith, nat_tests, e)) in resting v (merge_at ns v) (passed_at ns v) i.a i.b i.joint
     at false e = subst IsRestingWith (sym (j.leaves v (grind (arith, nat_tests, e)))) tt
+
+-- where no edit of its halves waits, a node has what they are
+pub joint_now : (size : ℕ) (ns : List Node) → AreJoined size ns → (v : ℕ) → 0 < v → v < 2 ^ size → edits_at ns (2 * v) ≡ [] → edits_at ns (2 * v + 1) ≡ [] → IsJoint v (merge_at ns v) (passed_at ns v) (chain_at ns (2 * v)) (chain_at ns (2 * v + 1))
+joint_now size ns j v some inner left right =
+    let i = j.inner v some inner in
+    subst (λ (a : List ℕ). IsJoint v (merge_at ns v) (passed_at ns v) a (chain_at ns (2 * v + 1))) (no_edits (edits_at ns (2 * v)) i.a (chain_at ns (2 * v)) left i.a_leads)
+    (subst (λ (b : List ℕ). IsJoint v (merge_at ns v) (passed_at ns v) i.a b) (no_edits (edits_at ns (2 * v + 1)) i.b (chain_at ns (2 * v + 1)) right i.b_leads) i.joint)
 
 -- a live number has a slot
 pub live_fits : (s : Scene) (size : ℕ) (slots : List Bool) → length slots ≡ 2 ^ size → ((i : ℕ) → is_in i s.live ≡ slot_in slots i) → (i : ℕ) → IsIn i s.live → i < 2 ^ size
@@ -145,16 +153,11 @@ module _ (s : Scene) (real : IsReal s) (t : Branches) (w : IsWalked s t) (v : �
       changed = nothing_changed (facts_at ns v) c;
     }
       where
-        i : IsInner t.size ns v
-        i = w.joined.inner v n.some inner
-
         quiet_half : (u : ℕ) → 0 < u → u / 2 ≡ v → edits_at ns u ≡ []
         quiet_half u big q = w.quiet u big (λ e. idle (sym (ap (doubt_in t.doubts.items) q) ∙ e))
 
         joint : IsJoint v (merge_at ns v) (passed_at ns v) (chain_at ns (2 * v)) (chain_at ns (2 * v + 1))
-        joint =
-            subst (λ (a : List ℕ). IsJoint v (merge_at ns v) (passed_at ns v) a (chain_at ns (2 * v + 1))) (no_edits (edits_at ns (2 * v)) i.a (chain_at ns (2 * v)) (quiet_half (2 * v) (let some = n.some in omega arith) (omega arith)) i.a_leads)
-            (subst (λ (b : List ℕ). IsJoint v (merge_at ns v) (passed_at ns v) i.a b) (no_edits (edits_at ns (2 * v + 1)) i.b (chain_at ns (2 * v + 1)) (quiet_half (2 * v + 1) (omega arith) (omega arith)) i.b_leads) i.joint)
+        joint = joint_now t.size ns w.joined v n.some inner (quiet_half (2 * v) (let some = n.some in omega arith) (omega arith)) (quiet_half (2 * v + 1) (omega arith) (omega arith))
 
         none : failed_at ns v ≡ []
         none = w.unfailed v n.some idle

@@ -1,3 +1,8 @@
 pub mod Nodes
 pub mod Joints
 pub mod Walks
+pub mod Levels
+pub mod Halves
+pub mod Trees
+pub mod TreeLaws
+pub mod MarkLaws

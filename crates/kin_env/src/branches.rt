@@ -158,6 +158,14 @@ impl Branches {
         self.repair(now, out, steps)
     }
 
+    /// The upper chain of all points.
+    pub fn top(&self) -> &[u32]
+        requires sound { IsSound self.now }
+        ensures { result.now ≡ chain_at self.now.nodes.items 1 }
+    {
+        self.nodes[1].chain()
+    }
+
     /// Gives each failed fact to its node, and puts these nodes into doubt.
     fn give_failed(&mut self, failed: &[Placed]) -> Result<(), NoMemory>
         requires shape { IsShaped self.old }

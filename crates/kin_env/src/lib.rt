@@ -12,6 +12,8 @@
 
 pub use branches::Branches;
 pub use node::Node;
+pub use tree::EnvTree;
 
 pub mod branches;
 pub mod node;
+pub mod tree;

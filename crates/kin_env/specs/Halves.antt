@@ -1,38 +1,35 @@
 -- What the halves of a node make of it in a scene.
-use Rattle.std.proofs.Common.{◌≡◌, ◌≢◌, ◌⊎◌, inl, inr, refl, sym, ap, ap₂, ◌∙◌, subst, arith, List, [], ◌∷◌, ◌++◌, ℕ, ◌+◌, ◌*◌, ◌^◌, ◌<◌, Bool, true, false, not, ◌&&◌, ◌||◌, nat_lt, pos}
-use Rattle.std.specs.Prelude.{Option, Some, None, Contains}
+use Rattle.std.proofs.Common.{◌≡◌, ◌⊎◌, inl, inr, refl, sym, ap, ap₂, ◌∙◌, subst, arith, List, [], ◌∷◌, ◌++◌, ℕ, ◌+◌, ◌*◌, ◌^◌, ◌<◌, Bool, true, false, not, ◌&&◌, ◌||◌, nat_lt, pos}
+use Rattle.std.specs.Prelude.{◌↔◌, Option, Some, None}
 use Rattle.std.proofs.lemmas.Bool.{false_from_ne_true, and_parts}
 use Rattle.std.proofs.lemmas.Bool.Decides.{nat_tests}
-use Rattle.std.proofs.lemmas.List.Elements.{All-nil, All-cons}
-use Rattle.kin_basics.proofs.Members.{contains_none, contains_head, contains_tail}
 use Rattle.kin_algebra.specs.declared.sign.Sign.{Sign}
 use Rattle.kin_algebra.specs.Signs.{opposite_of}
-use Rattle.kin_algebra.proofs.Signs.{equal_or_not}
 use Rattle.kin_motion.specs.declared.form.Form.TheVariants.{Turn}
 use Rattle.kin_motion.specs.declared.fact.Placed.{Placed}
 use Rattle.kin_motion.specs.Chains.{is_plus, is_zero, is_left, is_double, is_above, is_under_segment, is_bare, IsUpperChain}
-use Rattle.kin_motion.specs.Kinetics.{ListsFailing, AllHold}
-use Rattle.kin_motion.specs.Merges.{points_under}
+use Rattle.kin_motion.specs.Merges.{IsListedForm, IsMergeFact, points_under}
+use Rattle.kin_motion.specs.Sets.{ListsExactly}
 use Rattle.kin_motion.specs.Numbers.{is_in, IsIn}
-use Rattle.kin_motion.specs.Scene.{Scene, IsReal, Holds, x_sign, y_sign}
+use Rattle.kin_motion.specs.Scene.{Scene, IsReal, x_sign, y_sign}
 use Rattle.kin_motion.specs.Tournaments.{is_under}
 use Rattle.kin_motion.proofs.AgreementLaws.{kept-members}
-use Rattle.kin_motion.proofs.ChainLaws.{chain_within, never_left}
+use Rattle.kin_motion.proofs.ChainLaws.{one_upper_chain, chain_within, never_left}
 use Rattle.kin_motion.proofs.RealLaws.{real_line_laws}
+use Rattle.kin_motion.proofs.SetLaws.{exactly_none, exactly_in_words}
 use Rattle.kin_motion.proofs.Members.{in_head, in_cases, in_left, in_right, in_either}
 use Rattle.kin_chain.specs.Covering.{IsCovered, IsCovered.{in_place, below, under}}
 use Rattle.kin_chain.specs.Merging.{AreTold}
 use Rattle.kin_chain.proofs.Covering.{chain_covers}
-use Rattle.kin_chain.proofs.ChainsOfChains.{chain_of_itself, chain_of_chains}
-use Rattle.kin_chain.proofs.MergeDetermined.{merge_is_determined}
+use Rattle.kin_chain.proofs.ChainsOfChains.{chain_of_itself, chain_of_chains, facts_of_chains}
 use Rattle.kin_chain.proofs.MergedChain.{same_set}
 use Rattle.kin_overlay.specs.Overlays.{Merge}
+use Rattle.kin_tourney.proofs.ExtremePoints.{under_root}
 use Rattle.kin_tourney.specs.Under.{is_under-left, is_under-right, is_under-cases, is_under-leaf, is_under-leaf_alone}
 use Rattle.kin_env.specs.Nodes.{chain_with, facts_with}
-use Rattle.kin_env.specs.Joints.{IsJoint, IsSettledThere, AreHalves, AreSpared}
+use Rattle.kin_env.specs.Joints.{IsJoint, IsSettledThere, AreHalves}
 use Rattle.kin_env.specs.Walks.{IsSlotUnder, own_chain}
-use Rattle.kin_env.proofs.Levels.{halves_apart}
-use Rattle.kin_env.proofs.Tellings.{merge_fact_names}
+use Rattle.kin_env.specs.Levels.{halves_apart}
 
 -- ---- sets and chains
 -- nothing is covered by an empty chain
@@ -46,6 +43,22 @@ none_covered s p (under (x ∷ xs) c d behind split u) = absurd cc
 pub none_in_set : (s : Scene) → IsReal s → (set : List ℕ) → IsUpperChain s set [] → (p : ℕ) → IsIn p set → ⊥
 none_in_set s real set u p i = none_covered s p (chain_covers s set [] p real u i refl)
 
+-- beside an empty chain there is no fact
+pub none_at_left : (s : Scene) → IsReal s → {left right : List ℕ} {part : ℕ} {p : Placed} → IsUpperChain s left [] → IsMergeFact s left right part p → ⊥
+none_at_left s real {left} u m = at m.merge.a m.merge.a_chain m.merge.listed
+  where
+    at : (a : List ℕ) → IsUpperChain s left a → IsListedForm s a m.merge.b m.merge.breakpoints m.form → ⊥
+    at [] w l = l
+    at (x ∷ xs) w l = absurd (let e : [] ≡ x ∷ xs = one_upper_chain s (real_line_laws s real) left [] (x ∷ xs) u w in cc)
+
+pub none_at_right : (s : Scene) → IsReal s → {left right : List ℕ} {part : ℕ} {p : Placed} → IsUpperChain s right [] → IsMergeFact s left right part p → ⊥
+none_at_right s real {left} {right} u m = at m.merge.a m.merge.b m.merge.b_chain m.merge.listed
+  where
+    at : (a b : List ℕ) → IsUpperChain s right b → IsListedForm s a b m.merge.breakpoints m.form → ⊥
+    at [] b w l = l
+    at (x ∷ xs) [] w l = l
+    at (x ∷ xs) (y ∷ ys) w l = absurd (let e : [] ≡ y ∷ ys = one_upper_chain s (real_line_laws s real) right [] (y ∷ ys) u w in cc)
+
 module _ (s : Scene) (size : ℕ) where
   -- the live numbers under a node
   pub under_live : (v i : ℕ) → IsIn i (points_under size s v) → IsIn i s.live × (is_under size v i ≡ true)
@@ -57,6 +70,10 @@ module _ (s : Scene) (size : ℕ) where
   module _ (fits : (i : ℕ) → IsIn i s.live → i < 2 ^ size) where
     pub slot_under : (v i : ℕ) → IsIn i (points_under size s v) → IsSlotUnder size v i
     slot_under v i h = let k = under_live v i h in (fits i k.0, k.1)
+
+    -- every live number stands under the root
+    pub at_root : (xs : List ℕ) → IsReal s → IsUpperChain s (points_under size s 1) xs → IsUpperChain s s.live xs
+    at_root xs real u = same_set s real (λ i h. (under_live 1 i h).0) (λ i h. live_under 1 i h (under_root size i (fits i h))) u
 
     module _ (v : ℕ) (some : 0 < v) (inner : v < 2 ^ size) where
       from_left : (i : ℕ) → IsIn i (points_under size s (2 * v)) → IsIn i (points_under size s v)
@@ -86,36 +103,40 @@ module _ (s : Scene) (size : ℕ) where
         }
 
         -- where one half is empty, the chain of the other is that of the node
-        only_right : a ≡ [] → IsUpperChain s (points_under size s v) b
+        pub only_right : a ≡ [] → IsUpperChain s (points_under size s v) b
         only_right e = same_set s real from_right (λ i h. at i (to_halves i h)) b_chain
           where
             at : (i : ℕ) → IsIn i (points_under size s (2 * v)) ⊎ IsIn i (points_under size s (2 * v + 1)) → IsIn i (points_under size s (2 * v + 1))
             at i (inl k) = absurd (none_in_set s real (points_under size s (2 * v)) (subst (λ (l : List ℕ). IsUpperChain s (points_under size s (2 * v)) l) e a_chain) i k)
             at i (inr k) = k
 
-        only_left : b ≡ [] → IsUpperChain s (points_under size s v) a
+        pub only_left : b ≡ [] → IsUpperChain s (points_under size s v) a
         only_left e = same_set s real from_left (λ i h. at i (to_halves i h)) a_chain
           where
             at : (i : ℕ) → IsIn i (points_under size s (2 * v)) ⊎ IsIn i (points_under size s (2 * v + 1)) → IsIn i (points_under size s (2 * v))
             at i (inl k) = k
             at i (inr k) = absurd (none_in_set s real (points_under size s (2 * v + 1)) (subst (λ (l : List ℕ). IsUpperChain s (points_under size s (2 * v + 1)) l) e b_chain) i k)
 
-        -- the chain of both chains is that of the node
-        of_both : (xs : List ℕ) → IsUpperChain s (a ++ b) xs → IsUpperChain s (points_under size s v) xs
-        of_both xs u =
-            same_set s real to (λ i h. from i (to_halves i h))
-            ((chain_of_chains s (points_under size s (2 * v)) (points_under size s (2 * v + 1)) a b xs real told_halves).0 u)
+        to_node : (i : ℕ) → IsIn i (points_under size s (2 * v) ++ points_under size s (2 * v + 1)) → IsIn i (points_under size s v)
+        to_node i h = at (in_either i (points_under size s (2 * v)) (points_under size s (2 * v + 1)) h)
           where
-            to : (i : ℕ) → IsIn i (points_under size s (2 * v) ++ points_under size s (2 * v + 1)) → IsIn i (points_under size s v)
-            to i h = at (in_either i (points_under size s (2 * v)) (points_under size s (2 * v + 1)) h)
-              where
-                at : IsIn i (points_under size s (2 * v)) ⊎ IsIn i (points_under size s (2 * v + 1)) → IsIn i (points_under size s v)
-                at (inl k) = from_left i k
-                at (inr k) = from_right i k
+            at : IsIn i (points_under size s (2 * v)) ⊎ IsIn i (points_under size s (2 * v + 1)) → IsIn i (points_under size s v)
+            at (inl k) = from_left i k
+            at (inr k) = from_right i k
 
-            from : (i : ℕ) → IsIn i (points_under size s (2 * v)) ⊎ IsIn i (points_under size s (2 * v + 1)) → IsIn i (points_under size s (2 * v) ++ points_under size s (2 * v + 1))
-            from i (inl k) = in_left i (points_under size s (2 * v)) (points_under size s (2 * v + 1)) k
-            from i (inr k) = in_right i (points_under size s (2 * v)) (points_under size s (2 * v + 1)) k
+        to_both : (i : ℕ) → IsIn i (points_under size s v) → IsIn i (points_under size s (2 * v) ++ points_under size s (2 * v + 1))
+        to_both i h = at (to_halves i h)
+          where
+            at : IsIn i (points_under size s (2 * v)) ⊎ IsIn i (points_under size s (2 * v + 1)) → IsIn i (points_under size s (2 * v) ++ points_under size s (2 * v + 1))
+            at (inl k) = in_left i (points_under size s (2 * v)) (points_under size s (2 * v + 1)) k
+            at (inr k) = in_right i (points_under size s (2 * v)) (points_under size s (2 * v + 1)) k
+
+        -- the chain of both chains is that of the node
+        pub of_both : (xs : List ℕ) → IsUpperChain s (a ++ b) xs → IsUpperChain s (points_under size s v) xs
+        of_both xs u = same_set s real to_node to_both ((chain_of_chains s (points_under size s (2 * v)) (points_under size s (2 * v + 1)) a b xs real told_halves).0 u)
+
+        pub both_of : (xs : List ℕ) → IsUpperChain s (points_under size s v) xs → IsUpperChain s (a ++ b) xs
+        both_of xs u = (chain_of_chains s (points_under size s (2 * v)) (points_under size s (2 * v + 1)) a b xs real told_halves).1 (same_set s real to_both to_node u)
 
         -- a node that has what its halves are, and whose merge is settled, has the chain of the points under it
         pub right_above : (merge : Option Merge) (passed : List ℕ) → IsJoint v merge passed a b → IsSettledThere s merge → IsUpperChain s (points_under size s v) (chain_with merge passed)
@@ -123,35 +144,16 @@ module _ (s : Scene) (size : ℕ) where
         right_above None passed (inr (none, is)) now = subst (λ (l : List ℕ). IsUpperChain s (points_under size s v) l) (sym is) (only_left none)
         right_above (Some m) passed of now = of_both m.chain (subst (λ (l : List ℕ). IsUpperChain s (l ++ b) m.chain) of.a_is (subst (λ (l : List ℕ). IsUpperChain s (m.a ++ l) m.chain) of.b_is now.is_chain))
 
--- ---- a node without work
--- where no fact has failed all hold: a spared one would name a number that isn't there
-all_hold : (s : Scene) (spared : Placed → Bool) (facts : List Placed) → ((p : Placed) → Contains facts p → spared p ≡ true → ⊥) → ListsFailing facts spared s [] → AllHold s facts
-all_hold s spared facts none lists = from facts (λ p c. holds p c (equal_or_not (s.sign p.fact.form) p.fact.sign))
-  where
-    holds : (p : Placed) → Contains facts p → (s.sign p.fact.form ≡ p.fact.sign) ⊎ (s.sign p.fact.form ≢ p.fact.sign) → Holds s p.fact
-    holds p c (inl e) = e
-    holds p c (inr n) = absurd (contains_none p ((lists.each p).1 (c, false_from_ne_true (spared p) (none p c), n)))
+        -- the facts of its merge are those of the node
+        pub facts_of_node : (p : Placed) → IsMergeFact s a b v p ↔ IsMergeFact s (points_under size s (2 * v)) (points_under size s (2 * v + 1)) v p
+        facts_of_node p = facts_of_chains s (points_under size s (2 * v)) (points_under size s (2 * v + 1)) a b v p real told_halves
 
-    from : (fs : List Placed) → ((p : Placed) → Contains fs p → Holds s p.fact) → AllHold s fs
-    from [] h = All-nil (λ (p : Placed). Holds s p.fact)
-    from (p ∷ fs) h = All-cons (λ (p : Placed). Holds s p.fact) p fs (h p (contains_head p fs)) (from fs (λ q c. h q (contains_tail p q fs c)))
-
--- its merge is settled still
-pub settled_still : (s : Scene) (real : IsReal s) (v : ℕ) (merge : Option Merge) (passed a b : List ℕ) (spared : Placed → Bool) → AreHalves s a b → AreSpared s spared → IsJoint v merge passed a b
-    → ListsFailing (facts_with merge) spared s [] → IsSettledThere s merge
-settled_still s real v None passed a b spared halves are joint lists = tt
-settled_still s real v (Some m) passed a b spared halves are of lists =
-    merge_is_determined of.before s m.a m.b m.chain m.part m.facts of.real real of.settled
-    (subst (λ (l : List ℕ). IsUpperChain s l l) (sym of.a_is) halves.a_chain)
-    (subst (λ (l : List ℕ). IsUpperChain s l l) (sym of.b_is) halves.b_chain)
-    (all_hold s spared m.facts none lists)
-  where
-    none : (p : Placed) → Contains m.facts p → spared p ≡ true → ⊥
-    none p c e = at (merge_fact_names of.before m.a m.b m.part p (are p e).0 ((of.settled.exact.each p).0 c) (are p e).1)
-      where
-        at : (is_in (are p e).0 m.a ≡ true) ⊎ (is_in (are p e).0 m.b ≡ true) → ⊥
-        at (inl h) = let z : true ≡ false = sym (halves.a_live (are p e).0 (subst (λ (l : List ℕ). is_in (are p e).0 l ≡ true) of.a_is h)) ∙ (are p e).2 in absurd cc
-        at (inr h) = let z : true ≡ false = sym (halves.b_live (are p e).0 (subst (λ (l : List ℕ). is_in (are p e).0 l ≡ true) of.b_is h)) ∙ (are p e).2 in absurd cc
+        pub facts_above : (merge : Option Merge) (passed : List ℕ) → IsJoint v merge passed a b → IsSettledThere s merge → ListsExactly (facts_with merge) (IsMergeFact s (points_under size s (2 * v)) (points_under size s (2 * v + 1)) v)
+        facts_above None passed (inl (none, is)) now = exactly_none _ (λ p m. none_at_left s real (subst (λ (l : List ℕ). IsUpperChain s (points_under size s (2 * v)) l) none a_chain) m)
+        facts_above None passed (inr (none, is)) now = exactly_none _ (λ p m. none_at_right s real (subst (λ (l : List ℕ). IsUpperChain s (points_under size s (2 * v + 1)) l) none b_chain) m)
+        facts_above (Some m) passed of now =
+            exactly_in_words m.facts (IsMergeFact s a b v) (IsMergeFact s (points_under size s (2 * v)) (points_under size s (2 * v + 1)) v) facts_of_node
+            (subst (λ u. ListsExactly m.facts (IsMergeFact s a b u)) of.part (subst (λ (l : List ℕ). ListsExactly m.facts (IsMergeFact s l b m.part)) of.a_is (subst (λ (l : List ℕ). ListsExactly m.facts (IsMergeFact s m.a l m.part)) of.b_is now.exact)))
 
 -- ---- a leaf
 module _ (s : Scene) (real : IsReal s) where
