@@ -1,0 +1,7 @@
+pub mod Rounds
+pub mod Meetings
+pub mod Mapping
+pub mod Splitting
+pub mod Parts
+pub mod Settling
+pub mod Vacancy

@@ -1,0 +1,7 @@
+pub mod Meetings
+pub mod Sides
+pub mod SideLaws
+pub mod Upright
+pub mod HullFacts
+pub mod Hulls
+pub mod HullLaws

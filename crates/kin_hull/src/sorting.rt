@@ -1,0 +1,97 @@
+//! The failed facts of each tree, and what both trees report.
+
+ghost use Rattle.std.specs.Prelude.{◌≡◌, ◌<◌, ◌≤◌, ◌^◌, [], ◌∷◌, ◌++◌, cond, map, filter, Contains, OnOk};
+ghost use Rattle.kin_motion.specs.declared.fact.Placed.{Placed as Put};
+ghost use Rattle.kin_hull.specs.Sides.{is_of, outward, inward, items_of};
+
+use crate::side::Side;
+use kin_motion::fact::{Delta, Placed};
+use kin_num::memory::NoMemory;
+use std::alloc::Global;
+
+/// Failed facts of both trees, each as it stands in its tree. The memory is kept from settle to
+/// settle.
+#[derive(Drop)]
+pub(crate) struct Failed {
+    upper: Vec<Placed>,
+    lower: Vec<Placed>,
+}
+
+impl Failed {
+    /// None.
+    pub(crate) fn new(alloc: Global) -> Failed {
+        Failed {
+            upper: Vec::new(alloc),
+            lower: Vec::new(alloc),
+        }
+    }
+
+    /// Those of one tree.
+    pub(crate) fn of(&self, side: Side) -> &[Placed]
+        ensures { result.now ≡ items_of side self.now.upper.items self.now.lower.items }
+    {
+        match side {
+            Side::Upper => &self.upper,
+            Side::Lower => &self.lower,
+        }
+    }
+
+    /// Puts a fact of the hull to those of its tree.
+    fn sort_one(&mut self, placed: Placed) -> Result<(), NoMemory>
+        ensures upper { OnOk result (self.new.upper.items ≡ cond (is_of Side.Upper placed) (self.old.upper.items ++ inward Side.Upper placed ∷ []) self.old.upper.items) }
+        ensures lower { OnOk result (self.new.lower.items ≡ cond (is_of Side.Lower placed) (self.old.lower.items ++ inward Side.Lower placed ∷ []) self.old.lower.items) }
+    {
+        if placed.part % 2 == 0 {
+            let inner = Side::Upper.inward(placed);
+            self.upper.push(inner).map_err(|_| NoMemory)
+        } else {
+            let inner = Side::Lower.inward(placed);
+            self.lower.push(inner).map_err(|_| NoMemory)
+        }
+    }
+
+    /// Sorts failed facts of the hull out, and forgets those before.
+    pub(crate) fn sort(&mut self, facts: &[Placed]) -> Result<(), NoMemory>
+        ensures upper { OnOk result (self.new.upper.items ≡ map (inward Side.Upper) (filter (is_of Side.Upper) facts.now)) }
+        ensures lower { OnOk result (self.new.lower.items ≡ map (inward Side.Lower) (filter (is_of Side.Lower) facts.now)) }
+    {
+        self.upper.clear();
+        self.lower.clear();
+        for placed in facts {
+            self.sort_one(*placed)?;
+        }
+        Ok(())
+    }
+}
+
+/// Reports facts that a tree has dropped.
+fn pass_dropped(side: Side, facts: &[Placed], out: &mut Delta) -> Result<(), NoMemory>
+    requires { (p : Put) → Contains facts.now p → p.part < 2 ^ 16 }
+    ensures { OnOk result (out.new ≡ record { dropped = out.old.dropped ++ map (outward side) facts.now; born = out.old.born }) }
+{
+    for placed in facts {
+        out.report_dropped(side.outward(*placed))?;
+    }
+    Ok(())
+}
+
+/// Reports facts that were born in a tree.
+fn pass_born(side: Side, facts: &[Placed], out: &mut Delta) -> Result<(), NoMemory>
+    requires { (p : Put) → Contains facts.now p → p.part < 2 ^ 16 }
+    ensures { OnOk result (out.new ≡ record { dropped = out.old.dropped; born = out.old.born ++ map (outward side) facts.now }) }
+{
+    for placed in facts {
+        out.report_born(side.outward(*placed))?;
+    }
+    Ok(())
+}
+
+/// Reports what a tree reports.
+pub(crate) fn pass_on(side: Side, delta: &Delta, out: &mut Delta) -> Result<(), NoMemory>
+    requires dropped { (p : Put) → Contains delta.now.dropped p → p.part < 2 ^ 16 }
+    requires born { (p : Put) → Contains delta.now.born p → p.part < 2 ^ 16 }
+    ensures { OnOk result (out.new ≡ record { dropped = out.old.dropped ++ map (outward side) delta.now.dropped; born = out.old.born ++ map (outward side) delta.now.born }) }
+{
+    pass_dropped(side, &delta.dropped, out)?;
+    pass_born(side, &delta.born, out)
+}
