@@ -1,8 +1,10 @@
 -- Facts dropped one by one, and born one by one.
 use Rattle.std.proofs.Common.{◌≡◌, ℕ, ◌+◌, ◌<◌, ◌≤◌, List, [], ◌∷◌, length, get_or, Some, refl, sym, ap, subst, ◌∙◌, ◌⊎◌, inl, inr, ◌↔◌, arith}
+use Rattle.std.proofs.lemmas.Option.{slice_get-get_or}
+use Rattle.std.proofs.lemmas.List.{get_or_default}
 use Rattle.std.specs.List.{Contains, All, AllPairs}
 use Rattle.std.proofs.lemmas.Bool.{cases_lt}
-use Rattle.std.proofs.lemmas.List.Elements.{All-get_or}
+use Rattle.std.proofs.lemmas.List.Elements.{All-get_or, Contains-get_or}
 use Rattle.kin_num.specs.declared.instant.Moment.{Moment}
 use Rattle.kin_motion.specs.declared.fact.Placed.{Placed}
 use Rattle.kin_motion.specs.declared.form.Form.{Form}
@@ -13,7 +15,6 @@ use Rattle.kin_motion.specs.Scene.{Scene}
 use Rattle.kin_cert.specs.Facts.{LiveFact, IsAt, AreAlike, NoneAlike}
 use Rattle.kin_cert.specs.Applied.{IsOf, Is, IsLiveIn, IsAmong, AreUnlike, IsBorn, HasApplied}
 use Rattle.kin_cert.specs.Layout.{HasBorn}
-use Rattle.kin_cert.proofs.Elements.{within, got, contained}
 
 -- the first n of these are dropped
 pub record AreDropped (structure : ℕ) (dropped : List Placed) (n : ℕ) (old new : List LiveFact) : Type 0 where
@@ -38,7 +39,7 @@ alike s p f k l a b =
 -- no owner has a form twice
 pub once-same : (live : List LiveFact) → NoneAlike live → (s p : ℕ) (f : Form) (k l : LiveFact) → Contains live k → Contains live l → IsAt s p f k → IsAt s p f l → k ≡ l
 once-same live once s p f k l (i, i_in, i_is) (j, j_in, j_is) a b =
-    let j_is' : get_or live j k ≡ l = within live j k l j_in ∙ j_is in
+    let j_is' : get_or live j k ≡ l = get_or_default live j k l j_in ∙ j_is in
     elim (cases_lt i j) [
       | inl lt ↦ absurd (once i j k lt j_in (subst (λ (x : LiveFact). AreAlike x (get_or live j k)) (sym i_is) (subst (λ (x : LiveFact). AreAlike k x) (sym j_is') (alike s p f k l a b))))
       | inr ge ↦ elim (cases_lt j i) [
@@ -61,10 +62,10 @@ module _ (s : ℕ) (ps : List Placed) (n : ℕ) (old cur : List LiveFact) where
       let l = All-get_or (IsLiveIn old s) ps n d lt live in
       let untouched : (j : ℕ) (p : Placed) → j < n → ¬ (IsOf s (get_or ps j p) l.0) = λ j p jn of.
       let k = All-get_or (IsLiveIn old s) ps j d (omega arith) live in
-      let of_d : IsOf s (get_or ps j d) l.0 = subst (λ (x : Placed). IsOf s x l.0) (within ps j p d (omega arith)) of in
+      let of_d : IsOf s (get_or ps j d) l.0 = subst (λ (x : Placed). IsOf s x l.0) (get_or_default ps j p d (omega arith)) of in
       let same_fact : k.0 ≡ l.0 = once-same old once s (get_or ps j d).part (get_or ps j d).fact.form k.0 l.0 k.1 l.1 (is-at s (get_or ps j d) k.0 k.2) of_d in
       let same_placed : get_or ps j d ≡ get_or ps n d = ap (λ (c : Certificate). c.placed) (sym k.2 ∙ ap (λ (x : LiveFact). x.certificate) same_fact ∙ l.2) in
-      let e : j ≡ n = distinct j n (get_or ps n d) (got ps j d (omega arith) ∙ ap Some same_placed) (got ps n d lt) in
+      let e : j ≡ n = distinct j n (get_or ps n d) (slice_get-get_or ps j d (omega arith) ∙ ap Some same_placed) (slice_get-get_or ps n d lt) in
       omega (arith, e, jn) in
       (l.0, (h.rest l.0).1 (l.1, untouched), l.2)
 
@@ -78,7 +79,7 @@ module _ (s : ℕ) (ps : List Placed) (n : ℕ) (old cur : List LiveFact) where
                 o.0,
                 λ j p jn of. elim (cases_lt j n) [
                   | inl less ↦ o.1 j p less of
-                  | inr ge ↦ let e : j ≡ n = omega arith in r.1 (subst (λ (x : Placed). IsOf s x l) (ap (λ (m : ℕ). get_or ps m p) e ∙ within ps n p d lt) of)
+                  | inr ge ↦ let e : j ≡ n = omega arith in r.1 (subst (λ (x : Placed). IsOf s x l) (ap (λ (m : ℕ). get_or ps m p) e ∙ get_or_default ps n p d lt) of)
                 ],
               )),
           (λ (c, none). (rest l).1 ((h.rest l).1 (c, λ j p jn. none j p (omega arith)), none n d (omega arith))),
@@ -91,7 +92,7 @@ module _ (s : ℕ) (ps : List Placed) (n : ℕ) (old cur : List LiveFact) where
     (λ c.
         let o = (h.rest l).0 c in
         (o.0, λ (p, (j, j_in, j_is), of). o.1 j p (omega arith) (subst (λ (x : Placed). IsOf s x l) (sym j_is) of))),
-    (λ (c, none). (h.rest l).1 (c, λ j p jn of. none (get_or ps j p, contained ps j p (omega arith), of))),
+    (λ (c, none). (h.rest l).1 (c, λ j p jn of. none (get_or ps j p, Contains-get_or ps j p (omega arith), of))),
   )
 
 pub some-element : {X : Type 0} (xs : List X) (i : ℕ) → i < length xs → X
@@ -111,7 +112,7 @@ module _ (s : ℕ) (scene : Moment → Scene) (now : Moment) (ps : List Placed) 
   pub born-free : (d : Placed) → n < length ps → AreBorn s scene now ps n old cur → ((l : LiveFact) → Contains old l → ¬ (IsAmong s ps l)) → AllPairs AreUnlike ps → (l : LiveFact) → Contains cur l → ¬ (IsOf s (get_or ps n d) l)
   born-free d lt h free apart l c of =
       elim (h.only l c) [
-        | inl o ↦ free l o (get_or ps n d, contained ps n d lt, of)
+        | inl o ↦ free l o (get_or ps n d, Contains-get_or ps n d lt, of)
         | inr b ↦
             let at = is-at s (get_or ps b.0 d) l (b.2 d).is in
             apart b.0 n d b.1 lt (sym at.part_is ∙ of.part_is) (sym at.form_is ∙ of.form_is)
@@ -125,14 +126,14 @@ module _ (s : ℕ) (scene : Moment → Scene) (now : Moment) (ps : List Placed) 
           | inl less ↦ let b = h.born_one j p less in (b.0, (gained.exactly b.0).1 (inl b.1), b.2)
           | inr ge ↦
               let e : j ≡ n = omega arith in
-              (gained.fact, (gained.exactly gained.fact).1 (inr refl), subst (λ (x : Placed). IsBorn s scene now x gained.fact) (within ps n d p lt ∙ ap (λ (m : ℕ). get_or ps m p) (sym e)) gained.is_born)
+              (gained.fact, (gained.exactly gained.fact).1 (inr refl), subst (λ (x : Placed). IsBorn s scene now x gained.fact) (get_or_default ps n d p lt ∙ ap (λ (m : ℕ). get_or ps m p) (sym e)) gained.is_born)
         ];
         only = λ l c. elim ((gained.exactly l).0 c) [
           | inl o ↦ elim (h.only l o) [
             | inl oo ↦ inl oo
             | inr b ↦ inr (b.0, omega (arith, b.1), b.2)
           ]
-          | inr l_is ↦ inr (n, omega arith, λ p. subst (λ (x : Placed). IsBorn s scene now x l) (within ps n d p lt) (subst (λ (x : LiveFact). IsBorn s scene now (get_or ps n d) x) (sym l_is) gained.is_born))
+          | inr l_is ↦ inr (n, omega arith, λ p. subst (λ (x : Placed). IsBorn s scene now x l) (get_or_default ps n d p lt) (subst (λ (x : LiveFact). IsBorn s scene now (get_or ps n d) x) (sym l_is) gained.is_born))
         ];
         count = omega (arith, h.count, count);
       }
@@ -149,7 +150,7 @@ module _ (s : ℕ) (scene : Moment → Scene) (now : Moment) (ps : List Placed) 
         | inr b ↦
             let lt : b.0 < length ps = omega (arith, b.1) in
             let d = some-element ps b.0 lt in
-            inr (get_or ps b.0 d, contained ps b.0 d lt, b.2 d)
+            inr (get_or ps b.0 d, Contains-get_or ps b.0 d lt, b.2 d)
       ]
 
 -- what dropping and bearing do together

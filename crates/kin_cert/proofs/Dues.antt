@@ -1,5 +1,6 @@
 -- The facts that are due, and the one that is given out.
 use Rattle.std.proofs.Common.{◌≡◌, ◌≢◌, ℕ, Bool, true, false, cond, IfSome, MatchOption, List, Option, Some, None, refl, sym, ap, subst, ◌∙◌, ◌⊎◌, inl, inr, ◌↔◌}
+use Rattle.std.proofs.lemmas.Option.{same_Some}
 use Rattle.std.specs.List.{Contains}
 use Rattle.std.specs.Ordering.{nat_cmp}
 use Rattle.std.specs.FinMap as map
@@ -13,7 +14,7 @@ use Rattle.kin_cert.specs.Rank.{padded_rank}
 use Rattle.kin_cert.specs.Taken.{NoneWaits, NoneFails, IsLeastFailure}
 use Rattle.kin_cert.specs.Layout.{IsTable, live_fact, live_in, entry_at, queued_at, waiting, HasSlot, NoneTwice, IsDue, IsDueAt, NoneDue, HasGiven}
 use Rattle.kin_cert.proofs.Slots.{live-there, live-from}
-use Rattle.kin_cert.proofs.Rolls.{same_some, some_none}
+use Rattle.kin_cert.proofs.Rolls.{some_none}
 
 -- what a queued entry says
 pub record IsQueued (o : Option Entry) (m : Moment) : Type 0 where
@@ -59,7 +60,7 @@ module _ (slots : List (Option Entry)) (moments : FinMap nat_cmp Moment) (table 
     pub given-due : IsDueAt (live_fact e) at
     given-due =
         let q = queued-slot id at next.there in
-        subst (λ (x : Entry). IsDueAt (live_fact x) at) (same_some q.entry e (sym q.there ∙ there)) q.due
+        subst (λ (x : Entry). IsDueAt (live_fact x) at) (same_Some q.entry e (sym q.there ∙ there)) q.due
 
     apart-from : (j : ℕ) (f : Entry) → entry_at slots j ≡ Some f → j ≢ id → live_fact f ≡ live_fact e → ⊥
     apart-from j f h n same_fact = n (once j id f e h there (ap (λ (x : LiveFact). padded_rank x.certificate.structure x.certificate.placed.part x.certificate.placed.fact.form) same_fact))
@@ -77,7 +78,7 @@ module _ (slots : List (Option Entry)) (moments : FinMap nat_cmp Moment) (table 
         to l c =
             let h = live-from after l c in
             elim (cases_eq h.id id) [
-              | inl j_is ↦ inr (sym h.is ∙ ap live_fact (sym (same_some (waiting e) h.entry (sym slot.changed ∙ ap (entry_at after) (sym j_is) ∙ h.there))))
+              | inl j_is ↦ inr (sym h.is ∙ ap live_fact (sym (same_Some (waiting e) h.entry (sym slot.changed ∙ ap (entry_at after) (sym j_is) ∙ h.there))))
               | inr n ↦
                   let h_was : entry_at slots h.id ≡ Some h.entry = sym (slot.others h.id n) ∙ h.there in
                   inl (subst (λ (x : LiveFact). Contains (live_in slots) x) h.is (live-there slots h.id h.entry h_was), λ l_is. apart-from h.id h.entry h_was n (h.is ∙ l_is))
@@ -86,7 +87,7 @@ module _ (slots : List (Option Entry)) (moments : FinMap nat_cmp Moment) (table 
         from : (l : LiveFact) → (Contains (live_in slots) l × ¬ (l ≡ live_fact e)) ⊎ (l ≡ live_fact (waiting e)) → Contains (live_in after) l
         from l (inl (c, n)) =
             let h = live-from slots l c in
-            let apart : h.id ≢ id = λ j_is. n (sym h.is ∙ ap live_fact (same_some h.entry e (sym h.there ∙ ap (entry_at slots) j_is ∙ there))) in
+            let apart : h.id ≢ id = λ j_is. n (sym h.is ∙ ap live_fact (same_Some h.entry e (sym h.there ∙ ap (entry_at slots) j_is ∙ there))) in
             subst (λ (x : LiveFact). Contains (live_in after) x) h.is (live-there after h.id h.entry (slot.others h.id apart ∙ h.there))
         from l (inr l_is) = subst (λ (x : LiveFact). Contains (live_in after) x) (sym l_is) (live-there after id (waiting e) slot.changed)
 

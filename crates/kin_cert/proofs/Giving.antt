@@ -1,8 +1,9 @@
 -- Facts given out one by one.
 use Rattle.std.proofs.Common.{◌≡◌, ◌≢◌, Bool, true, false, ℤ, List, [], ◌∷◌, ◌++◌, get_or, IsTrue, refl, sym, ap, subst, ◌∙◌, ◌⊎◌, inl, inr, arith}
+use Rattle.kin_basics.proofs.Members.{contains_none}
+use Rattle.std.proofs.lemmas.List.Elements.{Contains-get_or, Contains-push, Contains-push_cases, Contains-append_left}
 use Rattle.std.specs.List.{Contains, AllPairs}
 use Rattle.std.proofs.lemmas.List.Quantifiers.{all_pairs_push}
-use Rattle.slab.proofs.SlabLemmas.{Contains-cons, Contains-cons_cases}
 use Rattle.kin_num.specs.declared.instant.Moment.{Moment}
 use Rattle.kin_motion.specs.Live.{Certificate}
 use Rattle.kin_cert.specs.declared.owned.Owned.{Owned}
@@ -10,37 +11,8 @@ use Rattle.kin_cert.specs.Facts.{LiveFact, NoneAlike, IsAt, certificate_of}
 use Rattle.kin_cert.specs.Taken.{NoneWaits}
 use Rattle.kin_cert.specs.Layout.{IsDue, HasGiven, IsGivenUpTo, owned_rank, is_rank}
 use Rattle.kin_cert.proofs.Changes.{once-same}
-use Rattle.kin_cert.proofs.Elements.{contained}
 use Rattle.kin_cert.proofs.Ranks.{rank_names, rank_same, rank_itself}
 use Rattle.kin_cert.specs.Rank.{padded_rank}
-use Rattle.kin_cert.proofs.Slots.{Contains-head, Contains-nothing}
-
-pub Contains-push : {X : Type 0} (xs : List X) (x y : X) → Contains (xs ++ x ∷ []) y → Contains xs y ⊎ (x ≡ y)
-Contains-push [] x y h =
-    elim (Contains-cons_cases x y [] h) [
-      | inl e ↦ inr e
-      | inr none ↦ absurd (Contains-nothing y none)
-    ]
-Contains-push (z ∷ xs) x y h =
-    elim (Contains-cons_cases z y (xs ++ x ∷ []) h) [
-      | inl e ↦ inl (subst (λ w. Contains (z ∷ xs) w) e (Contains-head z xs))
-      | inr rest ↦ elim (Contains-push xs x y rest) [
-        | inl c ↦ inl (Contains-cons z y xs c)
-        | inr e ↦ inr e
-      ]
-    ]
-
-pub Contains-pushed : {X : Type 0} (xs : List X) (x y : X) → Contains xs y → Contains (xs ++ x ∷ []) y
-Contains-pushed [] x y h = absurd (Contains-nothing y h)
-Contains-pushed (z ∷ xs) x y h =
-    elim (Contains-cons_cases z y xs h) [
-      | inl e ↦ subst (λ w. Contains (z ∷ xs ++ x ∷ []) w) e (Contains-head z (xs ++ x ∷ []))
-      | inr rest ↦ Contains-cons z y (xs ++ x ∷ []) (Contains-pushed xs x y rest)
-    ]
-
-pub Contains-last : {X : Type 0} (xs : List X) (x : X) → Contains (xs ++ x ∷ []) x
-Contains-last [] x = Contains-head x []
-Contains-last (z ∷ xs) x = Contains-cons z x (xs ++ x ∷ []) (Contains-last xs x)
 
 contradicts : (b : Bool) → b ≡ false → IsTrue b → ⊥
 contradicts b f t = let both : false ≡ true = sym f ∙ t in absurd cc
@@ -48,7 +20,7 @@ contradicts b f t = let both : false ≡ true = sym f ∙ t in absurd cc
 pub given-none : (m : Moment) (old : List LiveFact) (taken : List Owned) → taken ≡ [] → NoneWaits old → IsDue old m → IsGivenUpTo m old old taken
 given-none m old taken empty none due =
     record {
-      given = λ o c. absurd (Contains-nothing o (subst (λ (xs : List Owned). Contains xs o) empty c));
+      given = λ o c. absurd (contains_none o (subst (λ (xs : List Owned). Contains xs o) empty c));
       each = λ l c w. absurd (contradicts l.waits (none l c) w);
       once = subst (λ (xs : List Owned). AllPairs (λ o p. owned_rank o ≢ owned_rank p) xs) (sym empty) (λ i j d lt in_. absurd (omega (arith, in_)));
       at_moment = λ l c w. absurd (contradicts l.waits (none l c) w);
@@ -93,17 +65,17 @@ given-more m old cur new taken o l h once g l_is =
     let stays : (k : LiveFact) → Contains cur k → ¬ (k ≡ l) → Contains new k = λ k c n. (g.exactly k).1 (inl (c, n)) in
     let waits_stays : (k : LiveFact) → Contains cur k → IsTrue k.waits → Contains new k = λ k c w. stays k c (λ e. contradicts k.waits (ap (λ (x : LiveFact). x.waits) e ∙ g.due.waits_not) w) in
     record {
-      given = λ p c. elim (Contains-push taken o p c) [
+      given = λ p c. elim (Contains-push_cases taken o p c) [
         | inl c' ↦ let k = h.given p c' in (k.0, waits_stays k.0 k.1 k.2, k.2, k.3)
         | inr e ↦ (marked, there, refl, l_is ∙ ap certificate_of e)
       ];
       each = λ k c w. elim ((g.exactly k).0 c) [
-        | inl (c', n) ↦ let p = h.each k c' w in (p.0, Contains-pushed taken o p.0 p.1, p.2)
-        | inr e ↦ (o, Contains-last taken o, ap (λ (x : LiveFact). x.certificate) e ∙ l_is)
+        | inl (c', n) ↦ let p = h.each k c' w in (p.0, Contains-append_left taken (o ∷ []) p.0 p.1, p.2)
+        | inr e ↦ (o, Contains-push taken o, ap (λ (x : LiveFact). x.certificate) e ∙ l_is)
       ];
       once = all_pairs_push (λ p q. owned_rank p ≢ owned_rank q) taken o h.once (λ i d lt r.
           let p = get_or taken i d in
-          let k = h.given p (contained taken i d lt) in
+          let k = h.given p (Contains-get_or taken i d lt) in
           let same_fact : k.0 ≡ l = once-same cur once p.structure p.part p.fact.form k.0 l k.1 g.there (named p k.0 k.3) (renamed p o l r (named o l l_is)) in
           contradicts k.0.waits (ap (λ (x : LiveFact). x.waits) same_fact ∙ g.due.waits_not) k.2);
       at_moment = λ k c w. elim ((g.exactly k).0 c) [

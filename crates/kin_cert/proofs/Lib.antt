@@ -1,6 +1,5 @@
 pub mod Changes
 pub mod Dues
-pub mod Elements
 pub mod Failing
 pub mod Giving
 pub mod Ranks
@@ -18,3 +17,5 @@ pub mod SamePlaced
 pub mod TellLaws
 pub mod ToldLaws
 pub mod NextLaws
+pub mod Schedules
+pub mod LineFailures

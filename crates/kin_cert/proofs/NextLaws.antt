@@ -1,5 +1,6 @@
 -- A table that is in time tells what comes next: the next block, or that nothing fails.
 use Rattle.std.proofs.Common.{◌≡◌, ◌≢◌, ◌⊎◌, inl, inr, List, [], ◌∷◌, map, Option, Some, None, refl, sym, ap, subst}
+use Rattle.std.proofs.lemmas.Option.{same_Some}
 use Rattle.std.specs.List.{Contains}
 use Rattle.kin_num.specs.declared.instant.Moment.{Moment}
 use Rattle.kin_num.specs.Canonical.{IsCanonical}
@@ -17,7 +18,7 @@ use Rattle.kin_cert.specs.declared.owned.Owned.{Owned}
 use Rattle.kin_cert.specs.Facts.{LiveFact, certificate_of}
 use Rattle.kin_cert.specs.Failures.{IsFirstFailure}
 use Rattle.kin_cert.specs.Taken.{NoneFails, IsLeastFailure, HasTaken, is_taken_before}
-use Rattle.kin_cert.proofs.Rolls.{same_some, some_none}
+use Rattle.kin_cert.proofs.Rolls.{some_none}
 use Rattle.kin_cert.specs.Told.{certificates_of, IsTimed}
 
 -- what is not before a moment is not before an earlier one
@@ -87,7 +88,7 @@ at_moment None m c forms least not_later = absurd (not_later (λ n e d. absurd (
 at_moment (Some n) m c forms least not_later = at (total m n c (forms n refl))
   where
     at : IsEarlier m n ⊎ (IsEarlier n m ⊎ (m ≡ n)) → Some n ≡ Some m
-    at (inl more) = absurd (not_later (λ k e d. subst (IsEarlier m) (same_some n k e) more))
+    at (inl more) = absurd (not_later (λ k e d. subst (IsEarlier m) (same_Some n k e) more))
     at (inr (inl less)) = absurd (least n refl less)
     at (inr (inr same)) = ap (λ (x : Moment). Some x) (sym same)
 

@@ -1,6 +1,9 @@
 -- A born fact in the stead of a dropped one.
 use Rattle.std.proofs.Common.{◌≡◌, ℕ, suc, ◌+◌, ◌<◌, ℤ, List, ◌∷◌, length, get_or, set, Option, Some, None, refl, sym, ap, subst, ◌∙◌, inl, inr, arith}
-use Rattle.std.specs.List.{Contains, All}
+use Rattle.kin_basics.proofs.Members.{contains_head}
+use Rattle.std.proofs.lemmas.Option.{slice_get-get_or, same_Some}
+use Rattle.std.proofs.lemmas.List.{get_or_default}
+use Rattle.std.specs.List.{Contains}
 use Rattle.std.specs.Ordering.{nat_cmp}
 use Rattle.std.specs.FinMap.{FinMap}
 use Rattle.slab.proofs.SlabLemmas.{Contains-cons, Contains-cons_cases}
@@ -15,9 +18,7 @@ use Rattle.kin_cert.specs.Facts.{LiveFact}
 use Rattle.kin_cert.specs.Applied.{IsOf, IsLiveIn, MayApply, IsBorn, HasApplied}
 use Rattle.kin_cert.specs.Layout.{entry_at, owned_rank, live_fact, live_in, fresh, timed, HasSlot, IsTakenOver, IsTimed, HasReplaced, HasBorn}
 use Rattle.kin_cert.proofs.Changes.{is-at, once-same}
-use Rattle.kin_cert.proofs.Elements.{within, got}
-use Rattle.kin_cert.proofs.Rolls.{same_some}
-use Rattle.kin_cert.proofs.Slots.{live-from, live-set-count, Contains-head}
+use Rattle.kin_cert.proofs.Slots.{live-from, live-set-count}
 use Rattle.kin_cert.proofs.Tables.{at-rank, rank-of-live, table-once, has-slot, gained-exactly, replaced-exactly}
 
 -- the fact with its owner
@@ -72,17 +73,13 @@ module _ (s : ℕ) (scene : Moment → Scene) (now : Moment) (p : Placed) (slots
         free = λ l c of.
             let h = live-from slots l c in
             let h_id : h.id ≡ seat.id = k.free h.id h.entry h.there (rank-of-live slots s p.part p.fact.form l of h) in
-            let h_is : e ≡ h.entry = same_some e h.entry (sym k.seat_of.there ∙ ap (entry_at slots) (sym h_id) ∙ h.there) in
+            let h_is : e ≡ h.entry = same_Some e h.entry (sym k.seat_of.there ∙ ap (entry_at slots) (sym h_id) ∙ h.there) in
             subst (λ (x : LiveFact). IsOf s dropped x) (ap live_fact h_is ∙ h.is) (at-rank s dropped.part dropped.fact.form e k.seat_of.ranked);
         exactly = replaced-exactly slots later k.once id e entry at_id (twice slots after later id (Some (fresh (held s p))) (Some entry) slot later-slot) s dropped.part dropped.fact.form
             (at-rank s dropped.part dropped.fact.form e k.seat_of.ranked);
         count = later-count ∙ count;
         once = table-once slots k.once;
       }
-
--- what holds of all holds of all but the first
-pub rest-all : {A : Type 0} (which : A → Type 0) (all : List A) (x : A) (xs : List A) → all ≡ x ∷ xs → All which all → All which xs
-rest-all {A} which all x xs e h = let split : All which (x ∷ xs) = subst (λ (ys : List A). All which ys) e h in λ k d lt. split (suc k) d (omega (arith, lt))
 
 -- the rest of a change after its first pair
 module _ (s : ℕ) (scene : Moment → Scene) (now : Moment) (d b : Placed) (ds bs : List Placed) (old mid : List LiveFact)
@@ -99,14 +96,14 @@ module _ (s : ℕ) (scene : Moment → Scene) (now : Moment) (d b : Placed) (ds 
       let k_is : k.0 ≡ l = once-same old did.once s d.part d.fact.form k.0 l k.1 c (is-at s d k.0 k.2) of_d in
       let m_is : m.0 ≡ l = once-same old did.once s (get_or ds i d).part (get_or ds i d).fact.form m.0 l m.1 c (is-at s (get_or ds i d) m.0 m.2) of in
       let same : d ≡ get_or ds i d = ap (λ (x : Certificate). x.placed) (sym k.2 ∙ ap (λ (x : LiveFact). x.certificate) (k_is ∙ sym m_is) ∙ m.2) in
-      let e : 0 ≡ suc i = may.dropped_once 0 (suc i) d refl (got (d ∷ ds) (suc i) d (omega (arith, lt)) ∙ ap (λ (x : Placed). Some x) (sym same)) in
+      let e : 0 ≡ suc i = may.dropped_once 0 (suc i) d refl (slice_get-get_or (d ∷ ds) (suc i) d (omega (arith, lt)) ∙ ap (λ (x : Placed). Some x) (sym same)) in
       absurd (omega (arith, e))
 
   -- no later dropped fact has the owner and form of the born one
   apart-born : (q : Placed) → Contains ds q → IsOf s q did.fact → ⊥
   apart-born q (j, lt, is) of =
       let at = is-at s b did.fact did.is_born.is in
-      let of' : IsOf s (get_or ds j d) did.fact = subst (λ (x : Placed). IsOf s x did.fact) (sym is ∙ within ds j q d lt) of in
+      let of' : IsOf s (get_or ds j d) did.fact = subst (λ (x : Placed). IsOf s x did.fact) (sym is ∙ get_or_default ds j q d lt) of in
       let m = live-of (suc j) (omega (arith, lt)) in
       let m_at = is-at s (get_or ds j d) m.0 m.2 in
       let of_b : IsOf s b m.0 = record { structure_is = m_at.structure_is; part_is = m_at.part_is ∙ sym of'.part_is ∙ at.part_is; form_is = m_at.form_is ∙ sym of'.form_is ∙ at.form_is } in
@@ -117,7 +114,7 @@ module _ (s : ℕ) (scene : Moment → Scene) (now : Moment) (d b : Placed) (ds 
       record {
         dropped_live = λ i x lt.
             let m = live-of (suc i) (omega (arith, lt)) in
-            let x_is : get_or ds i d ≡ get_or ds i x = within ds i d x lt in
+            let x_is : get_or ds i d ≡ get_or ds i x = get_or_default ds i d x lt in
             subst (λ (y : Placed). IsLiveIn mid s y) x_is (m.0, (did.exactly m.0).1 (inl (m.1, λ of_d. apart i lt m.0 m.1 of_d (is-at s (get_or ds i d) m.0 m.2))), m.2);
         dropped_once = λ i j x at_i at_j. let e : suc i ≡ suc j = may.dropped_once (suc i) (suc j) x at_i at_j in omega (arith, e);
         born_free = λ l c (q, q_born, of). elim ((did.exactly l).0 c) [
@@ -130,7 +127,7 @@ module _ (s : ℕ) (scene : Moment → Scene) (now : Moment) (d b : Placed) (ds 
           | inr l_is ↦
               let at = is-at s b did.fact did.is_born.is in
               let of' : IsOf s q did.fact = subst (λ (x : LiveFact). IsOf s q x) l_is of in
-              let q_is : q ≡ get_or bs q_born.0 b = sym q_born.2 ∙ within bs q_born.0 q b q_born.1 in
+              let q_is : q ≡ get_or bs q_born.0 b = sym q_born.2 ∙ get_or_default bs q_born.0 q b q_born.1 in
               absurd (may.born_once 0 (suc q_born.0) b (omega arith) (omega (arith, q_born.1)) (sym at.part_is ∙ of'.part_is ∙ ap (λ (x : Placed). x.part) q_is) (sym at.form_is ∙ of'.form_is ∙ ap (λ (x : Placed). x.fact.form) q_is))
         ];
         born_once = λ i j x lt in_born. may.born_once (suc i) (suc j) x (omega (arith, lt)) (omega (arith, in_born));
@@ -139,7 +136,7 @@ module _ (s : ℕ) (scene : Moment → Scene) (now : Moment) (d b : Placed) (ds 
   pub rest-did : (after : List LiveFact) → HasApplied s (record { dropped = ds; born = bs }) scene now mid after → HasApplied s (record { dropped = d ∷ ds; born = b ∷ bs }) scene now old after
   rest-did after app =
       record {
-        kept = λ l c n. app.kept l ((did.exactly l).1 (inl (c, λ of. n (d, Contains-head d ds, of)))) (λ (p, p_there, of). n (p, Contains-cons d p ds p_there, of));
+        kept = λ l c n. app.kept l ((did.exactly l).1 (inl (c, λ of. n (d, contains_head d ds, of)))) (λ (p, p_there, of). n (p, Contains-cons d p ds p_there, of));
         born = λ p c. elim (Contains-cons_cases b p bs c) [
           | inl e ↦ (did.fact, app.kept did.fact ((did.exactly did.fact).1 (inr refl)) (λ (q, q_there, of). apart-born q q_there of), subst (λ (x : Placed). IsBorn s scene now x did.fact) e did.is_born)
           | inr rest ↦ app.born p rest
@@ -153,7 +150,7 @@ module _ (s : ℕ) (scene : Moment → Scene) (now : Moment) (d b : Placed) (ds 
                 | inr rest ↦ n (p, rest, of)
               ],
             )
-            | inr l_is ↦ inr (b, Contains-head b bs, subst (λ (x : LiveFact). IsBorn s scene now b x) (sym l_is) did.is_born)
+            | inr l_is ↦ inr (b, contains_head b bs, subst (λ (x : LiveFact). IsBorn s scene now b x) (sym l_is) did.is_born)
           ]
           | inr (p, p_there, is) ↦ inr (p, Contains-cons b p bs p_there, is)
         ];

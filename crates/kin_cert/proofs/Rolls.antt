@@ -1,5 +1,6 @@
 -- What a roll's layout says of its entries, and what changes of it keep.
 use Rattle.std.proofs.Common.{◌≡◌, ◌≢◌, ℕ, Bool, true, false, cond, ℤ, List, [], ◌∷◌, Option, Some, None, nat_eq, eqb-true, refl, sym, ap, ap₂, subst, ◌∙◌, ◌⊎◌, inl, inr}
+use Rattle.std.proofs.lemmas.Option.{same_Some}
 use Rattle.std.proofs.lemmas.Cmp.{nat_eq_equiv, lists_equiv}
 use Rattle.std.proofs.lemmas.Bool.{cases_eq}
 use Rattle.indexmap.specs.IndexMap.{IndexMap, get as look_up}
@@ -12,16 +13,10 @@ use Rattle.kin_cert.specs.Layout.{entry_at, entry_rank, owned_rank, owned_place,
 use Rattle.kin_cert.specs.Rolls.{is_place, IsFirst, IsRoll, IsFirstAt, HasNoFirstAt, IsIdOf, IsStruck, MayFollow, IsEnrolled, IsSameIndex}
 use Rattle.kin_cert.proofs.Ranks.{both_hold, rank_names, rank_same, rank_itself, rank_differs}
 
-pub same_some : {A : Type 0} (x y : A) → Some x ≡ Some y → x ≡ y
-same_some x y e = cc
-
 pub some_none : {A : Type 0} (x : A) → Some x ≡ None → ⊥
 some_none x e = cc
 
 -- ---- places
-
-same_number : (x y : ℕ) → nat_eq x y ≡ true → x ≡ y
-same_number x y e = eqb-true x y e
 
 place_same : (xs ys : List ℕ) → is_place xs ys ≡ true → xs ≡ ys
 place_same [] [] e = refl
@@ -29,7 +24,7 @@ place_same [] (y ∷ ys) e = absurd (cc)
 place_same (x ∷ xs) [] e = absurd (cc)
 place_same (x ∷ xs) (y ∷ ys) e =
     let b = both_hold (nat_eq x y) (is_place xs ys) e in
-    ap₂ (λ (z : ℕ) (zs : List ℕ). z ∷ zs) (same_number x y b.0) (place_same xs ys b.1)
+    ap₂ (λ (z : ℕ) (zs : List ℕ). z ∷ zs) (eqb-true x y b.0) (place_same xs ys b.1)
 
 place_itself : (xs : List ℕ) → is_place xs xs ≡ true
 place_itself xs = (lists_equiv nat_eq_equiv).refl xs
@@ -59,29 +54,29 @@ module _ {S T : Type 0} (slots : List (Option Entry)) (firsts : IndexMap (List �
   first-alone : (place : List ℕ) (id : ℕ) (e : Entry) → look_up is_place firsts place ≡ Some id → entry_at slots id ≡ Some e → look_up is_rank others (entry_rank e) ≡ None
   first-alone place id e known there =
       let k = roll.first place id known in
-      ap (λ (x : Entry). look_up is_rank others (entry_rank x)) (same_some e k.entry (sym there ∙ k.there)) ∙ k.alone
+      ap (λ (x : Entry). look_up is_rank others (entry_rank x)) (same_Some e k.entry (sym there ∙ k.there)) ∙ k.alone
 
   first-placed : (place : List ℕ) (id : ℕ) (e : Entry) → look_up is_place firsts place ≡ Some id → entry_at slots id ≡ Some e → owned_place e.owned ≡ place
   first-placed place id e known there =
       let k = roll.first place id known in
-      ap (λ (x : Entry). owned_place x.owned) (same_some e k.entry (sym there ∙ k.there)) ∙ k.placed
+      ap (λ (x : Entry). owned_place x.owned) (same_Some e k.entry (sym there ∙ k.there)) ∙ k.placed
 
   pub once : NoneTwice slots
   once i j e f a b same =
       elim (roll.found i e a) [
         | inl x ↦ elim (roll.found j f b) [
-          | inl y ↦ same_some i j (sym x ∙ ap (look_up is_place firsts) (rank-place e.owned f.owned same) ∙ y)
+          | inl y ↦ same_Some i j (sym x ∙ ap (look_up is_place firsts) (rank-place e.owned f.owned same) ∙ y)
           | inr y ↦ absurd (some_none j (sym y ∙ ap (look_up is_rank others) (sym same) ∙ first-alone (owned_place e.owned) i e x a))
         ]
         | inr x ↦ elim (roll.found j f b) [
           | inl y ↦ absurd (some_none i (sym x ∙ ap (look_up is_rank others) same ∙ first-alone (owned_place f.owned) j f y b))
-          | inr y ↦ same_some i j (sym x ∙ ap (look_up is_rank others) same ∙ y)
+          | inr y ↦ same_Some i j (sym x ∙ ap (look_up is_rank others) same ∙ y)
         ]
       ]
 
   pub first-rank : (s p : ℕ) (f : Form) (id : ℕ) → IsFirstAt slots firsts (place_of s p f) f id → (e : Entry) → entry_at slots id ≡ Some e → entry_rank e ≡ padded_rank s p f
   first-rank s p f id h e there =
-      let e_is : h.entry ≡ e = same_some h.entry e (sym h.there ∙ there) in
+      let e_is : h.entry ≡ e = same_Some h.entry e (sym h.there ∙ there) in
       place-rank e.owned s p f (first-placed (place_of s p f) id e h.known there) (ap (λ (x : Entry). x.owned.fact.form) (sym e_is) ∙ h.formed)
 
   -- the entry of an id
@@ -133,14 +128,14 @@ module _ {S T : Type 0} (slots : List (Option Entry)) (firsts : IndexMap (List �
     was : (j : ℕ) (f : Entry) → entry_at after j ≡ Some f → (g : Entry) × (entry_at slots j ≡ Some g) × (g.owned ≡ f.owned)
     was j f h =
         elim (cases_eq j id) [
-          | inl j_is ↦ (e, ap (entry_at slots) j_is ∙ there, same ∙ ap (λ (x : Entry). x.owned) (same_some e' f (sym slot.changed ∙ ap (entry_at after) (sym j_is) ∙ h)))
+          | inl j_is ↦ (e, ap (entry_at slots) j_is ∙ there, same ∙ ap (λ (x : Entry). x.owned) (same_Some e' f (sym slot.changed ∙ ap (entry_at after) (sym j_is) ∙ h)))
           | inr n ↦ (f, sym (slot.others j n) ∙ h, refl)
         ]
 
     becomes : (j : ℕ) (g : Entry) → entry_at slots j ≡ Some g → (f : Entry) × (entry_at after j ≡ Some f) × (f.owned ≡ g.owned)
     becomes j g h =
         elim (cases_eq j id) [
-          | inl j_is ↦ (e', ap (entry_at after) j_is ∙ slot.changed, sym same ∙ ap (λ (x : Entry). x.owned) (same_some e g (sym there ∙ ap (entry_at slots) (sym j_is) ∙ h)))
+          | inl j_is ↦ (e', ap (entry_at after) j_is ∙ slot.changed, sym same ∙ ap (λ (x : Entry). x.owned) (same_Some e g (sym there ∙ ap (entry_at slots) (sym j_is) ∙ h)))
           | inr n ↦ (g, slot.others j n ∙ h, refl)
         ]
 
@@ -161,7 +156,7 @@ module _ {S T : Type 0} (slots : List (Option Entry)) (firsts : IndexMap (List �
     pub only-there : (j : ℕ) (f : Entry) → entry_at slots j ≡ Some f → entry_rank f ≡ owned_rank o → j ≡ id
     only-there j f h ranked =
         elim (roll.found j f h) [
-          | inl x ↦ same_some j id (sym x ∙ ap (look_up is_place firsts) (rank-place f.owned o ranked ∙ placed) ∙ known)
+          | inl x ↦ same_Some j id (sym x ∙ ap (look_up is_place firsts) (rank-place f.owned o ranked ∙ placed) ∙ known)
           | inr y ↦ absurd (some_none j (sym y ∙ ap (look_up is_rank others) ranked ∙ unlisted_o))
         ]
 
@@ -170,7 +165,7 @@ module _ {S T : Type 0} (slots : List (Option Entry)) (firsts : IndexMap (List �
         record {
           found = λ j f h. elim (cases_eq j id) [
             | inl j_is ↦
-                let f_is : fresh o ≡ f = same_some (fresh o) f (sym slot.changed ∙ ap (entry_at after) (sym j_is) ∙ h) in
+                let f_is : fresh o ≡ f = same_Some (fresh o) f (sym slot.changed ∙ ap (entry_at after) (sym j_is) ∙ h) in
                 inl (ap (λ (x : Entry). look_up is_place firsts (owned_place x.owned)) (sym f_is) ∙ ap (look_up is_place firsts) placed ∙ known ∙ ap Some (sym j_is))
             | inr n ↦ roll.found j f (sym (slot.others j n) ∙ h)
           ];
@@ -187,7 +182,7 @@ module _ {S T : Type 0} (slots : List (Option Entry)) (firsts : IndexMap (List �
           other = λ rank j h.
               let k = roll.other rank j h in
               let n : j ≢ id = λ j_is.
-              let k_is : k.0 ≡ e = same_some k.0 e (sym k.1 ∙ ap (entry_at slots) j_is ∙ there) in
+              let k_is : k.0 ≡ e = same_Some k.0 e (sym k.1 ∙ ap (entry_at slots) j_is ∙ there) in
               some_none j (sym h ∙ ap (look_up is_rank others) (sym k.2 ∙ ap entry_rank k_is) ∙ first-alone place id e known there) in
               (k.0, slot.others j n ∙ k.1, k.2);
         }
@@ -199,7 +194,7 @@ module _ {S T : Type 0} (slots after : List (Option Entry)) (firsts firsts' : In
   older j f h j_is = some_none f (sym h ∙ ap (entry_at slots) j_is ∙ vacant)
 
   new_one : (j : ℕ) (f : Entry) → j ≡ id → entry_at after j ≡ Some f → fresh o ≡ f
-  new_one j f j_is h = same_some (fresh o) f (sym slot.changed ∙ ap (entry_at after) (sym j_is) ∙ h)
+  new_one j f j_is h = same_Some (fresh o) f (sym slot.changed ∙ ap (entry_at after) (sym j_is) ∙ h)
 
   listed : look_up is_rank others (owned_rank o) ≡ None
   listed = unlisted slots firsts others roll (owned_rank o) free
@@ -224,7 +219,7 @@ module _ {S T : Type 0} (slots after : List (Option Entry)) (firsts firsts' : In
           ];
           first = λ q j h.
               elim (is_place (owned_place o) q) as (λ b. is_place (owned_place o) q ≡ b → cond b (Some id) (look_up is_place firsts q) ≡ Some j → IsFirst after others' q j) [
-                | true ↦ λ t h. record { entry = fresh o; there = ap (entry_at after) (sym (same_some id j h)) ∙ slot.changed; placed = place_same (owned_place o) q t; alone = os (owned_rank o) ∙ listed }
+                | true ↦ λ t h. record { entry = fresh o; there = ap (entry_at after) (sym (same_Some id j h)) ∙ slot.changed; placed = place_same (owned_place o) q t; alone = os (owned_rank o) ∙ listed }
                 | false ↦ λ t h.
                     let k = roll.first q j h in
                     record { entry = k.entry; there = slot.others j (older j k.entry k.there) ∙ k.there; placed = k.placed; alone = os (entry_rank k.entry) ∙ k.alone }
@@ -261,7 +256,7 @@ module _ {S T : Type 0} (slots after : List (Option Entry)) (firsts firsts' : In
               };
           other = λ rank j h.
               elim (is_rank (owned_rank o) rank) as (λ b. is_rank (owned_rank o) rank ≡ b → cond b (Some id) (look_up is_rank others rank) ≡ Some j → (f : Entry) × (entry_at after j ≡ Some f) × (entry_rank f ≡ rank)) [
-                | true ↦ λ t h. (fresh o, ap (entry_at after) (sym (same_some id j h)) ∙ slot.changed, rank_same (owned_rank o) rank t)
+                | true ↦ λ t h. (fresh o, ap (entry_at after) (sym (same_Some id j h)) ∙ slot.changed, rank_same (owned_rank o) rank t)
                 | false ↦ λ t h. let k = roll.other rank j h in (k.0, slot.others j (older j k.0 k.1) ∙ k.1, k.2)
               ] refl (sym (os rank) ∙ h);
         }
@@ -280,7 +275,7 @@ module _ {S T : Type 0} (slots after : List (Option Entry)) (firsts firsts' : In
   stood j f h = sym (slot.others j (gone j f h)) ∙ h
 
   this_one : (j : ℕ) (f : Entry) → j ≡ id → entry_at slots j ≡ Some f → f ≡ e
-  this_one j f j_is h = same_some f e (sym h ∙ ap (entry_at slots) j_is ∙ there)
+  this_one j f j_is h = same_Some f e (sym h ∙ ap (entry_at slots) j_is ∙ there)
 
   -- the one by which its place was known
   pub struck-first : (place : List ℕ) → look_up is_place firsts place ≡ Some id
@@ -290,7 +285,7 @@ module _ {S T : Type 0} (slots after : List (Option Entry)) (firsts firsts' : In
       record {
         found = λ j f h. elim (roll.found j f (stood j f h)) [
           | inl x ↦
-              let n : place ≡ owned_place f.owned → ⊥ = λ q_is. gone j f h (same_some j id (sym x ∙ ap (look_up is_place firsts) (sym q_is) ∙ known)) in
+              let n : place ≡ owned_place f.owned → ⊥ = λ q_is. gone j f h (same_Some j id (sym x ∙ ap (look_up is_place firsts) (sym q_is) ∙ known)) in
               inl (fs (owned_place f.owned) ∙ ap (λ (b : Bool). cond b None (look_up is_place firsts (owned_place f.owned))) (place_differs place (owned_place f.owned) n) ∙ x)
           | inr y ↦ inr (os (entry_rank f) ∙ y)
         ];
@@ -321,7 +316,7 @@ module _ {S T : Type 0} (slots after : List (Option Entry)) (firsts firsts' : In
         found = λ j f h. elim (roll.found j f (stood j f h)) [
           | inl x ↦ inl (fs (owned_place f.owned) ∙ x)
           | inr y ↦
-              let n : rank ≡ entry_rank f → ⊥ = λ q_is. gone j f h (same_some j id (sym y ∙ ap (look_up is_rank others) (sym q_is) ∙ known)) in
+              let n : rank ≡ entry_rank f → ⊥ = λ q_is. gone j f h (same_Some j id (sym y ∙ ap (look_up is_rank others) (sym q_is) ∙ known)) in
               inr (os (entry_rank f) ∙ ap (λ (b : Bool). cond b None (look_up is_rank others (entry_rank f))) (rank_differs rank (entry_rank f) n) ∙ y)
         ];
         first = λ q j h.

@@ -1,8 +1,7 @@
 -- Two facts are the same or not, and a list has a fact or not.
 use Rattle.std.proofs.Common.{◌≡◌, ◌≢◌, ◌⊎◌, inl, inr, refl, sym, ap, ◌∙◌, subst, List, [], ◌∷◌, ℤ, Bool, true, false}
 use Rattle.std.specs.Prelude.{Contains}
-use Rattle.kin_algebra.specs.declared.sign.Sign.{Sign}
-use Rattle.kin_algebra.specs.declared.sign.Sign.TheVariants.{Minus, Zero, Plus}
+use Rattle.kin_algebra.proofs.Signs.{equal_or_not}
 use Rattle.kin_motion.specs.declared.fact.Placed.{Placed}
 use Rattle.kin_motion.proofs.SetLaws.{contains_none, contains_head, contains_tail, contains_cases}
 use Rattle.kin_cert.specs.Rank.{padded_rank}
@@ -13,23 +12,12 @@ use Rattle.kin_cert.proofs.Ranks.{rank_same, rank_itself, rank_names}
 abbrev rank_in : Placed → List ℤ
 rank_in p = padded_rank 0 p.part p.fact.form
 
-pub same_sign : (s t : Sign) → (s ≡ t) ⊎ (s ≢ t)
-same_sign Minus Minus = inl refl
-same_sign Minus Zero = inr (λ e. cc)
-same_sign Minus Plus = inr (λ e. cc)
-same_sign Zero Minus = inr (λ e. cc)
-same_sign Zero Zero = inl refl
-same_sign Zero Plus = inr (λ e. cc)
-same_sign Plus Minus = inr (λ e. cc)
-same_sign Plus Zero = inr (λ e. cc)
-same_sign Plus Plus = inl refl
-
 -- part, form and sign make the fact
 pub same_placed : (p q : Placed) → p.part ≡ q.part → p.fact.form ≡ q.fact.form → p.fact.sign ≡ q.fact.sign → p ≡ q
 same_placed p q e f g = λ t. record { part = e t; fact = record { form = f t; sign = g t } }
 
 same_fact : (p q : Placed) → (p ≡ q) ⊎ (p ≢ q)
-same_fact p q = at (is_rank (rank_in p) (rank_in q)) refl (same_sign p.fact.sign q.fact.sign)
+same_fact p q = at (is_rank (rank_in p) (rank_in q)) refl (equal_or_not p.fact.sign q.fact.sign)
   where
     at : (b : Bool) → is_rank (rank_in p) (rank_in q) ≡ b → (p.fact.sign ≡ q.fact.sign) ⊎ (p.fact.sign ≢ q.fact.sign) → (p ≡ q) ⊎ (p ≢ q)
     at true e (inl s) =

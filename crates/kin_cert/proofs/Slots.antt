@@ -1,5 +1,7 @@
 -- The live facts in the slots of a slab.
 use Rattle.std.proofs.Common.{◌≡◌, ℕ, zero, suc, ◌+◌, ◌<◌, Bool, false, cond, not, List, [], ◌∷◌, length, get_or, set, Option, Some, None, is_some, count_by, refl, sym, ap, subst, ◌∙◌, inl, inr, arith}
+use Rattle.std.proofs.lemmas.Option.{none-some}
+use Rattle.kin_basics.proofs.Members.{contains_none, contains_head}
 use Rattle.std.specs.List.{Contains}
 use Rattle.std.proofs.lemmas.List.Sums.{sum_by-cons}
 use Rattle.std.proofs.lemmas.List.Kept.{AllPairs-cons}
@@ -8,23 +10,14 @@ use Rattle.kin_cert.specs.declared.entry.Entry.{Entry}
 use Rattle.kin_cert.specs.Facts.{LiveFact, AreAlike, NoneAlike}
 use Rattle.kin_cert.specs.Layout.{live_fact, live_in, waiting, due_count}
 
-none_some : {A : Type 0} (x : A) → None ≡ Some x → ⊥
-none_some x e = cc
-
-pub Contains-head : {X : Type 0} (x : X) (xs : List X) → Contains (x ∷ xs) x
-Contains-head x xs = (zero, omega arith, refl)
-
-pub Contains-nothing : {X : Type 0} (x : X) → Contains [] x → ⊥
-Contains-nothing x h = omega (arith, h.1)
-
 -- the entry of a slot is live
 pub live-there : (slots : List (Option Entry)) (id : ℕ) (e : Entry) → get_or slots id None ≡ Some e → Contains (live_in slots) (live_fact e)
-live-there [] id e h = absurd (none_some e h)
-live-there (None ∷ slots) zero e h = absurd (none_some e h)
+live-there [] id e h = absurd (none-some e h)
+live-there (None ∷ slots) zero e h = absurd (none-some e h)
 live-there (None ∷ slots) (suc id) e h = live-there slots id e h
 live-there (Some f ∷ slots) zero e h =
     let same : f ≡ e = cc in
-    subst (λ (x : Entry). Contains (live_fact f ∷ live_in slots) (live_fact x)) same (Contains-head (live_fact f) (live_in slots))
+    subst (λ (x : Entry). Contains (live_fact f ∷ live_in slots) (live_fact x)) same (contains_head (live_fact f) (live_in slots))
 live-there (Some f ∷ slots) (suc id) e h = Contains-cons (live_fact f) (live_fact e) (live_in slots) (live-there slots id e h)
 
 -- a slot and its entry
@@ -39,7 +32,7 @@ later_slot o slots l h = record { id = suc h.id; entry = h.entry; there = h.ther
 
 -- a live fact is the entry of a slot
 pub live-from : (slots : List (Option Entry)) (l : LiveFact) → Contains (live_in slots) l → IsEntryOf slots l
-live-from [] l h = absurd (Contains-nothing l h)
+live-from [] l h = absurd (contains_none l h)
 live-from (None ∷ slots) l h = later_slot None slots l (live-from slots l h)
 live-from (Some e ∷ slots) l h =
     elim (Contains-cons_cases (live_fact e) l (live_in slots) h) [
@@ -82,15 +75,15 @@ due_count-cons : (l : LiveFact) (ls : List LiveFact) → due_count (l ∷ ls) �
 due_count-cons l ls = sum_by-cons due l ls
 
 pub live-set-count : (slots : List (Option Entry)) (id : ℕ) (e f : Entry) → get_or slots id None ≡ Some e → length (live_in (set slots id (Some f))) ≡ length (live_in slots)
-live-set-count [] id e f h = absurd (none_some e h)
-live-set-count (None ∷ slots) zero e f h = absurd (none_some e h)
+live-set-count [] id e f h = absurd (none-some e h)
+live-set-count (None ∷ slots) zero e f h = absurd (none-some e h)
 live-set-count (None ∷ slots) (suc id) e f h = live-set-count slots id e f h
 live-set-count (Some g ∷ slots) zero e f h = refl
 live-set-count (Some g ∷ slots) (suc id) e f h = ap suc (live-set-count slots id e f h)
 
 pub live-set-due : (slots : List (Option Entry)) (id : ℕ) (e : Entry) → get_or slots id None ≡ Some e → e.is_waiting ≡ false → due_count (live_in (set slots id (Some (waiting e)))) + 1 ≡ due_count (live_in slots)
-live-set-due [] id e h w = absurd (none_some e h)
-live-set-due (None ∷ slots) zero e h w = absurd (none_some e h)
+live-set-due [] id e h w = absurd (none-some e h)
+live-set-due (None ∷ slots) zero e h w = absurd (none-some e h)
 live-set-due (None ∷ slots) (suc id) e h w = live-set-due slots id e h w
 live-set-due (Some g ∷ slots) zero e h w =
     let same : g ≡ e = cc in

@@ -10,6 +10,7 @@ use Rattle.kin_motion.specs.declared.form.Form.{Form}
 use Rattle.kin_motion.specs.declared.form.Form.TheVariants.{Line, Turn, Slope, Dist}
 use Rattle.kin_motion.specs.Journal.{is_less_rank, form_rank}
 use Rattle.kin_motion.specs.Numbers.{IsChain}
+use Rattle.kin_motion.proofs.JournalLaws.{by_first, by_rest}
 use Rattle.kin_cert.specs.declared.owned.Owned.{Owned}
 use Rattle.kin_cert.specs.Rank.{padded_rank, padding}
 use Rattle.kin_cert.specs.Taken.{is_taken_before}
@@ -23,21 +24,11 @@ is_most : (x : ℤ) (b : Bool) → int_le x x ≡ b → b ≡ true
 is_most x true e = refl
 is_most x false e = absurd (omega (arith, ints, e))
 
-by_first : (a b : Bool) → a ≡ true → a || b ≡ true
-by_first true b e = refl
-by_first false b e = absurd cc
-
-by_rest : (a b c : Bool) → b ≡ true → c ≡ true → a || (b && c) ≡ true
-by_rest true b c e f = refl
-by_rest false true true e f = refl
-by_rest false true false e f = absurd cc
-by_rest false false c e f = absurd cc
-
 -- one place of two lists
 step : (x y : ℤ) (o : Ordering) (r : Bool) → ordering_then (int_cmp x y) o ≡ Less → (o ≡ Less → r ≡ true) → int_lt x y || (int_le x y && r) ≡ true
 step x y o r h rest =
     elim (int_cmp x y) as (λ c. int_cmp x y ≡ c → ordering_then c o ≡ Less → int_lt x y || (int_le x y && r) ≡ true) [
-      | Less ↦ λ e h. let lt : x <ℤ y = int_ranked x y Less (sym e) in by_first (int_lt x y) (int_le x y && r) (is_less x y lt (int_lt x y) refl)
+      | Less ↦ λ e h. let lt : x <ℤ y = int_ranked x y Less (sym e) in by_first (int_lt x y) (int_le x y) r (is_less x y lt (int_lt x y) refl)
       | Equal ↦ λ e h. let same : x ≡ y = int_ranked x y Equal (sym e) in by_rest (int_lt x y) (int_le x y) r (subst (λ (z : ℤ). int_le x z ≡ true) same (is_most x (int_le x x) refl)) (rest h)
       | Greater ↦ λ e h. absurd (cc)
     ] refl h
@@ -55,7 +46,7 @@ third_differs s s' p p' a b xs ys zs ws n h =
     step s s' (ordering_then (int_cmp p p') (ordering_then (int_cmp a b) (slice_cmp int_cmp xs ys))) (is_less_rank (p ∷ a ∷ zs) (p' ∷ b ∷ ws)) h (λ h1.
     step p p' (ordering_then (int_cmp a b) (slice_cmp int_cmp xs ys)) (is_less_rank (a ∷ zs) (b ∷ ws)) h1 (λ h2.
     elim (int_cmp a b) as (λ c. int_cmp a b ≡ c → ordering_then c (slice_cmp int_cmp xs ys) ≡ Less → is_less_rank (a ∷ zs) (b ∷ ws) ≡ true) [
-      | Less ↦ λ e h3. let lt : a <ℤ b = int_ranked a b Less (sym e) in by_first (int_lt a b) (int_le a b && is_less_rank zs ws) (is_less a b lt (int_lt a b) refl)
+      | Less ↦ λ e h3. let lt : a <ℤ b = int_ranked a b Less (sym e) in by_first (int_lt a b) (int_le a b) (is_less_rank zs ws) (is_less a b lt (int_lt a b) refl)
       | Equal ↦ λ e h3. absurd (n e)
       | Greater ↦ λ e h3. absurd (cc)
     ] refl h2))

@@ -1,5 +1,6 @@
 -- What a table's layout says of its live facts, and what changes of it keep.
 use Rattle.std.proofs.Common.{◌≡◌, ◌≢◌, ℕ, zero, suc, ◌<◌, Bool, true, false, cond, List, [], ◌∷◌, length, get_or, set, Option, Some, None, is_some, refl, sym, ap, subst, ◌∙◌, ◌⊎◌, inl, inr, ◌↔◌, arith}
+use Rattle.std.proofs.lemmas.Option.{same_Some}
 use Rattle.std.specs.List.{Contains}
 use Rattle.std.specs.Ordering.{nat_cmp}
 use Rattle.std.specs.FinMap as map
@@ -17,7 +18,7 @@ use Rattle.kin_cert.specs.Facts.{LiveFact, IsAt, NoneAlike}
 use Rattle.kin_cert.specs.Rank.{padded_rank}
 use Rattle.kin_cert.specs.Layout.{IsTable, live_fact, live_in, entry_at, entry_rank, queued_at, with, fresh, timed, HasSlot, NoneTwice, IsNotFound, IsTimed}
 use Rattle.kin_cert.proofs.Ranks.{rank_names}
-use Rattle.kin_cert.proofs.Rolls.{same_some, some_none}
+use Rattle.kin_cert.proofs.Rolls.{some_none}
 use Rattle.kin_cert.proofs.Slots.{live-there, live-from, live-once, IsEntryOf}
 
 -- the rank of a fact at an owner and a form
@@ -146,7 +147,7 @@ module _ (slots after : List (Option Entry)) (once : NoneTwice slots) (id : ℕ)
       from (c, n) =
           let h = live-from slots l c in
           let apart : h.id ≢ id = λ h_is.
-          let same_entry : h.entry ≡ e = same_some h.entry e (sym h.there ∙ ap (entry_at slots) h_is ∙ there) in
+          let same_entry : h.entry ≡ e = same_Some h.entry e (sym h.there ∙ ap (entry_at slots) h_is ∙ there) in
           n (subst (λ (x : LiveFact). IsAt s p f x) (ap live_fact (sym same_entry) ∙ h.is) at) in
           subst (λ (x : LiveFact). Contains (live_in after) x) h.is (live-there after h.id h.entry (slot.others h.id apart ∙ h.there))
 
@@ -162,7 +163,7 @@ module _ (slots after : List (Option Entry)) (id : ℕ) (e : Entry) (vacant : en
       to c =
           let h = live-from after l c in
           elim (cases_eq h.id id) [
-            | inl h_is ↦ inr (sym h.is ∙ ap live_fact (same_some h.entry e (sym h.there ∙ ap (entry_at after) h_is ∙ slot.changed)))
+            | inl h_is ↦ inr (sym h.is ∙ ap live_fact (same_Some h.entry e (sym h.there ∙ ap (entry_at after) h_is ∙ slot.changed)))
             | inr n ↦ inl (subst (λ (x : LiveFact). Contains (live_in slots) x) h.is (live-there slots h.id h.entry (sym (slot.others h.id n) ∙ h.there)))
           ]
 
@@ -181,7 +182,7 @@ module _ (slots after : List (Option Entry)) (once : NoneTwice slots) (id : ℕ)
       to c =
           let h = live-from after l c in
           elim (cases_eq h.id id) [
-            | inl h_is ↦ inr (sym h.is ∙ ap live_fact (same_some h.entry e' (sym h.there ∙ ap (entry_at after) h_is ∙ slot.changed)))
+            | inl h_is ↦ inr (sym h.is ∙ ap live_fact (same_Some h.entry e' (sym h.there ∙ ap (entry_at after) h_is ∙ slot.changed)))
             | inr n ↦
                 let was : entry_at slots h.id ≡ Some h.entry = sym (slot.others h.id n) ∙ h.there in
                 inl (subst (λ (x : LiveFact). Contains (live_in slots) x) h.is (live-there slots h.id h.entry was), λ l_at. n (once h.id id h.entry e was there (rank-of-live after s p f l l_at h ∙ sym (rank-at s p f e at))))
@@ -191,7 +192,7 @@ module _ (slots after : List (Option Entry)) (once : NoneTwice slots) (id : ℕ)
       from (inl (c, n)) =
           let h = live-from slots l c in
           let apart : h.id ≢ id = λ h_is.
-          let same_entry : h.entry ≡ e = same_some h.entry e (sym h.there ∙ ap (entry_at slots) h_is ∙ there) in
+          let same_entry : h.entry ≡ e = same_Some h.entry e (sym h.there ∙ ap (entry_at slots) h_is ∙ there) in
           n (subst (λ (x : LiveFact). IsAt s p f x) (ap live_fact (sym same_entry) ∙ h.is) at) in
           subst (λ (x : LiveFact). Contains (live_in after) x) h.is (live-there after h.id h.entry (slot.others h.id apart ∙ h.there))
       from (inr l_is) = subst (λ (x : LiveFact). Contains (live_in after) x) (sym l_is) (live-there after id e' slot.changed)

@@ -1,7 +1,9 @@
 -- A change that may be told may be applied.
 use Rattle.std.proofs.Common.{◌≡◌, ℕ, inl, inr, List, [], Some, get_or, sym, ap, subst, ◌∙◌, arith}
+use Rattle.kin_algebra.proofs.Signs.{equal_or_not}
+use Rattle.std.proofs.lemmas.Option.{slice_get-get_or}
 use Rattle.std.specs.List.{Contains, All, AllPairs}
-use Rattle.std.proofs.lemmas.List.Elements.{All-contains}
+use Rattle.std.proofs.lemmas.List.Elements.{All-contains, Contains-get_or}
 use Rattle.kin_motion.specs.declared.fact.Placed.{Placed}
 use Rattle.kin_motion.specs.Deltas.{Change}
 use Rattle.kin_motion.specs.Forms.{IsAskable}
@@ -12,13 +14,12 @@ use Rattle.kin_motion.specs.Sets.{ListsExactly}
 use Rattle.kin_cert.specs.Facts.{LiveFact}
 use Rattle.kin_cert.specs.Applied.{IsLiveIn, IsAmong, AreUnlike, MayApply}
 use Rattle.kin_cert.proofs.Changes.{is-at}
-use Rattle.kin_cert.proofs.Elements.{contained, got}
 use Rattle.kin_cert.specs.Told.{nothing, MayTell}
-use Rattle.kin_cert.proofs.SamePlaced.{same_sign, same_placed}
+use Rattle.kin_cert.proofs.SamePlaced.{same_placed}
 
 -- what holds of all items, item by item
 all_of : {A : Type 0} (xs : List A) (which : A → Type 0) → ((x : A) → Contains xs x → which x) → All which xs
-all_of {A} xs which each i d lt = each (get_or xs i d) (contained xs i d lt)
+all_of {A} xs which each i d lt = each (get_or xs i d) (Contains-get_or xs i d lt)
 
 -- gained from nothing on
 gained_all : (xs : List Placed) (which : Placed → Type 0) → HasGained [] xs which → ListsExactly xs which
@@ -58,17 +59,17 @@ module _ (k : ℕ) (change : Change) (s : Scene) (live : List LiveFact) (may : M
       let was : Contains may.before q = (may.tabled q).1 (l, there, owned) in
       let new = (born.each p).0 p_born in
       let gone : (Holds s q.fact → ⊥) → IsAmong k change.dropped l = λ n. (q, (dropped.each q).1 (was, λ c. n (holds q c)), is-at k q l owned) in
-      elim (same_sign (s.sign q.fact.form) q.fact.sign) [
+      elim (equal_or_not (s.sign q.fact.form) q.fact.sign) [
         | inl h ↦ absurd (new.1 (subst (λ (x : Placed). Contains may.before x) (same_held q p h (holds p new.0) of.part_is of.form_is) was))
         | inr n ↦ gone n
       ]
 
   born_once : AllPairs AreUnlike change.born
   born_once i j d lt in_born e f =
-      let at_i = contained change.born i d (omega (arith, lt, in_born)) in
-      let at_j = contained change.born j d in_born in
+      let at_i = Contains-get_or change.born i d (omega (arith, lt, in_born)) in
+      let at_j = Contains-get_or change.born j d in_born in
       let same : get_or change.born i d ≡ get_or change.born j d = same_held _ _ (holds _ ((born.each _).0 at_i).0) (holds _ ((born.each _).0 at_j).0) e f in
-      let i_is : i ≡ j = born.once i j (get_or change.born j d) (got change.born i d (omega (arith, lt, in_born)) ∙ ap (λ (x : Placed). Some x) same) (got change.born j d in_born) in
+      let i_is : i ≡ j = born.once i j (get_or change.born j d) (slice_get-get_or change.born i d (omega (arith, lt, in_born)) ∙ ap (λ (x : Placed). Some x) same) (slice_get-get_or change.born j d in_born) in
       absurd (omega (arith, lt, i_is))
 
   pub may_apply : MayApply k change live

@@ -10,3 +10,4 @@ pub mod Rolls
 pub mod Laws
 pub mod Told
 pub mod Remade
+pub mod Schedules

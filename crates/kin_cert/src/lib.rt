@@ -20,7 +20,9 @@ pub mod owned;
 mod place;
 mod rank;
 mod roll;
+mod schedule;
 pub mod table;
 mod tell;
 #[cfg(test)]
 mod tests;
+mod timing;

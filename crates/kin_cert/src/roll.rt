@@ -157,14 +157,14 @@ impl Roll {
     }
 
     /// Notes when a live fact fails first.
-    pub(crate) fn set_failure(&mut self, id: usize, fails: &Option<Moment>)
+    pub(crate) fn set_failure(&mut self, id: usize, at: &Moment)
         requires { IsSome (entry_at self.old id) }
-        ensures { (e : Kept) → entry_at self.old id ≡ Some e → self.new ≡ slice_set self.old id (Some (timed e fails.now)) }
+        ensures { (e : Kept) → entry_at self.old id ≡ Some e → self.new ≡ slice_set self.old id (Some (timed e (Some at.now))) }
     {
         let Some(entry) = self.entries.get_mut(id) else {
             unreachable!()
         };
-        entry.fails = *fails;
+        entry.fails = Some(*at);
     }
 
     /// Lets a live fact wait to be dropped.

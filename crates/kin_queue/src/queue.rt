@@ -1,6 +1,6 @@
 //! The event queue.
 
-ghost use Rattle.std.specs.Prelude.{◌≡◌, ◌<◌, length, None, OnOk, OnErr, IsSome};
+ghost use Rattle.std.specs.Prelude.{◌≡◌, ◌<◌, length, None, OnOk, OnErr, IsSome, is_some};
 ghost use Rattle.std.specs.FinMap.{get, insert, remove, empty, len};
 ghost use Rattle.kin_queue.specs.Agenda.{IsNext, without};
 ghost use Rattle.kin_queue.specs.Cost.{TakesSteps};
@@ -53,6 +53,20 @@ impl Queue {
             places: Vec::new(alloc),
             moments: Vec::new(alloc),
         }
+    }
+
+    /// Whether an id is there.
+    pub fn has(&self, id: usize) -> bool
+        ensures { result ≡ is_some (get self.now.moments id) }
+    {
+        if id >= self.places.len() {
+            return false;
+        }
+        let known = self.places[id];
+        if known >= self.entries.len() {
+            return false;
+        }
+        self.entries[known].id as usize == id
     }
 
     /// Puts an id in at a moment. The id isn't there yet. Want of memory changes nothing.

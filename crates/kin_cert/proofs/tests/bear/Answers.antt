@@ -1,4 +1,5 @@
-use Rattle.std.proofs.Common.{◌≡◌, ◌<◌, ℕ, false, subst, inl, inr, arith, List, [], Contains, ◌⊎◌, Result, Ok, Err, OnOk}
+use Rattle.std.proofs.Common.{◌≡◌, ◌<◌, ℕ, false, subst, inl, inr, arith, List, [], Contains, ◌⊎◌}
+use Rattle.kin_basics.proofs.Results.{from_two}
 use Rattle.kin_num.specs.declared.instant.Moment.{Moment}
 use Rattle.kin_motion.specs.Deltas.{Change}
 use Rattle.kin_motion.specs.Scene.{Scene}
@@ -18,9 +19,5 @@ none_waits structure change scene now old new empty h = λ l there.
       | inr born ↦ born.2.waits_not
     ]
 
-on_ok : {T E : Type 0} (r : Result T E) (A P : Type 0) → (A → P) → OnOk r A → OnOk r P
-on_ok (Ok x) A P f a = f a
-on_ok (Err e) A P f a = tt
-
 pub returns : goal.returns
-returns g c = on_ok c.apply.result _ _ (none_waits _ _ _ _ _ _ c.requires.no) c.apply.ensures.applied
+returns g c = from_two c.apply.result (λ applied again. none_waits _ _ _ _ _ _ c.requires.no applied) c.apply.ensures.applied c.apply.ensures.applied

@@ -8,4 +8,4 @@ pub invariant_of-self : goal.invariant_of-self
 invariant_of-self c =
     let e = c.in-Some.entry.now in
     let there : entry_at c.self.inside.entries.slots c.args.id ≡ Some e = sym c.in-Some.ensures.value in
-    kept-roll c.self.inside.entries.slots c.self.inside.firsts c.self.inside.others c.self.invariant _ c.args.id e (timed e c.args.fails.now) there (has-slot c.self.inside.entries.slots c.args.id e (Some (timed e c.args.fails.now)) there) refl
+    kept-roll c.self.inside.entries.slots c.self.inside.firsts c.self.inside.others c.self.invariant _ c.args.id e (timed e (Some c.args.at.now)) there (has-slot c.self.inside.entries.slots c.args.id e (Some (timed e (Some c.args.at.now))) there) refl

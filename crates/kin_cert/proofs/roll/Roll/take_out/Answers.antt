@@ -1,8 +1,9 @@
 use Rattle.std.proofs.Common.{◌≡◌, List, Option, IsSome, refl, sym, subst, ap, ◌∙◌}
+use Rattle.std.proofs.lemmas.Option.{same_Some}
 use Rattle.kin_cert.specs.declared.entry.Entry.{Entry}
 use Rattle.kin_cert.specs.Rank.{padded_rank}
 use Rattle.kin_cert.specs.Layout.{entry_rank, NoneTwice, IsSeatOf}
-use Rattle.kin_cert.proofs.Rolls.{same_some, once, id-there, struck-id, struck-roll}
+use Rattle.kin_cert.proofs.Rolls.{once, id-there, struck-id, struck-roll}
 use Rattle.kin_cert.proofs.roll.Roll.take_out.Goals as goal
 
 pub remove-entry-requires : goal.remove-entry-requires
@@ -26,7 +27,7 @@ returns-clause-seat c =
     let slots = c.self.inside.entries.slots in
     let is_id = struck-id slots c.self.inside.firsts c.strike.new.firsts c.self.inside.others c.strike.new.others c.args.structure c.args.part c.args.form c.in-Some.id c.in-Some.ensures.some in
     let k = id-there slots c.self.inside.firsts c.self.inside.others c.self.invariant c.args.structure c.args.part c.args.form c.in-Some.id is_id in
-    let e_is : k.0 ≡ c.remove-entry.result = same_some k.0 c.remove-entry.result (sym k.1 ∙ c.remove-entry.ensures.value) in
+    let e_is : k.0 ≡ c.remove-entry.result = same_Some k.0 c.remove-entry.result (sym k.1 ∙ c.remove-entry.ensures.value) in
     subst (λ (s : List (Option Entry)). IsSeatOf s (padded_rank c.args.structure c.args.part c.args.form) (record { id = c.in-Some.id; is_queued = c.is_queued.result })) c.self.view_is
     (record {
       entry = c.remove-entry.result;

@@ -18,8 +18,8 @@ put_in-requires g c =
 
 pub invariant_of-self-2 : goal.invariant_of-self-2
 invariant_of-self-2 g c =
-    let table = put-table c.self.inside.roll c.put_in.new.self c.self.inside.queue.moments c.in_ok-id.id c.owned_by-owned.result c.self.invariant c.in_ok-id.ensures.vacant c.in_ok-id.ensures.slot in
-    timed-table (scene_at c.args.motions.now) c.args.now.now c.owned_by-owned.result c.in_ok-id.id c.put_in.new.self c.time.new.roll c.self.inside.queue.moments c.time.new.queue.moments table c.in_ok-id.ensures.slot.changed c.in_ok-time.ensures.ok
+    let table = put-table c.self.inside.roll c.put_in.new.self c.self.inside.schedule c.in_ok-id.id c.owned_by-owned.result c.self.invariant c.in_ok-id.ensures.vacant c.in_ok-id.ensures.slot in
+    timed-table (scene_at c.args.motions.now) c.args.now.now c.owned_by-owned.result c.in_ok-id.id c.put_in.new.self c.time.new.roll c.self.inside.schedule c.time.new.schedule table c.in_ok-id.ensures.slot.changed c.in_ok-time.ensures.ok
 
 pub returns-clause-gained : goal.returns-clause-gained
 returns-clause-gained g c =
@@ -28,10 +28,10 @@ returns-clause-gained g c =
     let scene = scene_at c.args.motions.now in
     let slot : HasSlot c.self.inside.roll c.put_in.new.self c.in_ok-id.id (Some (fresh (held s p))) =
     subst (λ (o : Owned). HasSlot c.self.inside.roll c.put_in.new.self c.in_ok-id.id (Some (fresh o))) c.owned_by-owned.ensures c.in_ok-id.ensures.slot in
-    let timed_so : IsTimed scene c.args.now.now (held s p) c.in_ok-id.id c.put_in.new.self c.self.inside.queue.moments c.time.new.roll c.time.new.queue.moments =
-    subst (λ (o : Owned). IsTimed scene c.args.now.now o c.in_ok-id.id c.put_in.new.self c.self.inside.queue.moments c.time.new.roll c.time.new.queue.moments) c.owned_by-owned.ensures c.in_ok-time.ensures.ok in
+    let timed_so : IsTimed scene c.args.now.now (held s p) c.in_ok-id.id c.put_in.new.self c.self.inside.schedule c.time.new.roll c.time.new.schedule =
+    subst (λ (o : Owned). IsTimed scene c.args.now.now o c.in_ok-id.id c.put_in.new.self c.self.inside.schedule c.time.new.roll c.time.new.schedule) c.owned_by-owned.ensures c.in_ok-time.ensures.ok in
     subst (λ (t : Facts). HasBorn s scene c.args.now.now p t.live (live_in c.time.new.roll)) c.self.view_is
-    (has-born s scene c.args.now.now p c.self.inside.roll c.put_in.new.self c.time.new.roll c.in_ok-id.id c.self.inside.queue.moments c.time.new.queue.moments slot.changed timed_so c.in_ok-id.ensures.vacant slot)
+    (has-born s scene c.args.now.now p c.self.inside.roll c.put_in.new.self c.time.new.roll c.in_ok-id.id c.self.inside.schedule c.time.new.schedule slot.changed timed_so c.in_ok-id.ensures.vacant slot)
 
 pub returns-clause-count : goal.returns-clause-count
 returns-clause-count g c =
@@ -40,8 +40,8 @@ returns-clause-count g c =
     let scene = scene_at c.args.motions.now in
     let slot : HasSlot c.self.inside.roll c.put_in.new.self c.in_ok-id.id (Some (fresh (held s p))) =
     subst (λ (o : Owned). HasSlot c.self.inside.roll c.put_in.new.self c.in_ok-id.id (Some (fresh o))) c.owned_by-owned.ensures c.in_ok-id.ensures.slot in
-    let timed_so : IsTimed scene c.args.now.now (held s p) c.in_ok-id.id c.put_in.new.self c.self.inside.queue.moments c.time.new.roll c.time.new.queue.moments =
-    subst (λ (o : Owned). IsTimed scene c.args.now.now o c.in_ok-id.id c.put_in.new.self c.self.inside.queue.moments c.time.new.roll c.time.new.queue.moments) c.owned_by-owned.ensures c.in_ok-time.ensures.ok in
+    let timed_so : IsTimed scene c.args.now.now (held s p) c.in_ok-id.id c.put_in.new.self c.self.inside.schedule c.time.new.roll c.time.new.schedule =
+    subst (λ (o : Owned). IsTimed scene c.args.now.now o c.in_ok-id.id c.put_in.new.self c.self.inside.schedule c.time.new.roll c.time.new.schedule) c.owned_by-owned.ensures c.in_ok-time.ensures.ok in
     let more : length (live_in c.put_in.new.self) ≡ length (live_in c.self.inside.roll) + 1 = omega (arith, live-count c.put_in.new.self, live-count c.self.inside.roll, c.in_ok-id.ensures.count) in
-    born-count s scene c.args.now.now p c.self.inside.roll c.put_in.new.self c.time.new.roll c.in_ok-id.id c.self.inside.queue.moments c.time.new.queue.moments slot.changed timed_so more
+    born-count s scene c.args.now.now p c.self.inside.roll c.put_in.new.self c.time.new.roll c.in_ok-id.id c.self.inside.schedule c.time.new.schedule slot.changed timed_so more
     ∙ ap (λ (t : Facts). length t.live + 1) c.self.view_is

@@ -22,7 +22,7 @@ invariant_of-self g c =
     let k = c.take_out-seat.ensures.seat in
     let slot : HasSlot c.self.inside.roll c.take_out-seat.new.self c.take_out-seat.result.id None =
     subst (λ (xs : List (Option Entry)). HasSlot c.self.inside.roll xs c.take_out-seat.result.id None) (sym c.take_out-seat.ensures.slots) (has-slot c.self.inside.roll c.take_out-seat.result.id k.entry None k.there) in
-    unqueued-table c.self.inside.roll c.take_out-seat.new.self c.self.inside.queue.moments c.unqueue.new.queue.moments c.take_out-seat.result.id None c.self.invariant slot refl c.unqueue.ensures
+    unqueued-table c.self.inside.roll c.take_out-seat.new.self c.self.inside.schedule c.unqueue.new.schedule c.take_out-seat.result.id None c.self.invariant slot refl c.unqueue.ensures
 
 pub returns-clause-rest : goal.returns-clause-rest
 returns-clause-rest g c = λ l.

@@ -1,10 +1,10 @@
 use Rattle.std.proofs.Common.{List, Option, Some, refl, sym, ap, subst, ◌∙◌}
 use Rattle.kin_motion.specs.Scene.{scene_at}
-use Rattle.kin_queue.specs.Agenda.{Agenda}
 use Rattle.kin_cert.specs.declared.entry.Entry.{Entry}
 use Rattle.kin_cert.specs.declared.owned.Owned.{Owned}
 use Rattle.kin_cert.specs.Facts.{Facts}
 use Rattle.kin_cert.specs.Layout.{live_in, owned_rank, fresh, queued_at, IsTable, IsTakenOver, IsTimed, HasReplaced}
+use Rattle.kin_cert.proofs.Schedules.{Moments}
 use Rattle.kin_cert.proofs.Tables.{unqueued-table, timed-table}
 use Rattle.kin_cert.proofs.Replacing.{held, taken-slot, has-replaced}
 use Rattle.kin_cert.proofs.table.Table.replace.Goals as goal
@@ -13,32 +13,32 @@ pub time-requires-clause-absent : goal.time-requires-clause-absent
 time-requires-clause-absent g c =
     let k = c.in-Some.ensures.taken in
     let slot = taken-slot c.self.inside.roll c.take_over.new.self (owned_rank c.owned_by-old.result) c.owned_by-new.result c.in-Some.seat k in
-    unqueued-table c.self.inside.roll c.take_over.new.self c.self.inside.queue.moments c.unqueue.new.queue.moments c.in-Some.seat.id (Some (fresh c.owned_by-new.result)) c.self.invariant slot refl c.unqueue.ensures c.in-Some.seat.id
+    unqueued-table c.self.inside.roll c.take_over.new.self c.self.inside.schedule c.unqueue.new.schedule c.in-Some.seat.id (Some (fresh c.owned_by-new.result)) c.self.invariant slot refl c.unqueue.ensures c.in-Some.seat.id
     ∙ ap queued_at slot.changed
 
 pub invariant_of-self-in_err-time : goal.invariant_of-self-in_err-time
 invariant_of-self-in_err-time g c =
     let k = c.in-Some.ensures.taken in
     let slot = taken-slot c.self.inside.roll c.take_over.new.self (owned_rank c.owned_by-old.result) c.owned_by-new.result c.in-Some.seat k in
-    let table = unqueued-table c.self.inside.roll c.take_over.new.self c.self.inside.queue.moments c.unqueue.new.queue.moments c.in-Some.seat.id (Some (fresh c.owned_by-new.result)) c.self.invariant slot refl c.unqueue.ensures in
-    subst (λ (q : Agenda). IsTable c.time.new.roll q.moments) (sym c.in_err-time.ensures.queue)
-    (subst (λ (slots : List (Option Entry)). IsTable slots c.unqueue.new.queue.moments) (sym c.in_err-time.ensures.roll) table)
+    let table = unqueued-table c.self.inside.roll c.take_over.new.self c.self.inside.schedule c.unqueue.new.schedule c.in-Some.seat.id (Some (fresh c.owned_by-new.result)) c.self.invariant slot refl c.unqueue.ensures in
+    subst (λ (m : Moments). IsTable c.time.new.roll m) (sym c.in_err-time.ensures.schedule)
+    (subst (λ (slots : List (Option Entry)). IsTable slots c.unqueue.new.schedule) (sym c.in_err-time.ensures.roll) table)
 
 pub invariant_of-self-2 : goal.invariant_of-self-2
 invariant_of-self-2 g c =
     let k = c.in-Some.ensures.taken in
     let slot = taken-slot c.self.inside.roll c.take_over.new.self (owned_rank c.owned_by-old.result) c.owned_by-new.result c.in-Some.seat k in
-    let table = unqueued-table c.self.inside.roll c.take_over.new.self c.self.inside.queue.moments c.unqueue.new.queue.moments c.in-Some.seat.id (Some (fresh c.owned_by-new.result)) c.self.invariant slot refl c.unqueue.ensures in
-    timed-table (scene_at c.args.motions.now) c.args.now.now c.owned_by-new.result c.in-Some.seat.id c.take_over.new.self c.time.new.roll c.unqueue.new.queue.moments c.time.new.queue.moments table slot.changed c.in_ok-time.ensures.ok
+    let table = unqueued-table c.self.inside.roll c.take_over.new.self c.self.inside.schedule c.unqueue.new.schedule c.in-Some.seat.id (Some (fresh c.owned_by-new.result)) c.self.invariant slot refl c.unqueue.ensures in
+    timed-table (scene_at c.args.motions.now) c.args.now.now c.owned_by-new.result c.in-Some.seat.id c.take_over.new.self c.time.new.roll c.unqueue.new.schedule c.time.new.schedule table slot.changed c.in_ok-time.ensures.ok
 
 pub returns-clause-yes : goal.returns-clause-yes
 returns-clause-yes g c = λ yes.
     let k : IsTakenOver c.self.inside.roll (owned_rank (held c.args.structure c.args.dropped.now)) (held c.args.structure c.args.born) c.in-Some.seat c.take_over.new.self =
     subst (λ (o : Owned). IsTakenOver c.self.inside.roll (owned_rank (held c.args.structure c.args.dropped.now)) o c.in-Some.seat c.take_over.new.self) c.owned_by-new.ensures
     (subst (λ (o : Owned). IsTakenOver c.self.inside.roll (owned_rank o) c.owned_by-new.result c.in-Some.seat c.take_over.new.self) c.owned_by-old.ensures c.in-Some.ensures.taken) in
-    let timed_so : IsTimed (scene_at c.args.motions.now) c.args.now.now (held c.args.structure c.args.born) c.in-Some.seat.id c.take_over.new.self c.unqueue.new.queue.moments c.time.new.roll c.time.new.queue.moments =
-    subst (λ (o : Owned). IsTimed (scene_at c.args.motions.now) c.args.now.now o c.in-Some.seat.id c.take_over.new.self c.unqueue.new.queue.moments c.time.new.roll c.time.new.queue.moments) c.owned_by-new.ensures c.in_ok-time.ensures.ok in
+    let timed_so : IsTimed (scene_at c.args.motions.now) c.args.now.now (held c.args.structure c.args.born) c.in-Some.seat.id c.take_over.new.self c.unqueue.new.schedule c.time.new.roll c.time.new.schedule =
+    subst (λ (o : Owned). IsTimed (scene_at c.args.motions.now) c.args.now.now o c.in-Some.seat.id c.take_over.new.self c.unqueue.new.schedule c.time.new.roll c.time.new.schedule) c.owned_by-new.ensures c.in_ok-time.ensures.ok in
     let slot = taken-slot c.self.inside.roll c.take_over.new.self (owned_rank (held c.args.structure c.args.dropped.now)) (held c.args.structure c.args.born) c.in-Some.seat k in
     subst (λ (t : Facts). HasReplaced c.args.structure (scene_at c.args.motions.now) c.args.now.now c.args.dropped.now c.args.born t.live (live_in c.time.new.roll)) c.self.view_is
-    (has-replaced c.args.structure (scene_at c.args.motions.now) c.args.now.now c.args.born c.self.inside.roll c.take_over.new.self c.time.new.roll c.in-Some.seat.id c.unqueue.new.queue.moments c.time.new.queue.moments slot.changed timed_so
+    (has-replaced c.args.structure (scene_at c.args.motions.now) c.args.now.now c.args.born c.self.inside.roll c.take_over.new.self c.time.new.roll c.in-Some.seat.id c.unqueue.new.schedule c.time.new.schedule slot.changed timed_so
     c.args.dropped.now c.in-Some.seat refl k)

@@ -1,10 +1,12 @@
 use Rattle.std.proofs.Common.{◌≡◌, ◌∙◌, List, ◌∷◌, sym, subst}
+use Rattle.std.specs.List.{All}
+use Rattle.std.proofs.lemmas.List.Elements.{All-tail}
 use Rattle.kin_motion.specs.declared.fact.Placed.{Placed}
 use Rattle.kin_motion.specs.Course.{live_of}
 use Rattle.kin_motion.specs.Forms.{IsAskable}
 use Rattle.kin_motion.specs.Scene.{scene_at, Holds}
 use Rattle.kin_cert.specs.Applied.{MayApply, HasApplied}
-use Rattle.kin_cert.proofs.Replacing.{rest-may, rest-did, rest-all}
+use Rattle.kin_cert.proofs.Replacing.{rest-may, rest-did}
 use Rattle.kin_cert.proofs.table.Table.replace_each.Goals as goal
 
 pub loop-dropped-preserved : goal.loop-dropped-preserved
@@ -29,7 +31,7 @@ loop-dropped-preserved g c =
           (subst (λ (xs : List Placed). HasApplied s (record { dropped = xs; born = c.loop-dropped.rest.born.now }) scene c.args.now.now c.loop-dropped.self.live after) (sym d_is)
           (subst (λ (ys : List Placed). HasApplied s (record { dropped = d ∷ ds; born = ys }) scene c.args.now.now c.loop-dropped.self.live after) (sym b_is)
           (rest-did s scene c.args.now.now d b ds bs c.loop-dropped.self.live c.replace.new.self.live may did after app)));
-      askable = rest-all (λ (p : Placed). IsAskable (live_of c.args.motions.now) p.fact.form) c.loop-dropped.rest.born.now b bs b_is inv.askable;
-      holds = rest-all (λ (p : Placed). Holds (scene c.args.now.now) p.fact) c.loop-dropped.rest.born.now b bs b_is inv.holds;
+      askable = All-tail (λ (p : Placed). IsAskable (live_of c.args.motions.now) p.fact.form) b bs (subst (λ (xs : List Placed). All (λ (p : Placed). IsAskable (live_of c.args.motions.now) p.fact.form) xs) b_is inv.askable);
+      holds = All-tail (λ (p : Placed). Holds (scene c.args.now.now) p.fact) b bs (subst (λ (xs : List Placed). All (λ (p : Placed). Holds (scene c.args.now.now) p.fact) xs) b_is inv.holds);
       made = c.in_ok-replace.ensures.made ∙ inv.made;
     }

@@ -1,4 +1,4 @@
-use Rattle.std.proofs.Common.{Result, Ok, Err, OnOk}
+use Rattle.kin_basics.proofs.Results.{from_two}
 use Rattle.kin_motion.specs.Scene.{scene_at}
 use Rattle.kin_cert.proofs.TellLaws.{may_apply, born_askable, born_hold}
 use Rattle.kin_cert.proofs.ToldLaws.{told}
@@ -13,13 +13,8 @@ apply-requires-clause-askable g c = born_askable c.args.k c.args.delta.now (scen
 pub apply-requires-clause-holds : goal.apply-requires-clause-holds
 apply-requires-clause-holds g c = born_hold c.args.k c.args.delta.now (scene_at c.args.motions.now c.args.now.now) c.args.self.now.live c.requires
 
--- what follows from two facts that hold after Ok
-on_ok : {T E : Type 0} (r : Result T E) (A B P : Type 0) → (A → B → P) → OnOk r A → OnOk r B → OnOk r P
-on_ok (Ok x) A B P f a b = f a b
-on_ok (Err e) A B P f a b = tt
-
 pub returns-clause-told : goal.returns-clause-told
 returns-clause-told g c =
-    on_ok c.apply.result _ _ _
+    from_two c.apply.result
     (told c.args.k c.args.delta.now (scene_at c.args.motions.now) c.args.now.now c.args.self.now.live c.apply.new.self.live c.requires)
     c.apply.ensures.applied c.apply.ensures.once

@@ -1,0 +1,238 @@
+//! When the live facts fail.
+
+ghost use Rattle.std.specs.Prelude.{◌≡◌, ◌≢◌, ◌⊎◌, ◌↔◌, ℕ, [], slice_get, Contains, None, Some, IsSome, IsTrue, IsFalse, IfSome, IfNone, MatchOption, OnOk, OnErr};
+ghost use Rattle.std.specs.FinMap.{get, insert, remove, empty};
+ghost use Rattle.kin_num.specs.declared.instant.Moment.{Moment as Time};
+ghost use Rattle.kin_num.specs.Order.{IsEarlier};
+ghost use Rattle.kin_queue.specs.Agenda.{IsLeast};
+
+use kin_instant::order::compare;
+use kin_instant::ratio::ratio;
+use kin_num::{Instant, Moment, NoMemory, Phase, Shape, Steps};
+use kin_queue::queue::Queue;
+use std::alloc::Global;
+use std::cmp::Ordering;
+use std::marker::Model;
+use std::sync::ledger::Ledger;
+
+/// The ids of the facts that will fail, each with its moment.
+///
+/// Half of all failures come just after the instant at which their facts are born: a sign 0 that is left again. Such ids
+/// stand in a list of one moment beside the queue, and are never compared there. While the list has ids, an id with another
+/// moment goes to the queue.
+#[derive(Drop)]
+pub(crate) struct Schedule {
+    queue: Queue,
+    /// The ids beside the queue.
+    soon: Vec<usize>,
+    /// The moment of the ids beside the queue. Where there are none it means nothing.
+    soon_at: Moment,
+}
+
+impl Model for Schedule {
+    ghost use Rattle.std.specs.FinMap.{FinMap};
+    ghost use Rattle.std.specs.Ordering.{nat_cmp};
+    ghost use Rattle.kin_num.specs.declared.instant.Moment.{Moment};
+    ghost use Rattle.kin_cert.specs.Schedules.{schedule_code, with_each, AreBeside};
+
+    ghost Value = { FinMap nat_cmp Moment };
+
+    ghost coded = { schedule_code };
+
+    ghost view = { λ s. with_each s.queue.moments s.soon_at s.soon.items };
+
+    ghost invariant = { λ s. AreBeside s.queue.moments s.soon.items };
+}
+
+impl Schedule {
+    /// No ids.
+    pub(crate) fn new(alloc: Global) -> Schedule
+        ensures { result ≡ empty }
+    {
+        Schedule {
+            queue: Queue::new(alloc),
+            soon: Vec::new(alloc),
+            soon_at: Moment {
+                at: ratio(0, 1),
+                phase: Phase::At,
+            },
+        }
+    }
+
+    /// Puts an id in at a moment. The id isn't there yet. Want of memory changes nothing.
+    pub(crate) fn insert<L: Ledger>(
+        &mut self,
+        id: usize,
+        at: &Moment,
+        steps: &mut Steps<L>,
+    ) -> Result<(), NoMemory>
+        requires absent { get self.old id ≡ None }
+        ensures ok { OnOk result (self.new ≡ insert self.old id at.now) }
+        ensures err { OnErr result (self.new ≡ self.old) }
+    {
+        at.at.recall_canonical();
+        if !may_join(&self.soon, &self.soon_at, at) {
+            return self.queue.insert(id, *at, steps);
+        }
+        if self.soon.push(id).is_err() {
+            return Err(NoMemory);
+        }
+        self.soon_at = *at;
+        Ok(())
+    }
+
+    /// Takes an id out, which is there.
+    pub(crate) fn remove<L: Ledger>(&mut self, id: usize, steps: &mut Steps<L>)
+        requires present { IsSome (get self.old id) }
+        ensures { self.new ≡ remove self.old id }
+    {
+        if self.queue.has(id) {
+            self.queue.remove(id, steps);
+            return;
+        }
+        let Some(place) = place_of(&self.soon, id) else {
+            unreachable!()
+        };
+        self.soon.remove(place);
+    }
+
+    /// The least moment of an id, or `None` exactly where there is no id. Compares moments at most
+    /// once, which isn't counted.
+    pub(crate) fn least(&self) -> Option<Moment>
+        ensures { MatchOption result (self.now ≡ empty) (λ m. (id : ℕ) × IsLeast self.now (id, m)) }
+    {
+        self.soon_at.at.recall_canonical();
+        let Some(next) = self.queue.first() else {
+            return if is_vacant(&self.soon) {
+                None
+            } else {
+                Some(self.soon_at)
+            };
+        };
+        if comes_first(&next.1, &self.soon, &self.soon_at) {
+            Some(next.1)
+        } else {
+            Some(self.soon_at)
+        }
+    }
+
+    /// Takes an id of this moment out, before which there is none, or `None` exactly where no id has it.
+    pub(crate) fn take_at<L: Ledger>(
+        &mut self,
+        moment: &Moment,
+        steps: &mut Steps<L>,
+    ) -> Option<usize>
+        requires first { (id : ℕ) (n : Time) → get self.old id ≡ Some n → ¬ (IsEarlier n moment.now) }
+        ensures there { IfSome result (λ id. get self.old id ≡ Some moment.now) }
+        ensures rest { IfSome result (λ id. self.new ≡ remove self.old id) }
+        ensures none { IfNone result ((id : ℕ) → ¬ (get self.old id ≡ Some moment.now)) }
+        ensures unchanged { IfNone result (self.new ≡ self.old) }
+    {
+        moment.at.recall_canonical();
+        if have_moment(&self.soon, &self.soon_at, moment) {
+            let Some(id) = self.soon.pop() else {
+                unreachable!()
+            };
+            return Some(id);
+        }
+        let Some(next) = self.queue.first() else {
+            return None;
+        };
+        if !is_same(&next.1, moment) {
+            return None;
+        }
+        self.queue.pop(steps);
+        Some(next.0)
+    }
+}
+
+// Whether an id with this moment may come beside the queue.
+fn may_join(soon: &[usize], soon_at: &Moment, at: &Moment) -> bool
+    ensures { IsTrue result → (soon.now ≡ []) ⊎ (soon_at.now ≡ at.now) }
+{
+    match at.phase {
+        Phase::At => false,
+        Phase::After => soon.is_empty() || is_same(soon_at, at),
+    }
+}
+
+fn is_vacant(ids: &[usize]) -> bool
+    ensures yes { IsTrue result → ids.now ≡ [] }
+    ensures other { IsFalse result → ids.now ≢ [] }
+{
+    ids.is_empty()
+}
+
+// Whether there are ids beside the queue, and this is their moment.
+fn have_moment(soon: &[usize], soon_at: &Moment, moment: &Moment) -> bool
+    ensures yes { IsTrue result → (soon.now ≢ []) × (soon_at.now ≡ moment.now) }
+    ensures other { IsFalse result → (soon.now ≡ []) ⊎ (soon_at.now ≢ moment.now) }
+{
+    !soon.is_empty() && is_same(soon_at, moment)
+}
+
+// Whether a moment is earlier than that of the ids beside the queue, or there are none.
+fn comes_first(at: &Moment, soon: &[usize], soon_at: &Moment) -> bool
+    ensures yes { IsTrue result → (soon.now ≡ []) ⊎ IsEarlier at.now soon_at.now }
+    ensures other { IsFalse result → (soon.now ≢ []) × ¬ (IsEarlier at.now soon_at.now) }
+{
+    soon.is_empty() || is_earlier(at, soon_at)
+}
+
+// Where an id stands in a list.
+fn place_of(ids: &[usize], id: usize) -> Option<usize>
+    ensures some { IfSome result (λ place. slice_get ids.now place ≡ Some id) }
+    ensures none { IfNone result (¬ (Contains ids.now id)) }
+{
+    for place in 0..ids.len() {
+        if ids[place] == id {
+            return Some(place);
+        }
+    }
+    None
+}
+
+fn is_same(x: &Moment, y: &Moment) -> bool
+    ensures { IsTrue result ↔ (x.now ≡ y.now) }
+{
+    is_same_phase(x.phase, y.phase) && is_same_instant(&x.at, &y.at)
+}
+
+// Whether the canonical forms are one.
+fn is_same_instant(x: &Instant, y: &Instant) -> bool
+    ensures { IsTrue result ↔ (x.now ≡ y.now) }
+{
+    match (x.shape(), y.shape()) {
+        (Shape::Ratio { n, d }, Shape::Ratio { n: m, d: e }) => n == m && d == e,
+        (
+            Shape::Root { a, b, c, upper },
+            Shape::Root {
+                a: a2,
+                b: b2,
+                c: c2,
+                upper: upper2,
+            },
+        ) => a == a2 && b == b2 && c == c2 && upper == upper2,
+        _ => false,
+    }
+}
+
+fn is_same_phase(x: Phase, y: Phase) -> bool
+    ensures { IsTrue result ↔ (x ≡ y) }
+{
+    match (x, y) {
+        (Phase::At, Phase::At) => true,
+        (Phase::After, Phase::After) => true,
+        _ => false,
+    }
+}
+
+fn is_earlier(x: &Moment, y: &Moment) -> bool
+    ensures { IsTrue result ↔ IsEarlier x.now y.now }
+{
+    match compare(&x.at, &y.at) {
+        Ordering::Less => true,
+        Ordering::Equal => matches!((x.phase, y.phase), (Phase::At, Phase::After)),
+        Ordering::Greater => false,
+    }
+}
