@@ -9,7 +9,7 @@ use Rattle.kin_list.specs.Listing.{Listing, HasMarked, without}
 use Rattle.kin_list.specs.Keeping.{HasMembers}
 use Rattle.kin_list.proofs.ListLaws.{is_in-without, not_in-without}
 
-without_once : (who : ℕ) (xs : List ℕ) → IsOnce xs → IsOnce (without who xs)
+pub without_once : (who : ℕ) (xs : List ℕ) → IsOnce xs → IsOnce (without who xs)
 without_once who [] once = tt
 without_once who (x ∷ xs) once = at (nat_eq who x) refl (without_once who xs once.1)
   where

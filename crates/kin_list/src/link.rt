@@ -14,14 +14,10 @@ pub struct Link {
 }
 
 /// Whether they are the same.
-pub fn is_same_link(old: Option<Link>, new: Option<Link>) -> bool
+pub fn is_same_link(old: Link, new: Link) -> bool
     ensures { IsTrue result ↔ (old ≡ new) }
 {
-    match (old, new) {
-        (None, None) => true,
-        (Some(old), Some(new)) => old.right == new.right && old.sign == new.sign,
-        _ => false,
-    }
+    old.right == new.right && old.sign == new.sign
 }
 
 /// No link for any number below `room`.

@@ -26,23 +26,28 @@ fn link_of(lineup: &Lineup, no: u32) -> Option<Link>
     }
 }
 
-/// Tells that the fact of a link is gone, if there is one.
-fn drop_fact(out: &mut Delta, along: Direction, no: u32, link: Option<Link>) -> Result<(), NoMemory>
-    ensures { OnOk result (out.new ≡ record { dropped = out.old.dropped ++ link_facts along.dx along.dy no link; born = out.old.born }) }
+/// Tells that the fact of one link took the place of another's, where they differ.
+fn tell(
+    out: &mut Delta,
+    along: Direction,
+    no: u32,
+    old: Option<Link>,
+    new: Option<Link>,
+) -> Result<(), NoMemory>
+    ensures same { OnOk result (old ≡ new → out.new ≡ out.old) }
+    ensures changed { OnOk result (old ≢ new → out.new ≡ record { dropped = out.old.dropped ++ link_facts along.dx along.dy no old; born = out.old.born ++ link_facts along.dx along.dy no new }) }
 {
-    match link {
-        Some(link) => out.report_dropped(along.fact(no, link)),
-        None => Ok(()),
-    }
-}
-
-/// Tells that the fact of a link is new, if there is one.
-fn bear_fact(out: &mut Delta, along: Direction, no: u32, link: Option<Link>) -> Result<(), NoMemory>
-    ensures { OnOk result (out.new ≡ record { dropped = out.old.dropped; born = out.old.born ++ link_facts along.dx along.dy no link }) }
-{
-    match link {
-        Some(link) => out.report_born(along.fact(no, link)),
-        None => Ok(()),
+    match (old, new) {
+        (Some(old), Some(new)) => {
+            if is_same_link(old, new) {
+                return Ok(());
+            }
+            out.report_dropped(along.fact(no, old))?;
+            out.report_born(along.fact(no, new))
+        }
+        (Some(old), None) => out.report_dropped(along.fact(no, old)),
+        (None, Some(new)) => out.report_born(along.fact(no, new)),
+        (None, None) => Ok(()),
     }
 }
 
@@ -64,12 +69,7 @@ fn renew(
     if place >= links.len() {
         return Ok(());
     }
-    let old = links[place];
-    if is_same_link(old, new) {
-        return Ok(());
-    }
-    drop_fact(out, along, no, old)?;
-    bear_fact(out, along, no, new)?;
+    tell(out, along, no, links[place], new)?;
     links[place] = new;
     Ok(())
 }

@@ -1,8 +1,7 @@
 -- A tournament without items.
-use Rattle.std.proofs.Common.{◌≡◌, ◌≢◌, ◌⊎◌, inl, inr, refl, sym, ap, ◌∙◌, subst, arith, List, [], ℕ, zero, suc, ◌+◌, ◌*◌, ◌^◌, ◌<◌, ◌≤◌, length, Bool, true, false, nat_lt, set, replicate, get_or}
+use Rattle.std.proofs.Common.{◌≡◌, ◌≢◌, ◌⊎◌, inl, inr, refl, sym, ap, ◌∙◌, subst, arith, List, [], ℕ, zero, suc, ◌+◌, ◌*◌, ◌^◌, ◌<◌, ◌≤◌, length, true, false, set, replicate, get_or}
 use Rattle.std.specs.Prelude.{Option, Some, None, Contains}
-use Rattle.std.proofs.lemmas.Bool.Decides.{nat_tests}
-use Rattle.std.proofs.lemmas.List.{length-set, length-replicate, get_or-set_same, get_or-set_other, get_or-replicate, get_or_past}
+use Rattle.std.proofs.lemmas.List.{length-set, length-replicate, get_or-set_same, get_or-set_other}
 use Rattle.std.proofs.Math.Pow.{pow_pos}
 use Rattle.std.proofs.lemmas.Bool.{cases_eq}
 use Rattle.kin_basics.proofs.Options.{none_or_some}
@@ -23,12 +22,11 @@ use Rattle.kin_tourney.proofs.Entrants.{winner_seen}
 abbrev pub fresh : (Item : Type 0) → ℕ → Standings Item
 fresh Item size = record { size = size; items = replicate (2 ^ size) None; marked = replicate (2 ^ size) false; best = replicate (2 ^ size) None; facts = replicate (2 ^ size) None; doubts = set (replicate (2 ^ size) Clear) 0 Here }
 
-same_all : {A : Type 0} (n i : ℕ) (a : A) → get_or (replicate n a) i a ≡ a
-same_all {A} n i a = at (nat_lt i n) refl
-  where
-    at : (b : Bool) → nat_lt i n ≡ b → get_or (replicate n a) i a ≡ a
-    at true e = get_or-replicate n i a a (grind (arith, nat_tests, e))
-    at false e = get_or_past (replicate n a) i a (let past : n ≤ i = grind (arith, nat_tests, e) in let k = length-replicate n a in omega arith)
+-- a list of one value has it at each place, and it is what stands for none past the end
+pub same_all : {A : Type 0} (n i : ℕ) (a : A) → get_or (replicate n a) i a ≡ a
+same_all {A} zero i a = refl
+same_all {A} (suc n) zero a = refl
+same_all {A} (suc n) (suc i) a = same_all n i a
 
 module _ (Item : Type 0) (size : ℕ) where
   top_set : doubt_in (set (replicate (2 ^ size) Clear) 0 Here) 0 ≡ Here

@@ -24,6 +24,11 @@ above_marked size v i (suc k) (m ∷ ms) low e =
     let same : i + suc k ≡ i + 1 + k = omega arith in
     or_right (m && is_under size v i) _ (above_marked size v (i + 1) k ms (omega (arith, low)) (subst (λ j. is_under size v j ≡ true) same e))
 
+-- a node whose left half is over a slot isn't node 0
+pub some_node : (size v j : ℕ) → is_under size (2 * v) j ≡ true → 0 < v
+some_node size zero j e = absurd (is_under-none size j e)
+some_node size (suc v) j e = omega arith
+
 module _ (a : ℕ) (t : Tournament Along ℕ) (s : Scene) (has : HasPoints t s.live) (settled : IsSettledAlong t s) (low : a < 2 ^ t.size) where
   -- the best of some slots is the point of its slot
   own_slot : (among : ℕ → Bool) (i : ℕ) → IsBest s (along_key t.key.dx t.key.dy) t.slots among i → among i ≡ true
@@ -31,17 +36,12 @@ module _ (a : ℕ) (t : Tournament Along ℕ) (s : Scene) (has : HasPoints t s.l
       let held = slot_holds t.size s.live best.slot i (sym (ap (λ slots. item_in slots best.slot) has.slots) ∙ best.held) in
       subst (λ j. among j ≡ true) held.0 best.among
 
-  -- a node whose left half is over a slot isn't node 0
-  some_node : (v j : ℕ) → is_under t.size (2 * v) j ≡ true → 0 < v
-  some_node zero j e = absurd (is_under-none t.size j e)
-  some_node (suc v) j e = omega arith
-
   above : (v : ℕ) → is_under t.size v a ≡ true → is_above_mark t.size (slice_set t.marked a true) v ≡ true
   above v e = above_marked t.size v 0 a t.marked (subst (λ n. a < n) (sym has.room) low) (let same : a ≡ 0 + a = omega arith in subst (λ j. is_under t.size v j ≡ true) same e)
 
   module _ (p : Placed) (free : is_above_mark t.size (slice_set t.marked a true) p.part ≡ false) (f : IsNodeFact s (along_key t.key.dx t.key.dy) t.size t.slots p) where
     some : 0 < p.part
-    some = some_node p.part f.left_best.slot f.left_best.among
+    some = some_node t.size p.part f.left_best.slot f.left_best.among
 
     not_over : is_under t.size p.part a ≡ true → ⊥
     not_over e = let clash : true ≡ false = sym (above p.part e) ∙ free in cc

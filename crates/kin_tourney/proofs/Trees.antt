@@ -32,16 +32,16 @@ right_inside {Item} t h v some inside = at (cases_eq (length t.items) (2 * v + 1
 pub above_in_doubt : (ds : List Doubt) → IsClosed ds → (v : ℕ) → 0 < v → doubt_in ds v ≢ Clear → doubt_in ds (v / 2) ≢ Clear
 above_in_doubt ds h v some n e = n (h.below v some e)
 
--- a node got another best slot and fact, and the node above it has to be played again
+-- a node got another best slot, its fact may have changed, and the node above it has to be played again
 pub tree_replayed : {Item : Type 0} (t : Standings Item) → IsTree t → (node : ℕ) → 0 < node → node < length t.items → doubt_in t.doubts node ≢ Clear
-    → (best : Option ℕ) (fact : Option Fact) → ((i : ℕ) → best ≡ Some i → (i < length t.items) × (is_under t.size node i ≡ true))
-    → IsTree (record t { best = set t.best node best; facts = set t.facts node fact; doubts = set t.doubts (node / 2) Here })
-tree_replayed {Item} t h node some inside doubted best fact under = record {
+    → (best : Option ℕ) (facts : List (Option Fact)) → length facts ≡ length t.facts → ((i : ℕ) → best ≡ Some i → (i < length t.items) × (is_under t.size node i ≡ true))
+    → IsTree (record t { best = set t.best node best; facts = facts; doubts = set t.doubts (node / 2) Here })
+tree_replayed {Item} t h node some inside doubted best facts room under = record {
   small = h.small;
   items_room = h.items_room;
   marked_room = h.marked_room;
   best_room = length-set t.best node best ∙ h.best_room;
-  facts_room = length-set t.facts node fact ∙ h.facts_room;
+  facts_room = room ∙ h.facts_room;
   doubts_room = length-set t.doubts (node / 2) Here ∙ h.doubts_room;
   best_low = λ v i e. (at v i e (read_set t.best node v best None (let r = h.best_room in omega arith))).0;
   best_under = λ v i e. (at v i e (read_set t.best node v best None (let r = h.best_room in omega arith))).1;

@@ -1,39 +1,49 @@
 //! What is told of the fact of a node.
 
-ghost use Rattle.std.specs.Prelude.{◌≡◌, ◌↔◌, IsTrue, OnOk};
+ghost use Rattle.std.specs.Prelude.{◌≡◌, ◌<◌, ◌≤◌, ◌^◌, Some, None, length, slice_set, OnOk};
 ghost use Rattle.kin_tourney.specs.Repairs.{IsReported};
+ghost use Rattle.kin_tourney.specs.Standings.{fact_in};
 
 use kin_motion::fact::{Delta, Fact, Placed};
 use kin_num::memory::NoMemory;
 
-/// Whether both are the same.
-fn is_same(old: Option<Fact>, new: Option<Fact>) -> bool
-    ensures { IsTrue result ↔ (old ≡ new) }
-{
-    match (old, new) {
-        (None, None) => true,
-        (Some(old), Some(new)) => old.is(new),
-        _ => false,
-    }
-}
-
-/// Reports that one fact of a node took the place of another.
-pub fn report(
-    node: u32,
-    old: Option<Fact>,
-    new: Option<Fact>,
+/// Writes the fact of a node, and reports it where it is another one than before.
+pub fn tell(
+    facts: &mut Vec<Option<Fact>>,
+    node: usize,
+    fact: Fact,
     out: &mut Delta,
 ) -> Result<(), NoMemory>
-    ensures { OnOk result (IsReported node old new out.old out.new) }
+    requires node { node < length facts.old.items }
+    requires small { length facts.old.items ≤ 2 ^ 15 }
+    ensures room { length facts.new.items ≡ length facts.old.items }
+    ensures facts { OnOk result (facts.new.items ≡ slice_set facts.old.items node (Some fact)) }
+    ensures reported { OnOk result (IsReported node (fact_in facts.old.items node) (Some fact) out.old out.new) }
 {
-    if is_same(old, new) {
-        return Ok(());
+    let part = node as u32;
+    if let Some(old) = facts[node] {
+        if old.is(fact) {
+            return Ok(());
+        }
+        out.report_dropped(Placed { part, fact: old })?;
     }
-    if let Some(fact) = old {
-        out.report_dropped(Placed { part: node, fact })?;
-    }
-    if let Some(fact) = new {
-        out.report_born(Placed { part: node, fact })?;
+    out.report_born(Placed { part, fact })?;
+    facts[node] = Some(fact);
+    Ok(())
+}
+
+/// Takes the fact of a node away, if it has one, and reports that.
+pub fn untell(facts: &mut Vec<Option<Fact>>, node: usize, out: &mut Delta) -> Result<(), NoMemory>
+    requires node { node < length facts.old.items }
+    requires small { length facts.old.items ≤ 2 ^ 15 }
+    ensures room { length facts.new.items ≡ length facts.old.items }
+    ensures facts { OnOk result (facts.new.items ≡ slice_set facts.old.items node None) }
+    ensures reported { OnOk result (IsReported node (fact_in facts.old.items node) None out.old out.new) }
+{
+    if let Some(fact) = facts[node] {
+        let part = node as u32;
+        out.report_dropped(Placed { part, fact })?;
+        facts[node] = None;
     }
     Ok(())
 }

@@ -1,19 +1,19 @@
 //! The tree of matches over the slots.
 
-ghost use Rattle.std.specs.Prelude.{◌≡◌, ◌≢◌, ◌⊎◌, ℕ, ◌+◌, ◌*◌, ◌/◌, ◌^◌, ◌<◌, ◌≤◌, ◌↔◌, true, false, length, replicate, slice_set, slice_index_or, IsTrue, IfOk, IfSome, OnOk, MatchOption, Contains};
+ghost use Rattle.std.specs.Prelude.{◌≡◌, ◌≢◌, ◌⊎◌, ℕ, ◌+◌, ◌*◌, ◌/◌, ◌^◌, ◌<◌, ◌≤◌, ◌↔◌, true, false, length, replicate, slice_set, slice_index_or, IsTrue, IfOk, IfSome, OnOk, MatchOption, Contains, Some};
 ghost use Rattle.kin_motion.specs.declared.fact.Placed.{Placed as Put};
 ghost use Rattle.kin_motion.specs.Scene.{Scene};
 ghost use Rattle.kin_motion.specs.Tournaments.{item_in};
 ghost use Rattle.kin_tourney.specs.Names.{AreLive};
 ghost use Rattle.kin_motion.specs.Kinetics.{HasChanged};
-ghost use Rattle.kin_tourney.specs.Standings.{Standings, IsTree, named_at, entry_at, match_at, doubt_in, doubt_count, placed_facts};
+ghost use Rattle.kin_tourney.specs.Standings.{Standings, IsTree, named_at, entry_at, match_at, match_of, fact_in, doubt_in, doubt_count, placed_facts};
 ghost use Rattle.kin_tourney.specs.Tournament.{mark_in};
-ghost use Rattle.kin_tourney.specs.Repairs.{IsSpread, IsDoubted, IsReplayed, IsRenewed, IsCleared, IsDoubtful};
+ghost use Rattle.kin_tourney.specs.Repairs.{IsSpread, IsDoubted, IsReplayed, IsRenewed, IsReported, IsCleared, IsDoubtful};
 
 use crate::doubt::{Doubt, doubt_failed, doubt_path};
 use crate::entry::Entry;
 use crate::keyed::Keyed;
-use crate::report::report;
+use crate::report::{tell, untell};
 use kin_motion::fact::{Delta, Fact, Placed};
 use kin_motion::signs::Signs;
 use kin_num::memory::NoMemory;
@@ -148,34 +148,73 @@ impl<I: Copy> Tree<I> {
         doubt_failed(&mut self.doubts, failed);
     }
 
-    /// The match of the two halves of a node: the slot of its winner, and the fact.
+    /// Plays the match of two entries, the halves of a node, and tells of its fact. The winner's slot
+    /// is the result.
+    fn meet<K: Keyed<Item = I>, O: Signs, L: Ledger>(
+        &mut self,
+        node: usize,
+        left: Entry<I>,
+        right: Entry<I>,
+        key: &K,
+        now: &O,
+        out: &mut Delta,
+        steps: &mut Steps<L>,
+    ) -> Result<Option<u32>, NoMemory>
+        requires node { node < length self.old.facts }
+        requires small { length self.old.facts ≤ 2 ^ 15 }
+        requires left { AreLive (O.scene now.now).live (K.names left.item) }
+        requires right { AreLive (O.scene now.now).live (K.names right.item) }
+        ensures same { self.new ≡ record self.old { facts = self.new.facts } }
+        ensures room { length self.new.facts ≡ length self.old.facts }
+        ensures value { IfOk result (λ best. (best, fact_in self.new.facts node) ≡ match_of (K.key key.now) (O.scene now.now).sign (Some left) (Some right)) }
+        ensures facts { OnOk result (self.new.facts ≡ slice_set self.old.facts node (fact_in self.new.facts node)) }
+        ensures reported { OnOk result (IsReported node (fact_in self.old.facts node) (fact_in self.new.facts node) out.old out.new) }
+        ensures cost { steps.new ≤ steps.old + 1 }
+    {
+        let form = key.form(&left.item, &right.item);
+        let sign = now.sign(&form, steps);
+        tell(&mut self.facts, node, Fact { form, sign }, out)?;
+        if key.left_wins(sign, &left.item, &right.item) {
+            Ok(Some(left.slot))
+        } else {
+            Ok(Some(right.slot))
+        }
+    }
+
+    /// Plays the match of the two halves of a node, and tells of its fact. The winner's slot is the
+    /// result.
     fn play<K: Keyed<Item = I>, O: Signs, L: Ledger>(
-        &self,
+        &mut self,
         node: usize,
         key: &K,
         now: &O,
+        out: &mut Delta,
         steps: &mut Steps<L>,
-    ) -> (Option<u32>, Option<Fact>)
-        requires tree { IsTree self.now }
-        requires node { node < length self.now.items }
-        requires live { (i : ℕ) (a : I) → item_in self.now.items i ≡ Some a → AreLive (O.scene now.now).live (K.names a) }
-        ensures value { result ≡ match_at (K.key key.now) (O.scene now.now).sign self.now node }
+    ) -> Result<Option<u32>, NoMemory>
+        requires tree { IsTree self.old }
+        requires node { node < length self.old.items }
+        requires live { (i : ℕ) (a : I) → item_in self.old.items i ≡ Some a → AreLive (O.scene now.now).live (K.names a) }
+        ensures same { self.new ≡ record self.old { facts = self.new.facts } }
+        ensures room { length self.new.facts ≡ length self.old.facts }
+        ensures value { IfOk result (λ best. (best, fact_in self.new.facts node) ≡ match_at (K.key key.now) (O.scene now.now).sign self.old node) }
+        ensures facts { OnOk result (self.new.facts ≡ slice_set self.old.facts node (fact_in self.new.facts node)) }
+        ensures reported { OnOk result (IsReported node (fact_in self.old.facts node) (fact_in self.new.facts node) out.old out.new) }
         ensures cost { steps.new ≤ steps.old + 1 }
     {
         match (self.entry(2 * node), self.entry(2 * node + 1)) {
-            (Some(left), Some(right)) => {
-                let form = key.form(&left.item, &right.item);
-                let sign = now.sign(&form, steps);
-                let winner = if key.left_wins(sign, &left.item, &right.item) {
-                    left.slot
-                } else {
-                    right.slot
-                };
-                (Some(winner), Some(Fact { form, sign }))
+            (Some(left), Some(right)) => self.meet(node, left, right, key, now, out, steps),
+            (Some(left), None) => {
+                untell(&mut self.facts, node, out)?;
+                Ok(Some(left.slot))
             }
-            (Some(left), None) => (Some(left.slot), None),
-            (None, Some(right)) => (Some(right.slot), None),
-            (None, None) => (None, None),
+            (None, Some(right)) => {
+                untell(&mut self.facts, node, out)?;
+                Ok(Some(right.slot))
+            }
+            (None, None) => {
+                untell(&mut self.facts, node, out)?;
+                Ok(None)
+            }
         }
     }
 
@@ -198,9 +237,7 @@ impl<I: Copy> Tree<I> {
         ensures replayed { OnOk result (IsReplayed (K.key key.now) (O.scene now.now).sign node self.old self.new out.old out.new) }
         ensures cost { OnOk result (steps.new ≤ steps.old + 1) }
     {
-        let (best, fact) = self.play(node, key, now, steps);
-        report(node as u32, self.facts[node], fact, out)?;
-        self.facts[node] = fact;
+        let best = self.play(node, key, now, out, steps)?;
         if best != self.best[node] {
             self.best[node] = best;
             self.doubts[node / 2] = Doubt::Here;

@@ -12,7 +12,9 @@ pub returns-then-ne-clause-tree : goal.returns-then-ne-clause-tree
 returns-then-ne-clause-tree g c =
     let key = g.K.Keyed.key c.args.key.now in
     let sign = (g.O.Signs.scene c.args.now.now).sign in
-    let played = c.play-best.result in
-    let kept = tree_replayed c.args.self.now c.requires.tree c.args.node c.requires.root c.requires.inner (λ e. here_is_doubt (sym c.requires.here ∙ e)) played.0 played.1
-    (λ i e. match_under key sign c.args.self.now c.requires.tree c.args.node i c.requires.root c.requires.inner (ap (λ (p : Option ℕ × Option Fact). p.0) (sym c.play-best.ensures.value) ∙ e)) in
-    subst (λ (t : Standings g.row.I.Denot). IsTree (record t { best = set t.best c.args.node played.0; facts = set t.facts c.args.node played.1; doubts = set t.doubts (c.args.node / 2) Here })) (sym c.self.view_is) kept
+    let told = c.play.new.self in
+    let best = c.in_ok-best.best in
+    let kept = tree_replayed c.args.self.now c.requires.tree c.args.node c.requires.root c.requires.inner (λ e. here_is_doubt (sym c.requires.here ∙ e)) best told.facts c.play.ensures.room
+    (λ i e. match_under key sign c.args.self.now c.requires.tree c.args.node i c.requires.root c.requires.inner (ap (λ (p : Option ℕ × Option Fact). p.0) (sym c.in_ok-best.ensures.value) ∙ e)) in
+    let here = subst (λ (t : Standings g.row.I.Denot). IsTree (record t { best = set t.best c.args.node best; doubts = set t.doubts (c.args.node / 2) Here })) (sym c.play.ensures.same) kept in
+    subst (λ (t : Standings g.row.I.Denot). IsTree (record t { best = set t.best c.args.node best; doubts = set t.doubts (c.args.node / 2) Here })) (sym c.self.view_is) here
