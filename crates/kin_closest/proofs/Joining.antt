@@ -16,13 +16,13 @@ use Rattle.kin_motion.proofs.SetLaws.{contains_mapped}
 use Rattle.kin_tourney.specs.Tournament.{Tournament, IsSettled}
 use Rattle.kin_tourney.specs.Under.{is_under-le}
 use Rattle.kin_closest.specs.DistanceKey.{pair_names}
-use Rattle.kin_near.proofs.BestPairs.{held_there}
+use Rattle.kin_motion.proofs.AskableLaws.{held_slot}
 
 -- the fact of a node is in the part of an inner node
 pub node_low : (s : Scene) (size : ℕ) (slots : List (Option Near)) (p : Placed) → length slots ≡ 2 ^ size → IsNodeFact s distance_key size slots p → p.part < 2 ^ size
 node_low s size slots p room f =
     let le : 2 * p.part ≤ 2 ^ size + f.left_best.slot = is_under-le size (2 * p.part) f.left_best.slot f.left_best.among in
-    let low = slice_get_within slots f.left_best.slot (Some f.left) (held_there slots f.left_best.slot f.left f.left_best.held) in
+    let low = slice_get_within slots f.left_best.slot (Some f.left) (held_slot slots f.left_best.slot f.left f.left_best.held) in
     omega (arith, le, low, room)
 
 -- so all its facts are in parts below 2^15

@@ -1,20 +1,18 @@
 -- From the state before a settle to that after it.
 use Rattle.std.proofs.Common.{◌≡◌, ◌⊎◌, inl, inr, refl, sym, ap, ◌∙◌, subst, arith, List, ◌++◌, ℕ, ◌+◌, ◌*◌, ◌^◌, ◌<◌, ◌≤◌, length, map, filter, Bool, true, false}
-use Rattle.std.specs.Prelude.{Some, Contains, slice_get}
+use Rattle.std.specs.Prelude.{Some, Contains, slice_get, IsTrue}
 use Rattle.std.proofs.lemmas.Bool.{cases_eq}
 use Rattle.std.proofs.lemmas.List.{length-map}
 use Rattle.std.proofs.lemmas.Nat.{mul-le}
-use Rattle.std.proofs.lemmas.Option.{slice_get_within}
 use Rattle.kin_basics.proofs.Members.{contains_from_get}
 use Rattle.kin_motion.specs.declared.fact.Placed.{Placed}
 use Rattle.kin_motion.specs.Agreements.{FitsSize}
-use Rattle.kin_motion.specs.ClosestFacts.{IsWedgeFact}
 use Rattle.kin_motion.specs.ClosestPairs.{Near, distance_key}
 use Rattle.kin_motion.specs.Deltas.{Change}
 use Rattle.kin_motion.specs.Forms.{names}
 use Rattle.kin_motion.specs.Kinetics.{ListsFailing, HasChanged}
 use Rattle.kin_motion.specs.Numbers.{is_in, IsIn}
-use Rattle.kin_motion.specs.Octants.{eight_directions, AreCandidates, ListsChanged}
+use Rattle.kin_motion.specs.Octants.{AreCandidates, ListsChanged}
 use Rattle.kin_motion.specs.Parts.{moved_by}
 use Rattle.kin_motion.specs.Scene.{Scene, IsReal}
 use Rattle.kin_motion.proofs.Members.{in_cases, in_from_contains}
@@ -26,6 +24,7 @@ use Rattle.kin_tourney.specs.Tournament.{Tournament, IsAtRest, IsReady, IsSettle
 use Rattle.kin_tourney.proofs.Marks.{mark_none}
 use Rattle.kin_wedge.specs.Wedging.{Wedging, candidate_told, members_of, IsSettledWedging}
 use Rattle.kin_near.specs.BestPairs.{HoldCandidates}
+use Rattle.kin_near.proofs.SettledPairs.{wedge_part}
 use Rattle.kin_closest.specs.declared.distance.Distance.{Distance}
 use Rattle.kin_closest.specs.Closing.{Closing, facts_of, IsSettledClosing, IsReadyClosing, AreJoined}
 use Rattle.kin_closest.specs.ClosingLaws.{closest_settled}
@@ -36,9 +35,6 @@ use Rattle.kin_closest.proofs.Joining.{joined, facts_low}
 use Rattle.kin_closest.proofs.Readiness.{ready, spares}
 use Rattle.kin_closest.proofs.Splitting.{orders_failing, pairs_covered}
 use Rattle.kin_closest.proofs.Telling.{held_after, unmarked_same}
-
-wedge_low : (s : Scene) (p : Placed) → IsWedgeFact s p → p.part < 8
-wedge_low s p w = slice_get_within eight_directions p.part w.way w.known
 
 -- who stays or enters is below the size
 marked_low : (mark : Mark) (members live : List ℕ) (n : ℕ) → HasMarked mark members live → ((i : ℕ) → IsIn i members → i < n) → ((i : ℕ) → mark ≡ Enters i → i < n) → (i : ℕ) → IsIn i live → i < n
@@ -65,26 +61,37 @@ none_leaving (Enters i) members live p h f = refl
 none_leaving (Leaves i) members live p h f = f i (λ l. absurd (let clash : true ≡ false = sym (h.same i ∙ l) ∙ not_in-without i members in cc))
 none_leaving Broken members live p h f = refl
 
-module _ (old : Closing) (s : Scene) (failed : List Placed) (known : AreJoined old.wedges old.pairs) (real : IsReal s) (may : IsReadyClosing old s)
-    (failing : ListsFailing (facts_of old) (names_leaving old.wedges.mark) s failed) where
+-- what a settle is called with
+pub record IsCalled (old : Closing) (s : Scene) (failed : List Placed) : Type 0 where
+  pub known : AreJoined old.wedges old.pairs
+  pub real : IsReal s
+  pub may : IsReadyClosing old s
+  pub failing : ListsFailing (facts_of old) (names_leaving old.wedges.mark) s failed
+
+pub called : {old k : Closing} {s : Scene} {failed : List Placed} → old ≡ k → (IsTrue old.whole → AreJoined old.wedges old.pairs) → IsReal s → IsReadyClosing k s → ListsFailing (facts_of k) (names_leaving k.wedges.mark) s failed → IsCalled old s failed
+called {old} {k} {s} {failed} is known real ready failing =
+    let may : IsReadyClosing old s = subst (λ (c : Closing). IsReadyClosing c s) (sym is) ready in
+    record { known = known may.whole; real = real; may = may; failing = subst (λ (c : Closing). ListsFailing (facts_of c) (names_leaving c.wedges.mark) s failed) (sym is) failing }
+
+module _ {old : Closing} {s : Scene} {failed : List Placed} (call : IsCalled old s failed) where
   orders_low : (p : Placed) → Contains old.wedges.facts p → p.part < 8
-  orders_low p c = wedge_low known.seen p ((known.settled.octants.wedges.exact.each p).0 c)
+  orders_low p c = wedge_part call.known.seen p ((call.known.settled.octants.wedges.exact.each p).0 c)
 
   pub orders_told : ListsFailing old.wedges.facts (names_leaving old.wedges.mark) s (filter is_of_order failed)
-  orders_told = orders_failing (names_leaving old.wedges.mark) s old.wedges.facts old.pairs.facts failed orders_low failing
+  orders_told = orders_failing (names_leaving old.wedges.mark) s old.wedges.facts old.pairs.facts failed orders_low call.failing
 
   fits : FitsSize old.wedges.size s
-  fits = marked_low old.wedges.mark (members_of old.wedges) s.live (2 ^ old.wedges.size) may.members (λ i m. known.settled.fits i (sym ((known.settled.octants.ordered.order 0 (omega arith)).all.same i) ∙ m)) known.entering
+  fits = marked_low old.wedges.mark (members_of old.wedges) s.live (2 ^ old.wedges.size) call.may.members (λ i m. call.known.settled.fits i (sym ((call.known.settled.octants.ordered.order 0 (omega arith)).all.same i) ∙ m)) call.known.entering
 
   -- the orders have settled
-  module _ (new : Wedging) (size : new.size ≡ old.wedges.size) (octants : IsSettledWedging new s) (changed : ListsChanged old.wedges.size (candidate_told old.wedges) (candidate_told new) new.changed) where
+  module _ {new : Wedging} (size : new.size ≡ old.wedges.size) (octants : IsSettledWedging new s) (changed : ListsChanged old.wedges.size (candidate_told old.wedges) (candidate_told new) new.changed) where
     pub within : (k i : ℕ) → slice_get new.changed k ≡ Some i → i < 2 ^ (new.size + 3)
     within k i e = subst (λ n. i < 2 ^ (n + 3)) (sym size) (changed.within i (in_from_contains new.changed i (contains_from_get new.changed k i e)))
 
     -- all slots are told
-    module _ (u : Tournament Distance Near) (told : AreTold (candidate_told new) new.changed (length new.changed) old.pairs u) where
+    module _ {u : Tournament Distance Near} (told : AreTold (candidate_told new) new.changed (length new.changed) old.pairs u) where
       held : HoldCandidates old.wedges.size (candidate_told new) u.slots
-      held = held_after old.wedges.size (candidate_told old.wedges) (candidate_told new) new.changed old.pairs u told known.settled.held changed
+      held = held_after old.wedges.size (candidate_told old.wedges) (candidate_told new) new.changed old.pairs u told call.known.settled.held changed
 
       octants_here : IsSettledWedging (record new { size = old.wedges.size }) s
       octants_here = record { ordered = octants.ordered; wedges = record { candidates = subst (λ n. AreCandidates n s (candidate_told new)) size octants.wedges.candidates; exact = octants.wedges.exact } }
@@ -96,32 +103,32 @@ module _ (old : Closing) (s : Scene) (failed : List Placed) (known : AreJoined o
       same_facts = ap (λ (t : Tournament Distance Near). t.facts) told.same
 
       pub pairs_ready : IsReady pair_names u s
-      pairs_ready = ready old.wedges.size s real fits (candidate_told new) octants_here.wedges.candidates u held (ap (λ (t : Tournament Distance Near). t.whole) told.same ∙ known.rest.whole)
+      pairs_ready = ready old.wedges.size s call.real fits (candidate_told new) octants_here.wedges.candidates u held (ap (λ (t : Tournament Distance Near). t.whole) told.same ∙ call.known.rest.whole)
 
       pub pairs_told : CoversFailing u.facts (λ p. is_above_mark u.size u.marked p.part) s (map taken_back (filter is_of_pair failed))
       pairs_told =
           subst (λ fs. CoversFailing fs (λ p. is_above_mark u.size u.marked p.part) s (map taken_back (filter is_of_pair failed))) (sym same_facts)
-          (pairs_covered (names_leaving old.wedges.mark) s old.wedges.facts old.pairs.facts failed orders_low failing (λ p. is_above_mark u.size u.marked p.part) spared)
+          (pairs_covered (names_leaving old.wedges.mark) s old.wedges.facts old.pairs.facts failed orders_low call.failing (λ p. is_above_mark u.size u.marked p.part) spared)
         where
           spared : (x : Placed) → Contains old.pairs.facts x → is_above_mark u.size u.marked x.part ≡ false → names_leaving old.wedges.mark (moved_by 8 x) ≡ false
           spared x c free =
-              none_leaving old.wedges.mark (members_of old.wedges) s.live x may.members
-              (spares old.wedges.size s real fits (candidate_told new) octants_here.wedges.candidates u held old.pairs known.seen known.settled.pairs
+              none_leaving old.wedges.mark (members_of old.wedges) s.live x call.may.members
+              (spares old.wedges.size s call.real fits (candidate_told new) octants_here.wedges.candidates u held old.pairs call.known.seen call.known.settled.pairs
               (unmarked_same old.wedges.size (candidate_told old.wedges) (candidate_told new) new.changed old.pairs u told) x c (subst (λ n. is_above_mark n u.marked x.part ≡ false) same_size free))
 
       pub pairs_small : u.size ≤ 15
-      pairs_small = let e : u.size ≡ old.wedges.size + 3 = same_size ∙ known.settled.size in let k = known.small in omega (arith, e, k)
+      pairs_small = let e : u.size ≡ old.wedges.size + 3 = same_size ∙ call.known.settled.size in let k = call.known.small in omega (arith, e, k)
 
       pub pairs_low : (p : Placed) → Contains u.facts p → p.part < 2 ^ 15
-      pairs_low p c = facts_low old.pairs known.seen known.settled.pairs (let e = known.settled.size in let k = known.small in omega (arith, e, k)) p (subst (λ fs. Contains fs p) same_facts c)
+      pairs_low p c = facts_low old.pairs call.known.seen call.known.settled.pairs (let e = call.known.settled.size in let k = call.known.small in omega (arith, e, k)) p (subst (λ fs. Contains fs p) same_facts c)
 
       -- the marks and the failed facts that were told
       pub tests_few : (picked : List Placed) (mid after : ℕ) → picked ≡ map taken_back (filter is_of_pair failed) → after ≤ mid + u.size * (mark_count u.marked + length picked)
           → after ≤ mid + (old.wedges.size + 3) * (length new.changed + length (filter is_of_pair failed))
-      tests_few picked mid after e h = enough (subst (λ n. after ≤ mid + n * (mark_count u.marked + length picked)) (same_size ∙ known.settled.size) h) (ap length e ∙ length-map (filter is_of_pair failed) taken_back) marks
+      tests_few picked mid after e h = enough (subst (λ n. after ≤ mid + n * (mark_count u.marked + length picked)) (same_size ∙ call.known.settled.size) h) (ap length e ∙ length-map (filter is_of_pair failed) taken_back) marks
         where
           marks : mark_count u.marked ≤ length new.changed
-          marks = let k = told.few in let z = mark_none old.pairs.marked known.rest.unmarked in omega (arith, k, z)
+          marks = let k = told.few in let z = mark_none old.pairs.marked call.known.rest.unmarked in omega (arith, k, z)
 
           enough : after ≤ mid + (old.wedges.size + 3) * (mark_count u.marked + length picked) → length picked ≡ length (filter is_of_pair failed) → mark_count u.marked ≤ length new.changed
               → after ≤ mid + (old.wedges.size + 3) * (length new.changed + length (filter is_of_pair failed))
@@ -130,19 +137,19 @@ module _ (old : Closing) (s : Scene) (failed : List Placed) (known : AreJoined o
               omega (arith, h, k)
 
       -- the tournament has settled
-      module _ (v : Tournament Distance Near) (same : v ≡ record u { marked = v.marked; winners = v.winners; facts = v.facts }) (settled : IsSettled pair_names distance_key v s) where
+      module _ {v : Tournament Distance Near} (same : v ≡ record u { marked = v.marked; winners = v.winners; facts = v.facts }) (settled : IsSettled pair_names distance_key v s) where
         fits_now : FitsSize new.size s
         fits_now = subst (λ n. FitsSize n s) (sym size) fits
 
         size_now : v.size ≡ new.size + 3
-        size_now = ap (λ (t : Tournament Distance Near). t.size) same ∙ same_size ∙ known.settled.size ∙ ap (λ n. n + 3) (sym size)
+        size_now = ap (λ (t : Tournament Distance Near). t.size) same ∙ same_size ∙ call.known.settled.size ∙ ap (λ n. n + 3) (sym size)
 
         held_now : HoldCandidates new.size (candidate_told new) v.slots
         held_now = subst (λ n. HoldCandidates n (candidate_told new) v.slots) (sym size) (subst (HoldCandidates old.wedges.size (candidate_told new)) (sym (ap (λ (t : Tournament Distance Near). t.slots) same)) held)
 
         pub settled_now : (whole : Bool) → IsSettledClosing (record { wedges = new; pairs = v; whole = whole }) s
         settled_now whole = record {
-          closest = closest_settled (record { wedges = new; pairs = v; whole = whole }) s real octants fits_now size_now held_now settled;
+          closest = closest_settled (record { wedges = new; pairs = v; whole = whole }) s call.real octants fits_now size_now held_now settled;
           fits = fits_now;
           octants = octants;
           size = size_now;
@@ -155,12 +162,12 @@ module _ (old : Closing) (s : Scene) (failed : List Placed) (known : AreJoined o
           seen = s;
           settled = settled_now true;
           rest = rest;
-          room = room ∙ told.marks_room ∙ known.room ∙ ap (λ n. 2 ^ n) (sym (ap (λ (t : Tournament Distance Near). t.size) same ∙ same_size));
+          room = room ∙ told.marks_room ∙ call.known.room ∙ ap (λ n. 2 ^ n) (sym (ap (λ (t : Tournament Distance Near). t.size) same ∙ same_size));
           entering = λ i e. absurd (let clash : Rest ≡ Enters i = sym rests ∙ e in cc);
-          small = subst (λ n. n ≤ 12) (sym size) known.small;
+          small = subst (λ n. n ≤ 12) (sym size) call.known.small;
         }
 
         pub changed_now : (out mid out' : Change) → HasChanged old.wedges.facts new.facts out mid → HasChanged (map (moved_by 8) u.facts) (map (moved_by 8) v.facts) mid out' → HasChanged (facts_of old) (new.facts ++ map (moved_by 8) v.facts) out out'
         changed_now out mid out' first second =
-            joined old.wedges.facts new.facts old.pairs.facts v.facts out mid out' orders_low (λ p c. wedge_low s p ((octants.wedges.exact.each p).0 c)) first
+            joined old.wedges.facts new.facts old.pairs.facts v.facts out mid out' orders_low (λ p c. wedge_part s p ((octants.wedges.exact.each p).0 c)) first
             (subst (λ (fs : List Placed). HasChanged (map (moved_by 8) fs) (map (moved_by 8) v.facts) mid out') same_facts second)

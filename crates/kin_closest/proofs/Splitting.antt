@@ -1,5 +1,5 @@
 -- The failed facts of both halves: those of the orders, and those of the tournament in its own parts.
-use Rattle.std.proofs.Common.{◌≡◌, ◌⊎◌, inl, inr, refl, sym, ap, ◌∙◌, subst, arith, List, [], ◌∷◌, ◌++◌, ◌+◌, ◌-◌, ◌<◌, ◌≤◌, Bool, true, false, cond, not, nat_lt, map, filter}
+use Rattle.std.proofs.Common.{◌≡◌, ◌⊎◌, inl, inr, refl, sym, ap, ◌∙◌, subst, arith, List, ◌++◌, ◌+◌, ◌-◌, ◌<◌, ◌≤◌, Bool, true, false, not, nat_lt, map, filter}
 use Rattle.std.specs.Prelude.{Contains}
 use Rattle.std.proofs.lemmas.Bool.Decides.{nat_tests}
 use Rattle.std.proofs.lemmas.List.Elements.{Contains-append_left, Contains-append_right, Contains-append_cases}
@@ -7,18 +7,10 @@ use Rattle.kin_motion.specs.declared.fact.Placed.{Placed}
 use Rattle.kin_motion.specs.Kinetics.{ListsFailing}
 use Rattle.kin_motion.specs.Parts.{moved_by}
 use Rattle.kin_motion.specs.Scene.{Scene}
-use Rattle.kin_motion.specs.Sets.{AreDistinct}
-use Rattle.kin_motion.proofs.SetLaws.{contains_map, contains_mapped, distinct_cons, distinct_head, distinct_tail, filter-sound, filter-complete}
+use Rattle.kin_motion.proofs.FailureOrder.{distinct_filter}
+use Rattle.kin_motion.proofs.SetLaws.{contains_map, contains_mapped, filter-sound, filter-complete}
 use Rattle.kin_tourney.specs.Tournament.{CoversFailing}
 use Rattle.kin_closest.specs.Sorting.{is_of_order, is_of_pair, taken_back}
-
-distinct_filter : {A : Type 0} (test : A → Bool) (xs : List A) → AreDistinct xs → AreDistinct (filter test xs)
-distinct_filter {A} test [] d = d
-distinct_filter {A} test (x ∷ xs) d = at (test x) (distinct_filter test xs (distinct_tail x xs d))
-  where
-    at : (b : Bool) → AreDistinct (filter test xs) → AreDistinct (cond b (x ∷ filter test xs) (filter test xs))
-    at true rest = distinct_cons x (filter test xs) (λ h. distinct_head x xs d (filter-sound test xs x h).0) rest
-    at false rest = rest
 
 low_part : (p : Placed) → p.part < 8 → is_of_order p ≡ true
 low_part p h = grind (arith, nat_tests, h)

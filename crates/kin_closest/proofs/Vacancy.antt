@@ -1,5 +1,5 @@
 -- Without members it is settled wherever no number is live.
-use Rattle.std.proofs.Common.{◌≡◌, inl, inr, refl, sym, ap, ◌∙◌, subst, arith, List, [], ◌∷◌, ◌++◌, ℕ, zero, suc, ◌+◌, ◌*◌, ◌/◌, ◌%◌, ◌^◌, ◌≤◌, ℤ, length, get_or, map, true, false}
+use Rattle.std.proofs.Common.{◌≡◌, inl, inr, refl, sym, ap, ◌∙◌, subst, arith, List, [], ◌∷◌, ◌++◌, ℕ, ◌+◌, ◌*◌, ◌/◌, ◌%◌, ◌^◌, ◌≤◌, ℤ, length, map, true, false}
 use Rattle.std.specs.Prelude.{Option, Some, None, Contains, slice_get, slice_index_or, replicate}
 use Rattle.std.proofs.lemmas.List.{length-replicate}
 use Rattle.std.proofs.lemmas.Nat.{pow-add}
@@ -17,23 +17,19 @@ use Rattle.kin_motion.specs.Parts.{moved_by}
 use Rattle.kin_motion.specs.Scene.{Scene}
 use Rattle.kin_motion.specs.Sets.{ListsExactly}
 use Rattle.kin_motion.specs.Tournaments.{item_in}
+use Rattle.kin_motion.proofs.AskableLaws.{held_slot}
 use Rattle.kin_motion.proofs.Members.{in_head}
 use Rattle.kin_motion.proofs.NearLaws.{octant_at}
 use Rattle.kin_motion.proofs.SetLaws.{exactly_none}
 use Rattle.kin_list.specs.declared.mark.Mark.TheVariants.{Rest, Enters}
 use Rattle.kin_tourney.specs.Tournament.{Tournament, IsAtRest, IsSettled, winner_at}
+use Rattle.kin_tourney.proofs.Fresh.{same_all}
 use Rattle.kin_wedge.specs.Rows.{AreOrders}
 use Rattle.kin_wedge.specs.Wedging.{Wedging, candidate_told, IsSettledWedging}
 use Rattle.kin_near.specs.BestPairs.{HoldCandidates}
-use Rattle.kin_near.proofs.BestPairs.{held_there}
 use Rattle.kin_closest.specs.declared.distance.Distance.{Distance}
 use Rattle.kin_closest.specs.Closing.{Closing, facts_of, pair_told, IsSettledClosing, AreJoined}
 use Rattle.kin_closest.specs.DistanceKey.{pair_names}
-
-same_any : {A : Type 0} (n i : ℕ) (a : A) → get_or (replicate n a) i a ≡ a
-same_any {A} zero i a = refl
-same_any {A} (suc n) zero a = refl
-same_any {A} (suc n) (suc i) a = same_any n i a
 
 -- the eight orders and the tournament of a structure without members
 pub record AreNone (wedges : Wedging) (pairs : Tournament Distance Near) : Type 0 where
@@ -53,7 +49,7 @@ module _ (k : Closing) (are : AreNone k.wedges k.pairs) (s : Scene) (none : s.li
   empty_order dx dy = record { all = record { once = tt; same = λ i. sym (ap (is_in i) none) }; chain = tt }
 
   ordered : AreOrders s k.wedges.orders
-  ordered = subst (AreOrders s) (sym are.orders) (record { count = refl; order = λ part low. subst (IsOrder s _ _) (sym (same_any 8 part [])) (empty_order _ _) })
+  ordered = subst (AreOrders s) (sym are.orders) (record { count = refl; order = λ part low. subst (IsOrder s _ _) (sym (same_all 8 part [])) (empty_order _ _) })
 
   no_neighbours : (dx dy : ℤ) (part : ℕ) (xs : List ℕ) (p : Placed) → Lists xs [] → ¬ (Contains (neighbour_facts s dx dy part xs) p)
   no_neighbours dx dy part [] p l h = contains_none p h
@@ -63,7 +59,7 @@ module _ (k : Closing) (are : AreNone k.wedges k.pairs) (s : Scene) (none : s.li
   no_wedge_fact p w = no_neighbours w.way.dx w.way.dy p.part w.fact.order p (subst (Lists w.fact.order) none w.fact.ordered.all) w.fact.listed
 
   candidate_none : (p w : ℕ) → candidate_told k.wedges p w ≡ None
-  candidate_none p w = ap (λ c. slice_index_or c (8 * p + w) None) are.candidates ∙ same_any (8 * 2 ^ k.wedges.size) (8 * p + w) None
+  candidate_none p w = ap (λ c. slice_index_or c (8 * p + w) None) are.candidates ∙ same_all (8 * 2 ^ k.wedges.size) (8 * p + w) None
 
   octants : IsSettledWedging k.wedges s
   octants = record {
@@ -75,7 +71,7 @@ module _ (k : Closing) (are : AreNone k.wedges k.pairs) (s : Scene) (none : s.li
   }
 
   slot_none : (i : ℕ) → item_in k.pairs.slots i ≡ None
-  slot_none i = ap (λ xs. item_in xs i) are.slots ∙ same_any (2 ^ (k.wedges.size + 3)) i None
+  slot_none i = ap (λ xs. item_in xs i) are.slots ∙ same_all (2 ^ (k.wedges.size + 3)) i None
 
   held : HoldCandidates k.wedges.size (candidate_told k.wedges) k.pairs.slots
   held = record {
@@ -100,7 +96,7 @@ module _ (k : Closing) (are : AreNone k.wedges k.pairs) (s : Scene) (none : s.li
   no_fact p (inr v) = no_live _ (here v.fact.left_best.slot v.fact.left v.fact.left_best.held).1
     where
       here : (i : ℕ) (m : Near) → item_in v.slots i ≡ Some m → HoldsNear s (octant_at (i % 8) (omega arith)).0 (i / 8) (8 * (i / 8) + i % 8) (Some m)
-      here i m e = let place : i ≡ 8 * (i / 8) + i % 8 = omega arith in v.filled.each (i / 8) (i % 8) (octant_at (i % 8) (omega arith)).0 (Some m) (octant_at (i % 8) (omega arith)).1 (sym (ap (slice_get v.slots) place) ∙ held_there v.slots i m e)
+      here i m e = let place : i ≡ 8 * (i / 8) + i % 8 = omega arith in v.filled.each (i / 8) (i % 8) (octant_at (i % 8) (omega arith)).0 (Some m) (octant_at (i % 8) (omega arith)).1 (sym (ap (slice_get v.slots) place) ∙ held_slot v.slots i m e)
 
   closest : IsSettledClosest s k.wedges.size (pair_told k) (facts_of k)
   closest = record {

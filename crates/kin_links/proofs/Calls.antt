@@ -2,7 +2,7 @@
 use Rattle.std.proofs.Common.{◌≡◌, ◌≢◌, refl, sym, ap, ap₂, ◌∙◌, subst, arith, List, [], ◌∷◌, ◌++◌, ℕ, zero, suc, ◌+◌, ◌<◌, ◌≤◌, ◌⊎◌, length, set, Some, None, Option, inl, inr, IsSome, add-one}
 use Rattle.std.specs.Prelude.{slice_get, slice_index_or, remove, insert, MatchOption}
 use Rattle.std.proofs.lemmas.Option.{slice_get_within, same_Some}
-use Rattle.std.proofs.lemmas.List.{set-set}
+use Rattle.std.proofs.lemmas.List.{length_push, set-set}
 use Rattle.kin_basics.proofs.Places.{get-remove_above, get-set_same, get_within, past_from_none}
 use Rattle.slab.specs.Slab.{Slab, Updates}
 use Rattle.kin_links.specs.declared.node.Gap.{Gap}
@@ -12,7 +12,7 @@ use Rattle.kin_links.specs.Family.{Linked, Standing, AreApart, HasLinked, IsNode
 use Rattle.kin_links.specs.Pointers.{Pointers, pointers, item_in, gap_at, behind, node_at, id_of, IsHeld, IsFamily, IsDetached, IsAttached, lists_of}
 use Rattle.kin_links.proofs.Edits.{moved_on}
 use Rattle.kin_links.proofs.Moves.{detach_family, detached_away, attach_family, gap_within}
-use Rattle.kin_links.proofs.Reading.{family_apart, same_place}
+use Rattle.kin_links.proofs.Reading.{family_apart, same_node, same_place}
 use Rattle.kin_links.proofs.Slots.{same_but, other_slot, read, some_item, gap_held, AreSameBut}
 
 with_none : {R : Type 0} {P P' : Type 0} (Q : R → Type 0) (r : Option R) → (P → P') → MatchOption r P Q → MatchOption r P' Q
@@ -85,12 +85,9 @@ module _ {T : Type 0} (firsts : List (Option ℕ)) (slots : List (Option (Node T
       at (suc p) k None h = absurd (none (slice_get s.items p) h.0 k h.1)
       at (suc p) k (Some n) h = (p, add-one p, there (slice_get s.items p) refl k)
         where
-          same_id : (a b : ℕ) → Behind a ≡ Behind b → a ≡ b
-          same_id a b e = cc
-
           there : (o : Option (Linked T)) → slice_get s.items p ≡ o → behind o ≡ Some gap → IsNodeAt s.items p (f n)
           there None m k = absurd cc
-          there (Some x) m k = (x, m, same_id x.node (f n) (same_Some _ _ k ∙ h))
+          there (Some x) m k = (x, m, same_node x.node (f n) (same_Some _ _ k ∙ h))
 
   pub item_answer : (node : ℕ) (t : T) → (pointers firsts slots).item node ≡ Some t → (s : Standing value node) → t ≡ s.item
   item_answer node t e s = same_Some t s.item (sym e ∙ family.item s.list s.place s.items _ s.listed s.at)
@@ -101,16 +98,12 @@ module _ {T : Type 0} (firsts : List (Option ℕ)) (slots : List (Option (Node T
   -- a new list
   pub listed_new : IsFamily (pointers (firsts ++ None ∷ []) slots) (value ++ [] ∷ [])
   listed_new = record {
-    count = longer value [] ∙ ap (λ n. n + 1) family.count ∙ sym (longer firsts None);
+    count = length_push value [] ∙ ap (λ n. n + 1) family.count ∙ sym (length_push firsts None);
     next = next_all;
     prev = prev_all;
     item = item_all;
   }
     where
-      longer : {A : Type 0} (xs : List A) (x : A) → length (xs ++ x ∷ []) ≡ length xs + 1
-      longer [] x = omega arith
-      longer (y ∷ ys) x = let r = longer ys x in omega arith
-
       same_first : (fs : List (Option ℕ)) (l : ℕ) → slice_index_or (fs ++ None ∷ []) l None ≡ slice_index_or fs l None
       same_first [] zero = refl
       same_first [] (suc l) = refl
@@ -181,12 +174,9 @@ module _ {T : Type 0} (firsts : List (Option ℕ)) (slots : List (Option (Node T
           at zero f = let c : Front l ≡ Behind key = same_Some _ _ f ∙ s in cc
           at (suc j) f = there (slice_get xs j) refl f
             where
-              same_id : (a b : ℕ) → Behind a ≡ Behind b → a ≡ b
-              same_id a b e = cc
-
               there : (o : Option (Linked T)) → slice_get xs j ≡ o → behind o ≡ Some gap → ⊥
               there None m k = cc
-              there (Some x) m k = vacant_away (record { list = l; place = j; items = xs; item = x.item; listed = listed; at = m ∙ ap (λ (n : ℕ). Some (record { node = n; item = x.item })) (same_id x.node key (same_Some _ _ k ∙ s)) })
+              there (Some x) m k = vacant_away (record { list = l; place = j; items = xs; item = x.item; listed = listed; at = m ∙ ap (λ (n : ℕ). Some (record { node = n; item = x.item })) (same_node x.node key (same_Some _ _ k ∙ s)) })
 
       pub mid_held : IsHeld (pointers firsts mid.slots) gap
       mid_held = gap_held (pointers firsts mid.slots) value filled_family l i xs gap listed at-gap
@@ -248,10 +238,7 @@ module _ {T : Type 0} (firsts : List (Option ℕ)) (slots : List (Option (Node T
       next_apart e = let y = the_next in let r = (same_place (pointers firsts slots) value family (suc s.place) s.place s.list s.list s.items s.items y.0 this s.listed s.listed y.1 s.at (y.2 ∙ e)).1 in omega (arith, r)
 
       pub behind_apart : Behind next ≢ Behind key
-      behind_apart e = next_apart (same_id next key e)
-        where
-          same_id : (a b : ℕ) → Behind a ≡ Behind b → a ≡ b
-          same_id a b e = cc
+      behind_apart e = next_apart (same_node next key e)
 
       out_listed : slice_get (set value s.list (remove s.items s.place)) s.list ≡ Some (remove s.items s.place)
       out_listed = get-set_same value s.list _ (slice_get_within value s.list _ s.listed)

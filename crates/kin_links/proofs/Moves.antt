@@ -9,7 +9,7 @@ use Rattle.kin_links.specs.declared.node.Gap.TheVariants.{Front, Behind}
 use Rattle.kin_links.specs.Family.{Linked, Standing}
 use Rattle.kin_links.specs.Pointers.{Pointers, gap_at, behind, node_at, id_of, IsFamily, IsDetached, IsAttached}
 use Rattle.kin_links.proofs.Counting.{stood}
-use Rattle.kin_links.proofs.Reading.{same_gap, same_place}
+use Rattle.kin_links.proofs.Reading.{same_gap, same_node, same_place}
 
 module _ {T : Type 0} where
   -- a list of the changed lists is the changed one, or stood there before
@@ -155,10 +155,7 @@ module _ {T : Type 0} (g : Pointers T) (lists : List (List (Linked T))) (family 
       where
         at : (o : Option (Linked T)) → slice_get zs i ≡ o → behind o ≡ Some b → ⊥
         at None k f = absurd cc
-        at (Some z) k f = not_standing m i zs z e k (same z.node x.node (same_Some _ _ f ∙ s))
-          where
-            same : (n k : ℕ) → Behind n ≡ Behind k → n ≡ k
-            same n k e = cc
+        at (Some z) k f = not_standing m i zs z e k (same_node z.node x.node (same_Some _ _ f ∙ s))
 
     follows : g.next gap ≡ node_at xs p
     follows = family.next l p xs gap listed at-gap

@@ -1,5 +1,5 @@
 -- The best pair of a point and its candidate is the closest pair.
-use Rattle.std.proofs.Common.{◌≡◌, ◌≢◌, ◌⊎◌, inl, inr, refl, sym, ap, ◌∙◌, subst, arith, ℕ, ◌+◌, ◌*◌, ◌/◌, ◌%◌, zero, suc, ◌<◌, Bool, true, false, nat_eq, List, [], ◌∷◌, length}
+use Rattle.std.proofs.Common.{◌≡◌, ◌≢◌, ◌⊎◌, inl, inr, refl, sym, ap, ◌∙◌, subst, arith, ℕ, ◌+◌, ◌*◌, ◌/◌, ◌%◌, ◌<◌, Bool, true, false, nat_eq, List, length}
 use Rattle.std.specs.Prelude.{Option, Some, None, slice_get, min, max}
 use Rattle.std.proofs.lemmas.Bool.{and_parts}
 use Rattle.std.proofs.lemmas.Bool.Decides.{nat_tests}
@@ -17,6 +17,7 @@ use Rattle.kin_motion.specs.Tournaments.{beats, IsBest, item_in}
 use Rattle.kin_motion.specs.ClosestPairs.{Near, left_is_nearer, distance_key, pair_in, IsClosestPair, IsClosest, closest_of}
 use Rattle.kin_motion.specs.ClosestFacts.{near, HoldsNear, AreNearSlots}
 use Rattle.kin_motion.proofs.AgreementLaws.{kept-members}
+use Rattle.kin_motion.proofs.AskableLaws.{held_slot}
 use Rattle.kin_motion.proofs.CandidateLaws.{one_candidate, never_after_itself}
 use Rattle.kin_motion.proofs.ClosestLaws.{closest_proved}
 use Rattle.kin_motion.proofs.DistanceLaws.{LessPair, less_from, three_ways, real_distance_laws}
@@ -25,11 +26,6 @@ use Rattle.kin_motion.proofs.RealLaws.{real_line_laws}
 use Rattle.kin_near.specs.Candidates.{IsCandidatePair}
 use Rattle.kin_near.specs.BestPairs.{IsBestPair, BestPairIsClosest}
 use Rattle.kin_near.proofs.ClosestPoints.{closest_is_candidate}
-
-pub held_there : (slots : List (Option Near)) (i : ℕ) (m : Near) → item_in slots i ≡ Some m → slice_get slots i ≡ Some (Some m)
-held_there [] i m e = absurd cc
-held_there (x ∷ xs) zero m e = ap (λ (y : Option Near). Some y) e
-held_there (x ∷ xs) (suc i) m e = held_there xs i m e
 
 module _ (size : ℕ) (s : Scene) (real : IsReal s) (fits : FitsSize size s) (slots : List (Option Near)) (filled : AreNearSlots size s slots) where
   -- ---- from a point and its candidate to their slot
@@ -102,7 +98,7 @@ module _ (size : ℕ) (s : Scene) (real : IsReal s) (fits : FitsSize size s) (sl
   best_is_closest m best = at (closest_of s) (closest_proved s real)
     where
       there : slice_get slots best.slot ≡ Some (Some m)
-      there = held_there slots best.slot m best.held
+      there = held_slot slots best.slot m best.held
 
       own : m.slot ≡ best.slot
       own = own-slot s real size best.slot slots m filled there

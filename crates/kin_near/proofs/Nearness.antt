@@ -4,7 +4,7 @@ use Rattle.kin_algebra.specs.declared.sign.Sign.{Sign}
 use Rattle.kin_algebra.specs.declared.sign.Sign.TheVariants.{Minus, Zero, Plus}
 use Rattle.kin_algebra.specs.Signs.{product_of}
 use Rattle.kin_algebra.proofs.Ring.{by_identity, quotes_in}
-use Rattle.kin_algebra.proofs.Signs.{AtLeast}
+use Rattle.kin_algebra.proofs.Signs.{AtLeast, product-Zero}
 use Rattle.kin_algebra.proofs.OrderedRings.{OrderedRing, sign_twice, positive_sum, nonnegative_sum, sum_zero, positive_product, nonnegative_product, sign_square, positive_cancel}
 use Rattle.kin_motion.specs.Octants.{Octant}
 use Rattle.kin_near.proofs.Coordinates.{Step, between, square, as_read, as_read-between, rank, norm, Frame}
@@ -51,12 +51,7 @@ module _ {R : Type 0} (o : OrderedRing R) where
   sum_positive {a} {b} h e = ap o.sign (o.ring.plus_comm a b) ∙ positive_sum o e h
 
   pub times_none : (a : R) {b : R} → o.sign b ≡ Zero → o.sign (a · b) ≡ Zero
-  times_none a {b} e = o.sign_times a b ∙ ap (product_of (o.sign a)) e ∙ none (o.sign a)
-    where
-      none : (t : Sign) → product_of t Zero ≡ Zero
-      none Minus = refl
-      none Zero = refl
-      none Plus = refl
+  times_none a {b} e = o.sign_times a b ∙ ap (product_of (o.sign a)) e ∙ product-Zero (o.sign a)
 
   -- both are of sign 0
   abbrev pub AreNone : R → R → Type 0

@@ -1,7 +1,6 @@
 -- The values of lines and of squared distances at a number, as those of steps.
 use Rattle.std.proofs.Common.{◌≡◌, [], ◌∷◌, refl, ap, ap₂, ◌∙◌}
-use Rattle.std.specs.Prelude.{ℤ, pos, ◌-ℤ◌, ◌+ℤ◌}
-use lib.IntN.{neg_ℤ}
+use Rattle.std.specs.Prelude.{ℤ, pos}
 use Rattle.kin_algebra.specs.declared.sign.Sign.TheVariants.{Plus}
 use Rattle.kin_algebra.specs.Signs.{sign_of}
 use Rattle.kin_algebra.proofs.Ring.{by_ring, quotes}
@@ -12,14 +11,8 @@ use Rattle.kin_num.specs.Instants.{Number, sign_at_number}
 use Rattle.kin_num.proofs.Values.{value, value-sum, value-negated}
 use Rattle.kin_num.proofs.NumberRing.{flat, ring_over}
 use Rattle.kin_motion.specs.Forms.{Linear, along, product, difference}
-use Rattle.kin_motion.proofs.SlopeLaws.{line_value, value-product}
+use Rattle.kin_motion.proofs.SlopeLaws.{difference-sum, line_value, value-product}
 use Rattle.kin_near.proofs.Coordinates.{Step, square, along_way}
-
-less_is_plus : (a b : ℤ) → a -ℤ b ≡ a +ℤ neg_ℤ b
-less_is_plus a b = by_ring (a ∷ b ∷ []) _ _ (search quotes depth 20) (search quotes depth 20) refl
-
-difference-sum : (p q : Quadratic) → difference p q ≡ quadratic_sum p (negated q)
-difference-sum p q = let f = less_is_plus p.a q.a in let g = less_is_plus p.b q.b in let h = less_is_plus p.c q.c in λ t. record { a = f t; b = g t; c = h t }
 
 module _ (x : Number) (sound : Sound x.radicand) (positive : sign_of x.divisor ≡ Plus) where
   abbrev o : OrderedRing Pair

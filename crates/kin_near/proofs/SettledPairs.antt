@@ -19,7 +19,8 @@ use Rattle.kin_motion.proofs.PartLaws.{moved_one}
 use Rattle.kin_motion.proofs.SetLaws.{exactly_both, exactly_in_words, exactly_mapped}
 use Rattle.kin_tourney.proofs.ExtremePoints.{under_root}
 use Rattle.kin_near.specs.BestPairs.{IsBestPair, HoldCandidates, ClosestIsSettled}
-use Rattle.kin_near.proofs.BestPairs.{held_there, best_pair_is_closest}
+use Rattle.kin_motion.proofs.AskableLaws.{held_slot}
+use Rattle.kin_near.proofs.BestPairs.{best_pair_is_closest}
 
 module _ (size : ℕ) (s : Scene) (candidate : ℕ → ℕ → Option ℕ) (told : AreCandidates size s candidate) (slots : List (Option Near)) (h : HoldCandidates size candidate slots) where
   -- the slots of all candidates are the slots of pairs
@@ -47,7 +48,7 @@ module _ (size : ℕ) (s : Scene) (candidate : ℕ → ℕ → Option ℕ) (told
 
   -- the winner at the root is the best of all
   under : (i : ℕ) (b : Near) → item_in slots i ≡ Some b → is_under (size + 3) 1 i ≡ true
-  under i b e = under_root (size + 3) i (let k = slice_get_within slots i (Some b) (held_there slots i b e) in let c = h.count in omega (arith, k, c))
+  under i b e = under_root (size + 3) i (let k = slice_get_within slots i (Some b) (held_slot slots i b e) in let c = h.count in omega (arith, k, c))
 
   from_root : (winner : Option Near) → IsWinner s distance_key (size + 3) slots 1 winner → IsBestPair s slots winner
   from_root None none = λ i. at i (item_in slots i) refl
@@ -72,7 +73,7 @@ module _ (size : ℕ) (s : Scene) (candidate : ℕ → ℕ → Option ℕ) (told
       from : (p : Placed) → IsPairFact size s p → (x : Placed) × IsNodeFact s distance_key (size + 3) slots x × (p ≡ moved_by 8 x)
       from p w = (w.node, subst (λ xs. IsNodeFact s distance_key (size + 3) xs w.node) (one_near s real size w.slots slots w.filled are_near) w.fact, w.placed)
 
-wedge_part : (s : Scene) (p : Placed) → IsWedgeFact s p → p.part < 8
+pub wedge_part : (s : Scene) (p : Placed) → IsWedgeFact s p → p.part < 8
 wedge_part s p w = slice_get_within eight_directions p.part w.way w.known
 
 pair_part : (size : ℕ) (s : Scene) (p : Placed) → IsPairFact size s p → 8 ≤ p.part

@@ -3,7 +3,7 @@ use Rattle.std.proofs.Common.{◌≡◌, ◌≢◌, refl, sym, ap, ap₂, ◌∙
 use Rattle.std.specs.Prelude.{slice_get}
 use Rattle.std.proofs.lemmas.Bool.{cases_eq}
 use Rattle.std.proofs.lemmas.Bool.Decides.{nat_tests}
-use Rattle.std.proofs.lemmas.List.{length-set}
+use Rattle.std.proofs.lemmas.List.{length-set, length-map}
 use Rattle.std.proofs.lemmas.Option.{same_Some}
 use Rattle.kin_list.specs.declared.mark.Mark.{Mark}
 use Rattle.kin_list.specs.Listing.{Listing, staying, without}
@@ -20,12 +20,9 @@ kept_or_not : (who x : ℕ) (xs ys : List ℕ) → ys ≡ without who xs → (b 
 kept_or_not who x xs ys e true f g = ap (λ (b : Bool). cond (not b) (x ∷ ys) ys) f ∙ e ∙ sym (ap (λ (b : Bool). cond b (without who xs) (x ∷ without who xs)) g)
 kept_or_not who x xs ys e false f g = ap (λ (b : Bool). cond (not b) (x ∷ ys) ys) f ∙ ap (λ (zs : List ℕ). x ∷ zs) e ∙ sym (ap (λ (b : Bool). cond b (without who xs) (x ∷ without who xs)) g)
 
-same_test : (x y : ℕ) → nat_eq y x ≡ nat_eq x y
-same_test x y = grind (arith, nat_tests)
-
 pub filter-others : (who : ℕ) (xs : List ℕ) → filter (λ x. not (nat_eq x who)) xs ≡ without who xs
 filter-others who [] = refl
-filter-others who (x ∷ xs) = kept_or_not who x xs (filter (λ x. not (nat_eq x who)) xs) (filter-others who xs) (nat_eq x who) refl (same_test x who)
+filter-others who (x ∷ xs) = kept_or_not who x xs (filter (λ x. not (nat_eq x who)) xs) (filter-others who xs) (nat_eq x who) refl (let e : nat_eq who x ≡ nat_eq x who = grind (arith, nat_tests) in e)
 
 -- a row by what stands in its place
 row_from : Option (List ℕ) → List ℕ
@@ -73,10 +70,6 @@ items_same old new k e = items_read new k ∙ ap items_from e ∙ sym (items_rea
 
 pub swaps_there : (ls : List Listing) (k : ℕ) (l : Listing) → slice_get ls k ≡ Some l → row_of (swaps_of ls) k ≡ l.swaps
 swaps_there ls k l e = row_there (swaps_of ls) k l.swaps (get-mapped (λ (x : Listing). x.swaps) ls k l e)
-
-pub length-mapped : {A B : Type 0} (f : A → B) (xs : List A) → length (map f xs) ≡ length xs
-length-mapped {A} {B} f [] = refl
-length-mapped {A} {B} f (x ∷ xs) = ap suc (length-mapped f xs)
 
 -- rows with the same numbers
 pub same_rows : (xs ys : List (List ℕ)) → length xs ≡ length ys → ((k : ℕ) → k < length xs → row_of xs k ≡ row_of ys k) → xs ≡ ys
@@ -133,7 +126,7 @@ module _ (mark : Mark) (lists : List Listing) (candidates : List (Option ℕ)) (
   pub followed_rows : (now : List (List ℕ)) (ts : List Touch) (i : ℕ) → length old ≡ 8 → length lists ≡ 8 → 8 ≤ i → AreFollowed mark lists candidates old now first ts i → now ≡ rows_of lists
   followed_rows now ts i m n h a =
       let c = a.count in
-      let r = length-mapped (λ (x : Listing). x.items) lists in
+      let r = length-map lists (λ (x : Listing). x.items) in
       same_rows now (rows_of lists) (c ∙ m ∙ sym (r ∙ n)) (λ k w. a.done k (omega (arith, w, c, m, h)))
 
   pub followed_offers : (now : List (List ℕ)) (ts : List Touch) (i : ℕ) → length lists ≡ 8 → 8 ≤ i → AreFollowed mark lists candidates old now first ts i → AreExchangesOffered mark (swaps_of lists) old candidates ts
@@ -145,5 +138,5 @@ module _ (mark : Mark) (lists : List Listing) (candidates : List (Option ℕ)) (
       at : (part x y : ℕ) → WereExchanged (row_of (swaps_of lists) part) (staying mark (row_of old part)) x y → (part < i) ⊎ (8 ≤ part) → HasOfferedBoth candidates part x y ts
       at part x y k (inl w) = a.offered part x y w k
       at part x y k (inr w) =
-          let r = length-mapped (λ (l : Listing). l.swaps) lists in
+          let r = length-map lists (λ (l : Listing). l.swaps) in
           absurd (subst (λ (sw : List ℕ). WereExchanged sw (staying mark (row_of old part)) x y) (row_past (swaps_of lists) part (omega (arith, r, n, w))) k)

@@ -12,7 +12,8 @@ use Rattle.kin_wedge.specs.Passages.{IsOfferedAround}
 use Rattle.kin_wedge.specs.Rows.{row_of, is_in_wedge}
 use Rattle.kin_wedge.specs.Touched.{IsOffered, HasTouched}
 use Rattle.kin_wedge.proofs.Places.{first_is_in, second_is_in}
-use Rattle.kin_wedge.proofs.Touching.{touched_none, touched_through, below_eight}
+use Rattle.kin_wedge.proofs.Touching.{touched_none, touched_through}
+use Rattle.kin_wedge.proofs.Slots.{below_eight}
 
 -- a number is offered to the octants below w of an apex that it is in
 pub record AreOfferedBelow (rows : List (List ℕ)) (candidates : List (Option ℕ)) (apex no : ℕ) (first now : List Touch) (w : ℕ) : Type 0 where

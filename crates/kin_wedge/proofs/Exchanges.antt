@@ -1,7 +1,7 @@
 -- Only numbers that were exchanged with each other stand another way round.
 use Rattle.std.proofs.Common.{◌≡◌, ◌≢◌, refl, sym, ap, ap₂, ◌∙◌, arith, List, [], ◌∷◌, ℕ, zero, suc, Bool, true, false, cond, ◌||◌, ◌&&◌, nat_eq, Some, None, Option, inl, inr, ◌⊎◌}
 use Rattle.std.specs.Prelude.{slice_get}
-use Rattle.std.proofs.lemmas.Bool.{cases_eq}
+use Rattle.std.proofs.lemmas.Bool.{cases_eq, eqb-true, ne_eqb}
 use Rattle.std.proofs.lemmas.Bool.Decides.{nat_tests}
 use Rattle.std.proofs.lemmas.Option.{same_Some}
 use Rattle.kin_motion.specs.Numbers.{is_in}
@@ -16,17 +16,10 @@ use Rattle.kin_list.proofs.RowLaws.{is_in-exchange}
 abbrev AreNotAt : List ℕ → ℕ → ℕ → ℕ → Type 0
 AreNotAt xs p a b = ((slice_get xs p ≡ Some a) × (slice_get xs (suc p) ≡ Some b) → ⊥) × ((slice_get xs p ≡ Some b) × (slice_get xs (suc p) ≡ Some a) → ⊥)
 
-eq_test : (x y : ℕ) → ((nat_eq x y ≡ true) × (x ≡ y)) ⊎ ((nat_eq x y ≡ false) × (x ≢ y))
-eq_test x y = at (nat_eq x y) refl
-  where
-    at : (t : Bool) → nat_eq x y ≡ t → ((nat_eq x y ≡ true) × (x ≡ y)) ⊎ ((nat_eq x y ≡ false) × (x ≢ y))
-    at true e = inl (e, grind (arith, nat_tests, e))
-    at false e = inr (e, grind (arith, nat_tests, e))
-
 one_exchange : (p a b : ℕ) (xs : List ℕ) → AreNotAt xs p a b → stands_before (exchange p xs) a b ≡ stands_before xs a b
 one_exchange p a b [] n = refl
 one_exchange p a b (x ∷ []) n = refl
-one_exchange zero a b (x ∷ y ∷ ys) n = decide (eq_test x a) (eq_test y a) (eq_test b x) (eq_test b y)
+one_exchange zero a b (x ∷ y ∷ ys) n = tests (nat_eq x a) (nat_eq y a) (nat_eq b x) (is_in b ys) (nat_eq b y) second first
   where
     rest : Bool
     rest = stands_before ys a b
@@ -49,18 +42,11 @@ one_exchange zero a b (x ∷ y ∷ ys) n = decide (eq_test x a) (eq_test y a) (e
         at false false e = refl
     tests false false bx bio yb h k = refl
 
-    decide : ((nat_eq x a ≡ true) × (x ≡ a)) ⊎ ((nat_eq x a ≡ false) × (x ≢ a)) → ((nat_eq y a ≡ true) × (y ≡ a)) ⊎ ((nat_eq y a ≡ false) × (y ≢ a)) → ((nat_eq b x ≡ true) × (b ≡ x)) ⊎ ((nat_eq b x ≡ false) × (b ≢ x)) → ((nat_eq b y ≡ true) × (b ≡ y)) ⊎ ((nat_eq b y ≡ false) × (b ≢ y)) → stands_before (y ∷ x ∷ ys) a b ≡ stands_before (x ∷ y ∷ ys) a b
-    decide xa ya bx yb = tests (nat_eq x a) (nat_eq y a) (nat_eq b x) (is_in b ys) (nat_eq b y) (second ya bx) (first xa yb)
-      where
-        second : ((nat_eq y a ≡ true) × (y ≡ a)) ⊎ ((nat_eq y a ≡ false) × (y ≢ a)) → ((nat_eq b x ≡ true) × (b ≡ x)) ⊎ ((nat_eq b x ≡ false) × (b ≢ x)) → nat_eq y a ≡ true → nat_eq b x ≡ false
-        second (inl h) (inl k) e = absurd (n.1 (ap (λ (m : ℕ). Some m) (sym k.1), ap (λ (m : ℕ). Some m) h.1))
-        second (inl h) (inr k) e = k.0
-        second (inr h) k e = absurd (let c : true ≡ false = sym e ∙ h.0 in cc)
+    second : nat_eq y a ≡ true → nat_eq b x ≡ false
+    second e = ne_eqb b x (λ f. n.1 (ap (λ (m : ℕ). Some m) (sym f), ap (λ (m : ℕ). Some m) (eqb-true y a e)))
 
-        first : ((nat_eq x a ≡ true) × (x ≡ a)) ⊎ ((nat_eq x a ≡ false) × (x ≢ a)) → ((nat_eq b y ≡ true) × (b ≡ y)) ⊎ ((nat_eq b y ≡ false) × (b ≢ y)) → nat_eq x a ≡ true → nat_eq b y ≡ false
-        first (inl h) (inl k) e = absurd (n.0 (ap (λ (m : ℕ). Some m) h.1, ap (λ (m : ℕ). Some m) (sym k.1)))
-        first (inl h) (inr k) e = k.0
-        first (inr h) k e = absurd (let c : true ≡ false = sym e ∙ h.0 in cc)
+    first : nat_eq x a ≡ true → nat_eq b y ≡ false
+    first e = ne_eqb b y (λ f. n.0 (ap (λ (m : ℕ). Some m) (eqb-true x a e), ap (λ (m : ℕ). Some m) (sym f)))
 one_exchange (suc p) a b (x ∷ y ∷ ys) n = ap₂ (λ s t. (nat_eq x a && s) || t) (is_in-exchange p b (y ∷ ys)) (one_exchange p a b (y ∷ ys) n)
 
 -- the order of two numbers is kept, where they were not exchanged with each other

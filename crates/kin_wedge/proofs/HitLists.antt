@@ -1,8 +1,8 @@
 -- The list of a number's hits has exactly the slots whose candidate it is.
 use Rattle.std.proofs.Common.{◌≡◌, refl, sym, ap, ◌∙◌, subst, arith, List, [], ◌∷◌, ℕ, zero, suc, ◌+◌, ◌*◌, ◌/◌, ◌%◌, ◌<◌, length, Some, None, Option, ◌≤◌}
 use Rattle.std.specs.Prelude.{slice_get, Contains}
-use Rattle.std.proofs.lemmas.Option.{same_Some, slice_get-get_or, slice_get_within}
-use Rattle.kin_basics.proofs.Members.{contains_none}
+use Rattle.std.proofs.lemmas.Option.{same_Some, slice_get_within}
+use Rattle.kin_basics.proofs.Members.{contains_none, get_from_contains}
 use Rattle.kin_motion.proofs.SetLaws.{distinct_none}
 use Rattle.kin_links.specs.Family.{Linked, AreApart}
 use Rattle.kin_wedge.specs.declared.table.Hit.{Hit}
@@ -10,6 +10,7 @@ use Rattle.kin_wedge.specs.Cursors.{pair_of, pairs_of, list_of}
 use Rattle.kin_wedge.specs.Tables.{candidates_of, AreMirrored, AreHits}
 use Rattle.kin_wedge.proofs.Cursors.{list_there}
 use Rattle.kin_wedge.proofs.Mirrors.{candidate-get}
+use Rattle.kin_wedge.proofs.Slots.{slot_of, octant_small}
 
 -- what stands at a place of the pairs
 pair_from : (xs : List (Linked ℕ)) (i : ℕ) (h : ℕ × ℕ) → slice_get (pairs_of xs) i ≡ Some h → (x : Linked ℕ) × (slice_get xs i ≡ Some x) × (pair_of x ≡ h)
@@ -21,16 +22,6 @@ pair_there : (xs : List (Linked ℕ)) (i : ℕ) (x : Linked ℕ) → slice_get x
 pair_there [] i x e = absurd cc
 pair_there (y ∷ ys) zero x e = (0, omega arith, ap pair_of (same_Some y x e))
 pair_there (y ∷ ys) (suc i) x e = let r = pair_there ys i x e in (suc r.0, omega (arith, r.1), r.2)
-
-found_at : {A : Type 0} (xs : List A) (x : A) → Contains xs x → (i : ℕ) × (slice_get xs i ≡ Some x)
-found_at xs x h = (h.0, slice_get-get_or xs h.0 x h.1 ∙ ap (λ y. Some y) h.2)
-
--- a slot is eight times its apex and its octant
-slot_of : (s : ℕ) → 8 * (s / 8) + s % 8 ≡ s
-slot_of s = omega arith
-
-octant_small : (s : ℕ) → s % 8 < 8
-octant_small s = omega arith
 
 held_from : (held : List (Option Hit)) (slot c : ℕ) → slice_get (candidates_of held) slot ≡ Some (Some c) → (h : Hit) × (slice_get held slot ≡ Some (Some h)) × (h.candidate ≡ c)
 held_from [] slot c e = absurd cc
@@ -57,7 +48,7 @@ module _ (held : List (Option Hit)) (lists : List (List (Linked ℕ))) (mirrored
 
       only : (h : ℕ × ℕ) → Contains (pairs_of (list_of lists c)) h → (h.1 < 8) × (slice_get (candidates_of held) (8 * h.0 + h.1) ≡ Some (Some c))
       only h k =
-          let f = found_at (pairs_of (list_of lists c)) h k in
+          let f = get_from_contains (pairs_of (list_of lists c)) h k in
           let x = pair_from (list_of lists c) f.0 h f.1 in
           let m = mirrored.back c f.0 (list_of lists c) x.0 listed x.1 in
           let slot : 8 * h.0 + h.1 ≡ x.0.item = ap (λ (p : ℕ × ℕ). 8 * p.0 + p.1) (sym x.2) ∙ slot_of x.0.item in (

@@ -18,7 +18,7 @@ use Rattle.kin_wedge.specs.Touched.{offers_for, AreKnown, HasOffered, IsAnswered
 use Rattle.kin_wedge.proofs.Exchanges.{kept_or_exchanged, order-without}
 use Rattle.kin_wedge.proofs.Places.{first_is_in, second_is_in}
 use Rattle.kin_wedge.proofs.StillThere.{HasPassed, AreOffered, awaited_first}
-use Rattle.kin_wedge.proofs.Touching.{below_eight}
+use Rattle.kin_wedge.proofs.Slots.{below_eight}
 use Rattle.kin_motion.specs.Numbers.{IsChain}
 use Rattle.std.proofs.Common.{nat_lt}
 use Rattle.kin_basics.proofs.Members.{contains_tail, contains_cases}

@@ -1,7 +1,8 @@
 -- What is kept while a mark is set, and at first.
 use Rattle.std.proofs.Common.{◌≡◌, ◌⊎◌, inl, inr, refl, sym, ap, ap₂, ◌∙◌, subst, arith, List, [], ◌∷◌, ◌++◌, ℕ, zero, suc, ◌+◌, ◌*◌, ◌^◌, ◌<◌, ◌≤◌, Bool, true, false, ◌&&◌, cond, map, length, replicate, Some, None, Option}
 use Rattle.std.specs.Prelude.{slice_get}
-use Rattle.std.proofs.lemmas.List.{length-replicate}
+use Rattle.std.proofs.lemmas.List.{length-map, length-replicate}
+use Rattle.std.proofs.lemmas.Bool.{cases_lt}
 use Rattle.std.proofs.lemmas.Option.{same_Some, slice_get_within}
 use Rattle.kin_basics.proofs.Members.{contains_none}
 use Rattle.kin_basics.proofs.Places.{get_within}
@@ -18,7 +19,7 @@ use Rattle.kin_wedge.specs.Passages.{AreAnswered, AreVacantRows}
 use Rattle.kin_wedge.specs.Rows.{row_of, stands_after, is_in_wedge, IsFirstAnswer}
 use Rattle.kin_wedge.specs.Seen.{rows_of}
 use Rattle.kin_wedge.specs.Wedging.{Wedging, AreKept, AreKeptIf, AreWedges, IsListOf, IsMarkable}
-use Rattle.kin_wedge.proofs.AllRows.{items_there, length-mapped, row_past, same_rows}
+use Rattle.kin_wedge.proofs.AllRows.{items_there, row_past, same_rows}
 
 -- where a mark stands that can be carried out, nothing is broken
 pub kept_at : (size : ℕ) (mark mark' : Mark) (lists : List Listing) (rows : List (List ℕ)) (candidates : List (Option ℕ)) → mark ≡ mark' → mark' ≡ Rest → AreKeptIf size mark lists rows candidates → AreKept size Rest lists rows candidates
@@ -82,14 +83,11 @@ wedging size candidates changed mark orders facts = record { size = size; orders
 
 -- ---- at first
 empty_item : (size : ℕ) (lists : List Listing) → AreVacant size lists → (k : ℕ) → row_of (rows_of lists) k ≡ []
-empty_item size lists v k = at (within_or_past k)
+empty_item size lists v k = at (cases_lt k 8)
   where
-    within_or_past : (k : ℕ) → (k < 8) ⊎ (8 ≤ k)
-    within_or_past k = grind arith
-
     at : (k < 8) ⊎ (8 ≤ k) → row_of (rows_of lists) k ≡ []
     at (inl w) = let c = v.count in let l = get_within lists k (omega (arith, w, c)) in items_there lists k l.0 l.1 ∙ ap (λ (x : Listing). x.items) (v.each k l.0 l.1)
-    at (inr w) = let c = v.count in let n = length-mapped (λ (x : Listing). x.items) lists in row_past (rows_of lists) k (omega (arith, w, c, n))
+    at (inr w) = let c = v.count in let n = length-map lists (λ (x : Listing). x.items) in row_past (rows_of lists) k (omega (arith, w, c, n))
 
 pub vacant_facts : (n : ℕ) (lists : List Listing) → ((part : ℕ) (l : Listing) → slice_get lists part ≡ Some l → l.facts ≡ []) → facts_from n lists ≡ []
 vacant_facts n [] e = refl
@@ -102,7 +100,7 @@ row_of-replicate (suc n) (suc k) = row_of-replicate n k
 
 pub vacant_rows : (size : ℕ) (lists : List Listing) → AreVacant size lists → rows_of lists ≡ replicate 8 []
 vacant_rows size lists v =
-    same_rows (rows_of lists) (replicate 8 []) (length-mapped (λ (x : Listing). x.items) lists ∙ v.count ∙ sym (length-replicate {A = List ℕ} 8 []))
+    same_rows (rows_of lists) (replicate 8 []) (length-map lists (λ (x : Listing). x.items) ∙ v.count ∙ sym (length-replicate {A = List ℕ} 8 []))
     (λ k w. empty_item size lists v k ∙ sym (row_of-replicate 8 k))
 
 none_from : (n k : ℕ) (a : Option ℕ) → slice_get (replicate n None) k ≡ Some a → None ≡ a
@@ -132,7 +130,7 @@ kept_first size lists rows candidates small v r e = record {
   kept = record {
     count = v.count;
     each = λ part l f. subst (IsListOf size Rest part) (sym (v.each part l f)) (record { dx = refl; dy = refl; room = refl; marked = refl; nought = λ p c. absurd (contains_none p c) });
-    same = same_rows rows (rows_of lists) (r.count ∙ sym (length-mapped (λ (x : Listing). x.items) lists ∙ v.count)) (λ k w. r.each k ∙ sym (empty k));
+    same = same_rows rows (rows_of lists) (r.count ∙ sym (length-map lists (λ (x : Listing). x.items) ∙ v.count)) (λ k w. r.each k ∙ sym (empty k));
     once = λ part h. subst IsOnce (sym (empty part)) tt;
     alike = λ part i h. ap (is_in i) (empty part ∙ sym (empty 0));
     below = λ i h. absurd (let f : false ≡ true = sym (ap (is_in i) (empty 0)) ∙ h in cc);

@@ -7,6 +7,7 @@ pub mod StillThere
 pub mod Scanning
 pub mod Mirrors
 pub mod Cursors
+pub mod Slots
 pub mod Touching
 pub mod HitLists
 pub mod Lost

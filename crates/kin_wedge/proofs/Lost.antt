@@ -7,6 +7,7 @@ use Rattle.kin_motion.specs.Octants.{Octant, octants}
 use Rattle.kin_wedge.specs.declared.touch.Touch.{Touch}
 use Rattle.kin_wedge.specs.Tables.{AreHits}
 use Rattle.kin_wedge.specs.Touched.{IsOffered, HasTouched}
+use Rattle.kin_wedge.proofs.Slots.{slot_of}
 use Rattle.kin_wedge.proofs.Touching.{touched_none, touched_through}
 
 -- x is offered to each wanted slot whose candidate c is, but for those that are left
@@ -36,9 +37,6 @@ module _ (candidates : List (Option ℕ)) (c : ℕ) (Wanted : ℕ → Type 0) (x
     touched = touched_through candidates first now next a.touched t;
   }
     where
-      slot_of : (slot : ℕ) → 8 * (slot / 8) + slot % 8 ≡ slot
-      slot_of slot = omega arith
-
       here : (slot : ℕ) → Wanted (slot % 8) → (h ≡ (slot / 8, slot % 8)) ⊎ Contains rest (slot / 8, slot % 8) → Contains rest (slot / 8, slot % 8) ⊎ IsOffered next slot x
       here slot w (inl s) = inr (subst (λ (n : ℕ). IsOffered next n x) (ap (λ (p : ℕ × ℕ). 8 * p.0 + p.1) s ∙ slot_of slot) (o (subst Wanted (ap (λ (p : ℕ × ℕ). p.1) (sym s)) w)))
       here slot w (inr k) = inl k
@@ -60,9 +58,3 @@ IsRankedBy part w = (o : Octant) × (slice_get octants w ≡ Some o) × (o.third
 
 pub ranked_here : (w : ℕ) (here : Octant) (part : ℕ) → slice_get octants w ≡ Some here → IsRankedBy part w → here.third.part ≡ part
 ranked_here w here part e r = ap (λ (o : Octant). o.third.part) (same_Some here r.0 (sym e ∙ r.1)) ∙ r.2
-
-pub octant_within : (w : ℕ) (o : Octant) → slice_get octants w ≡ Some o → w < 8
-octant_within w o e = slice_get_within octants w o e
-
-pub slot_again : (apex w : ℕ) → w < 8 → (8 * apex + w) % 8 ≡ w
-slot_again apex w h = omega (arith, h)

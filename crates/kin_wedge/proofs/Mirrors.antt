@@ -172,12 +172,6 @@ set_as_it_is [] p x e = refl
 set_as_it_is {A} (y ∷ ys) zero x e = ap (λ z. z ∷ ys) (same_Some y x e)
 set_as_it_is {A} (y ∷ ys) (suc p) x e = ap (λ (l : List A). y ∷ l) (set_as_it_is ys p x e)
 
--- of two writes at one place the last one counts
-pub set_twice : {A : Type 0} (xs : List A) (p : ℕ) (x y : A) → set (set xs p x) p y ≡ set xs p y
-set_twice [] p x y = refl
-set_twice (z ∷ zs) zero x y = refl
-set_twice {A} (z ∷ zs) (suc p) x y = ap (λ (l : List A). z ∷ l) (set_twice zs p x y)
-
 -- what is read from a slot is there
 pub read_slot : (held : List (Option Hit)) (value : List (Option ℕ)) (slot : ℕ) (o : Option Hit) → candidates_of held ≡ value → slot < length value → o ≡ get_or held slot o → slice_get held slot ≡ Some o
 read_slot held value slot o view bound read =

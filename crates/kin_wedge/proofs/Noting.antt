@@ -6,6 +6,7 @@ use Rattle.std.proofs.lemmas.Option.{slice_get-get_or}
 use Rattle.std.specs.List.{dedup}
 use Rattle.std.specs.List.Sorted.{IsPermutation, IsSorted, IsStrictlyIncreasing}
 use Rattle.std.proofs.lemmas.Bool.Decides.{nat_tests}
+use Rattle.std.proofs.lemmas.List.Elements.{Contains-get_or}
 use Rattle.std.proofs.lemmas.List.Kept.{Contains-dedup_nat, Contains-from_dedup}
 use Rattle.std.proofs.lemmas.List.Sorted.{Contains-permutation, IsPermutation-sym}
 use Rattle.std.proofs.lemmas.Map.Keys.{IsStrictlyIncreasing-dedup}
@@ -17,7 +18,6 @@ use Rattle.kin_basics.proofs.Members.{get_from_contains, contains_from_get}
 use Rattle.kin_motion.proofs.Members.{is_in-push, in_from_contains}
 use Rattle.kin_wedge.specs.declared.touch.Touch.{Touch}
 use Rattle.kin_wedge.specs.Passages.{HasNoted}
-use Rattle.kin_wedge.proofs.TakenUp.{contains_at}
 
 chain_from_increasing : (xs : List ℕ) → IsStrictlyIncreasing xs → IsChain nat_lt xs
 chain_from_increasing xs h = chain_from_neighbours nat_lt xs (λ p i j e f.
@@ -80,7 +80,7 @@ module _ (candidates : List (Option ℕ)) (ts : List Touch) (slots next : List �
 
       from : (s : ℕ) → (is_in s slots ≡ true) ⊎ ((s ≡ (get_or ts i d).slot) × (slice_get candidates (get_or ts i d).slot ≢ Some (get_or ts i d).old)) → (t : Touch) × Contains ts t × (t.slot ≡ s) × (slice_get candidates t.slot ≢ Some t.old)
       from s (inl h) = a.only s h
-      from s (inr h) = (get_or ts i d, contains_at ts i d l, sym h.0, h.1)
+      from s (inr h) = (get_or ts i d, Contains-get_or ts i d l, sym h.0, h.1)
 
 -- what is noted, sorted, and left once each
 module _ (xs ys zs : List ℕ) (sorted : IsPermutation xs ys) (once : zs ≡ dedup eqb ys) where

@@ -1,29 +1,20 @@
 -- The eight lists are ready where the first one is.
-use Rattle.std.proofs.Common.{◌≡◌, ◌≢◌, ◌⊎◌, inl, inr, refl, sym, ap, ◌∙◌, subst, arith, List, [], ◌∷◌, ℕ, ◌^◌, ◌<◌, Bool, true, false, ◌||◌, cond, nat_eq, Some, Option}
+use Rattle.std.proofs.Common.{◌≡◌, ◌≢◌, ◌⊎◌, inl, inr, sym, ap, ◌∙◌, subst, arith, List, ℕ, ◌^◌, ◌<◌, Bool, true, ◌||◌, nat_eq, Some, Option}
 use Rattle.std.specs.Prelude.{slice_get}
 use Rattle.std.proofs.lemmas.Bool.{cases_eq, or_cases, eqb-true}
-use Rattle.std.proofs.lemmas.Bool.Decides.{nat_tests}
 use Rattle.std.proofs.lemmas.Option.{slice_get_within}
 use Rattle.kin_motion.specs.Numbers.{is_in, IsOnce}
 use Rattle.kin_list.specs.declared.mark.Mark.{Mark}
 use Rattle.kin_list.specs.declared.mark.Mark.TheVariants.{Rest, Enters, Leaves, Broken}
 use Rattle.kin_list.specs.Listing.{Listing, HasMarked, without}
+use Rattle.kin_list.proofs.LeavingLaws.{without_once}
 use Rattle.kin_list.proofs.ListLaws.{is_in-without, not_in-without}
-use Rattle.kin_wedge.specs.Passages.{IsNumberOf}
 use Rattle.kin_wedge.specs.Rows.{row_of}
 use Rattle.kin_wedge.specs.Seen.{rows_of}
 use Rattle.kin_wedge.specs.Wedging.{AreKept, IsMarkable}
 use Rattle.kin_wedge.proofs.AllRows.{items_there}
 use Rattle.kin_wedge.proofs.Departing.{in_without}
 use Rattle.kin_wedge.proofs.Keeping.{member_as}
-
-pub once_without : (who : ℕ) (xs : List ℕ) → IsOnce xs → IsOnce (without who xs)
-once_without who [] once = tt
-once_without who (x ∷ xs) once = at (nat_eq who x) refl (once_without who xs once.1)
-  where
-    at : (b : Bool) → nat_eq who x ≡ b → IsOnce (without who xs) → IsOnce (cond b (without who xs) (x ∷ without who xs))
-    at true e rest = rest
-    at false e rest = (is_in-without x who xs (λ f. let g : nat_eq who x ≡ true = grind (arith, nat_tests, f) in let h : true ≡ false = sym g ∙ e in absurd cc) ∙ once.0, rest)
 
 same_without : (i who : ℕ) (xs ys : List ℕ) → ((j : ℕ) → is_in j ys ≡ is_in j xs) → is_in i (without who ys) ≡ is_in i (without who xs)
 same_without i who xs ys h = at (cases_eq i who)
@@ -36,7 +27,7 @@ same_without i who xs ys h = at (cases_eq i who)
 pub marked_alike : (mark : Mark) (xs ys set : List ℕ) → IsOnce ys → ((j : ℕ) → is_in j ys ≡ is_in j xs) → HasMarked mark xs set → HasMarked mark ys set
 marked_alike Rest xs ys set once h m = record { once = once; same = λ i. h i ∙ m.same i }
 marked_alike (Enters who) xs ys set once h m = record { once = (h who ∙ m.once.0, once); same = λ i. ap (λ (b : Bool). nat_eq i who || b) (h i) ∙ m.same i }
-marked_alike (Leaves who) xs ys set once h m = record { once = once_without who ys once; same = λ i. same_without i who xs ys h ∙ m.same i }
+marked_alike (Leaves who) xs ys set once h m = record { once = without_once who ys once; same = λ i. same_without i who xs ys h ∙ m.same i }
 marked_alike Broken xs ys set once h m = absurd m
 
 module _ (size : ℕ) (mark : Mark) (lists : List Listing) (rows : List (List ℕ)) (candidates : List (Option ℕ)) (k : AreKept size mark lists rows candidates) (set : List ℕ) (m : HasMarked mark (row_of (rows_of lists) 0) set) where
@@ -60,12 +51,3 @@ module _ (size : ℕ) (mark : Mark) (lists : List Listing) (rows : List (List �
 
   pub live_below : (i : ℕ) → is_in i set ≡ true → i < 2 ^ size
   live_below = by_mark mark m k.markable
-
-  number_by_mark : (n : Mark) → HasMarked n (row_of (rows_of lists) 0) set → IsMarkable size n (row_of (rows_of lists) 0) → (i : ℕ) → IsNumberOf n i → i < 2 ^ size
-  number_by_mark Rest h t i e = absurd e
-  number_by_mark (Enters who) h t i e = subst (λ (x : ℕ). x < 2 ^ size) (sym e) t.0
-  number_by_mark (Leaves who) h t i e = k.below i (ap (λ (x : ℕ). is_in x (row_of (rows_of lists) 0)) e ∙ t)
-  number_by_mark Broken h t i e = absurd h
-
-  pub number_below : (i : ℕ) → IsNumberOf mark i → i < 2 ^ size
-  number_below = number_by_mark mark m k.markable

@@ -1,6 +1,8 @@
 -- The lists after a settle.
-use Rattle.std.proofs.Common.{◌≡◌, ◌⊎◌, inl, inr, refl, sym, ap, ap₂, ◌∙◌, subst, arith, List, [], ◌∷◌, ℕ, suc, ◌+◌, ◌*◌, ◌^◌, ◌<◌, ◌≤◌, true, false, map, length, Some, Option, ℤ}
+use Rattle.std.proofs.Common.{◌≡◌, ◌⊎◌, inl, inr, refl, sym, ap, ap₂, ◌∙◌, subst, arith, List, [], ◌∷◌, ℕ, suc, ◌+◌, ◌^◌, ◌<◌, ◌≤◌, true, false, map, length, Some, Option, ℤ}
 use Rattle.std.specs.Prelude.{Contains, slice_get}
+use Rattle.std.proofs.lemmas.Bool.{cases_lt}
+use Rattle.std.proofs.lemmas.List.{length-map}
 use Rattle.std.proofs.lemmas.Option.{slice_get_within}
 use Rattle.kin_basics.proofs.Places.{get_within}
 use Rattle.kin_motion.specs.declared.fact.Placed.{Placed}
@@ -26,17 +28,15 @@ use Rattle.kin_wedge.specs.Parts.{EachTo, IsResettled, facts_from, swaps_of}
 use Rattle.kin_wedge.specs.Passages.{AreAnswered, AreBeside, IsPassage}
 use Rattle.kin_wedge.specs.Rows.{row_of, AreOrders, AreRanked, AreRows, HaveSlots}
 use Rattle.kin_wedge.specs.Seen.{rows_of}
-use Rattle.kin_wedge.specs.Wedging.{candidate_at, AreKept, AreWedges, IsListOf, IsMarkable}
+use Rattle.kin_wedge.specs.Wedging.{Wedging, candidate_at, members_of, AreKept, AreWedges, IsListOf, IsMarkable}
 use Rattle.kin_wedge.specs.WedgingLaws.{way_known, way_of}
-use Rattle.kin_wedge.proofs.AllRows.{items_there, swaps_there, length-mapped, row_past}
+use Rattle.kin_wedge.proofs.AllRows.{items_there, swaps_there, row_past}
+use Rattle.kin_wedge.proofs.Keeping.{kept_marked, wedging}
 use Rattle.kin_wedge.proofs.Parting.{AllAtNought, among_part, fact_there, has_fact, here_in, here_out}
 use Rattle.kin_wedge.proofs.Posted.{nought_settled}
-use Rattle.kin_wedge.proofs.Readiness.{live_below}
+use Rattle.kin_wedge.proofs.Readiness.{list_ready, live_below}
 use Rattle.kin_wedge.proofs.Scenes.{row_apart, third_behind, ranked, candidate, none_of_others}
 use Rattle.kin_wedge.proofs.Told.{held_as_told}
-
-cases_below : (k : ℕ) → (k < 8) ⊎ (8 ≤ k)
-cases_below k = grind arith
 
 -- no exchange of nothing
 nothing : (mark : Mark) → exchanged [] (staying mark []) ≡ lasting mark []
@@ -57,10 +57,29 @@ distinct_facts n (l ∷ ls) nought once =
     let f = among_part (n + 1) ls p (λ part k g. nought (suc part) k g) b in
     omega (arith, z, e, f))
 
-module _ (s : Scene) (real : IsReal s) (size : ℕ) (mark : Mark) (old new : List Listing) (rows : List (List ℕ)) (candidates : List (Option ℕ)) (small : size ≤ 12) (slots : length candidates ≡ 8 * 2 ^ size)
-    (k : AreKept size mark old rows candidates) (ready : HasMarked mark (row_of (rows_of old) 0) s.live) (e : EachTo (IsResettled s) old new) where
+-- eight lists that may settle in a scene
+pub record MaySettle (s : Scene) (size : ℕ) (mark : Mark) (lists : List Listing) (rows : List (List ℕ)) (candidates : List (Option ℕ)) : Type 0 where
+  pub real : IsReal s
+  pub known : AreWedges size mark lists rows candidates
+  pub ready : HasMarked mark (row_of (rows_of lists) 0) s.live
+
+pub may_settle : {s : Scene} {size : ℕ} {mark : Mark} {lists : List Listing} {rows : List (List ℕ)} {candidates : List (Option ℕ)} {changed : List ℕ} {facts : List Placed} {k : Wedging}
+    → IsReal s → AreWedges size mark lists rows candidates → wedging size candidates changed mark (rows_of lists) facts ≡ k → HasMarked k.mark (members_of k) s.live → MaySettle s size mark lists rows candidates
+may_settle {s = s} real known is ready = record { real = real; known = known; ready = subst (λ (v : Wedging). HasMarked v.mark (members_of v) s.live) (sym is) ready }
+
+module _ {s : Scene} {size : ℕ} {mark : Mark} {old : List Listing} {rows : List (List ℕ)} {candidates : List (Option ℕ)} (may : MaySettle s size mark old rows candidates) where
+  pub kept : AreKept size mark old rows candidates
+  kept = kept_marked size mark old rows candidates (row_of (rows_of old) 0) s.live may.ready may.known.kept
+
+  pub lists_ready : (part : ℕ) (l : Listing) → slice_get old part ≡ Some l → HasMarked l.mark l.items s.live
+  lists_ready = list_ready size mark old rows candidates kept s.live may.ready
+
+module _ {s : Scene} {size : ℕ} {mark : Mark} {old new : List Listing} {rows : List (List ℕ)} {candidates : List (Option ℕ)} (may : MaySettle s size mark old rows candidates) (e : EachTo (IsResettled s) old new) where
+  k : AreKept size mark old rows candidates
+  k = kept may
+
   laws : HasLineLaws s
-  laws = real_line_laws s real
+  laws = real_line_laws s may.real
 
   count : length new ≡ 8
   count = e.count ∙ k.count
@@ -87,7 +106,7 @@ module _ (s : Scene) (real : IsReal s) (size : ℕ) (mark : Mark) (old new : Lis
 
   pub orders : AreOrders s (rows_of new)
   orders = record {
-    count = length-mapped (λ (x : Listing). x.items) new ∙ count;
+    count = length-map new (λ (x : Listing). x.items) ∙ count;
     order = λ part h. let m = there part h in subst (IsOrder s (direction_of part).dx (direction_of part).dy) (sym (items_there new part m.0 m.1)) (order_in part m.0 m.1);
   }
 
@@ -96,14 +115,14 @@ module _ (s : Scene) (real : IsReal s) (size : ℕ) (mark : Mark) (old new : Lis
 
   -- the members of each list are the live numbers
   pub live : (part i : ℕ) → is_in i (row_of (rows_of new) part) ≡ true → is_in i s.live ≡ true
-  live part i h = at (cases_below part)
+  live part i h = at (cases_lt part 8)
     where
       at : (part < 8) ⊎ (8 ≤ part) → is_in i s.live ≡ true
       at (inl w) = sym ((orders.order part w).all.same i) ∙ h
       at (inr w) = absurd (let f : false ≡ true = sym (ap (is_in i) (row_empty part w)) ∙ h in cc)
 
   pub rows_now : AreRows (rows_of new)
-  rows_now = record { count = orders.count; apart = λ part. at part (cases_below part) }
+  rows_now = record { count = orders.count; apart = λ part. at part (cases_lt part 8) }
     where
       at : (part : ℕ) → (part < 8) ⊎ (8 ≤ part) → AreDistinct (row_of (rows_of new) part)
       at part (inl w) = row_apart s laws (rows_of new) orders part w
@@ -119,19 +138,19 @@ module _ (s : Scene) (real : IsReal s) (size : ℕ) (mark : Mark) (old new : Lis
   alike_now part i h = (orders.order 0 (omega arith)).all.same i ∙ live part i h
 
   below : (i : ℕ) → is_in i s.live ≡ true → i < 2 ^ size
-  below = live_below size mark old rows candidates k s.live ready
+  below = live_below size mark old rows candidates k s.live may.ready
 
   pub slots_now : HaveSlots (rows_of new) (length candidates)
-  slots_now part i h = let b = below i (live part i h) in omega (arith, b, slots)
+  slots_now part i h = let b = below i (live part i h) in let n = may.known.slots in omega (arith, b, n)
 
   beside : (n : Mark) → HasMarked n (row_of (rows_of old) 0) s.live → IsMarkable size n (row_of (rows_of old) 0) → AreBeside n rows (rows_of new)
   beside Rest h t = tt
-  beside (Enters i) h t = λ part. ap (λ (rs : List (List ℕ)). is_in i (row_of rs part)) k.same ∙ at part (cases_below part)
+  beside (Enters i) h t = λ part. ap (λ (rs : List (List ℕ)). is_in i (row_of rs part)) k.same ∙ at part (cases_lt part 8)
     where
       at : (part : ℕ) → (part < 8) ⊎ (8 ≤ part) → is_in i (row_of (rows_of old) part) ≡ false
       at part (inl w) = k.alike part i w ∙ t.1
-      at part (inr w) = ap (is_in i) (row_past (rows_of old) part (let c = length-mapped (λ (x : Listing). x.items) old in let d = k.count in omega (arith, w, c, d)))
-  beside (Leaves i) h t = λ part. at part (cases_below part)
+      at part (inr w) = ap (is_in i) (row_past (rows_of old) part (let c = length-map old (λ (x : Listing). x.items) in let d = k.count in omega (arith, w, c, d)))
+  beside (Leaves i) h t = λ part. at part (cases_lt part 8)
     where
       at : (part : ℕ) → (part < 8) ⊎ (8 ≤ part) → is_in i (row_of (rows_of new) part) ≡ false
       at part (inl w) = (orders.order part w).all.same i ∙ sym (h.same i) ∙ not_in-without i (row_of (rows_of old) 0)
@@ -139,7 +158,7 @@ module _ (s : Scene) (real : IsReal s) (size : ℕ) (mark : Mark) (old new : Lis
   beside Broken h t = tt
 
   pub passage : IsPassage mark (swaps_of new) rows (rows_of new)
-  passage = record { exchanges = λ part. at part (cases_below part); beside = beside mark ready k.markable }
+  passage = record { exchanges = λ part. at part (cases_lt part 8); beside = beside mark may.ready k.markable }
     where
       at : (part : ℕ) → (part < 8) ⊎ (8 ≤ part) → exchanged (row_of (swaps_of new) part) (staying mark (row_of rows part)) ≡ lasting mark (row_of (rows_of new) part)
       at part (inl w) =
@@ -153,9 +172,9 @@ module _ (s : Scene) (real : IsReal s) (size : ℕ) (mark : Mark) (old new : Lis
           ∙ ap (λ (n : Mark). lasting n m.0.items) marked
           ∙ ap (lasting mark) (sym (items_there new part m.0 m.1))
       at part (inr w) =
-          let c = length-mapped (λ (x : Listing). x.swaps) new in
+          let c = length-map new (λ (x : Listing). x.swaps) in
           let d = count in
-          let n = length-mapped (λ (x : Listing). x.items) old in
+          let n = length-map old (λ (x : Listing). x.items) in
           let o = k.count in
           ap₂ (λ (sw xs : List ℕ). exchanged sw (staying mark xs)) (row_past (swaps_of new) part (omega (arith, w, c, d))) (ap (λ (rs : List (List ℕ)). row_of rs part) k.same ∙ row_past (rows_of old) part (omega (arith, w, n, o)))
           ∙ nothing mark
@@ -199,10 +218,10 @@ module _ (s : Scene) (real : IsReal s) (size : ℕ) (mark : Mark) (old new : Lis
       of_live = λ p w o l here.
           let b = below p l in
           let low = slice_get_within octants w o here in
-          candidate s laws (rows_of new) orders w o here p (candidate_at after p w) l (answered p w o (candidate_at after p w) here (held_as_told size after (same ∙ slots) p w b low));
+          candidate s laws (rows_of new) orders w o here p (candidate_at after p w) l (answered p w o (candidate_at after p w) here (held_as_told size after (same ∙ may.known.slots) p w b low));
       of_others = λ p w b low n.
           let o = octant_at w low in
-          none_of_others s laws (rows_of new) orders w o.0 o.1 p (candidate_at after p w) n (answered p w o.0 (candidate_at after p w) o.1 (held_as_told size after (same ∙ slots) p w b low));
+          none_of_others s laws (rows_of new) orders w o.0 o.1 p (candidate_at after p w) n (answered p w o.0 (candidate_at after p w) o.1 (held_as_told size after (same ∙ may.known.slots) p w b low));
     }
 
     pub wedges_now : IsSettledWedges s size (candidate_at after) (facts_from 0 new)
@@ -210,8 +229,8 @@ module _ (s : Scene) (real : IsReal s) (size : ℕ) (mark : Mark) (old new : Lis
 
     pub kept_now : (rows' : List (List ℕ)) → rows' ≡ rows_of new → AreWedges size Rest new rows' after
     kept_now rows' f = record {
-      small = small;
-      slots = same ∙ slots;
+      small = may.known.small;
+      slots = same ∙ may.known.slots;
       kept = record {
         count = count;
         each = list_of;

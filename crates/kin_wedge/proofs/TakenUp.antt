@@ -1,6 +1,6 @@
 -- Touched slots come to their candidates one after another.
-use Rattle.std.proofs.Common.{◌≡◌, ◌≢◌, refl, sym, ap, ◌∙◌, subst, arith, List, [], ◌∷◌, ℕ, ◌+◌, ◌/◌, ◌%◌, ◌<◌, ◌≤◌, true, false, cond, nat_eq, length, set, drop, get_or, zero, suc, Some, Option, inl, inr, ◌⊎◌}
-use Rattle.std.specs.Prelude.{slice_get, Contains}
+use Rattle.std.proofs.Common.{◌≡◌, ◌≢◌, refl, sym, ap, ◌∙◌, subst, arith, List, [], ◌∷◌, ℕ, ◌+◌, ◌/◌, ◌%◌, ◌<◌, ◌≤◌, true, false, cond, nat_eq, length, set, drop, Some, Option, inl, inr, ◌⊎◌}
+use Rattle.std.specs.Prelude.{slice_get}
 use Rattle.std.proofs.lemmas.Bool.{cases_eq}
 use Rattle.std.proofs.lemmas.Bool.Decides.{nat_tests}
 use Rattle.std.proofs.lemmas.List.{drop_all}
@@ -74,12 +74,3 @@ module _ (rows : List (List ℕ)) (are_rows : AreRows rows) (ranked : AreRanked 
         held = k.held;
         first = awaited_done rows are_rows.apart o (slot / 8) (λ x y m n. ranked.ranked (slot % 8) (slot / 8) x y o e m n) k.candidate (subst (λ (ts : List Touch). IsAwaited rows o (slot / 8) k.candidate (offers_for slot ts)) (drop_all i touches l) k.awaited);
       }
-
--- what stands at a place is in the list
-pub contains_at : {A : Type 0} (xs : List A) (i : ℕ) (d : A) → i < length xs → Contains xs (get_or xs i d)
-contains_at {A} xs i d h = (i, h, again xs i d (get_or xs i d) h)
-  where
-    again : (ys : List A) (k : ℕ) (d e : A) → k < length ys → get_or ys k (get_or ys k d) ≡ get_or ys k d
-    again [] k d e h = absurd (omega (arith, h))
-    again (y ∷ ys) zero d e h = refl
-    again (y ∷ ys) (suc k) d e h = again ys k d e (omega (arith, h))

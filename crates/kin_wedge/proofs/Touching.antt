@@ -2,19 +2,12 @@
 use Rattle.std.proofs.Common.{◌≡◌, ◌≢◌, ◌+◌, ◌*◌, ◌<◌, None, refl, sym, ap, ◌∙◌, subst, List, [], ◌∷◌, ◌++◌, ℕ, Some, Option, inl, inr, ◌⊎◌, arith}
 use Rattle.std.specs.Prelude.{Contains, slice_get}
 use Rattle.std.proofs.lemmas.Bool.{cases_eq}
-use Rattle.std.proofs.lemmas.Option.{same_Some, slice_get_within}
+use Rattle.std.proofs.lemmas.List.Elements.{Contains-append_left}
+use Rattle.std.proofs.lemmas.Option.{same_Some}
 use Rattle.kin_basics.proofs.Members.{contains_tail, contains_cases}
 use Rattle.kin_motion.specs.Octants.{Octant, octants}
 use Rattle.kin_wedge.specs.declared.touch.Touch.{Touch}
 use Rattle.kin_wedge.specs.Touched.{IsOffered, AreKnown, HasTouched, HasOfferedBoth}
-
-in_front : (xs : List Touch) (y x : Touch) → Contains xs x → Contains (xs ++ y ∷ []) x
-in_front [] y x h = absurd (omega (arith, h.1))
-in_front (z ∷ zs) y x h = at (contains_cases z x zs h) (in_front zs y x)
-  where
-    at : (z ≡ x) ⊎ Contains zs x → (Contains zs x → Contains (zs ++ y ∷ []) x) → Contains (z ∷ zs ++ y ∷ []) x
-    at (inl e) rest = (0, omega arith, e)
-    at (inr k) rest = contains_tail z x (zs ++ y ∷ []) (rest k)
 
 at_end : (xs : List Touch) (y : Touch) → Contains (xs ++ y ∷ []) y
 at_end [] y = (0, omega arith, refl)
@@ -38,7 +31,7 @@ front_or_end (z ∷ zs) y x h = at (contains_cases z x (zs ++ y ∷ []) h) (fron
 
 pub touched_more : (candidates : List (Option ℕ)) (old : List Touch) (t : Touch) → slice_get candidates t.slot ≡ Some t.old → HasTouched candidates old (old ++ t ∷ [])
 touched_more candidates old t e = record {
-  keeps = λ slot x h. (h.0, in_front old t h.0 h.1, h.2, h.3);
+  keeps = λ slot x h. (h.0, Contains-append_left old (t ∷ []) h.0 h.1, h.2, h.3);
   known = λ k u h. at u (front_or_end old t u h) k;
 }
   where
@@ -96,10 +89,6 @@ offered_within_more candidates first now next part apex hit w o a here f t = rec
         subst (λ (n : ℕ). IsOffered next (8 * apex + n) (Some hit)) (sym s)
         (f (subst (λ (x : Octant). (x.first.part ≡ part) ⊎ (x.second.part ≡ part)) (sym (same_octant p (ap (slice_get octants) (sym s) ∙ e))) b))
     at v p (inr n) h e b = t.keeps (8 * apex + v) (Some hit) (a.offered v p (omega (arith, h, n)) e b)
-
--- every slot is below the eighth of an apex
-pub below_eight : (v : ℕ) (o : Octant) → slice_get octants v ≡ Some o → v < 8
-below_eight v o e = slice_get_within octants v o e
 
 -- what is offered of an exchange stays offered
 pub offered_stays : (candidates : List (Option ℕ)) (now next : List Touch) (part a b : ℕ) → HasTouched candidates now next → HasOfferedBoth candidates part a b now → HasOfferedBoth candidates part a b next

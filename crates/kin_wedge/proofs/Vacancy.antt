@@ -1,15 +1,12 @@
 -- Eight empty lists, and eight empty rows.
-use Rattle.std.proofs.Common.{◌≡◌, refl, sym, ap, ◌∙◌, subst, arith, List, [], ◌∷◌, ◌++◌, ℕ, zero, suc, ◌+◌, length, Some, inl, inr, ◌⊎◌}
+use Rattle.std.proofs.Common.{◌≡◌, refl, sym, ap, ◌∙◌, subst, List, [], ◌∷◌, ◌++◌, ℕ, zero, suc, ◌+◌, length, Some, inl, inr, ◌⊎◌}
 use Rattle.std.specs.Prelude.{slice_get}
+use Rattle.std.proofs.lemmas.List.{length_push}
 use Rattle.kin_basics.proofs.Places.{get-push_cases}
 use Rattle.kin_list.specs.Listing.{Listing}
 use Rattle.kin_wedge.specs.Parts.{AreVacant, vacant_listing}
 use Rattle.kin_wedge.specs.Passages.{AreVacantRows}
 use Rattle.kin_wedge.specs.Rows.{row_of}
-
-length-push : {A : Type 0} (xs : List A) (x : A) → length (xs ++ x ∷ []) ≡ length xs + 1
-length-push {A} [] x = omega arith
-length-push {A} (y ∷ ys) x = let r = length-push ys x in omega (arith, r)
 
 -- so many empty lists
 pub record AreVacantBelow (size : ℕ) (lists : List Listing) (n : ℕ) : Type 0 where
@@ -21,7 +18,7 @@ vacant_none size = record { count = refl; each = λ part l e. absurd cc }
 
 pub vacant_more : (size : ℕ) (lists next : List Listing) (n : ℕ) (l : Listing) → AreVacantBelow size lists n → l ≡ vacant_listing size n → next ≡ lists ++ l ∷ [] → AreVacantBelow size next (n + 1)
 vacant_more size lists next n l a e p = subst (λ (v : List Listing). AreVacantBelow size v (n + 1)) (sym p) (record {
-  count = length-push lists l ∙ ap (λ k. k + 1) a.count;
+  count = length_push lists l ∙ ap (λ k. k + 1) a.count;
   each = λ part m f. at part m (get-push_cases lists l part m f);
 })
   where
@@ -48,7 +45,7 @@ empty-push (r ∷ rs) (suc part) h = empty-push rs part (λ k. h (suc k))
 
 pub rows_more : (rows next : List (List ℕ)) (row : List ℕ) (n : ℕ) → AreEmptyRows rows n → row ≡ [] → next ≡ rows ++ row ∷ [] → AreEmptyRows next (n + 1)
 rows_more rows next row n a e p = subst (λ (v : List (List ℕ)). AreEmptyRows v (n + 1)) (sym (p ∙ ap (λ (r : List ℕ). rows ++ r ∷ []) e)) (record {
-  count = length-push rows [] ∙ ap (λ k. k + 1) a.count;
+  count = length_push rows [] ∙ ap (λ k. k + 1) a.count;
   each = λ part. empty-push rows part a.each;
 })
 

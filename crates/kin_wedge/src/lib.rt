@@ -12,19 +12,19 @@
 
 pub use wedges::Wedges;
 
-pub mod answer;
+mod answer;
 mod around;
-pub mod candidates;
+mod candidates;
 mod changed;
 pub mod hits;
 pub mod laws;
-pub mod octant;
-pub mod orders;
+mod octant;
+mod orders;
 pub mod part;
 mod push;
-pub mod renew;
-pub mod rows;
-pub mod settle;
-pub mod table;
-pub mod touch;
+mod renew;
+mod rows;
+mod settle;
+mod table;
+mod touch;
 pub mod wedges;

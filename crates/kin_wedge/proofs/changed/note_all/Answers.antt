@@ -1,10 +1,10 @@
 use Rattle.std.proofs.Common.{None}
-use Rattle.kin_wedge.proofs.TakenUp.{contains_at}
+use Rattle.std.proofs.lemmas.List.Elements.{Contains-get_or}
 use Rattle.kin_wedge.proofs.Noting.{noted_more}
 use Rattle.kin_wedge.proofs.changed.note_all.Goals as goal
 
 pub note_one-requires : goal.note_one-requires
-note_one-requires c = record { slot = c.requires.slots _ (contains_at c.args.touches.now c.loop-touch.touch-index (record { slot = 0; old = None; offer = None }) c.loop-touch-test.true) }
+note_one-requires c = record { slot = c.requires.slots _ (Contains-get_or c.args.touches.now c.loop-touch.touch-index (record { slot = 0; old = None; offer = None }) c.loop-touch-test.true) }
 
 pub loop-touch-preserved : goal.loop-touch-preserved
 loop-touch-preserved c =

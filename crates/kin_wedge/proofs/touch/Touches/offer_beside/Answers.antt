@@ -1,7 +1,8 @@
 use Rattle.std.proofs.Common.{sym, subst, ◌+◌, ◌*◌}
 use Rattle.std.specs.Prelude.{Some}
 use Rattle.kin_wedge.specs.Seen.{octant_seen}
-use Rattle.kin_wedge.proofs.Lost.{IsRankedBy, offered_first, hit_within, head_in, offered_more, offered_done, ranked_here, octant_within, slot_again}
+use Rattle.kin_wedge.proofs.Lost.{IsRankedBy, offered_first, hit_within, head_in, offered_more, offered_done, ranked_here}
+use Rattle.kin_wedge.proofs.Slots.{below_eight, octant_again}
 use Rattle.kin_wedge.proofs.touch.Touches.offer_beside.Goals as goal
 
 pub loop-apex-init : goal.loop-apex-init
@@ -25,8 +26,8 @@ loop-apex-preserved c =
 
 pub returns-clause-offered : goal.returns-clause-offered
 returns-clause-offered c = λ apex w o e p k.
-    let small = octant_within w o e in
-    let s = slot_again apex w small in
+    let small = below_eight w o e in
+    let s = octant_again apex w small in
     offered_done c.args.table.now c.args.of (IsRankedBy c.args.part) (Some c.args.no) c.args.self.now.all.items c.loop-apex.self.all.items c.loop-apex.apex-iterator c.in-None.ensures.steps.0 c.loop-apex.invariant (8 * apex + w)
     (subst (IsRankedBy c.args.part) (sym s) (o, e, p)) k
 
