@@ -18,7 +18,8 @@ use Rattle.kin_cert.specs.Taken.{NoneWaits}
 use Rattle.kin_cert.specs.Told.{HasFactsOf, IsTimed, MayTell, nothing}
 use Rattle.kin_cert.proofs.NextLaws.{timed_holds}
 use Rattle.kin_world.specs.declared.structure.Structure.{Structure}
-use Rattle.kin_world.specs.Structures.{placed_facts, IsSettledFor}
+use Rattle.kin_world.specs.Kinds.{placed_facts}
+use Rattle.kin_world.specs.Structures.{IsSettledFor}
 use Rattle.kin_world.specs.Upkeep.{Stage, sight, IsInPlace, IsInOrder, IsTimedOrFailed, HasTimedNew, HasReplaced}
 use Rattle.kin_world.proofs.StructureLaws.{settled_holds, settled_askable}
 
@@ -84,19 +85,19 @@ module _ {is_fine : ℕ → Keep → Structure → Type 0} {s : Stage} (o : IsIn
   }
 
   -- the change of a structure that is settled now may be told
-  pub may_tell : (k : ℕ) (keep : Keep) (st after : Structure) (change : Change) → slice_get s.keeps k ≡ Some keep → IsInPlace is_fine s.table.live k keep st → IsSettledFor s.size keep (sight s) after
-      → HasChanged (placed_facts st) (placed_facts after) nothing change → MayTell k change (sight s) s.table.live
-  may_tell k keep st after change kept place settled changed = record {
+  pub may_tell : (now : Scene) (k : ℕ) (keep : Keep) (st after : Structure) (change : Change) → slice_get s.keeps k ≡ Some keep → IsInPlace is_fine s.table.live k keep st → IsSettledFor s.size keep now after
+      → HasChanged (placed_facts st) (placed_facts after) nothing change → MayTell k change now s.table.live
+  may_tell now k keep st after change kept place settled changed = record {
     before = placed_facts st;
     after = placed_facts after;
     once = o.once;
     tabled = place.tabled;
     changed = changed;
-    hold = settled_holds s.size keep (sight s) after settled;
-    askable = settled_askable s.size keep (sight s) after (o.fit.keepable.small k keep kept) settled;
+    hold = settled_holds s.size keep now after settled;
+    askable = settled_askable s.size keep now after (o.fit.keepable.small k keep kept) settled;
   }
 
-  module _ {k : ℕ} {keep : Keep} {st after : Structure} {table : Facts} (r : HasReplaced k s keep st after table) where
+  module _ {k : ℕ} {now : Scene} {keep : Keep} {st after : Structure} {table : Facts} (r : HasReplaced k now s keep st after table) where
     -- the structure's own facts are tabled
     pub tabled_here : HasFactsOf table.live k (placed_facts after)
     tabled_here = r.told.facts (placed_facts st) (placed_facts after) (o.each k keep st r.kept r.here).tabled r.changed

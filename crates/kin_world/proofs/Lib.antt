@@ -5,7 +5,9 @@ pub mod TakeLaws
 pub mod RepairLaws
 pub mod MadeLaws
 pub mod GatherLaws
+pub mod OverLaws
 pub mod EnterLaws
+pub mod LeaveLaws
 pub mod StartLaws
 pub mod AskLaws
 pub mod RootLaws

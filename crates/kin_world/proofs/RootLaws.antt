@@ -11,7 +11,7 @@ pub proper : (w : World) → IsWhole w → IsProper w.motions w.size w.keeps
 proper w whole = record {
   slow = whole.slow;
   slots = whole.room;
-  small = λ i d low. (whole.keepable.small i (get_or w.keeps i d) (slice_get-get_or w.keeps i d low)).0;
+  small = λ i d low. whole.keepable.small i (get_or w.keeps i d) (slice_get-get_or w.keeps i d low);
 }
 
 pub blocks_are_at_roots : BlocksAreAtRoots

@@ -30,9 +30,10 @@ use Rattle.kin_cert.proofs.JournalExistence.{least_block}
 use Rattle.kin_cert.proofs.NextLaws.{IsInTime, NoneFailsUntil, nothing_fails, nothing_until, hold_before_least, fails_first, holds_until_failure, earlier_still, later_start}
 use Rattle.kin_world.specs.declared.structure.Structure.{Structure}
 use Rattle.kin_world.specs.declared.world.World.TheInside.{Inside}
-use Rattle.kin_world.specs.Structures.{placed_facts, IsSettledFor}
+use Rattle.kin_world.specs.Kinds.{placed_facts}
+use Rattle.kin_world.specs.Structures.{IsSettledFor}
 use Rattle.kin_world.specs.Upkeep.{Stage, IsSound, HasSameFrame, HasSettled, meaning, setting, sight, stage_of}
-use Rattle.kin_world.specs.Worlds.{World, IsWhole, IsNextMoment, HasInserted, HasMoved, HasPassed, FailsWithin, with_facts_of}
+use Rattle.kin_world.specs.Worlds.{World, IsWhole, IsNextMoment, HasInserted, HasRemoved, HasMoved, HasPassed, FailsWithin, with_facts_of}
 use Rattle.kin_world.proofs.InOrder.{facts_hold, owner, standing, timed, timely_from_timed}
 use Rattle.kin_world.proofs.StructureLaws.{settled_askable, settled_facts, settled_later}
 
@@ -236,13 +237,25 @@ module _ (s : Stage) {t : Stage} (did : HasSettled s.table t) (frame : HasSameFr
     made = record { born = did.made.born; exactly = did.made.exactly; count = did.made.count };
   }
 
-  -- a number has its motion
-  pub has_inserted : (before : List (Option Course)) (entering : ℕ) (motion : Course) → s.motions ≡ slice_set before entering (Some motion) → HasInserted entering motion (meaning (record s { motions = before }) true) (meaning t true)
-  has_inserted before entering motion written = record {
-    state = same_but_facts ∙ ap (λ (ms : List (Option Course)). with_facts_of (record (meaning s true) { motions = ms }) (meaning t true)) written;
-    whole = whole did.sound;
-    made = record { born = did.made.born; exactly = did.made.exactly; count = did.made.count };
-  }
+  module _ (before : List (Option Course)) (i : ℕ) where
+    state_with : (o : Option Course) → s.motions ≡ slice_set before i o → meaning t true ≡ with_facts_of (record (meaning s true) { motions = slice_set before i o }) (meaning t true)
+    state_with o written = same_but_facts ∙ ap (λ (ms : List (Option Course)). with_facts_of (record (meaning s true) { motions = ms }) (meaning t true)) written
+
+    -- a number has its motion
+    pub has_inserted : (motion : Course) → s.motions ≡ slice_set before i (Some motion) → HasInserted i motion (meaning (record s { motions = before }) true) (meaning t true)
+    has_inserted motion written = record {
+      state = state_with (Some motion) written;
+      whole = whole did.sound;
+      made = record { born = did.made.born; exactly = did.made.exactly; count = did.made.count };
+    }
+
+    -- a number has none any more
+    pub has_removed : s.motions ≡ slice_set before i None → HasRemoved i (meaning (record s { motions = before }) true) (meaning t true)
+    has_removed written = record {
+      state = state_with None written;
+      whole = whole did.sound;
+      made = record { born = did.made.born; exactly = did.made.exactly; count = did.made.count };
+    }
 
 -- what is inside a world that is seen as whole is sound
 module _ (w : Inside) (v : World) (is : meaning (stage_of w.upkeep) w.whole ≡ v) (sound : IsTrue w.whole → IsSound (stage_of w.upkeep)) (there : IsTrue v.whole) where

@@ -1,12 +1,10 @@
 -- The start: no number is live, at the instant 0, and the structures have no members.
-use Rattle.std.proofs.Common.{◌≡◌, ◌⊎◌, inl, inr, rules, refl, sym, ap, ap₂, ◌∙◌, subst, arith, ℕ, zero, suc, ◌+◌, List, [], ◌∷◌, ◌++◌, length}
-use Rattle.std.specs.Prelude.{Option, Some, None, pos, replicate, slice_get, Contains}
-use Rattle.std.proofs.lemmas.Nat.Gcd.{IsGcd-swap, IsGcd-from_zero}
+use Rattle.std.proofs.Common.{◌≡◌, ◌⊎◌, inl, inr, refl, sym, ap, ap₂, ◌∙◌, subst, arith, ℕ, zero, suc, ◌+◌, List, [], ◌∷◌, ◌++◌, length}
+use Rattle.std.specs.Prelude.{Option, Some, None, replicate, slice_get, Contains}
 use Rattle.std.proofs.lemmas.Option.{same_Some}
 use Rattle.kin_basics.proofs.Members.{contains_none}
 use Rattle.kin_basics.proofs.Places.{get-push_cases}
 use Rattle.kin_num.specs.declared.instant.Moment.{Moment}
-use Rattle.kin_num.specs.declared.instant.Shape.TheVariants.{Ratio}
 use Rattle.kin_num.specs.Canonical.{IsCanonical}
 use Rattle.kin_motion.specs.declared.fact.Placed.{Placed}
 use Rattle.kin_motion.specs.declared.keep.Keep.{Keep}
@@ -15,8 +13,10 @@ use Rattle.kin_motion.specs.Numbers.{filled_from}
 use Rattle.kin_motion.specs.Scene.{scene_at}
 use Rattle.kin_cert.specs.Told.{HasFactsOf}
 use Rattle.kin_world.specs.declared.structure.Structure.{Structure}
-use Rattle.kin_world.specs.Structures.{placed_facts, IsVacant, AreVacant}
+use Rattle.kin_world.specs.Kinds.{placed_facts}
+use Rattle.kin_world.specs.Structures.{IsVacant, AreVacant}
 use Rattle.kin_world.specs.Upkeep.{IsFit, IsSound}
+use Rattle.kin_world.proofs.StructureLaws.{settled_vacant}
 
 -- a list of so many empty slots
 pub empty_slots : (n : ℕ) (ms : List (Option Course)) → length ms ≡ n → ((i : ℕ) → motion_of ms i ≡ None) → ms ≡ replicate n None
@@ -32,13 +32,6 @@ none_filled (suc n) k = none_filled n (k + 1)
 -- no number has a motion, so none is live
 pub none_live : (n : ℕ) (ms : List (Option Course)) → ms ≡ replicate n None → live_of ms ≡ []
 none_live n ms none = ap live_of none ∙ none_filled n 0
-
--- the instant 0
-pub start_canonical : IsCanonical (Ratio (pos 0) (pos 1))
-start_canonical = record {
-  form = record { positive = search rules; lowest = IsGcd-swap 1 0 1 (IsGcd-from_zero 1 0 refl) };
-  small = record { n_small = omega arith; d_small = omega arith };
-}
 
 pub vacant_none : (size : ℕ) (keeps : List Keep) (structures : List Structure) → structures ≡ [] → AreVacant size keeps structures
 vacant_none size keeps structures none j keep st kept there = let e = subst (λ (xs : List Structure). slice_get xs j ≡ Some st) none there in absurd cc
@@ -71,7 +64,7 @@ sound_start size keeps structures motions m fit canonical nobody count vacant = 
     canonical = canonical;
     counted = omega arith;
     count = count;
-    each = λ j keep st kept there. let v = vacant j keep st kept there in record { fine = v.kept (scene_at motions m) nobody; tabled = tabled_none j (placed_facts st) v.facts };
+    each = λ j keep st kept there. let v = vacant j keep st kept there in record { fine = settled_vacant size keep (scene_at motions m) st v nobody; tabled = tabled_none j (placed_facts st) v.facts };
     once = λ i j d less within. absurd (omega (arith, within));
     owned = λ l there. absurd (contains_none l there);
     timely = λ l there. absurd (contains_none l there);

@@ -21,7 +21,7 @@ use Rattle.kin_cert.specs.Failures.{IsFirstFailure}
 use Rattle.kin_cert.specs.Taken.{IsLeastFailure, IsMarked, HasTaken}
 use Rattle.kin_cert.specs.Told.{HasFactsOf, IsTimed, certificates_of}
 use Rattle.kin_cert.proofs.NextLaws.{fails_now, later_start, next_block}
-use Rattle.kin_world.specs.Structures.{placed_facts}
+use Rattle.kin_world.specs.Kinds.{placed_facts}
 use Rattle.kin_world.specs.Upkeep.{Stage, IsSound, IsUnderRepair, AreWaiting, HasTimedNew, setting, sight}
 use Rattle.kin_world.proofs.InOrder.{timed}
 use Rattle.kin_world.proofs.SoundLaws.{failure_at, in_time, least_fails, live_askable, one_least, real}

@@ -1,4 +1,5 @@
 pub mod Laws
+pub mod Kinds
 pub mod Structures
 pub mod Upkeep
 pub mod Worlds

@@ -1,10 +1,10 @@
 -- All that a world is made of, in one piece: what is true of it between two calls, and while it is repaired. No public clause of the world cites this module.
-use Rattle.std.specs.Prelude.{◌≡◌, ◌≢◌, ℕ, ◌+◌, ◌<◌, ◌≤◌, ◌^◌, ◌-◌, min, false, Bool, List, [], ◌∷◌, ◌++◌, map, length, slice_get, Option, Some, Contains, ◌↔◌, IsTrue}
+use Rattle.std.specs.Prelude.{◌≡◌, ◌≢◌, ℕ, ◌+◌, ◌<◌, ◌≤◌, ◌^◌, ◌-◌, min, false, Bool, List, [], ◌∷◌, ◌++◌, map, length, slice_get, slice_set, Option, Some, Contains, ◌↔◌, IsTrue}
 use Rattle.kin_num.specs.declared.instant.Moment.{Moment}
 use Rattle.kin_num.specs.Canonical.{IsCanonical}
 use Rattle.kin_motion.specs.declared.fact.Placed.{Placed}
 use Rattle.kin_motion.specs.declared.keep.Keep.{Keep}
-use Rattle.kin_motion.specs.Course.{Course, AreSlow, live_of}
+use Rattle.kin_motion.specs.Course.{Course, AreSlow, is_live, live_of}
 use Rattle.kin_motion.specs.Deltas.{Change}
 use Rattle.kin_motion.specs.Journal.{Setting, setting_of}
 use Rattle.kin_motion.specs.Kinetics.{HasChanged}
@@ -19,7 +19,8 @@ use Rattle.kin_cert.specs.Taken.{NoneWaits, is_taken_before}
 use Rattle.kin_cert.specs.Told.{HasFactsOf, IsTimed, IsTold, AreNew, certificates_of, nothing}
 use Rattle.kin_world.specs.declared.structure.Structure.{Structure}
 use Rattle.kin_world.specs.declared.upkeep.Upkeep.{Upkeep}
-use Rattle.kin_world.specs.Structures.{placed_facts, IsSettledFor, IsSettledWhereAllHold}
+use Rattle.kin_world.specs.Kinds.{placed_facts}
+use Rattle.kin_world.specs.Structures.{IsSettledFor, IsSettledWhereAllHold}
 use Rattle.kin_world.specs.Worlds.{World, AreKeepable}
 
 -- what is kept, the structures in the same order, the table of their live facts, the motions, and the moment now
@@ -88,17 +89,35 @@ pub record IsSound (s : Stage) : Type 0 where
 abbrev pub IsUnderRepair : Stage → Type 0
 IsUnderRepair s = IsInOrder (λ j keep st. IsSettledWhereAllHold s.size keep (sight s) st) s
 
--- the structures below k have taken the number in, and the others stand as they were in the scene before
-pub record HasTakenIn (size k : ℕ) (before now : Scene) (j : ℕ) (keep : Keep) (st : Structure) : Type 0 where
+-- the structures below k are settled in the scene now, and the others stand as they were in the scene before
+pub record HasGoneOver (size k : ℕ) (before now : Scene) (j : ℕ) (keep : Keep) (st : Structure) : Type 0 where
   pub done : j < k → IsSettledFor size keep now st
   pub ahead : k ≤ j → IsSettledFor size keep before st
 
 -- a number enters, structure after structure
 pub record IsEntering (entering k : ℕ) (before : Scene) (s : Stage) : Type 0 where
-  pub in_order : IsInOrder (HasTakenIn s.size k before (sight s)) s
+  pub in_order : IsInOrder (HasGoneOver s.size k before (sight s)) s
   pub none_waits : NoneWaits s.table.live
   pub room : entering < 2 ^ s.size
   pub entered : HasEntered entering before.live (live_of s.motions)
+
+-- the structures below k have taken a number in
+abbrev pub IsTakenIn : ℕ → ℕ → Stage → Type 0
+IsTakenIn entering k s = (before : Scene) × IsEntering entering k before s
+
+-- a number that had a motion has left, and structure after structure lets it go: until all have, failures are those seen with that motion
+pub record IsLeaving (leaving k : ℕ) (before : List (Option Course)) (s : Stage) : Type 0 where
+  pub in_order : IsInOrder (HasGoneOver s.size k (scene_at before s.moment) (sight s)) (record s { motions = before })
+  pub none_waits : NoneWaits s.table.live
+  pub room : leaving < 2 ^ s.size
+  pub slow : AreSlow s.motions
+  pub gone : is_live s.motions leaving ≡ false
+  pub motion : Course
+  pub had : before ≡ slice_set s.motions leaving (Some motion)
+
+-- the structures below k have let a number go
+abbrev pub IsLetGo : ℕ → ℕ → Stage → Type 0
+IsLetGo leaving k s = (before : List (Option Course)) × IsLeaving leaving k before s
 
 -- these are the facts of the structure k that wait
 abbrev pub ListsWaiting : ℕ → List LiveFact → List Placed → Type 0
@@ -136,11 +155,11 @@ pub record HasTimedNew (old new : Facts) : Type 0 where
 abbrev pub AreLeft : ℕ → List LiveFact → List LiveFact → Type 0
 AreLeft k old new = (l : LiveFact) → l.certificate.structure ≢ k → Contains old l ↔ Contains new l
 
--- the structure k has become another, which is settled now, and the table was told what has changed
-pub record HasReplaced (k : ℕ) (s : Stage) (keep : Keep) (st after : Structure) (table : Facts) : Type 0 where
+-- the structure k has become another, which is settled in the scene now, and the table was told what has changed
+pub record HasReplaced (k : ℕ) (now : Scene) (s : Stage) (keep : Keep) (st after : Structure) (table : Facts) : Type 0 where
   pub kept : slice_get s.keeps k ≡ Some keep
   pub here : slice_get s.structures k ≡ Some st
-  pub settled : IsSettledFor s.size keep (sight s) after
+  pub settled : IsSettledFor s.size keep now after
   pub change : Change
   pub changed : HasChanged (placed_facts st) (placed_facts after) nothing change
   pub told : IsTold k change (scene_at s.motions) s.moment s.table.live table.live
@@ -153,9 +172,9 @@ pub record HasRepaired (k : ℕ) (s t : Stage) : Type 0 where
   pub others : AreLeft k s.table.live t.table.live
   pub made : HasTimedNew s.table t.table
 
--- the structure k has taken the number in, after those below it
-pub record HasGoneOn (entering k : ℕ) (s t : Stage) : Type 0 where
-  pub next : (before : Scene) → IsEntering entering k before s → IsEntering entering (k + 1) before t
+-- the structure k has gone over, after those below it
+pub record HasGoneOn (is_over : ℕ → Stage → Type 0) (k : ℕ) (s t : Stage) : Type 0 where
+  pub next : is_over k s → is_over (k + 1) t
   pub others : AreLeft k s.table.live t.table.live
   pub made : HasTimedNew s.table t.table
 

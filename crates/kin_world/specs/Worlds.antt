@@ -11,11 +11,10 @@ use Rattle.kin_motion.specs.declared.keep.Keep.{Keep}
 use Rattle.kin_motion.specs.Course.{Course, AreSlow}
 use Rattle.kin_motion.specs.Journal.{Setting, setting_of, Failure, Block, IsNextBlock, IsJournal}
 use Rattle.kin_motion.specs.Keeps.{are_few}
-use Rattle.kin_motion.specs.Live.{Certificate, IsLiveFact, ListsLive}
+use Rattle.kin_motion.specs.Live.{Certificate, IsLiveFact, IsSmallKeep, ListsLive}
 use Rattle.kin_motion.specs.Moments.{FailsFirst}
 use Rattle.kin_motion.specs.Scene.{Scene, scene_at}
 use Rattle.kin_motion.specs.Sets.{ListsExactly}
-use Rattle.kin_world.specs.Structures.{IsKeepable}
 
 -- the size, what is kept, the motion of each live number, the moment now, the live facts with their owners, how many failure moments were made, and false after a changing call that found no memory
 pub record World : Type 0 where
@@ -39,10 +38,10 @@ scene_of w = scene_at w.motions w.moment
 abbrev pub certificate : ℕ → ℕ → Form → Sign → Certificate
 certificate structure part form sign = record { structure = structure; placed = record { part = part; fact = record { form = form; sign = sign } } }
 
--- a world may keep these: few enough, and each of a kind that is built, with a small direction
+-- a world may keep these: few enough, and each with a small direction
 pub record AreKeepable (keeps : List Keep) : Type 0 where
   pub few : IsTrue (are_few keeps)
-  pub small : (j : ℕ) (keep : Keep) → slice_get keeps j ≡ Some keep → IsKeepable keep
+  pub small : (j : ℕ) (keep : Keep) → slice_get keeps j ≡ Some keep → IsSmallKeep keep
 
 -- the live facts are exactly those of the definition, over slow motions, at a canonical moment
 pub record IsWhole (w : World) : Type 0 where
@@ -82,6 +81,18 @@ pub record HasInserted (entering : ℕ) (motion : Course) (old new : World) : Ty
   pub state : new ≡ with_facts_of (record old { motions = slice_set old.motions entering (Some motion) }) new
   pub whole : IsWhole new
   pub made : HasMade old new
+
+-- one number has no motion any more, and nothing else changed but the facts
+pub record HasRemoved (leaving : ℕ) (old new : World) : Type 0 where
+  pub state : new ≡ with_facts_of (record old { motions = slice_set old.motions leaving None }) new
+  pub whole : IsWhole new
+  pub made : HasMade old new
+
+-- a number has left and entered again with this motion, at the same moment, and both halves have made failure moments
+pub record HasExchanged (number : ℕ) (motion : Course) (old new : World) : Type 0 where
+  pub between : World
+  pub removed : HasRemoved number old between
+  pub inserted : HasInserted number motion between new
 
 -- the moment is that of the next block, which isn't after the limit, and nothing else changed but the facts
 pub record HasPassed (limit : Moment) (b : Block) (old new : World) : Type 0 where

@@ -9,8 +9,11 @@
 
 pub use world::World;
 
+#[cfg(test)]
+mod asked;
 mod failures;
 pub mod laws;
+mod places;
 #[cfg(test)]
 mod scripts;
 mod structure;

@@ -1,6 +1,6 @@
 //! Scripts of calls with their answers, worked out by hand.
 
-use kin_motion::Keep;
+use kin_motion::{Keep, Rect};
 use kin_num::{Phase, Sign};
 
 /// A whole second and the phase.
@@ -18,10 +18,18 @@ pub enum Call {
     /// A number enters with its x, y, u and v.
     Insert(u32, [i32; 4]),
     MayInsert(u32, bool),
+    /// A live number leaves.
+    Remove(u32),
+    /// A live number gets another x, y, u and v.
+    Replace(u32, [i32; 4]),
     /// A step towards the first time stops at the second, where these facts have failed.
     Stops(Time, Time, &'static [Lost]),
+    /// The same without a list: so many facts have failed.
+    Passes(Time, Time, usize),
     /// A step to this time passes no failure.
     Moves(Time),
+    /// Steps up to this time, whatever fails.
+    Runs(Time),
     Next(Option<Time>),
     /// How many facts are live, and how many failure moments were made.
     Facts(usize, u64),
@@ -29,6 +37,12 @@ pub enum Call {
     SignOf((u32, u32), Along, Option<Sign>),
     Order(u32, &'static [u32]),
     Extreme(u32, Option<u32>),
+    /// The hull cycle, by a structure that is kept.
+    Hull(u32, &'static [u32]),
+    /// The closest pair, which a structure keeps.
+    Closest(u32, Option<(u32, u32)>),
+    /// The points in a rectangle, by a structure that is kept.
+    Inside(u32, Rect, &'static [u32]),
 }
 
 /// The size, what is kept, and the calls.
@@ -115,6 +129,27 @@ const THREE: Script = (
             &[((0, 0), EAST, PART), ((0, 0), ((1, 0), (1, 2)), PART)],
         ),
         Call::Moves((6, Phase::At)),
+        Call::Order(0, &[2, 1, 0]),
+        Call::Facts(2, 6),
+    ],
+);
+
+/// Three points meet at 5, and no failures are listed.
+const UNLISTED: Script = (
+    2,
+    &[ORDER_EAST],
+    &[
+        Call::Insert(0, [0, 0, 1, 0]),
+        Call::Insert(1, [5, 0, 0, 0]),
+        Call::Insert(2, [10, 0, -1, 0]),
+        Call::Passes((5, Phase::At), (5, Phase::At), 2),
+        Call::Order(0, &[0, 1, 2]),
+        Call::Facts(2, 4),
+        Call::Moves((5, Phase::At)),
+        Call::Passes((6, Phase::At), (5, Phase::After), 2),
+        Call::Order(0, &[2, 1, 0]),
+        Call::Facts(2, 6),
+        Call::Runs((6, Phase::At)),
         Call::Order(0, &[2, 1, 0]),
         Call::Facts(2, 6),
     ],
@@ -308,6 +343,6 @@ const TWO_ROUNDS: Script = (
     ],
 );
 
-pub const SCRIPTS: [Script; 8] = [
-    CROSSING, THREE, OVERTAKING, TOGETHER, IN_TURN, ALIKE, LATE, TWO_ROUNDS,
+pub const SCRIPTS: [Script; 9] = [
+    CROSSING, THREE, OVERTAKING, UNLISTED, TOGETHER, IN_TURN, ALIKE, LATE, TWO_ROUNDS,
 ];

@@ -3,21 +3,29 @@
 //! This is the one place where a structure is told of failures and of a number that enters. What all
 //! kinds meet is said once, in `specs/Structures`.
 
-ghost use Rattle.std.specs.Prelude.{◌≡◌, ◌≤◌, ℕ, ℤ, List, [], Contains, IfOk, OnOk, IsSomeAnd};
+ghost use Rattle.std.specs.Prelude.{◌≡◌, ◌≤◌, ◌<◌, ◌^◌, ℕ, ℤ, List, [], Contains, IfOk, OnOk};
 ghost use Rattle.kin_motion.specs.declared.keep.Keep.{Keep as Kind};
-ghost use Rattle.kin_motion.specs.declared.keep.Keep.TheVariants.{Order as KeepOrder, Extreme as KeepExtreme};
-ghost use Rattle.kin_motion.specs.Agreements.{FitsSize};
+ghost use Rattle.kin_motion.specs.declared.keep.Keep.TheVariants.{Order as KeepOrder, Extreme as KeepExtreme, Hull as KeepHull, Closest as KeepClosest, Range as KeepRange};
+ghost use Rattle.kin_motion.specs.Boxes.{IsRectInRange, box_of};
+ghost use Rattle.kin_motion.specs.Chains.{IsHullCycle};
+ghost use Rattle.kin_motion.specs.ClosestPairs.{IsClosest};
 ghost use Rattle.kin_motion.specs.Extremes.{IsExtremePoint};
 ghost use Rattle.kin_motion.specs.Orders.{IsOrder};
-ghost use Rattle.kin_motion.specs.Kinetics.{HasChanged};
+ghost use Rattle.kin_motion.specs.Kinetics.{AllHold, HasChanged};
+ghost use Rattle.kin_motion.specs.Live.{IsSmallKeep};
+ghost use Rattle.kin_motion.specs.Numbers.{HasEntered};
 ghost use Rattle.kin_motion.specs.Sets.{ListsExactly};
-ghost use Rattle.kin_motion.specs.Scene.{Scene, IsReal, Holds};
-ghost use Rattle.kin_world.specs.Structures.{placed_facts, IsFor, HasMembers, IsSettledFor, MayEnter, IsKeepable};
+ghost use Rattle.kin_motion.specs.Scene.{Scene, IsReal, scene_at};
+ghost use Rattle.kin_world.specs.Kinds.{placed_facts, IsFor, IsAtRest, HasMembers, IsSettledIn};
+ghost use Rattle.kin_world.specs.Structures.{AreFailing, HoldBut, IsKept};
 
+use kin_closest::KinClosest;
+use kin_hull::KinHull;
 use kin_list::KinList;
-use kin_motion::kept::{Kept, enter, repair};
-use kin_motion::{Delta, Keep, Placed, Signs};
-use kin_num::{NoMemory, Steps};
+use kin_motion::kept::{Kept, enter, leave, repair};
+use kin_motion::{Delta, Keep, Motions, Placed, Rect, Signs};
+use kin_num::{Moment, NoMemory, Steps};
+use kin_range::KinRange;
 use kin_tourney::{Along, Tourney};
 use std::alloc::Global;
 use std::sync::ledger::Ledger;
@@ -27,6 +35,9 @@ use std::sync::ledger::Ledger;
 pub enum Structure {
     Order(KinList),
     Extreme(Tourney<Along>),
+    Hull(KinHull),
+    Closest(KinClosest),
+    Range(KinRange),
 }
 
 impl Structure {
@@ -35,14 +46,19 @@ impl Structure {
     pub fn new(alloc: Global, keep: &Keep, size: u32) -> Result<Structure, NoMemory>
         requires low { 1 ≤ size }
         requires high { size ≤ 12 }
-        requires small { IsKeepable keep.now }
-        ensures kept { IfOk result (λ st. (s : Scene) → s.live ≡ [] → IsSettledFor size keep.now s st) }
+        requires small { IsSmallKeep keep.now }
+        ensures kind { IfOk result (λ st. IsFor size keep.now st) }
+        ensures rest { IfOk result IsAtRest }
+        ensures members { IfOk result (HasMembers []) }
+        ensures settled { IfOk result (λ st. (s : Scene) → s.live ≡ [] → IsSettledIn s st) }
         ensures facts { IfOk result (λ st. placed_facts st ≡ []) }
     {
         match *keep {
             Keep::Order { .. } => Ok(Structure::Order(KinList::vacant(alloc, keep, size)?)),
             Keep::Extreme { .. } => Ok(Structure::Extreme(Tourney::vacant(alloc, keep, size)?)),
-            Keep::Hull | Keep::Closest | Keep::Range => unreachable!(),
+            Keep::Hull => Ok(Structure::Hull(KinHull::vacant(alloc, keep, size)?)),
+            Keep::Closest => Ok(Structure::Closest(KinClosest::vacant(alloc, keep, size)?)),
+            Keep::Range => Ok(Structure::Range(KinRange::vacant(alloc, keep, size)?)),
         }
     }
 
@@ -56,14 +72,21 @@ impl Structure {
         steps: &mut Steps<L>,
     ) -> Result<(), NoMemory>
         requires real { IsReal (O.scene now.now) }
+        requires rest { IsAtRest self.old }
         requires members { HasMembers (O.scene now.now).live self.old }
-        requires failing { ListsExactly failed.now (λ p. Contains (placed_facts self.old) p × ¬ (Holds (O.scene now.now) p.fact)) }
-        ensures kept { OnOk result ((size : ℕ) (keep : Kind) → IsFor size keep self.old → IsSettledFor size keep (O.scene now.now) self.new) }
+        requires failing { AreFailing (placed_facts self.old) (O.scene now.now) failed.now }
+        ensures kind { OnOk result ((size : ℕ) (keep : Kind) → IsFor size keep self.old → IsFor size keep self.new) }
+        ensures rest { OnOk result (IsAtRest self.new) }
+        ensures members { OnOk result (HasMembers (O.scene now.now).live self.new) }
+        ensures settled { OnOk result (IsSettledIn (O.scene now.now) self.new) }
         ensures delta { OnOk result (HasChanged (placed_facts self.old) (placed_facts self.new) out.old out.new) }
     {
         match self {
-            Structure::Order(list) => repair(list, now, failed, out, steps),
-            Structure::Extreme(points) => repair(points, now, failed, out, steps),
+            Structure::Order(list) => repair_all(list, now, failed, out, steps),
+            Structure::Extreme(points) => repair_all(points, now, failed, out, steps),
+            Structure::Hull(hull) => repair_all(hull, now, failed, out, steps),
+            Structure::Closest(pairs) => repair_all(pairs, now, failed, out, steps),
+            Structure::Range(lists) => repair_all(lists, now, failed, out, steps),
         }
     }
 
@@ -76,36 +99,152 @@ impl Structure {
         steps: &mut Steps<L>,
     ) -> Result<(), NoMemory>
         requires real { IsReal (O.scene now.now) }
-        requires may_enter { MayEnter entering self.old (O.scene now.now) }
-        ensures kept { OnOk result ((size : ℕ) (keep : Kind) → IsFor size keep self.old → IsSettledFor size keep (O.scene now.now) self.new) }
+        requires rest { IsAtRest self.old }
+        requires room { (size : ℕ) × (keep : Kind) × IsFor size keep self.old × (entering < 2 ^ size) }
+        requires entered { (before : List ℕ) × HasMembers before self.old × HasEntered entering before (O.scene now.now).live }
+        requires hold { AllHold (O.scene now.now) (placed_facts self.old) }
+        ensures kind { OnOk result ((size : ℕ) (keep : Kind) → IsFor size keep self.old → IsFor size keep self.new) }
+        ensures rest { OnOk result (IsAtRest self.new) }
+        ensures members { OnOk result (HasMembers (O.scene now.now).live self.new) }
+        ensures settled { OnOk result (IsSettledIn (O.scene now.now) self.new) }
         ensures delta { OnOk result (HasChanged (placed_facts self.old) (placed_facts self.new) out.old out.new) }
     {
         match self {
             Structure::Order(list) => enter(list, entering, now, out, steps),
             Structure::Extreme(points) => enter(points, entering, now, out, steps),
+            Structure::Hull(hull) => enter(hull, entering, now, out, steps),
+            Structure::Closest(pairs) => enter(pairs, entering, now, out, steps),
+            Structure::Range(lists) => enter(lists, entering, now, out, steps),
         }
     }
 
-    /// The live numbers in their order along the direction, or `None` where no order is kept. They
-    /// aren't copied.
-    pub fn order(&self) -> Option<&[u32]>
-        ensures { (size : ℕ) (dx dy : ℤ) (s : Scene) → IsSettledFor size (KeepOrder dx dy) s self.now → IsSomeAnd result (λ xs. IsOrder s dx dy xs.now) }
+    /// Lets a number go that isn't live any more. Each fact that doesn't name it holds. `out` gains
+    /// what changed.
+    pub fn leave<O: Signs, L: Ledger>(
+        &mut self,
+        leaving: u32,
+        now: &O,
+        out: &mut Delta,
+        steps: &mut Steps<L>,
+    ) -> Result<(), NoMemory>
+        requires real { IsReal (O.scene now.now) }
+        requires rest { IsAtRest self.old }
+        requires room { (size : ℕ) × (keep : Kind) × IsFor size keep self.old × (leaving < 2 ^ size) }
+        requires left { (before : Scene) × HasMembers before.live self.old × IsSettledIn before self.old × HasEntered leaving (O.scene now.now).live before.live }
+        requires hold { HoldBut leaving (placed_facts self.old) (O.scene now.now) }
+        ensures kind { OnOk result ((size : ℕ) (keep : Kind) → IsFor size keep self.old → IsFor size keep self.new) }
+        ensures rest { OnOk result (IsAtRest self.new) }
+        ensures members { OnOk result (HasMembers (O.scene now.now).live self.new) }
+        ensures settled { OnOk result (IsSettledIn (O.scene now.now) self.new) }
+        ensures delta { OnOk result (HasChanged (placed_facts self.old) (placed_facts self.new) out.old out.new) }
     {
         match self {
-            Structure::Order(list) => Some(list.items()),
-            Structure::Extreme(_) => None,
+            Structure::Order(list) => let_go(list, leaving, now, out, steps),
+            Structure::Extreme(points) => let_go(points, leaving, now, out, steps),
+            Structure::Hull(hull) => let_go(hull, leaving, now, out, steps),
+            Structure::Closest(pairs) => let_go(pairs, leaving, now, out, steps),
+            Structure::Range(lists) => let_go(lists, leaving, now, out, steps),
+        }
+    }
+
+    /// The live numbers in their order along the direction. They aren't copied.
+    pub fn order(&self) -> &[u32]
+        requires kept { (size : ℕ) × (dx : ℤ) × (dy : ℤ) × (s : Scene) × IsKept size (KeepOrder dx dy) s self.now }
+        ensures { (size : ℕ) (dx dy : ℤ) (s : Scene) → IsKept size (KeepOrder dx dy) s self.now → IsOrder s dx dy result.now }
+    {
+        match self {
+            Structure::Order(list) => list.items(),
+            _ => unreachable!(),
         }
     }
 
     /// The live number that lies farthest along the direction, at a tie the least one, or `None`
     /// where no number is live or no extreme point is kept. Costs no search.
     pub fn extreme(&self) -> Option<u32>
-        requires members { (live : List ℕ) × HasMembers live self.now }
-        ensures { (size : ℕ) (dx dy : ℤ) (s : Scene) → IsReal s → FitsSize size s → IsSettledFor size (KeepExtreme dx dy) s self.now → IsExtremePoint s dx dy result }
+        requires rest { IsAtRest self.now }
+        ensures { (size : ℕ) (dx dy : ℤ) (s : Scene) → IsKept size (KeepExtreme dx dy) s self.now → IsExtremePoint s dx dy result }
     {
         match self {
-            Structure::Order(_) => None,
             Structure::Extreme(points) => points.extreme(),
+            _ => None,
         }
     }
+
+    /// The hull cycle, from its leftmost point on. Costs as much as it has points.
+    pub fn hull(&self) -> Result<Vec<u32>, NoMemory>
+        requires kept { (size : ℕ) × (s : Scene) × IsKept size KeepHull s self.now }
+        ensures { IfOk result (λ cycle. (size : ℕ) (s : Scene) → IsKept size KeepHull s self.now → IsHullCycle s cycle.items) }
+    {
+        match self {
+            Structure::Hull(hull) => hull.cycle(),
+            _ => unreachable!(),
+        }
+    }
+
+    /// The closest pair, the lesser number first, or `None` where fewer than two numbers are live
+    /// or no closest pair is kept. Costs no search.
+    pub fn closest(&self) -> Option<(u32, u32)>
+        requires rest { IsAtRest self.now }
+        ensures { (size : ℕ) (s : Scene) → IsKept size KeepClosest s self.now → IsClosest s result }
+    {
+        match self {
+            Structure::Closest(pairs) => pairs.closest(),
+            _ => None,
+        }
+    }
+
+    /// The live numbers in a rectangle, its border included, rising. Looks at each of them.
+    pub fn inside(&self, motions: &Motions, now: &Moment, rect: &Rect) -> Result<Vec<u32>, NoMemory>
+        requires kept { (size : ℕ) × IsKept size KeepRange (scene_at motions.now now.now) self.now }
+        requires rect { IsRectInRange rect.now }
+        ensures { IfOk result (λ list. list.items ≡ box_of motions.now now.now rect.now) }
+    {
+        match self {
+            Structure::Range(lists) => lists.inside(motions, now, rect),
+            _ => unreachable!(),
+        }
+    }
+}
+
+// Repairs what has failed of a structure at rest.
+fn repair_all<K: Kept, O: Signs, L: Ledger>(
+    kept: &mut K,
+    now: &O,
+    failed: &[Placed],
+    out: &mut Delta,
+    steps: &mut Steps<L>,
+) -> Result<(), NoMemory>
+    requires real { IsReal (O.scene now.now) }
+    requires rest { K.at_rest kept.old }
+    requires members { K.has_members kept.old (O.scene now.now).live }
+    requires failing { AreFailing (K.facts kept.old) (O.scene now.now) failed.now }
+    ensures kind { OnOk result ((size : ℕ) (keep : Kind) → K.is_for kept.old size keep → K.is_for kept.new size keep) }
+    ensures rest { OnOk result (K.at_rest kept.new) }
+    ensures members { OnOk result (K.has_members kept.new (O.scene now.now).live) }
+    ensures settled { OnOk result (K.settled kept.new (O.scene now.now)) }
+    ensures delta { OnOk result (HasChanged (K.facts kept.old) (K.facts kept.new) out.old out.new) }
+{
+    repair(kept, now, failed, out, steps)
+}
+
+// Lets a number go that isn't live any more, of a structure at rest.
+fn let_go<K: Kept, O: Signs, L: Ledger>(
+    kept: &mut K,
+    leaving: u32,
+    now: &O,
+    out: &mut Delta,
+    steps: &mut Steps<L>,
+) -> Result<(), NoMemory>
+    requires real { IsReal (O.scene now.now) }
+    requires rest { K.at_rest kept.old }
+    requires room { (size : ℕ) × (keep : Kind) × K.is_for kept.old size keep × (leaving < 2 ^ size) }
+    requires left { (before : Scene) × K.has_members kept.old before.live × K.settled kept.old before × HasEntered leaving (O.scene now.now).live before.live }
+    requires hold { HoldBut leaving (K.facts kept.old) (O.scene now.now) }
+    ensures kind { OnOk result ((size : ℕ) (keep : Kind) → K.is_for kept.old size keep → K.is_for kept.new size keep) }
+    ensures rest { OnOk result (K.at_rest kept.new) }
+    ensures members { OnOk result (K.has_members kept.new (O.scene now.now).live) }
+    ensures settled { OnOk result (K.settled kept.new (O.scene now.now)) }
+    ensures delta { OnOk result (HasChanged (K.facts kept.old) (K.facts kept.new) out.old out.new) }
+{
+    leave(kept, leaving, now, out, steps)
 }

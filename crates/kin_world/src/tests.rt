@@ -1,16 +1,17 @@
-ghost use Rattle.std.specs.Prelude.{◌≡◌, ◌≤◌, ◌<◌, IsTrue};
+ghost use Rattle.std.specs.Prelude.{◌≡◌, ◌≤◌, ◌<◌, ◌^◌, unsigned_abs, IsTrue};
 ghost use Rattle.kin_num.specs.Order.{IsEarlier};
-ghost use Rattle.kin_motion.specs.Live.{IsSmallDirection};
-ghost use Rattle.kin_world.specs.Structures.{IsKeepable};
+ghost use Rattle.kin_motion.specs.Boxes.{IsRectInRange};
+ghost use Rattle.kin_motion.specs.Live.{IsSmallDirection, IsSmallKeep};
 ghost use Rattle.kin_world.specs.Worlds.{AreKeepable};
 
-use crate::scripts::{Along, Call, Lost, SCRIPTS, Time};
+use crate::asked::ASKED;
+use crate::scripts::{Along, Call, Lost, SCRIPTS, Script, Time};
 use crate::world::World;
 use kin_cert::Failure;
 use kin_instant::order::compare_moments;
 use kin_instant::ratio::ratio;
 use kin_motion::keep::are_few;
-use kin_motion::{Form, Keep, Motion};
+use kin_motion::{Form, Keep, Motion, Rect};
 use kin_num::{Moment, NoMemory, Steps};
 use std::alloc::Global;
 use std::cmp::Ordering;
@@ -25,12 +26,12 @@ fn is_small_direction(dx: i32, dy: i32) -> bool
 }
 
 fn is_small(keep: &Keep) -> bool
-    ensures { IsTrue result → IsKeepable keep.now }
+    ensures { IsTrue result → IsSmallKeep keep.now }
 {
     match *keep {
         Keep::Order { dx, dy } => is_small_direction(dx, dy),
         Keep::Extreme { dx, dy } => is_small_direction(dx, dy),
-        _ => false,
+        Keep::Hull | Keep::Closest | Keep::Range => true,
     }
 }
 
@@ -110,6 +111,32 @@ fn enters<L: Ledger>(
     Ok(world.is_whole() && world.motion(no) == Some(m))
 }
 
+/// A live number leaves.
+fn leaves<L: Ledger>(world: &mut World, no: u32, steps: &mut Steps<L>) -> Result<bool, NoMemory> {
+    if !world.is_whole() || world.motion(no).is_none() {
+        return Ok(false);
+    }
+    world.remove(no, steps)?;
+    Ok(world.is_whole() && world.motion(no).is_none() && world.can_insert(no))
+}
+
+/// A live number gets another motion.
+fn is_replaced<L: Ledger>(
+    world: &mut World,
+    no: u32,
+    m: [i32; 4],
+    steps: &mut Steps<L>,
+) -> Result<bool, NoMemory> {
+    let Some(m) = motion(m) else {
+        return Ok(false);
+    };
+    if !world.is_whole() || world.motion(no).is_none() {
+        return Ok(false);
+    }
+    world.replace(no, m, steps)?;
+    Ok(world.is_whole() && world.motion(no) == Some(m))
+}
+
 /// Whether a step to this limit may be asked for.
 fn may_step<L: Ledger>(world: &World, limit: &Moment, steps: &mut Steps<L>) -> bool
     ensures whole { IsTrue result → IsTrue world.now.whole }
@@ -149,6 +176,39 @@ fn moves<L: Ledger>(
     Ok(passed.is_none() && world.is_whole() && *world.now() == *limit)
 }
 
+/// A step towards the limit that lists nothing stops at this time, where so many facts have failed.
+fn passes<L: Ledger>(
+    world: &mut World,
+    limit: &Moment,
+    time: Time,
+    count: usize,
+    steps: &mut Steps<L>,
+) -> Result<bool, NoMemory> {
+    if !may_step(world, limit, steps) {
+        return Ok(false);
+    }
+    let passed = world.pass(limit, steps)?;
+    Ok(passed == Some(count) && world.is_whole() && Some(*world.now()) == moment(time))
+}
+
+/// At most a hundred steps lead to the limit.
+fn runs<L: Ledger>(
+    world: &mut World,
+    limit: &Moment,
+    steps: &mut Steps<L>,
+) -> Result<bool, NoMemory> {
+    for _ in 0..100 {
+        if !may_step(world, limit, steps) {
+            return Ok(false);
+        }
+        let passed = world.pass(limit, steps)?;
+        if passed.is_none() {
+            return Ok(world.is_whole() && *world.now() == *limit);
+        }
+    }
+    Ok(false)
+}
+
 /// An order is kept, and this is it.
 fn orders(world: &World, s: u32, numbers: &[u32]) -> Result<bool, NoMemory> {
     let Some(Keep::Order { .. }) = world.keep(s) else {
@@ -163,6 +223,48 @@ fn has_extreme(world: &World, s: u32, number: Option<u32>) -> bool {
         return false;
     };
     world.is_whole() && world.extreme(s) == number
+}
+
+/// A hull is kept, and this is its cycle.
+fn has_hull(world: &World, s: u32, cycle: &[u32]) -> Result<bool, NoMemory> {
+    let Some(Keep::Hull) = world.keep(s) else {
+        return Ok(false);
+    };
+    Ok(world.is_whole() && world.hull()?.as_slice() == cycle)
+}
+
+/// A closest pair is kept, and this is it.
+fn has_closest(world: &World, s: u32, pair: Option<(u32, u32)>) -> bool {
+    let Some(Keep::Closest) = world.keep(s) else {
+        return false;
+    };
+    world.is_whole() && world.closest() == pair
+}
+
+/// A range is kept, and these are the points in the rectangle.
+fn has_inside(world: &World, s: u32, rect: &Rect, numbers: &[u32]) -> Result<bool, NoMemory> {
+    let Some(Keep::Range) = world.keep(s) else {
+        return Ok(false);
+    };
+    if !world.is_whole() || !is_in_range(rect) {
+        return Ok(false);
+    }
+    Ok(world.inside(rect)?.as_slice() == numbers)
+}
+
+fn is_small_border(n: i32) -> bool
+    ensures { IsTrue result → unsigned_abs n ≤ 2 ^ 24 }
+{
+    n.unsigned_abs() <= 1 << 24
+}
+
+fn is_in_range(rect: &Rect) -> bool
+    ensures { IsTrue result → IsRectInRange rect.now }
+{
+    is_small_border(rect.x1)
+        && is_small_border(rect.x2)
+        && is_small_border(rect.y1)
+        && is_small_border(rect.y2)
 }
 
 /// Whether a question has its answer.
@@ -180,6 +282,9 @@ fn answers(world: &World, call: &Call) -> Result<bool, NoMemory> {
         ),
         Call::Order(s, numbers) => orders(world, s, numbers),
         Call::Extreme(s, number) => Ok(has_extreme(world, s, number)),
+        Call::Hull(s, cycle) => has_hull(world, s, cycle),
+        Call::Closest(s, pair) => Ok(has_closest(world, s, pair)),
+        Call::Inside(s, rect, numbers) => has_inside(world, s, &rect, numbers),
         _ => Ok(false),
     }
 }
@@ -192,8 +297,18 @@ fn follows<L: Ledger>(
 ) -> Result<bool, NoMemory> {
     match *call {
         Call::Insert(no, m) => enters(world, no, m, steps),
+        Call::Remove(no) => leaves(world, no, steps),
+        Call::Replace(no, m) => is_replaced(world, no, m, steps),
         Call::Stops(limit, time, lost) => match moment(limit) {
             Some(limit) => stops(world, &limit, time, lost, steps),
+            None => Ok(false),
+        },
+        Call::Passes(limit, time, count) => match moment(limit) {
+            Some(limit) => passes(world, &limit, time, count, steps),
+            None => Ok(false),
+        },
+        Call::Runs(limit) => match moment(limit) {
+            Some(limit) => runs(world, &limit, steps),
             None => Ok(false),
         },
         Call::Moves(limit) => match moment(limit) {
@@ -229,12 +344,33 @@ fn first_wrong<L: Ledger>(
     Ok(None)
 }
 
+/// The first script with a call whose answer is another one, and the place of that call.
+fn first_wrong_script(
+    alloc: Global,
+    scripts: &[Script],
+) -> Result<Option<(usize, usize)>, NoMemory> {
+    for (script, (size, keeps, calls)) in scripts.iter().enumerate() {
+        if *size < 1 || 12 < *size || !are_keepable(keeps) {
+            return Ok(Some((script, 0)));
+        }
+        let wrong = first_wrong::<Brand>(alloc, *size, keeps, calls, Blank::new(1))?;
+        if let Some(place) = wrong {
+            return Ok(Some((script, place)));
+        }
+    }
+    Ok(None)
+}
+
 #[test]
 fn scripts_have_their_answers(rt: HostRuntime) -> Result<(), Fail> {
-    for (script, (size, keeps, calls)) in SCRIPTS.iter().enumerate() {
-        assert!(rt; 1 <= *size && *size <= 12 && are_keepable(keeps));
-        let wrong = first_wrong::<Brand>(rt.alloc(), *size, keeps, calls, Blank::new(1))?;
-        assert!(rt; wrong == None, "call {wrong:?} of script {script}");
-    }
+    let wrong = first_wrong_script(rt.alloc(), &SCRIPTS)?;
+    assert!(rt; wrong == None, "script and call {wrong:?}");
+    Ok(())
+}
+
+#[test]
+fn pairs_and_rectangles_are_answered(rt: HostRuntime) -> Result<(), Fail> {
+    let wrong = first_wrong_script(rt.alloc(), &ASKED)?;
+    assert!(rt; wrong == None, "script and call {wrong:?}");
     Ok(())
 }

@@ -2,11 +2,10 @@
 
 ghost use Rattle.std.specs.Prelude.{◌≡◌, ◌<◌, ◌≤◌, ℕ, true, length, All, OnOk, IfOk};
 ghost use Rattle.kin_motion.specs.Journal.{Block as Listed, IsNextBlock};
-ghost use Rattle.kin_motion.specs.Scene.{Scene};
 ghost use Rattle.kin_cert.specs.Taken.{IsLeastFailure};
 ghost use Rattle.kin_world.specs.Structures.{AreVacant};
 ghost use Rattle.kin_world.specs.Worlds.{AreKeepable, empty};
-ghost use Rattle.kin_world.specs.Upkeep.{stage_of, meaning, setting, HasSameFrame, IsSound, IsUnderRepair, IsEntering, ListsWaiting, AreWaiting, IsGathered, GoesOn, HasTimedNew, HasRepaired, HasGoneOn, HasSettled};
+ghost use Rattle.kin_world.specs.Upkeep.{stage_of, meaning, setting, HasSameFrame, IsSound, IsUnderRepair, IsTakenIn, IsLetGo, ListsWaiting, AreWaiting, IsGathered, GoesOn, HasTimedNew, HasRepaired, HasGoneOn, HasSettled};
 
 use crate::failures::block_of;
 use crate::structure::Structure;
@@ -151,7 +150,7 @@ impl Upkeep {
         entering: u32,
         steps: &mut Steps<L>,
     ) -> Result<(), NoMemory>
-        requires entering { (before : Scene) × IsEntering entering 0 before (stage_of self.old) }
+        requires entering { IsTakenIn entering 0 (stage_of self.old) }
         ensures settled { OnOk result (HasSettled self.old.table (stage_of self.new)) }
         ensures frame { HasSameFrame (stage_of self.old) (stage_of self.new) }
     {
@@ -169,8 +168,8 @@ impl Upkeep {
         steps: &mut Steps<L>,
     ) -> Result<(), NoMemory>
         requires within { k < length self.old.structures.items }
-        requires entering { (before : Scene) × IsEntering entering k before (stage_of self.old) }
-        ensures goes_on { OnOk result (HasGoneOn entering k (stage_of self.old) (stage_of self.new)) }
+        requires entering { IsTakenIn entering k (stage_of self.old) }
+        ensures goes_on { OnOk result (HasGoneOn (IsTakenIn entering) k (stage_of self.old) (stage_of self.new)) }
         ensures frame { HasSameFrame (stage_of self.old) (stage_of self.new) }
     {
         let now = Now {
@@ -179,6 +178,44 @@ impl Upkeep {
         };
         self.delta.clear();
         self.structures[k as usize].enter(entering, &now, &mut self.delta, steps)?;
+        self.table
+            .tell(k, &self.delta, &self.motions, &self.moment, steps)
+    }
+
+    /// Lets a number that isn't live any more go from each structure.
+    pub fn leave_each<L: Ledger>(
+        &mut self,
+        leaving: u32,
+        steps: &mut Steps<L>,
+    ) -> Result<(), NoMemory>
+        requires leaving { IsLetGo leaving 0 (stage_of self.old) }
+        ensures settled { OnOk result (HasSettled self.old.table (stage_of self.new)) }
+        ensures frame { HasSameFrame (stage_of self.old) (stage_of self.new) }
+    {
+        for k in 0..self.structures.len() {
+            self.leave_one(k as u32, leaving, steps)?;
+        }
+        Ok(())
+    }
+
+    // Lets the number go from the structure `k`, after those below it.
+    fn leave_one<L: Ledger>(
+        &mut self,
+        k: u32,
+        leaving: u32,
+        steps: &mut Steps<L>,
+    ) -> Result<(), NoMemory>
+        requires within { k < length self.old.structures.items }
+        requires leaving { IsLetGo leaving k (stage_of self.old) }
+        ensures goes_on { OnOk result (HasGoneOn (IsLetGo leaving) k (stage_of self.old) (stage_of self.new)) }
+        ensures frame { HasSameFrame (stage_of self.old) (stage_of self.new) }
+    {
+        let now = Now {
+            motions: &self.motions,
+            moment: &self.moment,
+        };
+        self.delta.clear();
+        self.structures[k as usize].leave(leaving, &now, &mut self.delta, steps)?;
         self.table
             .tell(k, &self.delta, &self.motions, &self.moment, steps)
     }

@@ -4,17 +4,25 @@ ghost use Rattle.std.specs.Prelude.{◌≡◌, ◌≤◌, ◌<◌, ◌^◌, ◌�
 ghost use Rattle.kin_algebra.specs.declared.sign.Sign.{Sign as Signum};
 ghost use Rattle.kin_num.specs.Grains.{moments_left};
 ghost use Rattle.kin_num.specs.Order.{IsEarlier};
+ghost use Rattle.kin_motion.specs.declared.keep.Keep.{Keep as Kind};
 ghost use Rattle.kin_motion.specs.declared.keep.Keep.TheVariants as keep;
+ghost use Rattle.kin_motion.specs.Boxes.{IsRectInRange, box_of};
+ghost use Rattle.kin_motion.specs.Chains.{IsHullCycle};
+ghost use Rattle.kin_motion.specs.ClosestPairs.{IsClosest};
 ghost use Rattle.kin_motion.specs.Course.{is_live, motion_of};
 ghost use Rattle.kin_motion.specs.Extremes.{IsExtremePoint};
 ghost use Rattle.kin_motion.specs.Journal.{Block as Listed, NothingFails};
 ghost use Rattle.kin_motion.specs.Orders.{IsOrder};
-ghost use Rattle.kin_world.specs.Worlds.{AreKeepable, IsNextMoment, IsWhole, HasInserted, HasStepped, failure_count, FailsWithin, certificate, empty, world_setting, scene_of};
+ghost use Rattle.kin_world.specs.Kinds.{IsAtRest};
+ghost use Rattle.kin_world.specs.Structures.{IsKept};
+ghost use Rattle.kin_world.specs.Worlds.{AreKeepable, IsNextMoment, IsWhole, HasInserted, HasRemoved, HasExchanged, HasStepped, failure_count, FailsWithin, certificate, empty, world_setting, scene_of};
 
+use crate::places::place_of;
+use crate::structure::Structure;
 use crate::upkeep::Upkeep;
 use kin_cert::Block;
 use kin_instant::order::compare_moments;
-use kin_motion::{Form, Keep, Motion};
+use kin_motion::{Form, Keep, Motion, Rect};
 use kin_num::{Moment, NoMemory, Sign, Steps};
 use std::alloc::Global;
 use std::cmp::Ordering;
@@ -108,6 +116,40 @@ impl World {
         Ok(())
     }
 
+    /// Takes a live number's motion away. Each structure lets it go, and tells the table only what has
+    /// changed, so no fact of it is left. After want of memory the world isn't whole.
+    pub fn remove<L: Ledger>(&mut self, no: u32, steps: &mut Steps<L>) -> Result<(), NoMemory>
+        requires whole { IsTrue self.old.whole }
+        requires live { IsTrue (is_live self.old.motions no) }
+        ensures removed { OnOk result (HasRemoved no self.old self.new) }
+        ensures broken { OnErr result (self.new.whole ≡ false) }
+        ensures keeps { OnErr result (self.new.keeps ≡ self.old.keeps) }
+    {
+        self.whole = false;
+        self.upkeep.motions.clear(no);
+        self.upkeep.leave_each(no, steps)?;
+        self.whole = true;
+        Ok(())
+    }
+
+    /// Gives a live number another motion, at another place: it leaves, and enters again at the same
+    /// moment. After want of memory in either half the world isn't whole.
+    pub fn replace<L: Ledger>(
+        &mut self,
+        no: u32,
+        m: Motion,
+        steps: &mut Steps<L>,
+    ) -> Result<(), NoMemory>
+        requires whole { IsTrue self.old.whole }
+        requires live { IsTrue (is_live self.old.motions no) }
+        ensures replaced { OnOk result (HasExchanged no m self.old self.new) }
+        ensures broken { OnErr result (self.new.whole ≡ false) }
+        ensures keeps { OnErr result (self.new.keeps ≡ self.old.keeps) }
+    {
+        self.remove(no, steps)?;
+        self.insert(no, m, steps)
+    }
+
     /// Moves to the first moment, not after the limit, at which live facts fail, and repairs all
     /// structures there. `None` exactly where no live fact fails at or before the limit: then the
     /// moment is the limit, and want of memory isn't answered. A loop over steps ends, since fewer
@@ -126,8 +168,7 @@ impl World {
         ensures keeps { OnErr result (self.new.keeps ≡ self.old.keeps) }
         ensures cause { OnErr result (FailsWithin limit.now self.old) }
     {
-        // An instant tells that it is canonical where its shape is asked.
-        let _ = limit.at.shape();
+        limit.at.recall_canonical();
         let due = self.upkeep.table.failing();
         let Some(moment) = if_within(due, limit, steps) else {
             self.upkeep.moment = *limit;
@@ -154,8 +195,7 @@ impl World {
         ensures keeps { OnErr result (self.new.keeps ≡ self.old.keeps) }
         ensures cause { OnErr result (FailsWithin limit.now self.old) }
     {
-        // An instant tells that it is canonical where its shape is asked.
-        let _ = limit.at.shape();
+        limit.at.recall_canonical();
         let due = self.upkeep.table.failing();
         let Some(moment) = if_within(due, limit, steps) else {
             self.upkeep.moment = *limit;
@@ -224,10 +264,7 @@ impl World {
         requires kept { (dx : ℤ) × (dy : ℤ) × (slice_get self.now.keeps s ≡ Some (keep.Order dx dy)) }
         ensures order { IfOk result (λ list. (dx dy : ℤ) → slice_get self.now.keeps s ≡ Some (keep.Order dx dy) → IsOrder (scene_of self.now) dx dy list.items) }
     {
-        let Some(items) = self.upkeep.structures[s as usize].order() else {
-            unreachable!()
-        };
-        let Ok(list) = Vec::from_slice(self.alloc, items) else {
+        let Ok(list) = Vec::from_slice(self.alloc, self.structure(s).order()) else {
             return Err(NoMemory);
         };
         Ok(list)
@@ -239,7 +276,58 @@ impl World {
         requires kept { (dx : ℤ) × (dy : ℤ) × (slice_get self.now.keeps s ≡ Some (keep.Extreme dx dy)) }
         ensures extreme { (dx dy : ℤ) → slice_get self.now.keeps s ≡ Some (keep.Extreme dx dy) → IsExtremePoint (scene_of self.now) dx dy result }
     {
-        self.upkeep.structures[s as usize].extreme()
+        self.structure(s).extreme()
+    }
+
+    /// The hull cycle: the points of the lower chain from left to right, then those of the upper chain
+    /// that are left, from right to left. Want of memory changes nothing.
+    pub fn hull(&self) -> Result<Vec<u32>, NoMemory>
+        requires whole { IsTrue self.now.whole }
+        requires kept { (k : ℕ) × (slice_get self.now.keeps k ≡ Some keep.Hull) }
+        ensures hull { IfOk result (λ list. IsHullCycle (scene_of self.now) list.items) }
+    {
+        self.structure(self.place_of(&Keep::Hull)).hull()
+    }
+
+    /// The closest pair, the lesser number first, or `None` exactly below two points. Of pairs that
+    /// are as close it is the one with the least first number, then with the least second one.
+    pub fn closest(&self) -> Option<(u32, u32)>
+        requires whole { IsTrue self.now.whole }
+        requires kept { (k : ℕ) × (slice_get self.now.keeps k ≡ Some keep.Closest) }
+        ensures closest { IsClosest (scene_of self.now) result }
+    {
+        self.structure(self.place_of(&Keep::Closest)).closest()
+    }
+
+    /// The live numbers in a rectangle, its border included, rising. Looks at each of them. Want of
+    /// memory changes nothing.
+    pub fn inside(&self, rect: &Rect) -> Result<Vec<u32>, NoMemory>
+        requires whole { IsTrue self.now.whole }
+        requires kept { (k : ℕ) × (slice_get self.now.keeps k ≡ Some keep.Range) }
+        requires rect { IsRectInRange rect.now }
+        ensures inside { IfOk result (λ list. list.items ≡ box_of self.now.motions self.now.moment rect.now) }
+    {
+        let lists = self.structure(self.place_of(&Keep::Range));
+        lists.inside(&self.upkeep.motions, &self.upkeep.moment, rect)
+    }
+
+    // Where a structure is kept. There are at most 19.
+    fn place_of(&self, keep: &Keep) -> u32
+        requires whole { IsTrue self.now.whole }
+        requires kept { (k : ℕ) × (slice_get self.now.keeps k ≡ Some keep.now) }
+        ensures { slice_get self.now.keeps result ≡ Some keep.now }
+    {
+        place_of(keep, &self.upkeep.keeps)
+    }
+
+    // The structure of that number, settled now.
+    fn structure(&self, s: u32) -> &Structure
+        requires whole { IsTrue self.now.whole }
+        requires kept { (keep : Kind) × (slice_get self.now.keeps s ≡ Some keep) }
+        ensures rest { IsAtRest result.now }
+        ensures kept { (keep : Kind) → slice_get self.now.keeps s ≡ Some keep → IsKept self.now.size keep (scene_of self.now) result.now }
+    {
+        &self.upkeep.structures[s as usize]
     }
 }
 

@@ -1,10 +1,10 @@
 use Rattle.std.proofs.Common.{◌≡◌, ◌<◌, ℕ}
 use Rattle.std.specs.Prelude.{Some, slice_get}
 use Rattle.kin_motion.specs.declared.keep.Keep.{Keep}
-use Rattle.kin_world.specs.Structures.{IsKeepable}
+use Rattle.kin_motion.specs.Live.{IsSmallKeep}
 use Rattle.kin_world.proofs.tests.are_keepable.Given as goal
 
 abbrev pub invariant-loop-keep : goal.invariant-loop-keep
 invariant-loop-keep l = record {
-  small : (j : ℕ) (keep : Keep) → j < l.keep-index → slice_get l.keeps j ≡ Some keep → IsKeepable keep;
+  small : (j : ℕ) (keep : Keep) → j < l.keep-index → slice_get l.keeps j ≡ Some keep → IsSmallKeep keep;
 }

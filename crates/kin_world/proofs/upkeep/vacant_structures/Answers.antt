@@ -20,7 +20,8 @@ loop-keep-preserved c =
     let old = c.loop-keep.structures.items in
     let here : slice_get keeps (length old) ≡ Some keep = subst (λ n. slice_get keeps n ≡ Some keep) (sym h.count) (slice_get-get_or keeps c.loop-keep.keep-index _ c.loop-keep-test.true) in
     let pushed : c.push.new.self.items ≡ old ++ c.in_ok-structure.structure ∷ [] = search rules in
+    let e = c.in_ok-structure.ensures in
     record {
       count = ap length pushed ∙ length_push old _ ∙ ap (λ n. n + 1) h.count;
-      vacant = vacant_more c.args.size keeps old c.push.new.self.items keep c.in_ok-structure.structure h.vacant here (record { kept = c.in_ok-structure.ensures.kept; facts = c.in_ok-structure.ensures.facts }) pushed;
+      vacant = vacant_more c.args.size keeps old c.push.new.self.items keep c.in_ok-structure.structure h.vacant here (record { kind = e.kind; rest = e.rest; members = e.members; settled = e.settled; facts = e.facts }) pushed;
     }

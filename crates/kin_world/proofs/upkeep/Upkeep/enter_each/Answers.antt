@@ -26,12 +26,12 @@ loop-k-preserved g c =
     let h = c.loop-k.invariant in
     let told = c.in_ok-enter_one.ensures.goes_on in
     let frame = c.enter_one.ensures.frame in
-    let entering = told.next h.entering.0 h.entering.1 in
+    let entering = told.next h.entering in
     record {
-      entering = (h.entering.0, entering);
+      entering = entering;
       come = come_on c.loop-k.k c.loop-k.k c.args.self.now.table c.loop-k.self.table c.enter_one.new.self.table (omega arith) h.come told.others told.made;
       frame = frame_through (stage_of c.args.self.now) (stage_of c.loop-k.self) (stage_of c.enter_one.new.self) h.frame frame;
-      all = h.all ∙ h.entering.1.in_order.count ∙ ap (λ (s : Stage). length s.keeps) (sym frame) ∙ sym entering.in_order.count;
+      all = h.all ∙ h.entering.1.in_order.count ∙ ap (λ (s : Stage). length s.keeps) (sym frame) ∙ sym entering.1.in_order.count;
     }
 
 pub returns-clause-settled : goal.returns-clause-settled

@@ -1,11 +1,10 @@
 use Rattle.std.proofs.Common.{◌≡◌, length}
-use Rattle.kin_motion.specs.Scene.{Scene}
-use Rattle.kin_world.specs.Upkeep.{IsEntering, HasComeTo, HasSameFrame, stage_of}
+use Rattle.kin_world.specs.Upkeep.{IsTakenIn, HasComeTo, HasSameFrame, stage_of}
 use Rattle.kin_world.proofs.upkeep.Upkeep.enter_each.Given as goal
 
 abbrev pub invariant-loop-k : goal.invariant-loop-k
 invariant-loop-k g l = record {
-  entering : (before : Scene) × IsEntering l.entering l.k before (stage_of l.self);
+  entering : IsTakenIn l.entering l.k (stage_of l.self);
   come : HasComeTo l.k l.initial.self.table l.self.table;
   frame : HasSameFrame (stage_of l.initial.self) (stage_of l.self);
   all : l.k-end ≡ length l.self.structures.items;

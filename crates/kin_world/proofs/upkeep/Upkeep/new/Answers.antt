@@ -3,9 +3,10 @@ use Rattle.std.specs.Prelude.{true, ◌^◌}
 use Rattle.kin_num.specs.declared.instant.Moment.{Moment}
 use Rattle.kin_num.specs.declared.instant.Phase.TheVariants.{At}
 use Rattle.kin_num.specs.Canonical.{IsCanonical}
+use Rattle.kin_num.proofs.Values.{start_canonical}
 use Rattle.kin_cert.specs.Told.{certificates_of}
 use Rattle.kin_world.specs.Upkeep.{Stage, IsSound}
-use Rattle.kin_world.proofs.StartLaws.{empty_slots, none_live, start_canonical, sound_start}
+use Rattle.kin_world.proofs.StartLaws.{empty_slots, none_live, sound_start}
 use Rattle.kin_world.proofs.upkeep.Upkeep.new.Goals as goal
 
 pub returns-clause-sound : goal.returns-clause-sound

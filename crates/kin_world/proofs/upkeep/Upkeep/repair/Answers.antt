@@ -1,16 +1,18 @@
 use Rattle.std.proofs.Common.{sym, subst, List}
-use Rattle.std.specs.Prelude.{Contains}
 use Rattle.kin_basics.proofs.Results.{from_two}
 use Rattle.kin_motion.specs.declared.fact.Placed.{Placed}
 use Rattle.kin_motion.specs.Deltas.{Change}
 use Rattle.kin_motion.specs.Kinetics.{HasChanged}
-use Rattle.kin_motion.specs.Scene.{Holds}
-use Rattle.kin_motion.specs.Sets.{ListsExactly}
-use Rattle.kin_world.specs.Structures.{placed_facts}
+use Rattle.kin_world.specs.Kinds.{placed_facts}
+use Rattle.kin_world.specs.Structures.{AreFailing}
 use Rattle.kin_world.specs.Upkeep.{stage_of, sight}
 use Rattle.kin_world.proofs.InOrder.{standing_read, may_tell}
 use Rattle.kin_world.proofs.RepairLaws.{waiting_fail, repaired}
+use Rattle.kin_world.proofs.StructureLaws.{settled_now}
 use Rattle.kin_world.proofs.upkeep.Upkeep.repair.Goals as goal
+
+pub settle-requires-clause-rest : goal.settle-requires-clause-rest
+settle-requires-clause-rest g c = (standing_read c.requires.repair c.args.k c.index_mut.result.now c.requires.within c.index_mut.ensures.value).3.fine.rest
 
 pub settle-requires-clause-members : goal.settle-requires-clause-members
 settle-requires-clause-members g c = (standing_read c.requires.repair c.args.k c.index_mut.result.now c.requires.within c.index_mut.ensures.value).3.fine.members
@@ -18,20 +20,23 @@ settle-requires-clause-members g c = (standing_read c.requires.repair c.args.k c
 pub settle-requires-clause-failing : goal.settle-requires-clause-failing
 settle-requires-clause-failing g c =
     let s = standing_read c.requires.repair c.args.k c.index_mut.result.now c.requires.within c.index_mut.ensures.value in
-    subst (λ (ps : List Placed). ListsExactly ps (λ p. Contains (placed_facts c.index_mut.result.now) p × ¬ (Holds (sight (stage_of c.args.self.now)) p.fact))) (sym c.deref.ensures.value)
-    (waiting_fail c.requires.repair c.args.k (placed_facts c.index_mut.result.now) c.args.self.now.failed.items s.3.tabled c.requires.failed)
+    subst (λ (ps : List Placed). AreFailing (placed_facts c.index_mut.result.now) (sight (stage_of c.args.self.now)) ps) (sym c.deref.ensures.value)
+    (record { listed = waiting_fail c.requires.repair c.args.k (placed_facts c.index_mut.result.now) c.args.self.now.failed.items s.3.tabled c.requires.failed })
 
 pub tell-requires : goal.tell-requires
 tell-requires g c =
     let s = standing_read c.requires.repair c.args.k c.index_mut.result.now c.requires.within c.index_mut.ensures.value in
     let changed = subst (λ (out : Change). HasChanged (placed_facts c.index_mut.result.now) (placed_facts c.settle.new.self) out c.settle.new.out) c.clear.ensures c.in_ok-settle.ensures.delta in
-    may_tell c.requires.repair c.args.k s.0 c.index_mut.result.now c.settle.new.self c.settle.new.out s.1 s.3 (c.in_ok-settle.ensures.kept c.args.self.now.size s.0 s.3.fine.kind) changed
+    let e = c.in_ok-settle.ensures in
+    let settled = settled_now c.args.self.now.size s.0 (sight (stage_of c.args.self.now)) c.settle.new.self (e.kind c.args.self.now.size s.0 s.3.fine.kind) e.rest e.members e.settled in
+    may_tell c.requires.repair (sight (stage_of c.args.self.now)) c.args.k s.0 c.index_mut.result.now c.settle.new.self c.settle.new.out s.1 s.3 settled changed
 
 pub returns-clause-repaired : goal.returns-clause-repaired
 returns-clause-repaired g c =
     let s = standing_read c.requires.repair c.args.k c.index_mut.result.now c.requires.within c.index_mut.ensures.value in
     let changed = subst (λ (out : Change). HasChanged (placed_facts c.index_mut.result.now) (placed_facts c.settle.new.self) out c.settle.new.out) c.clear.ensures c.in_ok-settle.ensures.delta in
-    let settled = c.in_ok-settle.ensures.kept c.args.self.now.size s.0 s.3.fine.kind in
+    let e = c.in_ok-settle.ensures in
+    let settled = settled_now c.args.self.now.size s.0 (sight (stage_of c.args.self.now)) c.settle.new.self (e.kind c.args.self.now.size s.0 s.3.fine.kind) e.rest e.members e.settled in
     from_two c.tell.result
     (λ told made. repaired c.requires.repair c.args.k s.0 c.index_mut.result.now c.settle.new.self c.tell.new.self (record { kept = s.1; here = s.2; settled = settled; change = c.settle.new.out; changed = changed; told = told; made = made }))
     c.tell.ensures.told c.tell.ensures.made

@@ -20,7 +20,7 @@ pub invariant_of-self : goal.invariant_of-self
 invariant_of-self g c = λ whole.
     let none = none_until c.self.inside.upkeep.table.live c.args.limit.now c.failing-due.result c.failing-due.ensures.least c.failing-due.ensures.none c.in_default.ensures in
     let from = subst (λ (v : World). ¬ (IsEarlier c.args.limit.now v.moment)) (sym c.self.view_is) c.requires.later in
-    sound_later (c.self.invariant whole) c.args.limit.now c.shape.ensures.canonical from none
+    sound_later (c.self.invariant whole) c.args.limit.now c.recall_canonical.ensures from none
 
 pub returns-in_default-clause-stepped : goal.returns-in_default-clause-stepped
 returns-in_default-clause-stepped g c =
@@ -31,7 +31,7 @@ returns-in_default-clause-stepped g c =
     let whole = ap (λ (v : World). v.whole) c.self.view_is ∙ c.requires.whole in (
       None,
       subst (λ (v : World). HasMoved c.args.limit.now v (meaning (record s { moment = c.args.limit.now }) c.self.inside.whole)) (seen_inside c.self.inside c.args.self.now c.self.view_is c.self.invariant c.requires.whole)
-          (subst (λ b. HasMoved c.args.limit.now (meaning s true) (meaning (record s { moment = c.args.limit.now }) b)) (sym whole) (has_moved sound c.args.limit.now c.shape.ensures.canonical from none)),
+          (subst (λ b. HasMoved c.args.limit.now (meaning s true) (meaning (record s { moment = c.args.limit.now }) b)) (sym whole) (has_moved sound c.args.limit.now c.recall_canonical.ensures from none)),
       refl,
     )
 

@@ -1,0 +1,79 @@
+-- The kinds of structures: what each of them is to a world, and the laws that it obeys.
+use Rattle.std.specs.Prelude.{ℕ, List}
+use Rattle.kin_motion.specs.declared.fact.Placed.{Placed}
+use Rattle.kin_motion.specs.declared.keep.Keep.{Keep}
+use Rattle.kin_motion.specs.Kinetics.{AllHold, HaveSameLive}
+use Rattle.kin_motion.specs.Live.{IsKeepFact}
+use Rattle.kin_motion.specs.Scene.{Scene, IsReal}
+use Rattle.kin_motion.specs.Sets.{ListsExactly}
+use Rattle.kin_list.specs.Keeping as list
+use Rattle.kin_list.specs.KeepingLaws.{list_exact}
+use Rattle.kin_list.specs.Listing as listing
+use Rattle.kin_list.specs.ListingLaws as listing_laws
+use Rattle.kin_tourney.specs.PointLaws.{points_exact, points_determined}
+use Rattle.kin_tourney.specs.Points as points
+use Rattle.kin_tourney.specs.Tournament as tournament
+use Rattle.kin_closest.specs.Closing as closing
+use Rattle.kin_closest.specs.ClosingLaws as closing_laws
+use Rattle.kin_closest.specs.ClosingLaws.{closing_exact}
+use Rattle.kin_hull.specs.HullLaws as hull_laws
+use Rattle.kin_hull.specs.HullLaws.{hull_exact}
+use Rattle.kin_hull.specs.Hulls as hull
+use Rattle.kin_range.specs.Ranging as ranging
+use Rattle.kin_range.specs.RangingLaws as ranging_laws
+use Rattle.kin_range.specs.RangingLaws.{range_exact}
+use Rattle.kin_world.specs.declared.structure.Structure.{Structure}
+use Rattle.kin_world.specs.declared.structure.Structure.TheVariants.{Order, Extreme, Hull, Closest, Range}
+
+-- its live facts, each in its part
+abbrev pub placed_facts : Structure → List Placed
+placed_facts (Order k) = k.facts
+placed_facts (Extreme t) = t.facts
+placed_facts (Hull k) = hull.facts_of k
+placed_facts (Closest k) = closing.facts_of k
+placed_facts (Range r) = ranging.facts_of r
+
+-- it is of the kind, the direction and the size of a keep
+abbrev pub IsFor : ℕ → Keep → Structure → Type 0
+IsFor size keep (Order k) = list.IsListFor k size keep
+IsFor size keep (Extreme t) = points.IsTournamentFor t size keep
+IsFor size keep (Hull k) = hull.IsHullFor k size keep
+IsFor size keep (Closest k) = closing.IsClosingFor k size keep
+IsFor size keep (Range r) = ranging.IsRangingFor r size keep
+
+-- no mark stands
+abbrev pub IsAtRest : Structure → Type 0
+IsAtRest (Order k) = listing.IsAtRest k
+IsAtRest (Extreme t) = tournament.IsAtRest t
+IsAtRest (Hull k) = hull.IsHullAtRest k
+IsAtRest (Closest k) = closing.IsClosingAtRest k
+IsAtRest (Range r) = ranging.IsRangingAtRest r
+
+-- its members are these numbers, once its mark is carried out
+abbrev pub HasMembers : List ℕ → Structure → Type 0
+HasMembers live (Order k) = list.HasMembers k live
+HasMembers live (Extreme t) = points.HasPoints t live
+HasMembers live (Hull k) = hull.HasMembers k live
+HasMembers live (Closest k) = closing.HasMembers k live
+HasMembers live (Range r) = ranging.HasMembers r live
+
+-- its content and its facts are the definition's in the scene
+abbrev pub IsSettledIn : Scene → Structure → Type 0
+IsSettledIn s (Order k) = listing.IsSettledListing k s
+IsSettledIn s (Extreme t) = points.IsSettledAlong t s
+IsSettledIn s (Hull k) = hull.IsSettledKinHull k s
+IsSettledIn s (Closest k) = closing.IsSettledClosing k s
+IsSettledIn s (Range r) = ranging.IsSettledRanging r s
+
+-- settled over the live numbers it has the facts of its keep, and these alone determine it
+pub record IsKinetic (st : Structure) : Type 0 where
+  pub exact : (size : ℕ) (keep : Keep) (s : Scene) → IsFor size keep st → HasMembers s.live st → IsSettledIn s st → ListsExactly (placed_facts st) (IsKeepFact size s keep)
+  pub determined : (v w : Scene) → IsAtRest st → IsReal v → IsSettledIn v st → HaveSameLive v w → IsReal w → AllHold w (placed_facts st) → IsSettledIn w st
+
+-- each kind obeys these laws
+pub kinetic : (st : Structure) → IsKinetic st
+kinetic (Order k) = record { exact = list_exact k; determined = λ v w rest real settled same real'. listing_laws.determined_lem k v w rest real settled same real' tt }
+kinetic (Extreme t) = record { exact = points_exact t; determined = λ v w rest. points_determined t v w }
+kinetic (Hull k) = record { exact = hull_exact k; determined = λ v w rest real settled same real'. hull_laws.determined_lem k v w rest real settled same real' tt }
+kinetic (Closest k) = record { exact = closing_exact k; determined = λ v w rest real settled same real'. closing_laws.determined_lem k v w rest real settled same real' tt }
+kinetic (Range r) = record { exact = range_exact r; determined = λ v w rest real settled same real'. ranging_laws.determined_lem r v w rest real settled same real' tt }

@@ -1,0 +1,37 @@
+//! Where a keep stands among others.
+
+ghost use Rattle.std.specs.Prelude.{◌≡◌, ◌≤◌, ◌↔◌, ℕ, Some, IsTrue, length, slice_get};
+
+use kin_motion::Keep;
+
+/// The first place of a keep that stands among these.
+pub(crate) fn place_of(keep: &Keep, keeps: &[Keep]) -> u32
+    requires few { length keeps.now ≤ 19 }
+    requires kept { (k : ℕ) × (slice_get keeps.now k ≡ Some keep.now) }
+    ensures { slice_get keeps.now result ≡ Some keep.now }
+{
+    for k in 0..keeps.len() {
+        if is_same(&keeps[k], keep) {
+            return k as u32;
+        }
+    }
+    unreachable!()
+}
+
+fn is_same(keep: &Keep, other: &Keep) -> bool
+    ensures { IsTrue result ↔ (keep.now ≡ other.now) }
+{
+    match *keep {
+        Keep::Order { dx, dy } => match *other {
+            Keep::Order { dx: x, dy: y } => dx == x && dy == y,
+            _ => false,
+        },
+        Keep::Extreme { dx, dy } => match *other {
+            Keep::Extreme { dx: x, dy: y } => dx == x && dy == y,
+            _ => false,
+        },
+        Keep::Hull => matches!(*other, Keep::Hull),
+        Keep::Closest => matches!(*other, Keep::Closest),
+        Keep::Range => matches!(*other, Keep::Range),
+    }
+}
