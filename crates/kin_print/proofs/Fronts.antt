@@ -5,7 +5,6 @@ use Rattle.std.specs.Fmt.{decimal}
 use Rattle.std.specs.List.{flat_map}
 use Rattle.std.proofs.lemmas.List.{append-nil, take-append-drop, take_rest}
 use Rattle.std.proofs.lemmas.List.Concat.{flat_map-append}
-pub use Rattle.kin_basics.proofs.Results.{on_err}
 use Rattle.kin_script.specs.Printed.{PutsFront, list_line}
 use Rattle.kin_print.specs.Pieces.{spaced}
 

@@ -75,7 +75,7 @@ fn put_kind(out: &mut Vec<u8>, form: &Form) -> Result<(), NoMemory>
     ensures err { OnErr result (PutsFront out.old.items out.new.items (kind_text form.now)) }
 {
     match *form {
-        Form::Line { dx, dy, off, .. } => put_line(out, dx, dy, off),
+        Form::Line { dx, dy, off, .. } => put_line_kind(out, dx, dy, off),
         Form::Turn { .. } => put_bytes(out, b"turn"),
         Form::Slope { .. } => put_bytes(out, b"slope"),
         Form::Dist { .. } => put_bytes(out, b"dist"),
@@ -83,7 +83,7 @@ fn put_kind(out: &mut Vec<u8>, form: &Form) -> Result<(), NoMemory>
 }
 
 /// Appends the kind of a line: `line(1,0)`, or `line(1,0,-5)` with an offset.
-fn put_line(out: &mut Vec<u8>, dx: i32, dy: i32, off: i32) -> Result<(), NoMemory>
+fn put_line_kind(out: &mut Vec<u8>, dx: i32, dy: i32, off: i32) -> Result<(), NoMemory>
     ensures ok { OnOk result (out.new.items ≡ out.old.items ++ line_text dx dy off) }
     ensures err { OnErr result (PutsFront out.old.items out.new.items (line_text dx dy off)) }
 {

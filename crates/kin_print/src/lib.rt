@@ -6,12 +6,14 @@
 
 pub use failure::put_failure;
 pub use line::{put_count, put_one};
-pub use list::put_list;
+pub use list::{put_list, put_pair};
 pub use moment::put_moment;
 pub use piece::{put_bytes, put_number, put_pieces};
+pub use reply::{Reply, put_reply};
 
 pub mod failure;
 pub mod line;
 pub mod list;
 pub mod moment;
 pub mod piece;
+pub mod reply;

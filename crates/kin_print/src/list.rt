@@ -1,8 +1,9 @@
-//! Lists of numbers.
+//! Lists of numbers, and pairs.
 
 ghost use Rattle.std.specs.Prelude.{◌≡◌, ◌++◌, OnOk, OnErr, codes};
 ghost use Rattle.std.specs.List.{flat_map};
 ghost use Rattle.kin_script.specs.Printed.{list_line, PutsFront};
+ghost use Rattle.kin_script.specs.PrintedJournal.{pair_line};
 ghost use Rattle.kin_print.specs.Pieces.{spaced};
 
 use crate::piece::{put_bytes, put_number};
@@ -51,6 +52,17 @@ fn put_spaced(out: &mut Vec<u8>, n: u32) -> Result<(), NoMemory>
     put_number(out, n)
 }
 
+/// Appends a pair of numbers, or the word `none`, as a line.
+pub fn put_pair(out: &mut Vec<u8>, pair: Option<(u32, u32)>) -> Result<(), NoMemory>
+    ensures ok { OnOk result (out.new.items ≡ out.old.items ++ pair_line pair) }
+    ensures err { OnErr result (PutsFront out.old.items out.new.items (pair_line pair)) }
+{
+    match pair {
+        Some((first, second)) => put_list(out, &[first, second]),
+        None => put_bytes(out, b"none\n"),
+    }
+}
+
 #[cfg(test)]
 mod tests {
     use super::*;
@@ -72,6 +84,15 @@ mod tests {
             line(alloc, &[1, 0, 4095])?.as_slice(),
             b"1 0 4095\n".as_slice()
         );
+        Ok(())
+    }
+
+    #[test]
+    fn a_pair_or_none_is_a_line(rt: HostRuntime) -> Result<(), Fail> {
+        let mut out = Vec::new(rt.alloc());
+        put_pair(&mut out, Some((0, 4095)))?;
+        put_pair(&mut out, None)?;
+        assert_eq!(rt; out.as_slice(), b"0 4095\nnone\n".as_slice());
         Ok(())
     }
 }

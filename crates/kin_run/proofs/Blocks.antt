@@ -10,7 +10,8 @@ use Rattle.kin_motion.specs.Journal.{Setting, Failure, Block, IsNextBlock, Nothi
 use Rattle.kin_motion.proofs.JournalLaws.{next_block_is_one, journal_is_one}
 use Rattle.kin_basics.proofs.Members.{contains_head}
 use Rattle.kin_script.specs.PrintedJournal.{block_lines, journal_lines, now_line}
-use Rattle.kin_script.specs.Replay.{State, at, state_setting, LeadsToNext}
+use Rattle.kin_script.specs.Replay.{LeadsToNext}
+use Rattle.kin_script.specs.States.{State, at, state_setting}
 use Rattle.kin_script.specs.Text.{IsPassedText, IsNextText}
 
 pub one_passed : (on : Bool) (s : State) (w : Shape) (x y : List ℕ) → IsCanonical s.moment.at → IsCanonical w → IsPassedText on s w x → IsPassedText on s w y → x ≡ y

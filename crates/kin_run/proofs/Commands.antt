@@ -1,15 +1,13 @@
 -- Which deeds are allowed, and what they leave as it is.
-use Rattle.std.proofs.Common.{rules, ap, inl, inr, ◌≡◌, Bool, subst, refl, sym, arith}
-use Rattle.std.specs.Prelude.{pos}
+use Rattle.std.proofs.Common.{ap, inl, inr, ◌≡◌, Bool, subst, sym}
 use Rattle.kin_num.specs.declared.instant.Shape.{Shape}
-use Rattle.kin_num.specs.declared.instant.Shape.TheVariants.{Ratio}
 use Rattle.kin_num.specs.Canonical.{IsCanonical}
 use Rattle.kin_num.specs.Order.{IsEarlier}
-use Rattle.std.proofs.lemmas.Nat.Gcd.{IsGcd-swap, IsGcd-from_zero}
 use Rattle.kin_num.specs.Quadratic.{Quadratic}
 use Rattle.kin_run.proofs.NamedRoots.{one_named_root, named_root_of, named_canonical, has_root}
 use Rattle.kin_script.specs.Deeds.{Deed, puts, goes_to, goes_on, asks}
-use Rattle.kin_script.specs.Replay.{State, at, IsNamedRoot, IsAllowed, LeadsTo}
+use Rattle.kin_script.specs.Replay.{IsNamedRoot, IsAllowed, LeadsTo}
+use Rattle.kin_script.specs.States.{State, at}
 
 -- it goes to an instant which isn't before now
 pub goes_allowed : (s : State) (upper : Bool) (p : Quadratic) (w : Shape) → IsNamedRoot upper p w → (IsEarlier (at w) s.moment → ⊥) → IsAllowed s (goes_to upper p)
@@ -31,10 +29,3 @@ stays_canonical s (goes_to upper p) t canonical e = subst (λ (u : State). IsCan
 stays_canonical s goes_on t canonical (inl e) = subst (λ (u : State). IsCanonical u.moment.at) (sym e.2) e.1.canonical
 stays_canonical s goes_on t canonical (inr e) = subst (λ (u : State). IsCanonical u.moment.at) (sym e.1) canonical
 stays_canonical s (asks q) t canonical e = subst (λ (u : State). IsCanonical u.moment.at) (sym e) canonical
-
--- the instant 0
-pub start_canonical : IsCanonical (Ratio (pos 0) (pos 1))
-start_canonical = record {
-  form = record { positive = search rules; lowest = IsGcd-swap 1 0 1 (IsGcd-from_zero 1 0 refl) };
-  small = record { n_small = omega arith; d_small = omega arith };
-}

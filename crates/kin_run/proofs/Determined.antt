@@ -4,7 +4,8 @@ use Rattle.kin_num.specs.declared.instant.Shape.{Shape}
 use Rattle.kin_num.specs.Canonical.{IsCanonical}
 use Rattle.kin_script.specs.declared.refusal.Refusal.{Refusal}
 use Rattle.kin_script.specs.Deeds.{Deed, puts, goes_to, goes_on, asks}
-use Rattle.kin_script.specs.Replay.{State, at, IsRefused, LeadsTo}
+use Rattle.kin_script.specs.Replay.{IsRefused, LeadsTo}
+use Rattle.kin_script.specs.States.{State, at}
 use Rattle.kin_script.specs.Text.{Step, IsPassedText, Prints}
 use Rattle.kin_run.proofs.NamedRoots.{one_named_root, named_canonical, named_root_of, has_root}
 use Rattle.kin_script.proofs.Questions.{one_reply_line}

@@ -7,6 +7,7 @@ pub mod Determined
 pub mod Passing
 pub mod OnTheWay
 pub mod Performing
+pub mod Replying
 pub mod Playing
 pub mod OneText
 pub mod AskedInstants

@@ -15,12 +15,13 @@ use Rattle.kin_num.specs.Order.{IsLess}
 use Rattle.kin_num.proofs.InstantOrder.{level_same}
 use Rattle.kin_num.proofs.LowerFractions.{not_less_itself, less_asym}
 use Rattle.kin_num.proofs.SignLaws.{sign_at-neg}
-use Rattle.kin_instant.proofs.RootsOf.{fraction_zeros}
+use Rattle.kin_instant.proofs.RootsOf.{fraction_zeros, discriminant-negated}
 use Rattle.kin_instant.proofs.Zeros.{instant-negative}
 use Rattle.kin_instant.specs.declared.roots.Roots.{Roots}
 use Rattle.kin_instant.specs.declared.roots.Roots.TheVariants.{Two}
 use Rattle.kin_instant.specs.Roots.{IsFraction, HasRoot}
-use Rattle.kin_script.specs.Replay.{IsRootOf, IsNamedRoot, at}
+use Rattle.kin_script.specs.Replay.{IsRootOf, IsNamedRoot}
+use Rattle.kin_script.specs.States.{at}
 
 -- two named roots are one
 pub one_named_root : (upper : Bool) (p : Quadratic) (v w : Shape) → IsNamedRoot upper p v → IsNamedRoot upper p w → v ≡ w
@@ -72,9 +73,6 @@ zero_negated : (p : Quadratic) (w : Shape) → sign_at_instant p w ≡ Zero → 
 unfolding sign_at
 zero_negated p w e = sign_at-neg p (at w) ∙ ap opposite_of e
 
-same_discriminant : (a b c : ℤ) → discriminant (neg_ℤ a) (neg_ℤ b) (neg_ℤ c) ≡ discriminant a b c
-same_discriminant a b c = by_ring (a ∷ b ∷ c ∷ []) _ _ (search quotes depth 20) (search quotes depth 20) refl
-
 square_alone : (b c : ℤ) → discriminant (pos 0) b c ≡ b *ℤ b
 square_alone b c = by_ring (b ∷ c ∷ []) _ _ (search quotes depth 20) (search quotes depth 20) refl
 
@@ -92,4 +90,4 @@ has_root (pos zero) b c w root negative =
 has_root (pos (suc n)) b c w root negative =
     plus_zero _ (instant-negative w root.canonical.form (pos (suc n)) b c (sign_out Plus (pos (suc n)) refl) negative) root.zero
 has_root (negsuc n) b c w root negative =
-    plus_zero _ (instant-negative w root.canonical.form (pos (suc n)) (neg_ℤ b) (neg_ℤ c) (sign_out Plus (pos (suc n)) refl) (subst (λ (d : ℤ). d <ℤ pos 0) (sym (same_discriminant (negsuc n) b c)) negative)) (zero_negated _ w root.zero)
+    plus_zero _ (instant-negative w root.canonical.form (pos (suc n)) (neg_ℤ b) (neg_ℤ c) (sign_out Plus (pos (suc n)) refl) (subst (λ (d : ℤ). d <ℤ pos 0) (sym (discriminant-negated (negsuc n) b c)) negative)) (zero_negated _ w root.zero)

@@ -8,7 +8,7 @@ use Rattle.kin_num.specs.Canonical.{IsCanonical}
 use Rattle.kin_num.specs.Order.{IsEarlier}
 use Rattle.kin_motion.specs.Journal.{Setting, Block, IsNextBlock, IsJournal}
 use Rattle.kin_script.specs.Printed.{PutsFront}
-use Rattle.kin_script.specs.Replay.{State, at, state_setting}
+use Rattle.kin_script.specs.States.{State, at, state_setting}
 use Rattle.kin_script.specs.Text.{IsPassedText}
 use Rattle.kin_world.specs.Worlds.{World, IsWhole, HasPassed, HasMoved, HasStepped, failure_count}
 use Rattle.kin_run.specs.declared.write.Stop.TheVariants.{Fault, NoMemory}

@@ -6,7 +6,7 @@ use Rattle.kin_num.specs.Canonical.{IsCanonical}
 use Rattle.kin_script.specs.declared.script.Script.{Script}
 use Rattle.kin_script.specs.Grammar.{script_of}
 use Rattle.kin_script.specs.Deeds.{deed_of}
-use Rattle.kin_script.specs.Replay.{State, start}
+use Rattle.kin_script.specs.States.{State, start}
 use Rattle.kin_script.specs.Text.{Text, Ending, bad_line}
 use Rattle.kin_run.specs.declared.write.Stop.{Stop}
 use Rattle.kin_run.specs.declared.write.Stop.TheVariants.{Fault, NoMemory}
@@ -15,7 +15,8 @@ use Rattle.kin_run.specs.Written.{IsFront}
 use Rattle.kin_run.specs.declared.status.Status.{Status}
 use Rattle.kin_run.specs.declared.status.Status.TheVariants as status
 use Rattle.kin_run.specs.Headline.{IsAnswer, IsCut, IsTextOf, Writes, Answers, Outcome, status_of_stop, IsBrokenOff, TakesWhole, OneAnswer}
-use Rattle.kin_run.proofs.Commands.{start_canonical, stays_canonical}
+use Rattle.kin_num.proofs.Values.{start_canonical}
+use Rattle.kin_run.proofs.Commands.{stays_canonical}
 use Rattle.kin_run.proofs.Determined.{one_step}
 use Rattle.kin_run.proofs.Playing.{Line, allowed_goes_on, text_refused}
 

@@ -13,7 +13,7 @@ use Rattle.kin_motion.proofs.JournalLaws.{next_block_is_one, block_is_listed}
 use Rattle.kin_cert.specs.declared.owned.Failure.{Failure as Failed}
 use Rattle.kin_cert.specs.Blocks.{failure_of}
 use Rattle.kin_script.specs.PrintedJournal.{failure_line, block_lines, journal_lines}
-use Rattle.kin_script.specs.Replay.{State, at, state_setting}
+use Rattle.kin_script.specs.States.{State, at, state_setting}
 use Rattle.kin_script.specs.Text.{IsPassedText}
 use Rattle.kin_run.specs.Performed.{IsFrontOfEach}
 use Rattle.kin_run.specs.States.{printed_if}

@@ -5,16 +5,19 @@ use Rattle.kin_num.specs.declared.instant.Shape.{Shape}
 use Rattle.kin_num.specs.Canonical.{IsCanonical}
 use Rattle.kin_num.specs.Order.{IsEarlier}
 use Rattle.kin_num.specs.Quadratic.{Quadratic}
-use Rattle.kin_script.specs.Deeds.{Question, goes_to, goes_on, asks}
+use Rattle.kin_script.specs.declared.command.Command.{Command}
+use Rattle.kin_script.specs.Deeds.{goes_to, goes_on, asks}
 use Rattle.kin_script.specs.Printed.{PutsFront}
-use Rattle.kin_script.specs.Replay.{State, at, IsNamedRoot, IsAllowed, LeadsToNext}
-use Rattle.kin_script.specs.Text.{Step, Prints, IsPassedText, IsNextText, IsReplyLine}
+use Rattle.kin_script.specs.Questions.{IsReplyLine}
+use Rattle.kin_script.specs.Replay.{IsNamedRoot, IsAllowed, LeadsToNext}
+use Rattle.kin_script.specs.States.{State, at}
+use Rattle.kin_script.specs.Text.{Step, Prints, IsPassedText, IsNextText}
 use Rattle.kin_script.proofs.Questions.{one_reply_line}
 use Rattle.kin_run.specs.declared.perform.Halt.{Halt}
 use Rattle.kin_run.specs.declared.perform.Halt.TheVariants.{Refused, Broken}
 use Rattle.kin_run.specs.declared.write.Stop.{Stop}
 use Rattle.kin_run.specs.declared.write.Stop.TheVariants.{Fault, NoMemory}
-use Rattle.kin_run.specs.Performed.{IsFrontOfEach, PutsLine, BreaksOff, RepliesTo, Performs}
+use Rattle.kin_run.specs.Performed.{IsFrontOfEach, PutsLine, BreaksOff, Replies, Performs}
 use Rattle.kin_run.specs.Written.{Printer, printer, GainsSome}
 use Rattle.kin_run.proofs.Commands.{goes_allowed}
 use Rattle.kin_run.proofs.Gathering.{Bytes, gains_put, some_is}
@@ -41,7 +44,7 @@ module _ (s : State) (held : Bytes) (before now : List ℕ) where
   going_broke put = ((λ r h. h), record { text = put.0; gained = gains_put held before now put.0 put.1; is = put.2 })
 
 -- ---- to a question
-pub replied : {E : Type 0} (s : State) (q : Question) (result : Result E Halt) (held : Bytes) (before now : List ℕ) → RepliesTo s q result before now → Performs s (asks q) result (printer held before) (printer held now) s
+pub replied : {E : Type 0} (s : State) (q : Command) (result : Result E Halt) (held : Bytes) (before now : List ℕ) → Replies s q result before now → Performs s (asks q) result (printer held before) (printer held now) s
 replied s q (Ok x) held before now a = record { text = a.1.0; gained = gains_put held before now a.1.0 a.1.1; is = record { allowed = λ r h. h.1 a.0; prints = a.1.2; leads = refl } }
 replied s q (Err (Refused r)) held before now a = ((a.0, a.1), (λ i. printer held (a.2 i)), refl)
 replied s q (Err (Broken NoMemory)) held before now a = ((λ r h. h.1 a.0), record { text = a.1.0; gained = gains_put held before now a.1.0 a.1.1; is = a.1.2 })
@@ -56,5 +59,5 @@ puts_known IsLine line (Ok x) before now own only ok err = (line, ok, own)
 puts_known IsLine line (Err e) before now own only ok err = (err.front, err.put, λ text is. record { more = err.rest; joined = only text is ∙ err.cut })
 
 -- a front of the line of a question
-pub reply_cut : (s : State) → IsCanonical s.moment.at → (q : Question) (line before now : List ℕ) → IsReplyLine s q line → PutsFront before now line → (front : List ℕ) × (now ≡ before ++ front) × IsFrontOfEach (IsReplyLine s q) front
+pub reply_cut : (s : State) → IsCanonical s.moment.at → (q : Command) (line before now : List ℕ) → IsReplyLine s q line → PutsFront before now line → (front : List ℕ) × (now ≡ before ++ front) × IsFrontOfEach (IsReplyLine s q) front
 reply_cut s canonical q line before now own put = (put.front, put.put, λ text is. record { more = put.rest; joined = one_reply_line s canonical q text line is own ∙ put.cut })

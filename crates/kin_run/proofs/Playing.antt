@@ -5,7 +5,8 @@ use Rattle.kin_num.specs.Canonical.{IsCanonical}
 use Rattle.kin_script.specs.declared.command.Command.{Command}
 use Rattle.kin_script.specs.declared.refusal.Refusal.{Refusal}
 use Rattle.kin_script.specs.Deeds.{deed_of}
-use Rattle.kin_script.specs.Replay.{State, IsRefused, IsAllowed}
+use Rattle.kin_script.specs.Replay.{IsRefused, IsAllowed}
+use Rattle.kin_script.specs.States.{State}
 use Rattle.kin_script.specs.Text.{Step, Text, Ending, Prints, refused_line}
 use Rattle.kin_run.specs.Performed.{IsFrontOfEach, IsCutOfText}
 use Rattle.kin_run.specs.Written.{IsFront}

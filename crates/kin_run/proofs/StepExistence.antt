@@ -15,8 +15,10 @@ use Rattle.kin_script.specs.declared.refusal.Refusal.TheVariants.{Taken, NotKept
 use Rattle.kin_script.specs.PrintedJournal.{journal_lines}
 use Rattle.kin_script.specs.Ranges.{IsDeedInRange}
 use Rattle.kin_num.specs.Quadratic.{Quadratic}
-use Rattle.kin_script.specs.Deeds.{Deed, Question, puts, goes_to, goes_on, asks}
-use Rattle.kin_script.specs.Replay.{State, at, state_setting, IsNamedRoot, HasNoRoot, IsRefused, IsAllowed, LeadsTo}
+use Rattle.kin_script.specs.declared.command.Command.{Command}
+use Rattle.kin_script.specs.Deeds.{Deed, puts, goes_to, goes_on, asks}
+use Rattle.kin_script.specs.Replay.{IsNamedRoot, HasNoRoot, IsRefused, IsAllowed, LeadsTo}
+use Rattle.kin_script.specs.States.{State, at, state_setting}
 use Rattle.kin_script.specs.Text.{IsPassedText, Prints}
 use Rattle.kin_script.proofs.Questions.{HasLine, has_line}
 use Rattle.kin_run.proofs.AskedInstants.{root_asked}
@@ -107,7 +109,7 @@ module _ (s : State) (sound : IsSound s) where
   })
 
   -- ---- replies
-  reply_ends : (q : Question) → HasLine s sound.canonical q → Ends s (asks q)
+  reply_ends : (q : Command) → HasLine s sound.canonical q → Ends s (asks q)
   reply_ends q (inl not) = inl (NotKept, (refl, not))
   reply_ends q (inr (kept, line)) = inr (record { text = line.0; next = s; allowed = λ r h. h.1 kept; prints = line.1; leads = refl; sound = sound; size = refl })
 

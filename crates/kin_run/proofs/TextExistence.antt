@@ -7,16 +7,17 @@ use Rattle.kin_motion.specs.Course.{motion_of}
 use Rattle.kin_motion.specs.Live.{IsSmallKeep}
 use Rattle.kin_script.specs.declared.script.Script.{Script}
 use Rattle.kin_script.specs.Grammar.{script_of}
-use Rattle.kin_script.specs.Ranges.{IsKeepInRange, IsCommandInRange, IsWithin}
+use Rattle.kin_script.specs.Questions.{IsKeepInRange}
+use Rattle.kin_script.specs.Ranges.{IsCommandInRange, IsWithin}
 use Rattle.kin_script.specs.Deeds.{deed_of}
-use Rattle.kin_script.specs.Replay.{State, start}
+use Rattle.kin_script.specs.States.{State, start}
 use Rattle.kin_script.specs.Text.{Text, Ending, bad_line, refused_line}
 use Rattle.kin_script.proofs.Questions.{deed_in_range, small_keep}
 use Rattle.kin_script.proofs.ScriptRanges.{script_within}
 use Rattle.kin_run.specs.declared.status.Status.{Status}
 use Rattle.kin_run.specs.declared.status.Status.TheVariants as status
 use Rattle.kin_run.specs.Headline.{IsAnswer, IsTextOf, TextsExist}
-use Rattle.kin_run.proofs.Commands.{start_canonical}
+use Rattle.kin_num.proofs.Values.{start_canonical}
 use Rattle.kin_run.proofs.Playing.{Line}
 use Rattle.kin_run.proofs.StepExistence.{IsSound, Ends, deed_ends}
 

@@ -4,7 +4,7 @@ use Rattle.std.specs.Io.KnownBytes.{Consumes, Appends, IsAtEnd}
 use Rattle.kin_script.specs.declared.script.Script.{Script}
 use Rattle.kin_script.specs.Grammar.{script_of}
 use Rattle.kin_script.specs.Text.{bad_line, Text, Ending}
-use Rattle.kin_script.specs.Replay.{start}
+use Rattle.kin_script.specs.States.{start}
 use Rattle.kin_run.specs.declared.status.Status.{Status}
 use Rattle.kin_run.specs.declared.status.Status.TheVariants as status
 use Rattle.kin_run.specs.declared.status.Side.TheVariants.{Read, Write}

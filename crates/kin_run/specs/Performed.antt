@@ -2,9 +2,13 @@
 use Rattle.std.specs.Prelude.{◌≡◌, ℕ, List, ◌++◌, Result, Ok, Err}
 use Rattle.kin_script.specs.declared.command.Command.{Command}
 use Rattle.kin_script.specs.declared.refusal.Refusal.TheVariants.{NotKept}
-use Rattle.kin_script.specs.Deeds.{Deed, Question}
-use Rattle.kin_script.specs.Replay.{State, IsProvided, IsRefused, IsAllowed}
-use Rattle.kin_script.specs.Text.{Step, Text, Ending, IsReplyLine, Prints}
+use Rattle.kin_script.specs.Deeds.{Deed}
+use Rattle.kin_script.specs.Questions.{IsProvided, IsReplyLine}
+use Rattle.kin_script.specs.Replay.{IsRefused, IsAllowed}
+use Rattle.kin_script.specs.States.{State}
+use Rattle.kin_script.specs.Text.{Step, Text, Ending, Prints}
+use Rattle.kin_print.specs.declared.reply.Reply.{Reply}
+use Rattle.kin_print.specs.Replies.{reply_line}
 use Rattle.kin_run.specs.declared.perform.Halt.{Halt}
 use Rattle.kin_run.specs.declared.perform.Halt.TheVariants.{Refused, Broken}
 use Rattle.kin_run.specs.declared.write.Stop.{Stop}
@@ -20,12 +24,23 @@ abbrev pub PutsLine : {E : Type 0} → (List ℕ → Type 0) → Result (Unit {0
 PutsLine IsLine (Ok x) before now = (text : List ℕ) × (now ≡ before ++ text) × IsLine text
 PutsLine IsLine (Err e) before now = (front : List ℕ) × (now ≡ before ++ front) × IsFrontOfEach IsLine front
 
--- what came of a question: its line was put behind what was there; or what it asks for is not kept, and nothing was put; or memory ran out at a front of its line
-abbrev pub RepliesTo : {E : Type 0} → State → Question → Result E Halt → List ℕ → List ℕ → Type 0
-RepliesTo s q (Ok x) before now = IsProvided s q × ((text : List ℕ) × (now ≡ before ++ text) × IsReplyLine s q text)
-RepliesTo s q (Err (Refused r)) before now = (r ≡ NotKept) × ¬ (IsProvided s q) × (now ≡ before)
-RepliesTo s q (Err (Broken NoMemory)) before now = IsProvided s q × ((front : List ℕ) × (now ≡ before ++ front) × IsFrontOfEach (IsReplyLine s q) front)
-RepliesTo s q (Err (Broken Fault)) before now = ⊥
+-- a reply that makes the line of a question; or what it asks for is not kept; or memory ran out
+abbrev pub IsReply : State → Command → Result Reply Halt → Type 0
+IsReply s q (Ok reply) = IsProvided s q × IsReplyLine s q (reply_line reply)
+IsReply s q (Err (Refused r)) = (r ≡ NotKept) × ¬ (IsProvided s q)
+IsReply s q (Err (Broken NoMemory)) = IsProvided s q
+IsReply s q (Err (Broken Fault)) = ⊥
+
+-- what came of a question, before anything is put
+pub record RepliesTo (s : State) (q : Command) (result : Result Reply Halt) : Type 0 where
+  pub reply : IsReply s q result
+
+-- the line of a question was put behind what was there; or what it asks for is not kept, and nothing was put; or memory ran out at a front of its line
+abbrev pub Replies : {E : Type 0} → State → Command → Result E Halt → List ℕ → List ℕ → Type 0
+Replies s q (Ok x) before now = IsProvided s q × ((text : List ℕ) × (now ≡ before ++ text) × IsReplyLine s q text)
+Replies s q (Err (Refused r)) before now = (r ≡ NotKept) × ¬ (IsProvided s q) × (now ≡ before)
+Replies s q (Err (Broken NoMemory)) before now = IsProvided s q × ((front : List ℕ) × (now ≡ before ++ front) × IsFrontOfEach (IsReplyLine s q) front)
+Replies s q (Err (Broken Fault)) before now = ⊥
 
 -- a run was broken off behind such a text: want of memory left it gathered, and a fault lost some of it
 abbrev pub BreaksOff : (List ℕ → Type 0) → Stop → Printer → Printer → Type 0

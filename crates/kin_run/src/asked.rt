@@ -3,7 +3,8 @@
 ghost use Rattle.std.specs.Prelude.{◌≡◌, ◌≤◌, ◌<◌, ◌<ℤ◌, ◌^◌, ◌↔◌, IsTrue, MatchOption, if◌then◌else◌, pos, unsigned_abs};
 ghost use Rattle.kin_num.specs.Canonical.{discriminant};
 ghost use Rattle.kin_num.specs.Order.{IsEarlier};
-ghost use Rattle.kin_script.specs.Replay.{IsNamedRoot, at};
+ghost use Rattle.kin_script.specs.Replay.{IsNamedRoot};
+ghost use Rattle.kin_script.specs.States.{at};
 
 use kin_instant::order::compare;
 use kin_instant::roots::Roots;

@@ -9,6 +9,7 @@
 pub use kin_script::refusal::Refusal;
 
 mod asked;
+mod kept;
 pub mod laws;
 mod next;
 mod pass;
@@ -20,4 +21,6 @@ pub mod status;
 #[cfg(test)]
 mod tests;
 mod text;
+#[cfg(test)]
+mod worked;
 mod write;

@@ -6,7 +6,7 @@ ghost use Rattle.kin_num.specs.Canonical.{IsCanonical};
 ghost use Rattle.kin_num.specs.Order.{IsEarlier};
 ghost use Rattle.kin_script.specs.Printed.{PutsFront};
 ghost use Rattle.kin_script.specs.PrintedJournal.{block_lines};
-ghost use Rattle.kin_script.specs.Replay.{at};
+ghost use Rattle.kin_script.specs.States.{at};
 ghost use Rattle.kin_script.specs.Text.{IsPassedText};
 ghost use Rattle.kin_world.specs.Worlds.{IsWhole};
 ghost use Rattle.kin_run.specs.declared.write.Stop.TheVariants.{Fault as FaultOf};

@@ -17,7 +17,7 @@ ghost use Rattle.kin_run.specs.Written.{Printer, printer};
 use crate::asked::{is_before, named_root};
 use crate::next::put_next;
 use crate::pass::pass;
-use crate::reply::put_reply;
+use crate::reply::put_reply_to;
 use crate::write::Stop;
 use kin_instant::ratio::ratio;
 use kin_io::sink::Sink;
@@ -121,6 +121,6 @@ pub fn perform<K: Sink, L: Ledger>(
             None => Err(Halt::Refused(Refusal::NoRoot)),
         },
         Command::Next => Ok(put_next(world, journal, out, steps)?),
-        _ => put_reply(world, command, out),
+        _ => put_reply_to(world, command, out),
     }
 }

@@ -1,67 +1,113 @@
 //! The replies to questions.
 
 ghost use Rattle.std.specs.Prelude.{◌≡◌, ◌≢◌, Bool, IfErr};
-ghost use Rattle.kin_script.specs.Deeds.{Question, deed_of, asks, order_along, farthest_along, live_facts};
+ghost use Rattle.kin_script.specs.declared.command.Command.TheVariants as asked;
+ghost use Rattle.kin_script.specs.Ranges.{IsCommandInRange};
+ghost use Rattle.kin_motion.specs.Boxes.{IsRectInRange};
 ghost use Rattle.kin_world.specs.Worlds.{IsWhole};
 ghost use Rattle.kin_run.specs.declared.perform.Halt.TheVariants.{Broken as BrokenOff};
 ghost use Rattle.kin_run.specs.declared.write.Stop.TheVariants.{Fault as FaultOf};
-ghost use Rattle.kin_run.specs.Performed.{RepliesTo};
-ghost use Rattle.kin_run.specs.States.{state_of};
+ghost use Rattle.kin_run.specs.Performed.{RepliesTo, Replies};
+ghost use Rattle.kin_run.specs.States.{state_of, seen_of};
 
+use crate::kept::is_kept;
 use crate::perform::Halt;
-use kin_motion::Keep;
-use kin_print::{put_count, put_list, put_one};
+use kin_motion::{Keep, Rect};
+use kin_print::{Reply, put_reply};
 use kin_script::command::Command;
 use kin_script::refusal::Refusal;
 use kin_world::world::World;
 
-// The line of the kept order `s`.
-fn put_order(world: &World, s: u32, out: &mut Vec<u8>) -> Result<(), Halt>
+/// The order that is kept as structure `s`.
+fn order(world: &World, s: u32) -> Result<Reply, Halt>
     requires { IsWhole world.now }
-    ensures reply { (journal : Bool) → RepliesTo (state_of journal world.now) (order_along s) result out.old.items out.new.items }
-    ensures no_fault { IfErr result (λ halt. halt ≢ BrokenOff FaultOf) }
+    ensures { RepliesTo (seen_of world.now) (asked.Order s) result }
 {
-    let Some(Keep::Order { .. }) = world.keep(s) else {
-        return Err(Halt::Refused(Refusal::NotKept));
-    };
-    let order = world.order(s)?;
-    put_list(out, &order)?;
-    Ok(())
-}
-
-// The line of the kept extreme point `s`.
-fn put_extreme(world: &World, s: u32, out: &mut Vec<u8>) -> Result<(), Halt>
-    requires { IsWhole world.now }
-    ensures reply { (journal : Bool) → RepliesTo (state_of journal world.now) (farthest_along s) result out.old.items out.new.items }
-    ensures no_fault { IfErr result (λ halt. halt ≢ BrokenOff FaultOf) }
-{
-    let Some(Keep::Extreme { .. }) = world.keep(s) else {
-        return Err(Halt::Refused(Refusal::NotKept));
-    };
-    put_one(out, world.extreme(s))?;
-    Ok(())
-}
-
-// The line with the number of live facts.
-fn put_live(world: &World, out: &mut Vec<u8>) -> Result<(), Halt>
-    requires { IsWhole world.now }
-    ensures reply { (journal : Bool) → RepliesTo (state_of journal world.now) live_facts result out.old.items out.new.items }
-    ensures no_fault { IfErr result (λ halt. halt ≢ BrokenOff FaultOf) }
-{
-    put_count(out, world.live() as u64)?;
-    Ok(())
-}
-
-/// Appends the line that a command asks for, which isn't one that changes points or moves time.
-pub fn put_reply(world: &World, command: &Command, out: &mut Vec<u8>) -> Result<(), Halt>
-    requires whole { IsWhole world.now }
-    ensures reply { (journal : Bool) (q : Question) → deed_of command.now ≡ asks q → RepliesTo (state_of journal world.now) q result out.old.items out.new.items }
-    ensures no_fault { IfErr result (λ halt. halt ≢ BrokenOff FaultOf) }
-{
-    match *command {
-        Command::Order { s } => put_order(world, s, out),
-        Command::Extreme { s } => put_extreme(world, s, out),
-        Command::Live => put_live(world, out),
+    match world.keep(s) {
+        Some(Keep::Order { .. }) => Ok(Reply::List(world.order(s)?)),
         _ => Err(Halt::Refused(Refusal::NotKept)),
     }
+}
+
+/// The extreme point that is kept as structure `s`.
+fn extreme(world: &World, s: u32) -> Result<Reply, Halt>
+    requires { IsWhole world.now }
+    ensures { RepliesTo (seen_of world.now) (asked.Extreme s) result }
+{
+    match world.keep(s) {
+        Some(Keep::Extreme { .. }) => Ok(Reply::One(world.extreme(s))),
+        _ => Err(Halt::Refused(Refusal::NotKept)),
+    }
+}
+
+/// The points of the hull, counterclockwise, the leftmost first.
+fn hull(world: &World) -> Result<Reply, Halt>
+    requires { IsWhole world.now }
+    ensures { RepliesTo (seen_of world.now) asked.Hull result }
+{
+    if !is_kept(world, &Keep::Hull) {
+        return Err(Halt::Refused(Refusal::NotKept));
+    }
+    Ok(Reply::List(world.hull()?))
+}
+
+/// The closest pair.
+fn closest(world: &World) -> Result<Reply, Halt>
+    requires { IsWhole world.now }
+    ensures { RepliesTo (seen_of world.now) asked.Closest result }
+{
+    if !is_kept(world, &Keep::Closest) {
+        return Err(Halt::Refused(Refusal::NotKept));
+    }
+    Ok(Reply::Pair(world.closest()))
+}
+
+/// The points in a rectangle.
+fn inside(world: &World, rect: &Rect) -> Result<Reply, Halt>
+    requires whole { IsWhole world.now }
+    requires rect { IsRectInRange rect.now }
+    ensures { RepliesTo (seen_of world.now) (asked.Inside rect.now) result }
+{
+    if !is_kept(world, &Keep::Range) {
+        return Err(Halt::Refused(Refusal::NotKept));
+    }
+    Ok(Reply::List(world.inside(rect)?))
+}
+
+/// How many facts are live.
+fn live(world: &World) -> Result<Reply, Halt>
+    requires { IsWhole world.now }
+    ensures { RepliesTo (seen_of world.now) asked.Live result }
+{
+    Ok(Reply::Count(world.live() as u64))
+}
+
+/// What a question is answered with, where what it asks for is kept. No other command is one.
+#[tactic(auto, using(crate::proofs::Replying::of_same))]
+fn reply_to(world: &World, command: &Command) -> Result<Reply, Halt>
+    requires whole { IsWhole world.now }
+    requires range { IsCommandInRange world.now.size command.now }
+    ensures { RepliesTo (seen_of world.now) command.now result }
+{
+    match *command {
+        Command::Order { s } => order(world, s),
+        Command::Extreme { s } => extreme(world, s),
+        Command::Hull => hull(world),
+        Command::Closest => closest(world),
+        Command::Inside { rect } => inside(world, &rect),
+        Command::Live => live(world),
+        _ => Err(Halt::Refused(Refusal::NotKept)),
+    }
+}
+
+/// Appends the line that a question asks for.
+pub fn put_reply_to(world: &World, command: &Command, out: &mut Vec<u8>) -> Result<(), Halt>
+    requires whole { IsWhole world.now }
+    requires range { IsCommandInRange world.now.size command.now }
+    ensures line { (journal : Bool) → Replies (state_of journal world.now) command.now result out.old.items out.new.items }
+    ensures no_fault { IfErr result (λ halt. halt ≢ BrokenOff FaultOf) }
+{
+    let reply = reply_to(world, command)?;
+    put_reply(out, &reply)?;
+    Ok(())
 }

@@ -4,6 +4,7 @@ ghost use Rattle.std.specs.Prelude.{◌<◌};
 
 use crate::run::run;
 use crate::status::{Side, Status};
+use crate::worked::{CLOSE, HULLS};
 use kin_io::memory::{MemSink, MemSource};
 use kin_io::source::read_all;
 use kin_script::refusal::Refusal;
@@ -203,6 +204,32 @@ fn gives_the_worked_texts(rt: HostRuntime) -> Result<(), Fail> {
     for (script, text, status) in WORKED {
         let mut source = source_of(rt.alloc(), script, 3, Vec::new(rt.alloc()))?;
         let mut sink = MemSink::new(rt.alloc(), 200, Vec::new(rt.alloc()))?;
+        let found = run(rt.alloc(), &words, &mut source, &mut sink);
+        assert!(rt; found == status, "status of {script}");
+        assert!(rt; sink.held() == text.as_bytes(), "text of {script}");
+    }
+    Ok(())
+}
+
+#[test]
+fn gives_the_texts_of_closest_pairs_and_rectangles(rt: HostRuntime) -> Result<(), Fail> {
+    let words = word(&rt)?;
+    for (script, text, status) in CLOSE {
+        let mut source = source_of(rt.alloc(), script, 64, Vec::new(rt.alloc()))?;
+        let mut sink = MemSink::new(rt.alloc(), 200, Vec::new(rt.alloc()))?;
+        let found = run(rt.alloc(), &words, &mut source, &mut sink);
+        assert!(rt; found == status, "status of {script}");
+        assert!(rt; sink.held() == text.as_bytes(), "text of {script}");
+    }
+    Ok(())
+}
+
+#[test]
+fn gives_the_texts_of_hulls(rt: HostRuntime) -> Result<(), Fail> {
+    let words = word(&rt)?;
+    for (script, text, status) in HULLS {
+        let mut source = source_of(rt.alloc(), script, 64, Vec::new(rt.alloc()))?;
+        let mut sink = MemSink::new(rt.alloc(), 400, Vec::new(rt.alloc()))?;
         let found = run(rt.alloc(), &words, &mut source, &mut sink);
         assert!(rt; found == status, "status of {script}");
         assert!(rt; sink.held() == text.as_bytes(), "text of {script}");

@@ -4,7 +4,7 @@ use Rattle.std.specs.Prelude.{option_map}
 use Rattle.std.proofs.lemmas.Option.{same_Some}
 use Rattle.kin_script.specs.Lines.{Word, is_nil}
 use Rattle.kin_script.specs.Numbers.{◌>>=◌}
-use Rattle.kin_script.specs.Commands.{last}
+use Rattle.kin_script.specs.Words.{last}
 
 -- what is given has the property
 abbrev pub Each : {A : Type 0} → (A → Type 0) → Option A → Type 0

@@ -11,10 +11,12 @@ pub mod WrittenLaws
 pub mod FirstBadLaws
 pub mod Theorems
 pub mod EachGiven
+pub mod WordRanges
 pub mod ScriptRanges
 pub mod PrintedNumbers
 pub mod TextsTell
 pub mod Counts
 pub mod Questions
 mod GeneratedLaws
+pub mod GeneratedRanges
 mod GeneratedRows

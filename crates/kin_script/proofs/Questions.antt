@@ -1,44 +1,50 @@
--- The table of the questions: what is asked for is kept or not, and where it is, it has one line.
-use Rattle.std.proofs.Common.{◌≡◌, ◌⊎◌, inl, inr, ℕ, Bool, List, length, Option, Some, None, refl, sym, ap, ◌∙◌, subst}
-use Rattle.std.specs.Prelude.{ℤ, slice_get}
+-- The table of the proofs of what may be kept and asked: numbers are in range; what is asked for is kept or not, and where it is, there is one line.
+use Rattle.std.proofs.Common.{◌≡◌, ◌⊎◌, inl, inr, ℕ, Bool, true, false, List, [], ◌∷◌, length, Option, Some, refl, sym, ap, ◌∙◌, subst, arith}
+use Rattle.std.specs.Prelude.{ℤ, Contains, slice_get}
 use Rattle.std.proofs.lemmas.Option.{same_Some}
+use Rattle.kin_basics.proofs.Members.{contains_none, contains_head, contains_tail, contains_cases, contains_from_get, get_from_contains}
 use Rattle.kin_num.specs.Canonical.{IsCanonical}
 use Rattle.kin_motion.specs.declared.keep.Keep.{Keep}
 use Rattle.kin_motion.specs.declared.keep.Keep.TheVariants as keep
 use Rattle.kin_motion.specs.Course.{Course}
 use Rattle.kin_motion.specs.Agreements.{FitsSize}
-use Rattle.kin_motion.specs.Extremes.{IsExtremePoint, extreme_of}
-use Rattle.kin_motion.specs.Live.{IsLiveFact, IsSmallKeep, live_facts as facts_now}
-use Rattle.kin_motion.specs.Orders.{IsOrder, order_of}
+use Rattle.kin_motion.specs.Boxes.{box_of as points_in}
+use Rattle.kin_motion.specs.Chains.{cycle_of}
+use Rattle.kin_motion.specs.ClosestPairs.{closest_of}
+use Rattle.kin_motion.specs.Extremes.{IsExtremePoint, extreme_of as farthest}
+use Rattle.kin_motion.specs.Keeps.{is_alike}
+use Rattle.kin_motion.specs.Live.{IsLiveFact, IsSmallKeep, live_facts}
+use Rattle.kin_motion.specs.Orders.{IsOrder, order_of as ordered}
 use Rattle.kin_motion.specs.Scene.{IsReal}
+use Rattle.kin_motion.proofs.ClosestLaws.{closest_proved}
 use Rattle.kin_motion.proofs.LiveFactLaws.{live_facts_agree}
 use Rattle.kin_motion.proofs.MotionScenes.{real_at}
-use Rattle.kin_motion.proofs.OneLaws.{one_extreme}
-use Rattle.kin_motion.proofs.Proved.{order_is_one, order_proved, extreme_proved}
+use Rattle.kin_motion.proofs.OneLaws.{one_extreme, one_closest, one_hull_cycle}
+use Rattle.kin_motion.proofs.Proved.{order_is_one, order_proved, extreme_proved, cycle_proved}
 use Rattle.kin_script.specs.declared.command.Command.{Command}
-use Rattle.kin_script.specs.declared.command.Command.TheVariants.{Insert, AtRatio, AtRoot, Next, Order, Extreme, Hull, Closest, Inside, Live}
-use Rattle.kin_script.specs.Deeds.{Question, order_along, farthest_along, hull_cycle, closest_pair, points_inside, live_facts, asks, deed_of}
+use Rattle.kin_script.specs.declared.command.Command.TheVariants.{Insert, AtRatio, AtRoot, Next, Order, Extreme, Hull, Closest, Live, Inside}
+use Rattle.kin_script.specs.Deeds.{asks, deed_of}
+use Rattle.kin_script.specs.Questions.{keep_of, IsKeepInRange, order_of, extreme_of, box_of, question_of, IsQuestionInRange, IsKept, IsProvided, IsOrderLine, IsExtremeLine, IsLiveLine, IsReplyLine}
+use Rattle.kin_script.specs.Lines.{Word}
 use Rattle.kin_script.specs.Printed.{list_line}
-use Rattle.kin_script.specs.PrintedJournal.{one_line, count_line}
-use Rattle.kin_script.specs.Ranges.{IsKeepInRange, IsCommandInRange, IsDeedInRange}
-use Rattle.kin_script.specs.Replay.{State, scene_of, IsProvided}
-use Rattle.kin_script.specs.Text.{IsOrderLine, IsExtremeLine, IsLiveLine, IsReplyLine}
+use Rattle.kin_script.specs.PrintedJournal.{one_line, count_line, pair_line}
+use Rattle.kin_script.specs.Ranges.{IsCommandInRange, IsDeedInRange}
+use Rattle.kin_script.specs.States.{State, scene_of}
 use Rattle.kin_script.proofs.Counts.{same_length}
+use Rattle.kin_script.proofs.EachGiven.{Each, each_none, each_way, each_last, each_map, each_then}
+use Rattle.kin_script.proofs.WordRanges.{natural_at_range, integer_at_range, direction_range}
 
--- ---- ranges
+-- ---- what is kept
 
--- what a command does is in range
-pub deed_in_range : (size : ℕ) (c : Command) → IsCommandInRange size c → IsDeedInRange (deed_of c)
-deed_in_range size (Insert number m) range = range.1
-deed_in_range size (AtRatio n d) range = inl (n, d, range, refl, refl)
-deed_in_range size (AtRoot a b c upper) range = inr range
-deed_in_range size Next range = tt
-deed_in_range size (Order k) range = tt
-deed_in_range size (Extreme k) range = tt
-deed_in_range size Hull range = tt
-deed_in_range size Closest range = tt
-deed_in_range size (Inside r) range = tt
-deed_in_range size Live range = tt
+pub keep_range : (ws : List Word) → Each IsKeepInRange (keep_of ws)
+unfolding keep_of
+keep_range [] = each_none _
+keep_range (kind ∷ ws) =
+    each_way _ _ _ _ (each_map _ (λ d. keep.Order d.0 d.1) _ (direction_range ws))
+    (each_way _ _ _ _ (each_map _ (λ d. keep.Extreme d.0 d.1) _ (direction_range ws))
+    (each_way _ _ _ _ (each_last _ keep.Hull ws tt)
+    (each_way _ _ _ _ (each_last _ keep.Closest ws tt)
+    (each_way _ _ _ _ (each_last _ keep.Range ws tt) (each_none _)))))
 
 -- a kept structure that a script can name has small numbers
 pub small_keep : (k : Keep) → IsKeepInRange k → IsSmallKeep k
@@ -48,21 +54,84 @@ small_keep keep.Hull h = tt
 small_keep keep.Closest h = tt
 small_keep keep.Range h = tt
 
--- ---- what a command asks
+hull_alone : (x : Keep) → is_alike keep.Hull x ≡ true → x ≡ keep.Hull
+hull_alone keep.Hull e = refl
+hull_alone other e = absurd cc
+
+closest_alone : (x : Keep) → is_alike keep.Closest x ≡ true → x ≡ keep.Closest
+closest_alone keep.Closest e = refl
+closest_alone other e = absurd cc
+
+range_alone : (x : Keep) → is_alike keep.Range x ≡ true → x ≡ keep.Range
+range_alone keep.Range e = refl
+range_alone other e = absurd cc
+
+-- a structure of this kind is among those that are kept, or none is
+kept_or_not : (kind : Keep) → ((x : Keep) → is_alike kind x ≡ true → x ≡ kind) → is_alike kind kind ≡ true → (keeps : List Keep) → ¬ (Contains keeps kind) ⊎ Contains keeps kind
+kept_or_not kind only own [] = inl (contains_none kind)
+kept_or_not kind only own (x ∷ xs) = at (is_alike kind x) refl (kept_or_not kind only own xs)
+  where
+    another : is_alike kind x ≡ false → ¬ (Contains xs kind) → (x ≡ kind) ⊎ Contains xs kind → ⊥
+    another e none (inl same) = absurd (let clash : true ≡ false = sym own ∙ ap (is_alike kind) (sym same) ∙ e in cc)
+    another e none (inr some) = none some
+
+    at : (b : Bool) → is_alike kind x ≡ b → ¬ (Contains xs kind) ⊎ Contains xs kind → ¬ (Contains (x ∷ xs) kind) ⊎ Contains (x ∷ xs) kind
+    at true e rest = inr (subst (λ (y : Keep). Contains (y ∷ xs) kind) (sym (only x e)) (contains_head kind xs))
+    at false e (inl none) = inl (λ h. another e none (contains_cases x kind xs h))
+    at false e (inr some) = inr (contains_tail x kind xs some)
+
+-- ---- what is asked
+
+order_range : (ws : List Word) → Each IsQuestionInRange (order_of ws)
+unfolding order_of
+order_range ws = each_then _ _ _ _ (natural_at_range 0 31 ws) (λ s h. each_last _ _ s.1 h.1)
+
+extreme_range : (ws : List Word) → Each IsQuestionInRange (extreme_of ws)
+unfolding extreme_of
+extreme_range ws = each_then _ _ _ _ (natural_at_range 0 31 ws) (λ s h. each_last _ _ s.1 h.1)
+
+box_range : (ws : List Word) → Each IsQuestionInRange (box_of ws)
+unfolding box_of
+box_range ws =
+    each_then _ _ _ _ (integer_at_range 16777216 ws) (λ x1 h1.
+    each_then _ _ _ _ (integer_at_range 16777216 x1.1) (λ x2 h2.
+    each_then _ _ _ _ (integer_at_range 16777216 x2.1) (λ y1 h3.
+    each_then _ _ _ _ (integer_at_range 16777216 y1.1) (λ y2 h4.
+    each_last _ _ y2.1 (record { x1_small = omega (arith, h1); x2_small = omega (arith, h2); y1_small = omega (arith, h3); y2_small = omega (arith, h4) })))))
+
+pub question_range : (name : Word) (ws : List Word) → Each IsQuestionInRange (question_of name ws)
+unfolding question_of
+question_range name ws =
+    each_way _ _ _ _ (order_range ws)
+    (each_way _ _ _ _ (extreme_range ws)
+    (each_way _ _ _ _ (each_last _ Hull ws tt)
+    (each_way _ _ _ _ (each_last _ Closest ws tt)
+    (each_way _ _ _ _ (box_range ws)
+    (each_way _ _ _ _ (each_last _ Live ws tt) (each_none _))))))
+
+-- a question in its range is a command in its range
+pub question_in_range : (size : ℕ) (c : Command) → IsQuestionInRange c → IsCommandInRange size c
+question_in_range size (Insert number m) h = absurd h
+question_in_range size (AtRatio n d) h = absurd h
+question_in_range size (AtRoot a b c upper) h = absurd h
+question_in_range size Next h = absurd h
+question_in_range size question h = h
 
 -- what neither changes points nor moves time asks
-pub asks_otherwise : (c : Command) → ((number : ℕ) (m : Course) → c ≡ Insert number m → ⊥) → ((n d : ℤ) → c ≡ AtRatio n d → ⊥) → ((x y z : ℤ) (upper : Bool) → c ≡ AtRoot x y z upper → ⊥) → (c ≡ Next → ⊥)
-    → (q : Question) × (deed_of c ≡ asks q)
+pub asks_otherwise : (c : Command) → ((number : ℕ) (m : Course) → c ≡ Insert number m → ⊥) → ((n d : ℤ) → c ≡ AtRatio n d → ⊥) → ((x y z : ℤ) (upper : Bool) → c ≡ AtRoot x y z upper → ⊥) → (c ≡ Next → ⊥) → deed_of c ≡ asks c
 asks_otherwise (Insert number m) a b d e = absurd (a number m refl)
 asks_otherwise (AtRatio n d) a b e f = absurd (b n d refl)
 asks_otherwise (AtRoot x y z upper) a b d e = absurd (d x y z upper refl)
 asks_otherwise Next a b d e = absurd (e refl)
-asks_otherwise (Order k) a b d e = (order_along k, refl)
-asks_otherwise (Extreme k) a b d e = (farthest_along k, refl)
-asks_otherwise Hull a b d e = (hull_cycle, refl)
-asks_otherwise Closest a b d e = (closest_pair, refl)
-asks_otherwise (Inside r) a b d e = (points_inside r, refl)
-asks_otherwise Live a b d e = (live_facts, refl)
+asks_otherwise question a b d e = refl
+
+-- what a command does is in range
+pub deed_in_range : (size : ℕ) (c : Command) → IsCommandInRange size c → IsDeedInRange (deed_of c)
+deed_in_range size (Insert number m) range = range.1
+deed_in_range size (AtRatio n d) range = inl (n, d, range, refl, refl)
+deed_in_range size (AtRoot a b c upper) range = inr range
+deed_in_range size Next range = tt
+deed_in_range size question range = range
 
 -- ---- lines
 module _ (s : State) (canonical : IsCanonical s.moment.at) where
@@ -72,7 +141,7 @@ module _ (s : State) (canonical : IsCanonical s.moment.at) where
   same_order : (dx dy ex ey : ℤ) → keep.Order dx dy ≡ keep.Order ex ey → (dx ≡ ex) × (dy ≡ ey)
   same_order dx dy ex ey e = (cc, cc)
 
-  one_order_line : (k : ℕ) (x y : List ℕ) → IsOrderLine s k x → IsOrderLine s k y → x ≡ y
+  one_order_line : (k : ℕ) (x y : List ℕ) → IsOrderLine s.keeps (scene_of s) k x → IsOrderLine s.keeps (scene_of s) k y → x ≡ y
   one_order_line k x y a b =
       let e = same_order a.dx a.dy b.dx b.dy (same_Some _ _ (sym a.kept ∙ b.kept)) in
       let o : IsOrder (scene_of s) b.dx b.dy a.order = subst (λ (d : ℤ). IsOrder (scene_of s) d b.dy a.order) e.0 (subst (λ (d : ℤ). IsOrder (scene_of s) a.dx d a.order) e.1 a.ordered) in
@@ -81,7 +150,7 @@ module _ (s : State) (canonical : IsCanonical s.moment.at) where
   same_extreme : (dx dy ex ey : ℤ) → keep.Extreme dx dy ≡ keep.Extreme ex ey → (dx ≡ ex) × (dy ≡ ey)
   same_extreme dx dy ex ey e = (cc, cc)
 
-  one_extreme_line : (k : ℕ) (x y : List ℕ) → IsExtremeLine s k x → IsExtremeLine s k y → x ≡ y
+  one_extreme_line : (k : ℕ) (x y : List ℕ) → IsExtremeLine s.keeps (scene_of s) k x → IsExtremeLine s.keeps (scene_of s) k y → x ≡ y
   one_extreme_line k x y a b =
       let e = same_extreme a.dx a.dy b.dx b.dy (same_Some _ _ (sym a.kept ∙ b.kept)) in
       let p : IsExtremePoint (scene_of s) b.dx b.dy a.point = subst (λ (d : ℤ). IsExtremePoint (scene_of s) d b.dy a.point) e.0 (subst (λ (d : ℤ). IsExtremePoint (scene_of s) a.dx d a.point) e.1 a.extreme) in
@@ -93,38 +162,50 @@ module _ (s : State) (canonical : IsCanonical s.moment.at) where
       a.2 ∙ ap count_line same ∙ sym b.2
 
   -- there is no other line
-  pub one_reply_line : (q : Question) (x y : List ℕ) → IsReplyLine s q x → IsReplyLine s q y → x ≡ y
-  one_reply_line (order_along k) x y a b = one_order_line k x y a b
-  one_reply_line (farthest_along k) x y a b = one_extreme_line k x y a b
-  one_reply_line live_facts x y a b = one_live_line x y a b
-  one_reply_line hull_cycle x y a b = absurd a
-  one_reply_line closest_pair x y a b = absurd a
-  one_reply_line (points_inside r) x y a b = absurd a
+  pub one_reply_line : (q : Command) (x y : List ℕ) → IsReplyLine s q x → IsReplyLine s q y → x ≡ y
+  one_reply_line (Order k) x y a b = one_order_line k x y a b
+  one_reply_line (Extreme k) x y a b = one_extreme_line k x y a b
+  one_reply_line Hull x y a b = a.2 ∙ ap list_line (one_hull_cycle (scene_of s) a.0 b.0 real a.1 b.1) ∙ sym b.2
+  one_reply_line Closest x y a b = a.2 ∙ ap pair_line (one_closest (scene_of s) a.0 b.0 real a.1 b.1) ∙ sym b.2
+  one_reply_line (Inside r) x y a b = a ∙ sym b
+  one_reply_line Live x y a b = one_live_line x y a b
+  one_reply_line question x y a b = absurd a
 
   -- what is asked for is not kept, or it is and there is a line
-  abbrev pub HasLine : Question → Type 0
+  abbrev pub HasLine : Command → Type 0
   HasLine q = ¬ (IsProvided s q) ⊎ (IsProvided s q × ((text : List ℕ) × IsReplyLine s q text))
 
-  lines_along : (k : ℕ) (o : Option Keep) → slice_get s.keeps k ≡ o → HasLine (order_along k) × HasLine (farthest_along k)
-  lines_along k (Some (keep.Order dx dy)) e = (
-    inr ((dx, dy, e), (list_line (order_of (scene_of s) dx dy), record { dx = dx; dy = dy; kept = e; order = order_of (scene_of s) dx dy; ordered = order_proved (scene_of s) dx dy real; line = refl })),
-    inl (λ h. let clash = sym e ∙ h.2 in cc),
-  )
-  lines_along k (Some (keep.Extreme dx dy)) e = (
-    inl (λ h. let clash = sym e ∙ h.2 in cc),
-    inr ((dx, dy, e), (one_line (extreme_of (scene_of s) dx dy), record { dx = dx; dy = dy; kept = e; point = extreme_of (scene_of s) dx dy; extreme = extreme_proved (scene_of s) dx dy real; line = refl })),
-  )
-  lines_along k (Some keep.Hull) e = (inl (λ h. let clash = sym e ∙ h.2 in cc), inl (λ h. let clash = sym e ∙ h.2 in cc))
-  lines_along k (Some keep.Closest) e = (inl (λ h. let clash = sym e ∙ h.2 in cc), inl (λ h. let clash = sym e ∙ h.2 in cc))
-  lines_along k (Some keep.Range) e = (inl (λ h. let clash = sym e ∙ h.2 in cc), inl (λ h. let clash = sym e ∙ h.2 in cc))
-  lines_along k None e = (inl (λ h. let clash = sym e ∙ h.2 in cc), inl (λ h. let clash = sym e ∙ h.2 in cc))
+  order_line : (k : ℕ) (o : Option Keep) → slice_get s.keeps k ≡ o → HasLine (Order k)
+  order_line k (Some (keep.Order dx dy)) e =
+      let order = ordered (scene_of s) dx dy in
+      inr ((dx, dy, e), (list_line order, record { dx = dx; dy = dy; kept = e; order = order; ordered = order_proved (scene_of s) dx dy real; line = refl }))
+  order_line k other e = inl (λ h. let clash = sym e ∙ h.2 in cc)
 
-  pub has_line : FitsSize s.size (scene_of s) → (q : Question) → HasLine q
-  has_line fits (order_along k) = (lines_along k (slice_get s.keeps k) refl).0
-  has_line fits (farthest_along k) = (lines_along k (slice_get s.keeps k) refl).1
-  has_line fits live_facts =
-      let facts = facts_now s.size s.keeps (scene_of s) in
+  extreme_line : (k : ℕ) (o : Option Keep) → slice_get s.keeps k ≡ o → HasLine (Extreme k)
+  extreme_line k (Some (keep.Extreme dx dy)) e =
+      let point = farthest (scene_of s) dx dy in
+      inr ((dx, dy, e), (one_line point, record { dx = dx; dy = dy; kept = e; point = point; extreme = extreme_proved (scene_of s) dx dy real; line = refl }))
+  extreme_line k other e = inl (λ h. let clash = sym e ∙ h.2 in cc)
+
+  -- where a structure of its kind is kept a question has a line
+  by_kind : (q : Command) (kind : Keep) → ((x : Keep) → is_alike kind x ≡ true → x ≡ kind) → is_alike kind kind ≡ true
+      → (IsProvided s q → IsKept s kind) → (IsKept s kind → IsProvided s q) → (text : List ℕ) → IsReplyLine s q text → HasLine q
+  by_kind q kind only own asked kept text line = at (kept_or_not kind only own s.keeps)
+    where
+      at : ¬ (Contains s.keeps kind) ⊎ Contains s.keeps kind → HasLine q
+      at (inl none) = inl (λ h. let k = asked h in none (contains_from_get s.keeps k.0 kind k.1))
+      at (inr some) = inr (kept (get_from_contains s.keeps kind some), (text, line))
+
+  live_line : FitsSize s.size (scene_of s) → HasLine Live
+  live_line fits =
+      let facts = live_facts s.size s.keeps (scene_of s) in
       inr (tt, (count_line (length facts), (length facts, (facts, live_facts_agree s.size s.keeps (scene_of s) real fits, refl), refl)))
-  has_line fits hull_cycle = inl (λ h. h)
-  has_line fits closest_pair = inl (λ h. h)
-  has_line fits (points_inside r) = inl (λ h. h)
+
+  pub has_line : FitsSize s.size (scene_of s) → (q : Command) → HasLine q
+  has_line fits (Order k) = order_line k (slice_get s.keeps k) refl
+  has_line fits (Extreme k) = extreme_line k (slice_get s.keeps k) refl
+  has_line fits Hull = by_kind Hull keep.Hull hull_alone refl (λ h. h) (λ h. h) (list_line (cycle_of (scene_of s))) (cycle_of (scene_of s), cycle_proved (scene_of s) real, refl)
+  has_line fits Closest = by_kind Closest keep.Closest closest_alone refl (λ h. h) (λ h. h) (pair_line (closest_of (scene_of s))) (closest_of (scene_of s), closest_proved (scene_of s) real, refl)
+  has_line fits (Inside r) = by_kind (Inside r) keep.Range range_alone refl (λ h. h) (λ h. h) (list_line (points_in s.motions s.moment r)) refl
+  has_line fits Live = live_line fits
+  has_line fits other = inl (λ h. h)

@@ -1,99 +1,29 @@
 -- Every number of a script is in its range.
-use Rattle.std.proofs.Common.{◌≡◌, ℕ, ◌+◌, ◌<◌, ◌≤◌, ◌-◌, ◌^◌, Bool, true, false, cond, nat_le, nat_lt, List, [], ◌∷◌, Option, Some, None, refl, sym, subst, pos, unsigned_abs, drop, pow_pos, arith}
-use Rattle.std.specs.Prelude.{codes, All, position, ◌==◌}
+use Rattle.std.proofs.Common.{ℕ, ◌<◌, ◌≤◌, ◌-◌, ◌^◌, Bool, List, [], ◌∷◌, sym, subst, pos, unsigned_abs, pow_pos, arith}
+use Rattle.std.specs.Prelude.{codes, All, ◌==◌}
 use Rattle.std.specs.List.{AllZip}
 use Rattle.std.specs.Str.{bytes_eq}
 use Rattle.std.proofs.lemmas.Int.{ints}
-use Rattle.std.proofs.lemmas.Bool.Decides.{nat_tests}
 use Rattle.std.proofs.lemmas.List.Elements.{All-nil, All-cons}
-use lib.IntN.{neg_ℤ}
-use Rattle.kin_motion.specs.declared.keep.Keep.TheVariants as keep
-use Rattle.kin_motion.specs.Course.{IsSlow}
 use Rattle.kin_script.specs.declared.command.Command.{Command}
-use Rattle.kin_script.specs.declared.command.Command.TheVariants.{AtRatio, AtRoot, Next, Hull, Closest, Live}
+use Rattle.kin_script.specs.declared.command.Command.TheVariants.{AtRatio, AtRoot, Next}
 use Rattle.kin_script.specs.declared.line.HeaderLine.{HeaderLine}
 use Rattle.kin_script.specs.declared.line.HeaderLine.TheVariants as header_line
 use Rattle.kin_script.specs.declared.script.Script.{Script}
 use Rattle.kin_script.specs.Lines.{Word}
 use Rattle.kin_script.specs.Left.{Numbered}
-use Rattle.kin_script.specs.Numbers.{up_to, at_least, starts_with_minus, numeral_of, natural_of, integer_of, ratio_limit, ratio_at_slash, ratio_of}
-use Rattle.kin_script.specs.Commands.{natural_at, integer_at, motion_at, insert_of, side_at, quadratic_at, root_of, at_of, order_of, extreme_of, box_of, command_of, size_of, direction_at, keep_of, journal_of, header_line_of}
+use Rattle.kin_script.specs.Words.{side_at}
+use Rattle.kin_script.specs.Questions.{IsKeepInRange}
+use Rattle.kin_script.specs.Commands.{insert_of, quadratic_at, root_of, at_of, command_of, size_of, journal_of, header_line_of}
 use Rattle.kin_script.specs.Grammar.{IsScript}
-use Rattle.kin_script.specs.Ranges.{IsDirection, IsKeepInRange, IsHeaderLineInRange, IsRootInRange, IsCommandInRange, IsWithin}
+use Rattle.kin_script.specs.Ranges.{IsRootInRange, IsCommandInRange, IsWithin}
 use Rattle.kin_script.specs.Written.{SaysHeaderLine, SaysCommand, keeps_of, worded_lines, IsWritten}
 use Rattle.kin_script.proofs.EachGiven.{Each, each_none, each_one, each_way, each_unless, each_last, each_map, each_then}
+use Rattle.kin_script.proofs.Questions.{keep_range, question_range, question_in_range}
 use Rattle.kin_script.proofs.Theorems.{scripts_are_written}
-
--- ---- numbers
-up_to_range : (most : ℕ) (o : Option ℕ) → Each (λ n. n ≤ most) (up_to most o)
-up_to_range most None = each_none _
-up_to_range most (Some n) = at (nat_le n most) refl
-  where
-    at : (b : Bool) → nat_le n most ≡ b → Each (λ k. k ≤ most) (cond b (Some n) None)
-    at true e = each_one _ n (grind (arith, nat_tests))
-    at false e = each_none _
-
-at_least_range : (low high : ℕ) (o : Option ℕ) → Each (λ n. n ≤ high) o → Each (λ n. (low ≤ n) × (n ≤ high)) (at_least low o)
-at_least_range low high None h = each_none _
-at_least_range low high (Some n) h = at (nat_lt n low) refl
-  where
-    at : (b : Bool) → nat_lt n low ≡ b → Each (λ k. (low ≤ k) × (k ≤ high)) (cond b None (Some n))
-    at true e = each_none _
-    at false e = each_one _ n (grind (arith, nat_tests), h n refl)
-
-natural_range : (low high : ℕ) (w : Word) → Each (λ n. (low ≤ n) × (n ≤ high)) (natural_of low high w)
-unfolding natural_of
-natural_range low high w = at_least_range low high _ (each_way _ (starts_with_minus w) _ _ (λ n e. nothing_more n (up_to_range 0 (numeral_of (drop 1 w)) n e)) (up_to_range high _))
-  where
-    nothing_more : (n : ℕ) → n ≤ 0 → n ≤ high
-    nothing_more n h = omega (arith, h)
-
-integer_range : (far : ℕ) (w : Word) → Each (λ z. unsigned_abs z ≤ far) (integer_of far w)
-unfolding integer_of
-integer_range far w = each_way _ (starts_with_minus w) _ _
-    (each_map _ (λ n. neg_ℤ (pos n)) _ (λ n e. turned n (up_to_range far (numeral_of (drop 1 w)) n e)))
-    (each_map _ pos _ (λ n e. kept n (up_to_range far (numeral_of w) n e)))
-  where
-    turned : (n : ℕ) → n ≤ far → unsigned_abs (neg_ℤ (pos n)) ≤ far
-    turned n h = omega (arith, ints)
-
-    kept : (n : ℕ) → n ≤ far → unsigned_abs (pos n) ≤ far
-    kept n h = omega (arith, ints)
-
-abbrev IsRatio : ℕ × ℕ → Type 0
-IsRatio r = (r.0 ≤ ratio_limit) × (1 ≤ r.1) × (r.1 ≤ ratio_limit)
-
-ratio_range : (w : Word) → Each IsRatio (ratio_of w)
-unfolding ratio_of
-ratio_range w = at (position (λ b. b == 47) w)
-  where
-    at : (o : Option ℕ) → Each IsRatio (ratio_at_slash w o)
-    at (Some i) = each_then _ _ _ _ (natural_range 0 ratio_limit _) (λ n h. each_then _ _ _ _ (natural_range 1 ratio_limit _) (λ d k. each_one _ (n, d) (h.1, k.0, k.1)))
-    at None = each_then _ _ _ _ (natural_range 0 ratio_limit w) (λ n h. each_one _ (n, 1) (h.1, omega arith, omega arith))
-
-natural_at_range : (low high : ℕ) (ws : List Word) → Each (λ r. (low ≤ r.0) × (r.0 ≤ high)) (natural_at low high ws)
-unfolding natural_at
-natural_at_range low high [] = each_none _
-natural_at_range low high (w ∷ ws) = each_then _ _ _ _ (natural_range low high w) (λ n h. each_one _ (n, ws) h)
-
-integer_at_range : (far : ℕ) (ws : List Word) → Each (λ r. unsigned_abs r.0 ≤ far) (integer_at far ws)
-unfolding integer_at
-integer_at_range far [] = each_none _
-integer_at_range far (w ∷ ws) = each_then _ _ _ _ (integer_range far w) (λ z h. each_one _ (z, ws) h)
-
-some : (n : ℕ) → n == 0 ≡ false → 0 < n
-some n e = grind (arith, nat_tests)
+use Rattle.kin_script.proofs.WordRanges.{IsRatio, ratio_range, natural_at_range, integer_at_range, some, motion_range}
 
 -- ---- commands
-motion_range : (ws : List Word) → Each (λ r. IsSlow r.0) (motion_at ws)
-unfolding motion_at
-motion_range ws =
-    each_then _ _ _ _ (integer_at_range 4096 ws) (λ x hx.
-    each_then _ _ _ _ (integer_at_range 4096 x.1) (λ y hy.
-    each_then _ _ _ _ (integer_at_range 4096 y.1) (λ u hu.
-    each_then _ _ _ _ (integer_at_range 4096 u.1) (λ v hv.
-    each_one _ _ (record { x_small = hx; y_small = hy; u_small = hu; v_small = hv })))))
-
 insert_range : (size : ℕ) (ws : List Word) → Each (IsCommandInRange size) (insert_of size ws)
 unfolding insert_of
 insert_range size ws =
@@ -134,36 +64,14 @@ at_range size (w ∷ ws) = each_way _ _ _ _ (root_range size ws) (each_then _ _ 
       d_small = omega (arith, h.2);
     }
 
-order_range : (size : ℕ) (ws : List Word) → Each (IsCommandInRange size) (order_of ws)
-unfolding order_of
-order_range size ws = each_then _ _ _ _ (natural_at_range 0 31 ws) (λ s h. each_last _ _ s.1 h.1)
-
-extreme_range : (size : ℕ) (ws : List Word) → Each (IsCommandInRange size) (extreme_of ws)
-unfolding extreme_of
-extreme_range size ws = each_then _ _ _ _ (natural_at_range 0 31 ws) (λ s h. each_last _ _ s.1 h.1)
-
-box_range : (size : ℕ) (ws : List Word) → Each (IsCommandInRange size) (box_of ws)
-unfolding box_of
-box_range size ws =
-    each_then _ _ _ _ (integer_at_range 16777216 ws) (λ x1 h1.
-    each_then _ _ _ _ (integer_at_range 16777216 x1.1) (λ x2 h2.
-    each_then _ _ _ _ (integer_at_range 16777216 x2.1) (λ y1 h3.
-    each_then _ _ _ _ (integer_at_range 16777216 y1.1) (λ y2 h4.
-    each_last _ _ y2.1 (record { x1_small = omega (arith, h1); x2_small = omega (arith, h2); y1_small = omega (arith, h3); y2_small = omega (arith, h4) })))))
-
 command_range : (size : ℕ) (ws : List Word) → Each (IsCommandInRange size) (command_of size ws)
 unfolding command_of
 command_range size [] = each_none _
 command_range size (name ∷ ws) =
     each_way _ _ _ _ (insert_range size ws)
     (each_way _ _ _ _ (at_range size ws)
-    (each_way _ _ _ _ (order_range size ws)
-    (each_way _ _ _ _ (extreme_range size ws)
-    (each_way _ _ _ _ (box_range size ws)
-    (each_way _ _ _ _ (each_last _ Hull ws tt)
-    (each_way _ _ _ _ (each_last _ Closest ws tt)
     (each_way _ _ _ _ (each_last _ Next ws tt)
-    (each_way _ _ _ _ (each_last _ Live ws tt) (each_none _)))))))))
+    (λ c e. question_in_range size c (question_range name ws c e))))
 
 -- ---- the header
 size_range : (ws : List Word) → Each (λ k. (1 ≤ k) × (k ≤ 12)) (size_of ws)
@@ -171,19 +79,10 @@ unfolding size_of
 size_range [] = each_none _
 size_range (name ∷ ws) = each_way _ _ _ _ (each_then _ _ _ _ (natural_at_range 1 12 ws) (λ k h. each_last _ k.0 k.1 h)) (each_none _)
 
-direction_range : (ws : List Word) → Each (λ d. IsDirection d.0 d.1) (direction_at ws)
-unfolding direction_at
-direction_range ws =
-    each_then _ _ _ _ (integer_at_range 16 ws) (λ dx hx.
-    each_then _ _ _ _ (integer_at_range 16 dx.1) (λ dy hy.
-    each_unless _ (unsigned_abs dx.0 + unsigned_abs dy.0 == 0) _ (λ e. each_last _ (dx.0, dy.0) dy.1 (record { dx_small = hx; dy_small = hy; not_still = some (unsigned_abs dx.0 + unsigned_abs dy.0) e }))))
-
-keep_range : (ws : List Word) → Each IsKeepInRange (keep_of ws)
-unfolding keep_of
-keep_range [] = each_none _
-keep_range (kind ∷ ws) =
-    each_way _ _ _ _ (each_map _ (λ d. keep.Order d.0 d.1) _ (direction_range ws))
-    (each_way _ _ _ _ (each_map _ (λ d. keep.Extreme d.0 d.1) _ (direction_range ws)) (each_none _))
+-- the numbers of a header line are in range
+abbrev IsHeaderLineInRange : HeaderLine → Type 0
+IsHeaderLineInRange (header_line.Keep k) = IsKeepInRange k
+IsHeaderLineInRange (header_line.Journal on) = Unit {0}
 
 header_line_range : (ws : List Word) → Each IsHeaderLineInRange (header_line_of ws)
 unfolding header_line_of

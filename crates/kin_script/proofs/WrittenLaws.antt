@@ -12,9 +12,10 @@ use Rattle.kin_script.specs.declared.command.Command.{Command}
 use Rattle.kin_script.specs.declared.script.Script.{Script}
 use Rattle.kin_script.specs.declared.line.HeaderLine.{HeaderLine}
 use Rattle.kin_script.specs.declared.line.HeaderLine.TheVariants as header_line
+use Rattle.kin_script.specs.Questions.{keep_of, question_of}
 use Rattle.kin_script.specs.Lines.{Word}
 use Rattle.kin_script.specs.Left.{Numbered}
-use Rattle.kin_script.specs.Commands.{command_of, size_of, keep_of, journal_of, header_line_of}
+use Rattle.kin_script.specs.Commands.{command_of, size_of, journal_of, header_line_of}
 use Rattle.kin_script.specs.Grammar.{◌>>◌, at_line, by_header_line, Header, commands_of, with_commands, with_header_line, behind_size, script_of_lines}
 use Rattle.kin_script.specs.Written.{keeps_of, journals_of, IsJournal, SaysHeaderLine, SaysCommand, IsWritten}
 
@@ -163,11 +164,11 @@ no_command : (size : ℕ) (name word : Word) (ws : List Word) (c : Command) → 
 no_command size name word ws c e none some = let this = ap (λ (n : Word). command_of size (n ∷ ws)) (named name word e) in absurd cc
 
 no_keep_command : (size : ℕ) (ws : List Word) → command_of size (codes "keep" ∷ ws) ≡ None
-unfolding command_of
+unfolding command_of question_of
 no_keep_command size ws = refl
 
 no_journal_command : (size : ℕ) (ws : List Word) → command_of size (codes "journal" ∷ ws) ≡ None
-unfolding command_of
+unfolding command_of question_of
 no_journal_command size ws = refl
 
 -- a line that says a command says nothing of the header

@@ -1,6 +1,9 @@
 pub mod Lines
 pub mod Left
 pub mod Numbers
+pub mod Words
+pub mod States
+pub mod Questions
 pub mod Commands
 pub mod Grammar
 pub mod Ranges

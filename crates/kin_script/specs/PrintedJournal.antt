@@ -1,5 +1,5 @@
 -- The printed text of failures, and of what is counted.
-use Rattle.std.specs.Prelude.{ℕ, ℤ, ◌==◌, List, [], ◌++◌, Option, Some, None, codes, unsigned_abs, if◌then◌else◌}
+use Rattle.std.specs.Prelude.{ℕ, ℤ, ◌==◌, List, [], ◌∷◌, ◌++◌, Option, Some, None, codes, unsigned_abs, if◌then◌else◌}
 use Rattle.std.specs.Fmt.{decimal, signed_decimal}
 use Rattle.std.specs.List.{flat_map, join_by}
 use Rattle.kin_algebra.specs.declared.sign.Sign.{Sign}
@@ -10,7 +10,7 @@ use Rattle.kin_motion.specs.declared.form.Form.TheVariants.{Line, Turn, Slope, D
 use Rattle.kin_motion.specs.Forms.{numbers_of}
 use Rattle.kin_motion.specs.Live.{Certificate}
 use Rattle.kin_motion.specs.Journal.{Failure, Block}
-use Rattle.kin_script.specs.Printed.{moment_text}
+use Rattle.kin_script.specs.Printed.{list_line, moment_text}
 
 abbrev pub sign_text : Sign → List ℕ
 sign_text Minus = codes "-"
@@ -69,3 +69,8 @@ none_line = codes "none\n"
 abbrev pub one_line : Option ℕ → List ℕ
 one_line None = none_line
 one_line (Some n) = count_line n
+
+-- two numbers or the word none, as a line
+abbrev pub pair_line : Option (ℕ × ℕ) → List ℕ
+pair_line None = none_line
+pair_line (Some p) = list_line (p.0 ∷ p.1 ∷ [])

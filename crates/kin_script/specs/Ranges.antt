@@ -1,35 +1,14 @@
 -- The ranges of what a script holds.
-use Rattle.std.specs.Prelude.{◌≡◌, ◌⊎◌, ℕ, ◌+◌, ◌<◌, ◌≤◌, ◌^◌, ℤ, pos, ◌≤ℤ◌, unsigned_abs, Bool, true, IsTrue, All, AllPairs}
+use Rattle.std.specs.Prelude.{◌≡◌, ◌⊎◌, ℕ, ◌<◌, ◌≤◌, ◌^◌, ℤ, pos, ◌≤ℤ◌, unsigned_abs, Bool, true, IsTrue, All, AllPairs}
 use Rattle.kin_num.specs.Quadratic.{Quadratic}
 use Rattle.kin_num.specs.Instants.{line}
-use Rattle.kin_motion.specs.declared.keep.Keep.{Keep}
-use Rattle.kin_motion.specs.declared.keep.Keep.TheVariants as keep
 use Rattle.kin_motion.specs.Course.{IsSlow}
 use Rattle.kin_motion.specs.Keeps.{are_few}
-use Rattle.kin_motion.specs.Boxes.{IsRectInRange}
 use Rattle.kin_script.specs.declared.command.Command.{Command}
-use Rattle.kin_script.specs.declared.command.Command.TheVariants.{Insert, AtRatio, AtRoot, Next, Order, Extreme, Hull, Closest, Inside, Live}
-use Rattle.kin_script.specs.Deeds.{Deed, puts, goes_to, goes_on, asks}
-use Rattle.kin_script.specs.declared.line.HeaderLine.{HeaderLine}
-use Rattle.kin_script.specs.declared.line.HeaderLine.TheVariants as header_line
+use Rattle.kin_script.specs.declared.command.Command.TheVariants.{Insert, AtRatio, AtRoot, Next}
 use Rattle.kin_script.specs.declared.script.Script.{Script}
-
--- both parts are in -16..16, and one is not 0
-pub record IsDirection (dx dy : ℤ) : Type 0 where
-  pub dx_small : unsigned_abs dx ≤ 16
-  pub dy_small : unsigned_abs dy ≤ 16
-  pub not_still : 0 < unsigned_abs dx + unsigned_abs dy
-
--- a kept structure that a script can name: an order or an extreme point
-abbrev pub IsKeepInRange : Keep → Type 0
-IsKeepInRange (keep.Order dx dy) = IsDirection dx dy
-IsKeepInRange (keep.Extreme dx dy) = IsDirection dx dy
-IsKeepInRange _ = ⊥
-
--- the numbers of a header line are in range
-abbrev pub IsHeaderLineInRange : HeaderLine → Type 0
-IsHeaderLineInRange (header_line.Keep k) = IsKeepInRange k
-IsHeaderLineInRange (header_line.Journal on) = Unit {0}
+use Rattle.kin_script.specs.Deeds.{Deed, puts, goes_to, goes_on, asks}
+use Rattle.kin_script.specs.Questions.{IsKeepInRange, IsQuestionInRange}
 
 -- the numbers of a fraction as a script writes it, in lowest terms or not
 pub record IsRatioInRange (n d : ℤ) : Type 0 where
@@ -51,12 +30,7 @@ IsCommandInRange size (Insert number motion) = (number < 2 ^ size) × IsSlow mot
 IsCommandInRange size (AtRatio n d) = IsRatioInRange n d
 IsCommandInRange size (AtRoot a b c upper) = IsRootInRange a b c
 IsCommandInRange size Next = Unit {0}
-IsCommandInRange size (Order s) = s ≤ 31
-IsCommandInRange size (Extreme s) = s ≤ 31
-IsCommandInRange size Hull = Unit {0}
-IsCommandInRange size Closest = Unit {0}
-IsCommandInRange size (Inside r) = IsRectInRange r
-IsCommandInRange size Live = Unit {0}
+IsCommandInRange size question = IsQuestionInRange question
 
 -- the instant is asked for as a fraction, or as a root of a quadratic
 abbrev pub IsAskedFor : Bool → Quadratic → Type 0
@@ -67,7 +41,7 @@ abbrev pub IsDeedInRange : Deed → Type 0
 IsDeedInRange (puts number motion) = IsSlow motion
 IsDeedInRange (goes_to upper p) = IsAskedFor upper p
 IsDeedInRange goes_on = Unit {0}
-IsDeedInRange (asks q) = Unit {0}
+IsDeedInRange (asks question) = IsQuestionInRange question
 
 -- every number of the script is in its range
 pub record IsWithin (s : Script) : Type 0 where

@@ -1,5 +1,5 @@
 -- How far the reader has come. Only its own functions cite this.
-use Rattle.std.specs.Prelude.{◌≡◌, ℕ, ◌≤◌, false, List, [], ◌∷◌, ◌++◌, IsTrue, All, unwrap_or, Result, Ok, Err}
+use Rattle.std.specs.Prelude.{◌≡◌, ℕ, ◌≤◌, false, List, [], ◌∷◌, ◌++◌, IsTrue, unwrap_or, Result, Ok, Err}
 use Rattle.kin_motion.specs.Keeps.{are_few}
 use Rattle.kin_script.specs.declared.command.Command.{Command}
 use Rattle.kin_script.specs.declared.script.Script.{Script}
@@ -8,7 +8,6 @@ use Rattle.kin_script.specs.declared.read.ReadError.{ReadError}
 use Rattle.kin_script.specs.declared.read.ReadError.TheVariants.{BadLine, NoMemory}
 use Rattle.kin_script.specs.Left.{Numbered}
 use Rattle.kin_script.specs.Grammar.{◌>>◌, Header, commands_of, behind_size}
-use Rattle.kin_script.specs.Ranges.{IsKeepInRange, IsCommandInRange}
 
 abbrev pub header : Draft → Header
 header d = record { size = d.size; keeps = d.keeps; journal = d.journal }
@@ -32,10 +31,8 @@ Continues (Ok x) before now = before ≡ now
 Continues (Err (BadLine n)) before now = before ≡ Err n
 Continues (Err NoMemory) before now = Unit {0}
 
--- what is read is in its ranges
+-- the size is in its range, and no more is kept than may be
 pub record IsDraftInRange (d : Draft) : Type 0 where
   pub size_low : 1 ≤ d.size
   pub size_high : d.size ≤ 12
   pub few_keeps : IsTrue (are_few d.keeps)
-  pub keeps : All IsKeepInRange d.keeps
-  pub commands : All (λ l. IsCommandInRange d.size l.1) d.commands

@@ -1,18 +1,16 @@
 -- The text of a script: what each command prints, up to the first that is refused.
-use Rattle.std.specs.Prelude.{◌≡◌, ℕ, ℤ, Bool, true, false, List, [], ◌∷◌, ◌++◌, Option, Some, None, codes, slice_get, ◌⊎◌, if◌then◌else◌}
-use Rattle.kin_motion.specs.declared.keep.Keep.TheVariants as keep
+use Rattle.std.specs.Prelude.{◌≡◌, ℕ, Bool, true, false, List, [], ◌∷◌, ◌++◌, Option, Some, None, codes, ◌⊎◌, if◌then◌else◌}
+use Rattle.std.specs.Fmt.{decimal}
 use Rattle.kin_num.specs.declared.instant.Shape.{Shape}
-use Rattle.kin_motion.specs.Orders.{IsOrder}
-use Rattle.kin_motion.specs.Extremes.{IsExtremePoint}
-use Rattle.kin_motion.specs.Live.{IsLiveCount}
 use Rattle.kin_motion.specs.Journal.{Block, IsNextBlock, IsJournal, NothingFails}
 use Rattle.kin_script.specs.declared.command.Command.{Command}
-use Rattle.kin_script.specs.Deeds.{Deed, Question, puts, goes_to, goes_on, asks, order_along, farthest_along, live_facts, deed_of}
 use Rattle.kin_script.specs.declared.refusal.Refusal.{Refusal}
-use Rattle.std.specs.Fmt.{decimal}
-use Rattle.kin_script.specs.Printed.{list_line, name_of}
-use Rattle.kin_script.specs.PrintedJournal.{block_lines, journal_lines, now_line, none_line, count_line, one_line}
-use Rattle.kin_script.specs.Replay.{State, at, scene_of, state_setting, IsNamedRoot, IsRefused, IsAllowed, LeadsTo}
+use Rattle.kin_script.specs.Deeds.{Deed, puts, goes_to, goes_on, asks, deed_of}
+use Rattle.kin_script.specs.Questions.{IsReplyLine}
+use Rattle.kin_script.specs.Printed.{name_of}
+use Rattle.kin_script.specs.PrintedJournal.{block_lines, journal_lines, now_line, none_line}
+use Rattle.kin_script.specs.Replay.{IsNamedRoot, IsRefused, IsAllowed, LeadsTo}
+use Rattle.kin_script.specs.States.{State, at, state_setting}
 
 -- the line that names the first line outside the grammar
 abbrev pub bad_line : ℕ → List ℕ
@@ -21,24 +19,6 @@ bad_line n = codes "bad " ++ decimal n ++ codes "\n"
 -- the line of a refused command
 abbrev pub refused_line : ℕ → Refusal → List ℕ
 refused_line n r = codes "refused " ++ decimal n ++ codes " " ++ name_of r ++ codes "\n"
-
--- the line of an order: the live numbers in their order along the kept direction
-pub record IsOrderLine (s : State) (k : ℕ) (text : List ℕ) : Type 0 where
-  pub dx : ℤ
-  pub dy : ℤ
-  pub kept : slice_get s.keeps k ≡ Some (keep.Order dx dy)
-  pub order : List ℕ
-  pub ordered : IsOrder (scene_of s) dx dy order
-  pub line : text ≡ list_line order
-
--- the line of an extreme point along the kept direction
-pub record IsExtremeLine (s : State) (k : ℕ) (text : List ℕ) : Type 0 where
-  pub dx : ℤ
-  pub dy : ℤ
-  pub kept : slice_get s.keeps k ≡ Some (keep.Extreme dx dy)
-  pub point : Option ℕ
-  pub extreme : IsExtremePoint (scene_of s) dx dy point
-  pub line : text ≡ one_line point
 
 -- the lines of the journal from now to the asked instant; where the journal is off, nothing
 abbrev pub IsPassedText : Bool → State → Shape → List ℕ → Type 0
@@ -49,17 +29,6 @@ IsPassedText true s w text = (bs : List Block) × IsJournal (state_setting s) s.
 abbrev pub IsNextText : State → List ℕ → Type 0
 IsNextText s text = ((b : Block) × IsNextBlock (state_setting s) s.moment b × (text ≡ (if s.journal then block_lines b else []) ++ now_line b.moment))
     ⊎ (NothingFails (state_setting s) s.moment × (text ≡ none_line))
-
--- the line with the number of live facts
-abbrev pub IsLiveLine : State → List ℕ → Type 0
-IsLiveLine s text = (n : ℕ) × IsLiveCount s.size s.keeps (scene_of s) n × (text ≡ count_line n)
-
--- the line that answers a question
-abbrev pub IsReplyLine : State → Question → List ℕ → Type 0
-IsReplyLine s (order_along k) text = IsOrderLine s k text
-IsReplyLine s (farthest_along k) text = IsExtremeLine s k text
-IsReplyLine s live_facts text = IsLiveLine s text
-IsReplyLine s _ text = ⊥
 
 -- what a deed that is not refused prints
 abbrev pub Prints : State → Deed → List ℕ → Type 0

@@ -1,6 +1,7 @@
 //! The generated script: points with drawn courses, for a run of any size without an input.
 
 ghost use Rattle.std.specs.Prelude.{◌≡◌, ◌++◌, ◌≤◌, ◌^◌, unsigned_abs, IfOk, OnOk};
+ghost use Rattle.kin_script.specs.Ranges.{IsInRange};
 ghost use Rattle.kin_script.specs.Generated.{IsGenerated, IsLeastSize, insertions, questions, one_of_each, next_state, state_after, drawn, picked, course_behind};
 
 use crate::command::Command;
@@ -114,10 +115,8 @@ fn ask(lines: &mut Commands, first: u32) -> Result<(), AllocError>
     lines.push(first + 5, Command::Live)
 }
 
-/// The script of a seed, with `count` points: their places are drawn from -1000..1000 and their
-/// speeds from -10..10, along each axis. One structure of each kind is kept, and all are asked at the
-/// time 20.
-pub fn generate(alloc: Global, seed: u32, count: u32) -> Result<Script, AllocError>
+/// Puts the parts together.
+fn put_together(alloc: Global, seed: u32, count: u32) -> Result<Script, AllocError>
     requires low { 1 ≤ count }
     requires high { count ≤ 2 ^ 10 }
     ensures { IfOk result (IsGenerated seed count) }
@@ -130,6 +129,19 @@ pub fn generate(alloc: Global, seed: u32, count: u32) -> Result<Script, AllocErr
         journal: false,
         lines,
     })
+}
+
+/// The script of a seed, with `count` points: their places are drawn from -1000..1000 and their
+/// speeds from -10..10, along each axis. One structure of each kind is kept, and all are asked at the
+/// time 20.
+#[tactic(auto, using(crate::proofs::GeneratedRanges::result_in_range))]
+pub fn generate(alloc: Global, seed: u32, count: u32) -> Result<Script, AllocError>
+    requires low { 1 ≤ count }
+    requires high { count ≤ 2 ^ 10 }
+    ensures script { IfOk result (IsGenerated seed count) }
+    ensures range { IfOk result IsInRange }
+{
+    put_together(alloc, seed, count)
 }
 
 #[cfg(test)]

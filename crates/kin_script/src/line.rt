@@ -1,9 +1,10 @@
 //! What a line says: one function for each kind of line.
 
-ghost use Rattle.std.specs.Prelude.{◌≡◌, ℕ, ◌≤◌, IfSome, option_map};
+ghost use Rattle.std.specs.Prelude.{◌≡◌, ◌≤◌, IfSome, option_map};
 ghost use Rattle.kin_script.specs.declared.command.Command.TheVariants.{AtRoot};
-ghost use Rattle.kin_script.specs.Commands.{insert_of, quadratic_at, root_of, at_of, order_of, extreme_of, box_of, command_of, size_of, direction_at, keep_of, journal_of, header_line_of};
-ghost use Rattle.kin_script.specs.Ranges.{IsCommandInRange, IsRootInRange, IsKeepInRange, IsDirection, IsHeaderLineInRange};
+ghost use Rattle.kin_script.specs.Commands.{insert_of, quadratic_at, root_of, at_of, command_of, size_of, journal_of, header_line_of};
+ghost use Rattle.kin_script.specs.Questions.{keep_of, order_of, extreme_of, box_of, question_of};
+ghost use Rattle.kin_script.specs.Words.{direction_at};
 
 use crate::command::Command;
 use crate::number::ratio;
@@ -21,8 +22,7 @@ pub enum HeaderLine {
 fn insert(size: u32, words: &mut Words<'_>) -> Option<Command>
     requires low { 1 ≤ size }
     requires high { size ≤ 12 }
-    ensures value { result ≡ insert_of size words.old }
-    ensures range { IfSome result (IsCommandInRange size) }
+    ensures { result ≡ insert_of size words.old }
 {
     let no = words.natural(0, (1 << size) - 1)?;
     let m = words.motion()?;
@@ -32,8 +32,7 @@ fn insert(size: u32, words: &mut Words<'_>) -> Option<Command>
 /// Three coefficients, of which the first is not 0.
 #[tactic(auto, unfolding(crate::specs::Commands::quadratic_at))]
 fn quadratic(words: &mut Words<'_>) -> Option<(i32, i32, i32)>
-    ensures value { option_map (λ q. (q, words.new)) result ≡ quadratic_at words.old }
-    ensures range { IfSome result (λ q. IsRootInRange q.0 q.1 q.2) }
+    ensures { option_map (λ q. (q, words.new)) result ≡ quadratic_at words.old }
 {
     let a = words.integer(1 << 28)?;
     let b = words.integer(1 << 29)?;
@@ -47,8 +46,7 @@ fn quadratic(words: &mut Words<'_>) -> Option<(i32, i32, i32)>
 /// What follows `at root`: a quadratic and which of its roots.
 #[tactic(auto, unfolding(crate::specs::Commands::root_of))]
 fn root(words: &mut Words<'_>) -> Option<Command>
-    ensures value { result ≡ root_of words.old }
-    ensures range { (size : ℕ) → IfSome result (IsCommandInRange size) }
+    ensures { result ≡ root_of words.old }
 {
     let (a, b, c) = quadratic(words)?;
     let upper = words.side()?;
@@ -70,8 +68,7 @@ fn at_root(a: i32, b: i32, c: i32, upper: bool) -> Command
 /// What follows the word `at`: a fraction, or a root.
 #[tactic(auto, unfolding(crate::specs::Commands::at_of))]
 fn at(words: &mut Words<'_>) -> Option<Command>
-    ensures value { result ≡ at_of words.old }
-    ensures range { (size : ℕ) → IfSome result (IsCommandInRange size) }
+    ensures { result ≡ at_of words.old }
 {
     let word = words.next()?;
     if word == b"root".as_slice() {
@@ -85,30 +82,27 @@ fn at(words: &mut Words<'_>) -> Option<Command>
 }
 
 /// What follows the word `order`: the number of a structure.
-#[tactic(auto, unfolding(crate::specs::Commands::order_of))]
+#[tactic(auto, unfolding(crate::specs::Questions::order_of))]
 fn order(words: &mut Words<'_>) -> Option<Command>
-    ensures value { result ≡ order_of words.old }
-    ensures range { (size : ℕ) → IfSome result (IsCommandInRange size) }
+    ensures { result ≡ order_of words.old }
 {
     let s = words.natural(0, 31)?;
     words.last(Command::Order { s })
 }
 
 /// What follows the word `extreme`: the number of a structure.
-#[tactic(auto, unfolding(crate::specs::Commands::extreme_of))]
+#[tactic(auto, unfolding(crate::specs::Questions::extreme_of))]
 fn extreme(words: &mut Words<'_>) -> Option<Command>
-    ensures value { result ≡ extreme_of words.old }
-    ensures range { (size : ℕ) → IfSome result (IsCommandInRange size) }
+    ensures { result ≡ extreme_of words.old }
 {
     let s = words.natural(0, 31)?;
     words.last(Command::Extreme { s })
 }
 
-/// What follows the word `inside`: the bounds of a rectangle.
-#[tactic(auto, unfolding(crate::specs::Commands::box_of))]
+/// What follows the word `box`: the bounds of a rectangle.
+#[tactic(auto, unfolding(crate::specs::Questions::box_of))]
 fn inside(words: &mut Words<'_>) -> Option<Command>
-    ensures value { result ≡ box_of words.old }
-    ensures range { (size : ℕ) → IfSome result (IsCommandInRange size) }
+    ensures { result ≡ box_of words.old }
 {
     let x1 = words.integer(1 << 24)?;
     let x2 = words.integer(1 << 24)?;
@@ -118,35 +112,44 @@ fn inside(words: &mut Words<'_>) -> Option<Command>
     words.last(Command::Inside { rect })
 }
 
+/// The question of this name.
+#[tactic(auto, unfolding(crate::specs::Questions::question_of))]
+fn question(name: &[u8], words: &mut Words<'_>) -> Option<Command>
+    ensures { result ≡ question_of name.now words.old }
+{
+    if name == b"order".as_slice() {
+        order(words)
+    } else if name == b"extreme".as_slice() {
+        extreme(words)
+    } else if name == b"hull".as_slice() {
+        words.last(Command::Hull)
+    } else if name == b"closest".as_slice() {
+        words.last(Command::Closest)
+    } else if name == b"box".as_slice() {
+        inside(words)
+    } else if name == b"live".as_slice() {
+        words.last(Command::Live)
+    } else {
+        None
+    }
+}
+
 /// The command of a line.
 #[tactic(auto, unfolding(crate::specs::Commands::command_of))]
 pub fn command_of(size: u32, mut words: Words<'_>) -> Option<Command>
     requires low { 1 ≤ size }
     requires high { size ≤ 12 }
-    ensures value { result ≡ command_of size words.entry }
-    ensures range { IfSome result (IsCommandInRange size) }
+    ensures { result ≡ command_of size words.entry }
 {
     let name = words.next()?;
     if name == b"insert".as_slice() {
         insert(size, &mut words)
     } else if name == b"at".as_slice() {
         at(&mut words)
-    } else if name == b"order".as_slice() {
-        order(&mut words)
-    } else if name == b"extreme".as_slice() {
-        extreme(&mut words)
-    } else if name == b"box".as_slice() {
-        inside(&mut words)
-    } else if name == b"hull".as_slice() {
-        words.last(Command::Hull)
-    } else if name == b"closest".as_slice() {
-        words.last(Command::Closest)
     } else if name == b"next".as_slice() {
         words.last(Command::Next)
-    } else if name == b"live".as_slice() {
-        words.last(Command::Live)
     } else {
-        None
+        question(name, &mut words)
     }
 }
 
@@ -164,10 +167,9 @@ pub fn size_of(mut words: Words<'_>) -> Option<u32>
 }
 
 /// A direction: two numbers, not both 0.
-#[tactic(auto, unfolding(crate::specs::Commands::direction_at))]
+#[tactic(auto, unfolding(crate::specs::Words::direction_at))]
 fn direction(words: &mut Words<'_>) -> Option<(i32, i32)>
-    ensures value { result ≡ direction_at words.old }
-    ensures range { IfSome result (λ d. IsDirection d.0 d.1) }
+    ensures { result ≡ direction_at words.old }
 {
     let dx = words.integer(16)?;
     let dy = words.integer(16)?;
@@ -178,10 +180,9 @@ fn direction(words: &mut Words<'_>) -> Option<(i32, i32)>
 }
 
 /// What a keep line keeps.
-#[tactic(auto, unfolding(crate::specs::Commands::keep_of))]
+#[tactic(auto, unfolding(crate::specs::Questions::keep_of))]
 fn keep(words: &mut Words<'_>) -> Option<Keep>
-    ensures value { result ≡ keep_of words.old }
-    ensures range { IfSome result IsKeepInRange }
+    ensures { result ≡ keep_of words.old }
 {
     let kind = words.next()?;
     if kind == b"order".as_slice() {
@@ -190,6 +191,12 @@ fn keep(words: &mut Words<'_>) -> Option<Keep>
     } else if kind == b"extreme".as_slice() {
         let (dx, dy) = direction(words)?;
         Some(Keep::Extreme { dx, dy })
+    } else if kind == b"hull".as_slice() {
+        words.last(Keep::Hull)
+    } else if kind == b"closest".as_slice() {
+        words.last(Keep::Closest)
+    } else if kind == b"range".as_slice() {
+        words.last(Keep::Range)
     } else {
         None
     }
@@ -213,8 +220,7 @@ fn journal(words: &mut Words<'_>) -> Option<bool>
 /// What a line of the header says, behind the size line.
 #[tactic(auto, unfolding(crate::specs::Commands::header_line_of))]
 pub fn header_line_of(mut words: Words<'_>) -> Option<HeaderLine>
-    ensures value { result ≡ header_line_of words.entry }
-    ensures range { IfSome result IsHeaderLineInRange }
+    ensures { result ≡ header_line_of words.entry }
 {
     let name = words.next()?;
     if name == b"keep".as_slice() {

@@ -1,7 +1,7 @@
 //! Numbers, digit by digit.
 
 ghost use Rattle.std.specs.Prelude.{◌≡◌, ◌≤◌, ◌<◌, ◌^◌, IfSome, unsigned_abs};
-ghost use Rattle.kin_script.specs.Numbers.{natural_of, integer_of, ratio_of, ratio_limit, up_to, numeral_of};
+ghost use Rattle.kin_script.specs.Numbers.{natural_of, integer_of, ratio_of, up_to, numeral_of};
 
 use crate::words::place;
 
@@ -61,8 +61,7 @@ pub fn integer(word: &[u8], far: u32) -> Option<i32>
 /// A fraction, or a whole number.
 #[tactic(auto, unfolding(crate::specs::Numbers::ratio_of))]
 pub fn ratio(word: &[u8]) -> Option<(u32, u32)>
-    ensures value { result ≡ ratio_of word.now }
-    ensures range { IfSome result (λ r. (r.0 ≤ ratio_limit) × (1 ≤ r.1) × (r.1 ≤ ratio_limit)) }
+    ensures { result ≡ ratio_of word.now }
 {
     match place(word, b'/') {
         Some(at) => {

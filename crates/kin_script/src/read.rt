@@ -5,7 +5,7 @@ ghost use Rattle.kin_script.specs.declared.read.ReadError.TheVariants.{NoMemory}
 ghost use Rattle.kin_script.specs.Left.{Numbered, with_words, after};
 ghost use Rattle.kin_script.specs.Grammar.{script_of, script_of_lines, behind_size, with_header_line};
 ghost use Rattle.kin_script.specs.Gives.{Gives, IfBadLine};
-ghost use Rattle.kin_script.specs.Ranges.{IsInRange, IsWithin, IsHeaderLineInRange};
+ghost use Rattle.kin_script.specs.Ranges.{IsInRange};
 ghost use Rattle.kin_script.specs.Reading.{reads, header, finished, Continues, IsDraftInRange};
 
 use crate::line::{HeaderLine, command_of, header_line_of, size_of};
@@ -66,8 +66,7 @@ impl Draft {
 
     /// Takes a line of the header.
     fn set(&mut self, number: u32, header_line: HeaderLine) -> Result<(), ReadError>
-        requires header_line { IsHeaderLineInRange header_line }
-        requires range { IsDraftInRange self.old }
+        requires { IsDraftInRange self.old }
         ensures ok { OnOk result (with_header_line (header self.old) header_line ≡ Some (header self.new)) }
         ensures bad { IfBadLine result (λ n. (with_header_line (header self.old) header_line ≡ None) × (n ≡ number)) }
         ensures commands { self.new.commands ≡ self.old.commands }
@@ -112,9 +111,7 @@ impl Draft {
 
     /// The script, where no line is left.
     fn finish(self) -> Script
-        requires { IsDraftInRange self }
-        ensures value { result ≡ finished self [] }
-        ensures range { IsWithin result }
+        ensures { result ≡ finished self [] }
     {
         Script {
             size: self.size,
@@ -129,8 +126,7 @@ impl Draft {
 fn read_behind_size(alloc: Global, size: u32, lines: &mut Lines<'_>) -> Result<Script, ReadError>
     requires low { 1 ≤ size }
     requires high { size ≤ 12 }
-    ensures value { Gives result (behind_size (record { size = size; keeps = []; journal = None }) (with_words lines.old)) }
-    ensures range { IfOk result IsWithin }
+    ensures { Gives result (behind_size (record { size = size; keeps = []; journal = None }) (with_words lines.old)) }
 {
     let mut draft = Draft::new(alloc, size);
     while let Some(line) = lines.next() {
@@ -142,8 +138,7 @@ fn read_behind_size(alloc: Global, size: u32, lines: &mut Lines<'_>) -> Result<S
 /// The script of all lines.
 #[tactic(auto, unfolding(crate::specs::Grammar::script_of_lines))]
 fn read_lines(alloc: Global, lines: &mut Lines<'_>) -> Result<Script, ReadError>
-    ensures value { Gives result (script_of_lines (after lines.old) (with_words lines.old)) }
-    ensures range { IfOk result IsWithin }
+    ensures { Gives result (script_of_lines (after lines.old) (with_words lines.old)) }
 {
     let Some(line) = lines.next() else {
         return Err(ReadError::BadLine(lines.number()));
@@ -269,7 +264,7 @@ mod tests {
 
     #[test]
     fn ranges_end_where_they_should(rt: HostRuntime) -> Result<(), Fail> {
-        let table: [(&[u8], u32); 92] = [
+        let table: [(&[u8], u32); 89] = [
             (b"", 1),
             (b"\n", 2),
             (b"# only words in a comment\n\n", 3),
@@ -303,9 +298,6 @@ mod tests {
             (b"size 1\nkeep extreme 0 0", 2),
             (b"size 1\nkeep extreme 1", 2),
             (b"size 1\nkeep extreme 1 0 0", 2),
-            (b"size 1\nkeep hull", 2),
-            (b"size 1\nkeep closest", 2),
-            (b"size 1\nkeep range", 2),
             (b"size 1\njournal on", 0),
             (b"size 1\njournal", 2),
             (b"size 1\njournal on on", 2),
@@ -370,14 +362,38 @@ mod tests {
     }
 
     #[test]
+    fn a_hull_a_closest_pair_and_a_range_are_kept_once(rt: HostRuntime) -> Result<(), Fail> {
+        let table: [(&[u8], u32); 12] = [
+            (b"size 1\nkeep hull\nkeep closest\nkeep range", 0),
+            (b"size 1\nkeep hull 0", 2),
+            (b"size 1\nkeep closest 1 0", 2),
+            (b"size 1\nkeep range range", 2),
+            (b"size 1\nkeep box", 2),
+            (b"size 1\nkeep hull\nkeep hull", 3),
+            (b"size 1\nkeep closest\nkeep range\nkeep closest", 4),
+            (b"size 1\nkeep range\nkeep range", 3),
+            (b"size 1\nclosest\nkeep closest", 3),
+            (b"size 1\nbox 0 0 0 0 0", 2),
+            (b"size 1\nbox 0 0 0", 2),
+            (b"size 1\nclosest 0", 2),
+        ];
+        for (bytes, line) in table {
+            assert_eq!(rt; first_outside(rt.alloc(), bytes)?, line, "at {line}");
+        }
+        Ok(())
+    }
+
+    #[test]
     fn sixteen_structures_are_kept_and_no_more(rt: HostRuntime) -> Result<(), Fail> {
         let mut bytes = Vec::from_slice(rt.alloc(), b"size 1\n")?;
         for _ in 0..8 {
             bytes.extend_from_slice(b"keep order 1 1\nkeep extreme 1 1\n")?;
         }
         assert_eq!(rt; first_outside(rt.alloc(), &bytes)?, 0);
+        bytes.extend_from_slice(b"keep hull\nkeep closest\nkeep range\n")?;
+        assert_eq!(rt; first_outside(rt.alloc(), &bytes)?, 0);
         bytes.extend_from_slice(b"keep extreme 1 1\n")?;
-        assert_eq!(rt; first_outside(rt.alloc(), &bytes)?, 18);
+        assert_eq!(rt; first_outside(rt.alloc(), &bytes)?, 21);
         Ok(())
     }
 }

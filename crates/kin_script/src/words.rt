@@ -3,7 +3,7 @@
 ghost use Rattle.std.specs.Prelude.{◌≡◌, ◌<◌, ◌≤◌, ◌^◌, ◌∷◌, [], length, position, slice_index, false, ◌==◌, MatchOption, IfSome, option_map, unsigned_abs};
 ghost use Rattle.kin_motion.specs.Course.{IsSlow};
 ghost use Rattle.kin_script.specs.Lines.{is_blank, pieces_of, words_of, is_nil};
-ghost use Rattle.kin_script.specs.Commands.{natural_at, integer_at, side_at, motion_at, last};
+ghost use Rattle.kin_script.specs.Words.{natural_at, integer_at, side_at, motion_at, last};
 
 use crate::number;
 use kin_motion::Motion;
@@ -67,7 +67,7 @@ impl<'a> Words<'a> {
     }
 
     /// The next word as a number from `low` to `high`.
-    #[tactic(auto, unfolding(crate::specs::Commands::natural_at))]
+    #[tactic(auto, unfolding(crate::specs::Words::natural_at))]
     pub fn natural(&mut self, low: u32, high: u32) -> Option<u32>
         ensures value { option_map (λ n. (n, self.new)) result ≡ natural_at low high self.old }
         ensures range { IfSome result (λ n. (low ≤ n) × (n ≤ high)) }
@@ -76,7 +76,7 @@ impl<'a> Words<'a> {
     }
 
     /// The next word as a number at most `far` from 0.
-    #[tactic(auto, unfolding(crate::specs::Commands::integer_at))]
+    #[tactic(auto, unfolding(crate::specs::Words::integer_at))]
     pub fn integer(&mut self, far: u32) -> Option<i32>
         requires { far < 2 ^ 31 }
         ensures value { option_map (λ z. (z, self.new)) result ≡ integer_at far self.old }
@@ -86,7 +86,7 @@ impl<'a> Words<'a> {
     }
 
     /// The next word as a side: whether it names the greater root.
-    #[tactic(auto, unfolding(crate::specs::Commands::side_at))]
+    #[tactic(auto, unfolding(crate::specs::Words::side_at))]
     pub fn side(&mut self) -> Option<bool>
         ensures { option_map (λ upper. (upper, self.new)) result ≡ side_at self.old }
     {
@@ -101,7 +101,7 @@ impl<'a> Words<'a> {
     }
 
     /// The next four words as a motion.
-    #[tactic(auto, unfolding(crate::specs::Commands::motion_at))]
+    #[tactic(auto, unfolding(crate::specs::Words::motion_at))]
     pub fn motion(&mut self) -> Option<Motion>
         ensures value { option_map (λ m. (m, self.new)) result ≡ motion_at self.old }
         ensures range { IfSome result IsSlow }

@@ -1,6 +1,6 @@
 use Rattle.std.proofs.Common.{arith, sym}
 use Rattle.std.proofs.lemmas.Result.{err_from_is_err_and}
-use Rattle.kin_script.specs.Replay.{at}
+use Rattle.kin_script.specs.States.{at}
 use Rattle.kin_world.specs.Worlds.{HasPassed, HasMoved}
 use Rattle.kin_run.specs.Written.{printer}
 use Rattle.kin_run.proofs.OnTheWay.{sets_out, breaks_here, breaks_within, faults_behind, goes_on, quiet_turn, arrives}

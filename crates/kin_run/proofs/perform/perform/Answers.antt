@@ -37,7 +37,9 @@ returns-in_ok-put_next-in-Next-clause-performs g c =
 pub returns-in_default-clause-performs : goal.returns-in_default-clause-performs
 returns-in_default-clause-performs g c =
     let d = c.in_default in
-    let q = asks_otherwise c.args.command.now d.not-Insert d.not-AtRatio d.not-AtRoot d.not-Next in
+    let q = c.args.command.now in
     let s = state_of c.args.journal c.args.world.now in
-    subst (λ (x : Deed). Performs s x c.put_reply.result (printer (g.K.Sink.held c.args.sink.now) c.args.out.now.items) (printer (g.K.Sink.held c.args.sink.now) c.put_reply.new.out.items) s) (sym q.1)
-    (replied s q.0 c.put_reply.result (g.K.Sink.held c.args.sink.now) c.args.out.now.items c.put_reply.new.out.items (c.put_reply.ensures.reply c.args.journal q.0 q.1))
+    let held = g.K.Sink.held c.args.sink.now in
+    let asked = asks_otherwise q d.not-Insert d.not-AtRatio d.not-AtRoot d.not-Next in
+    subst (λ (x : Deed). Performs s x c.put_reply_to.result (printer held c.args.out.now.items) (printer held c.put_reply_to.new.out.items) s) (sym asked)
+    (replied s q c.put_reply_to.result held c.args.out.now.items c.put_reply_to.new.out.items (c.put_reply_to.ensures.line c.args.journal))

@@ -1,5 +1,5 @@
 use Rattle.std.proofs.Common.{subst, sym}
-use Rattle.kin_script.specs.Replay.{start}
+use Rattle.kin_script.specs.States.{start}
 use Rattle.kin_run.specs.Headline.{Writes}
 use Rattle.kin_run.specs.Performed.{IsCutOfText}
 use Rattle.kin_run.specs.declared.status.Status.{Status}

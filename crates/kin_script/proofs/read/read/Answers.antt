@@ -9,5 +9,4 @@ pub returns-clause-range : goal.returns-clause-range
 unfolding script_of
 returns-clause-range c =
     ranges c.args.bytes.now c.read_lines.result c.requires
-    (subst (λ (l : Left). Gives c.read_lines.result (script_of_lines (after l) (with_words l))) c.of.ensures c.read_lines.ensures.value)
-    c.read_lines.ensures.range
+    (subst (λ (l : Left). Gives c.read_lines.result (script_of_lines (after l) (with_words l))) c.of.ensures c.read_lines.ensures)

@@ -4,11 +4,8 @@ use Rattle.kin_script.proofs.ReadingLaws.{done, whole}
 use Rattle.kin_script.proofs.read.read_behind_size.Goals as goal
 
 pub returns : goal.returns
-returns c = record {
-  value =
-      sym c.loop-line.invariant.rest
-      ∙ ap (reads c.loop-line.draft) c.in_default.ensures.none.0
-      ∙ done c.loop-line.draft
-      ∙ ap whole (sym c.finish.ensures.value);
-  range = c.finish.ensures.range;
-}
+returns c =
+    sym c.loop-line.invariant.rest
+    ∙ ap (reads c.loop-line.draft) c.in_default.ensures.none.0
+    ∙ done c.loop-line.draft
+    ∙ ap whole (sym c.finish.ensures)

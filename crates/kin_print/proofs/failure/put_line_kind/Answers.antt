@@ -4,7 +4,7 @@ use Rattle.std.proofs.lemmas.Int.{to_z-of_z}
 use Rattle.std.specs.Fmt.{signed_decimal}
 use Rattle.kin_script.specs.Printed.{PutsFront}
 use Rattle.kin_print.proofs.Failures.{line_pieces}
-use Rattle.kin_print.proofs.failure.put_line.Goals as goal
+use Rattle.kin_print.proofs.failure.put_line_kind.Goals as goal
 
 pub returns-clause-ok : goal.returns-clause-ok
 returns-clause-ok c =

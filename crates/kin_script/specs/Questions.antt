@@ -1,0 +1,150 @@
+-- The table of what may be kept and asked: how a keep line and a question are written, in which ranges their numbers are, what is asked for, and the line that answers.
+use Rattle.std.specs.Prelude.{◌≡◌, ℕ, ◌+◌, ◌<◌, ◌≤◌, ℤ, unsigned_abs, List, [], ◌∷◌, Option, Some, None, option_map, codes, slice_get, if◌then◌else◌}
+use Rattle.std.specs.Str.{bytes_eq}
+use Rattle.kin_motion.specs.declared.keep.Keep.{Keep}
+use Rattle.kin_motion.specs.declared.keep.Keep.TheVariants as keep
+use Rattle.kin_motion.specs.declared.keep.Rect.{Rect}
+use Rattle.kin_motion.specs.Boxes.{IsRectInRange, box_of as points_in}
+use Rattle.kin_motion.specs.Chains.{IsHullCycle}
+use Rattle.kin_motion.specs.ClosestPairs.{IsClosest}
+use Rattle.kin_motion.specs.Extremes.{IsExtremePoint}
+use Rattle.kin_motion.specs.Live.{IsLiveCount}
+use Rattle.kin_motion.specs.Orders.{IsOrder}
+use Rattle.kin_motion.specs.Scene.{Scene}
+use Rattle.kin_script.specs.declared.command.Command.{Command}
+use Rattle.kin_script.specs.declared.command.Command.TheVariants.{Order, Extreme, Hull, Closest, Inside, Live}
+use Rattle.kin_script.specs.Lines.{Word}
+use Rattle.kin_script.specs.Numbers.{◌>>=◌}
+use Rattle.kin_script.specs.Printed.{list_line}
+use Rattle.kin_script.specs.PrintedJournal.{count_line, one_line, pair_line}
+use Rattle.kin_script.specs.States.{State, scene_of}
+use Rattle.kin_script.specs.Words.{natural_at, integer_at, direction_at, last}
+
+-- ---- what is kept
+
+-- order DX DY, extreme DX DY, hull, closest, range
+unfoldable pub keep_of : List Word → Option Keep
+keep_of [] = None
+keep_of (kind ∷ ws) =
+    if bytes_eq kind (codes "order") then option_map (λ d. keep.Order d.0 d.1) (direction_at ws)
+    else if bytes_eq kind (codes "extreme") then option_map (λ d. keep.Extreme d.0 d.1) (direction_at ws)
+    else if bytes_eq kind (codes "hull") then last keep.Hull ws
+    else if bytes_eq kind (codes "closest") then last keep.Closest ws
+    else if bytes_eq kind (codes "range") then last keep.Range ws
+    else None
+
+-- both parts are in -16..16, and one is not 0
+pub record IsDirection (dx dy : ℤ) : Type 0 where
+  pub dx_small : unsigned_abs dx ≤ 16
+  pub dy_small : unsigned_abs dy ≤ 16
+  pub not_still : 0 < unsigned_abs dx + unsigned_abs dy
+
+-- the numbers of a keep line
+abbrev pub IsKeepInRange : Keep → Type 0
+IsKeepInRange (keep.Order dx dy) = IsDirection dx dy
+IsKeepInRange (keep.Extreme dx dy) = IsDirection dx dy
+IsKeepInRange keep.Hull = Unit {0}
+IsKeepInRange keep.Closest = Unit {0}
+IsKeepInRange keep.Range = Unit {0}
+
+-- ---- what is asked
+
+-- order S
+unfoldable pub order_of : List Word → Option Command
+order_of ws = do
+  s ← natural_at 0 31 ws
+  last (Order s.0) s.1
+
+-- extreme S
+unfoldable pub extreme_of : List Word → Option Command
+extreme_of ws = do
+  s ← natural_at 0 31 ws
+  last (Extreme s.0) s.1
+
+-- box X1 X2 Y1 Y2
+unfoldable pub box_of : List Word → Option Command
+box_of ws = do
+  x1 ← integer_at 16777216 ws
+  x2 ← integer_at 16777216 x1.1
+  y1 ← integer_at 16777216 x2.1
+  y2 ← integer_at 16777216 y1.1
+  last (Inside (record { x1 = x1.0; x2 = x2.0; y1 = y1.0; y2 = y2.0 })) y2.1
+
+-- the question of this name, with the words behind it
+unfoldable pub question_of : Word → List Word → Option Command
+question_of name ws =
+    if bytes_eq name (codes "order") then order_of ws
+    else if bytes_eq name (codes "extreme") then extreme_of ws
+    else if bytes_eq name (codes "hull") then last Hull ws
+    else if bytes_eq name (codes "closest") then last Closest ws
+    else if bytes_eq name (codes "box") then box_of ws
+    else if bytes_eq name (codes "live") then last Live ws
+    else None
+
+-- the numbers of a question; no other command is one
+abbrev pub IsQuestionInRange : Command → Type 0
+IsQuestionInRange (Order k) = k ≤ 31
+IsQuestionInRange (Extreme k) = k ≤ 31
+IsQuestionInRange Hull = Unit {0}
+IsQuestionInRange Closest = Unit {0}
+IsQuestionInRange (Inside r) = IsRectInRange r
+IsQuestionInRange Live = Unit {0}
+IsQuestionInRange _ = ⊥
+
+-- a structure of this kind is kept
+abbrev pub IsKept : State → Keep → Type 0
+IsKept s kind = (k : ℕ) × (slice_get s.keeps k ≡ Some kind)
+
+-- what a question asks for is kept
+abbrev pub IsProvided : State → Command → Type 0
+IsProvided s (Order k) = (dx : ℤ) × (dy : ℤ) × (slice_get s.keeps k ≡ Some (keep.Order dx dy))
+IsProvided s (Extreme k) = (dx : ℤ) × (dy : ℤ) × (slice_get s.keeps k ≡ Some (keep.Extreme dx dy))
+IsProvided s Hull = IsKept s keep.Hull
+IsProvided s Closest = IsKept s keep.Closest
+IsProvided s (Inside r) = IsKept s keep.Range
+IsProvided s Live = Unit {0}
+IsProvided s _ = ⊥
+
+-- the line of an order: the live numbers in their order along the kept direction
+pub record IsOrderLine (keeps : List Keep) (s : Scene) (k : ℕ) (text : List ℕ) : Type 0 where
+  pub dx : ℤ
+  pub dy : ℤ
+  pub kept : slice_get keeps k ≡ Some (keep.Order dx dy)
+  pub order : List ℕ
+  pub ordered : IsOrder s dx dy order
+  pub line : text ≡ list_line order
+
+-- the line of an extreme point along the kept direction
+pub record IsExtremeLine (keeps : List Keep) (s : Scene) (k : ℕ) (text : List ℕ) : Type 0 where
+  pub dx : ℤ
+  pub dy : ℤ
+  pub kept : slice_get keeps k ≡ Some (keep.Extreme dx dy)
+  pub point : Option ℕ
+  pub extreme : IsExtremePoint s dx dy point
+  pub line : text ≡ one_line point
+
+-- the line of the hull: its points counterclockwise, the leftmost first
+abbrev pub IsHullLine : State → List ℕ → Type 0
+IsHullLine s text = (cycle : List ℕ) × IsHullCycle (scene_of s) cycle × (text ≡ list_line cycle)
+
+-- the line of the closest pair
+abbrev pub IsClosestLine : State → List ℕ → Type 0
+IsClosestLine s text = (pair : Option (ℕ × ℕ)) × IsClosest (scene_of s) pair × (text ≡ pair_line pair)
+
+-- the line of the points in a rectangle
+abbrev pub IsInsideLine : State → Rect → List ℕ → Type 0
+IsInsideLine s r text = text ≡ list_line (points_in s.motions s.moment r)
+
+-- the line with the number of live facts
+abbrev pub IsLiveLine : State → List ℕ → Type 0
+IsLiveLine s text = (n : ℕ) × IsLiveCount s.size s.keeps (scene_of s) n × (text ≡ count_line n)
+
+-- the line that answers a question
+abbrev pub IsReplyLine : State → Command → List ℕ → Type 0
+IsReplyLine s (Order k) text = IsOrderLine s.keeps (scene_of s) k text
+IsReplyLine s (Extreme k) text = IsExtremeLine s.keeps (scene_of s) k text
+IsReplyLine s Hull text = IsHullLine s text
+IsReplyLine s Closest text = IsClosestLine s text
+IsReplyLine s (Inside r) text = IsInsideLine s r text
+IsReplyLine s Live text = IsLiveLine s text
+IsReplyLine s _ text = ⊥
