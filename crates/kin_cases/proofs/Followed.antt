@@ -16,7 +16,7 @@ use Rattle.kin_list.specs.declared.mark.Mark.TheVariants.{Rest, Enters, Leaves}
 use Rattle.kin_list.specs.Listing.{HasMarked, without}
 use Rattle.kin_list.proofs.ListLaws.{is_in-without, not_in-without}
 use Rattle.kin_wedge.specs.Wedging.{Wedging, members_of, IsReadyWedging, IsSettledWedging, IsWedgingAtRest}
-use Rattle.kin_wedge.proofs.Readiness.{once_without}
+use Rattle.kin_list.proofs.LeavingLaws.{without_once}
 use Rattle.kin_cases.specs.Octants.{AreFollowed}
 use Rattle.kin_cases.proofs.Members.{entered}
 
@@ -35,7 +35,7 @@ ready_with ms ms' m k k' n c within free members moved marked =
 
 -- without a number that has lost its motion
 left : (ms : List (Option Course)) (members : List ℕ) (n : ℕ) → n < length ms → Lists members (live_of ms) → Lists (without n members) (live_of (slice_set ms n None))
-left ms members n within lists = record { once = once_without n members lists.once; same = λ i. at i (cases_eq i n) }
+left ms members n within lists = record { once = without_once n members lists.once; same = λ i. at i (cases_eq i n) }
   where
     at : (i : ℕ) → (i ≡ n) ⊎ (i ≢ n) → is_in i (without n members) ≡ is_in i (live_of (slice_set ms n None))
     at i (inl e) =

@@ -5,3 +5,4 @@ pub mod Held
 pub mod Followed
 pub mod ByTests
 pub mod ToldMerges
+pub mod Marked

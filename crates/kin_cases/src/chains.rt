@@ -220,7 +220,7 @@ impl<O: Signs> Sight<'_, O> {
 }
 
 /// Whether a list has the number.
-fn has_number(list: &[u32], no: u32) -> bool
+pub fn has_number(list: &[u32], no: u32) -> bool
     ensures { result ≡ is_in no list.now }
 {
     list.contains(&no)

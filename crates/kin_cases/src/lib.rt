@@ -18,6 +18,9 @@ mod contests;
 mod crowds;
 pub mod definition;
 pub mod driver;
+pub mod envelope;
+#[cfg(test)]
+mod envelopes;
 pub mod failing;
 #[cfg(test)]
 mod failures;
@@ -36,6 +39,8 @@ pub mod order;
 #[cfg(test)]
 mod random;
 pub mod spares;
+#[cfg(test)]
+mod under;
 #[cfg(test)]
 mod visits;
 pub mod watch;
