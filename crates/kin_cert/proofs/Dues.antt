@@ -99,6 +99,13 @@ due-least live m none d =
       least = λ l n c f. d.least l n c (record { fails = f; waits_not = none l c });
     }
 
+pub least-due : (live : List LiveFact) (m : Moment) → NoneWaits live → IsLeastFailure live m → IsDue live m
+least-due live m none h =
+    record {
+      some = (h.some.0, h.some.1, record { fails = h.some.2; waits_not = none h.some.0 h.some.1 });
+      least = λ l n c d. h.least l n c d.fails;
+    }
+
 pub least-if : (live : List LiveFact) (o : Option Moment) → NoneWaits live → MatchOption o (NoneDue live) (λ m. IsDue live m) → IfSome o (λ m. IsLeastFailure live m)
 least-if live None none d = tt
 least-if live (Some m) none d = due-least live m none d

@@ -5,9 +5,14 @@ pub mod Giving
 pub mod Ranks
 pub mod Rolls
 pub mod Replacing
+pub mod SlotNumbers
+pub mod Naming
+pub mod Renewing
+pub mod Remaking
 pub mod Seen
 pub mod Slots
 pub mod Sorted
+pub mod InOrder
 pub mod Tables
 pub mod Taking
 pub mod FailureRoots

@@ -74,7 +74,7 @@ less_of Less e n = refl
 less_of Equal e n = absurd (n refl)
 less_of Greater e n = absurd cc
 
-equal_ranks : (xs ys : List ℤ) → slice_cmp int_cmp xs ys ≡ Equal → xs ≡ ys
+pub equal_ranks : (xs ys : List ℤ) → slice_cmp int_cmp xs ys ≡ Equal → xs ≡ ys
 equal_ranks [] [] e = refl
 equal_ranks [] (y ∷ ys) e = absurd cc
 equal_ranks (x ∷ xs) [] e = absurd cc

@@ -1,4 +1,4 @@
--- All facts of the least failure moment are given out, in the journal's order.
+-- All facts of the least failure moment are given out, in the journal's order or in any.
 use Rattle.std.proofs.Common.{◌≡◌, ◌≢◌, ℕ, zero, suc, [], ◌∷◌, map, ◌<◌, true, false, ℤ, List, length, get_or, Some, IsTrue, refl, sym, ap, subst, ◌∙◌, arith}
 use Rattle.std.specs.List.{Contains, AllPairs}
 use Rattle.std.specs.List.Sorted.{IsPermutation, IsSortedByKey}
@@ -14,10 +14,12 @@ use Rattle.kin_num.specs.declared.instant.Moment.{Moment}
 use Rattle.kin_motion.specs.Live.{Certificate}
 use Rattle.kin_cert.specs.declared.owned.Owned.{Owned}
 use Rattle.kin_cert.specs.Facts.{LiveFact, certificate_of}
-use Rattle.kin_cert.specs.Taken.{IsLeastFailure, IsMarked, HasTaken}
+use Rattle.kin_motion.specs.Numbers.{IsChain}
+use Rattle.kin_cert.specs.Taken.{IsLeastFailure, IsMarked, HasTaken, HasGivenOut, is_taken_before}
 use Rattle.kin_cert.specs.Layout.{IsDueAt, IsGivenUpTo, owned_rank, is_rank}
 use Rattle.kin_cert.proofs.Ranks.{rank_same, rank_itself}
 use Rattle.kin_cert.proofs.Sorted.{sorted-chain}
+use Rattle.kin_cert.proofs.InOrder.{in_order, apart_distinct}
 
 -- the owned fact is told by its certificate
 same_owned : (o p : Owned) → certificate_of o ≡ certificate_of p → o ≡ p
@@ -49,8 +51,8 @@ apart-permuted xs ys perm a =
     let in_map : j < length (map owned_rank ys) = omega (arith, within, ranks_length ys) in
     moved i j (owned_rank d) lt in_map (rank_at ys i (owned_rank d) d (omega (arith, lt, within)) ∙ same ∙ sym (rank_at ys j (owned_rank d) d within))
 
-module _ (m : Moment) (old new : List LiveFact) (given taken : List Owned) (least : IsLeastFailure old m) (up : IsGivenUpTo m old new given)
-    (none_due : (l : LiveFact) → Contains new l → ¬ (IsDueAt l m)) (perm : IsPermutation given taken) (sorted : IsSortedByKey owned_rank (slice_cmp int_cmp) taken) (count : length new ≡ length old) where
+module _ (m : Moment) (old new : List LiveFact) (given : List Owned) (least : IsLeastFailure old m) (up : IsGivenUpTo m old new given)
+    (none_due : (l : LiveFact) → Contains new l → ¬ (IsDueAt l m)) (count : length new ≡ length old) where
   -- a fact that fails at the moment waits
   waits : (k : LiveFact) → Contains new k → k.fails ≡ Some m → IsTrue k.waits
   waits k c f =
@@ -67,13 +69,14 @@ module _ (m : Moment) (old new : List LiveFact) (given taken : List Owned) (leas
         waits = ((λ w. sym f ∙ up.at_moment k c w), (λ h. waits k c (f ∙ h)));
       }
 
-  pub has-taken : HasTaken old new taken
-  has-taken =
+  -- the facts that were given, once they stand in the journal's order
+  ordered-taken : (taken : List Owned) → IsPermutation given taken → IsChain is_taken_before taken → HasTaken old new taken
+  ordered-taken taken perm chain =
       record {
         moment = m;
         least = least;
         each = λ o. (to o, from o);
-        in_order = sorted-chain taken sorted (apart-permuted given taken perm up.once);
+        in_order = chain;
         stays = λ l c. let s = up.stays l c in (s.0, s.1, marked l s.0 s.1 s.2 s.3);
         only = λ k c. let s = up.only k c in (s.0, s.1, marked s.0 k c s.2 s.3);
         count = count;
@@ -92,3 +95,11 @@ module _ (m : Moment) (old new : List LiveFact) (given taken : List Owned) (leas
           let p = up.each s.0 s.1 w in
           let same : p.0 ≡ o = same_owned p.0 o (sym p.2 ∙ s.2 ∙ e) in
           Contains-permutation given taken o perm (subst (λ (x : Owned). Contains given x) same p.1)
+
+  pub has-taken : (taken : List Owned) → IsPermutation given taken → IsSortedByKey owned_rank (slice_cmp int_cmp) taken → HasTaken old new taken
+  has-taken taken perm sorted = ordered-taken taken perm (sorted-chain taken sorted (apart-permuted given taken perm up.once))
+
+  pub has-given_out : HasGivenOut old new given
+  has-given_out =
+      let listed = in_order given up.once in
+      record { taken = listed.0; has_taken = ordered-taken listed.0 listed.1 listed.2; reordered = listed.1; once = apart_distinct given up.once }

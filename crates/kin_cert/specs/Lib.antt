@@ -11,3 +11,4 @@ pub mod Laws
 pub mod Told
 pub mod Remade
 pub mod Schedules
+pub mod Names

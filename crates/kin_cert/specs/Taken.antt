@@ -1,10 +1,12 @@
 -- What `failing` and `take_failing` answer.
 use Rattle.std.specs.Prelude.{◌≡◌, Bool, false, ℤ, pos, List, ◌∷◌, Some, Contains, ◌↔◌, length, IsTrue}
+use Rattle.std.specs.List.Sorted.{IsPermutation}
 use Rattle.kin_num.specs.declared.instant.Moment.{Moment}
 use Rattle.kin_num.specs.Order.{IsEarlier}
 use Rattle.kin_motion.specs.Live.{Certificate}
 use Rattle.kin_motion.specs.Numbers.{IsChain}
 use Rattle.kin_motion.specs.Journal.{is_less_rank, form_rank}
+use Rattle.kin_motion.specs.Sets.{AreDistinct}
 use Rattle.kin_cert.specs.declared.owned.Owned.{Owned}
 use Rattle.kin_cert.specs.Facts.{LiveFact, certificate_of}
 
@@ -43,3 +45,10 @@ pub record HasTaken (old new : List LiveFact) (taken : List Owned) : Type 0 wher
   pub stays : (l : LiveFact) → Contains old l → (k : LiveFact) × Contains new k × IsMarked moment l k
   pub only : (k : LiveFact) → Contains new k → (l : LiveFact) × Contains old l × IsMarked moment l k
   pub count : length new ≡ length old
+
+-- the facts that could be taken were given, each once, in any order
+pub record HasGivenOut (old new : List LiveFact) (given : List Owned) : Type 0 where
+  pub taken : List Owned
+  pub has_taken : HasTaken old new taken
+  pub reordered : IsPermutation given taken
+  pub once : AreDistinct given

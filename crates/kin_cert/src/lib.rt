@@ -15,6 +15,7 @@ mod entry;
 pub mod first_fail;
 mod guesses;
 pub mod laws;
+mod names;
 pub mod now;
 pub mod owned;
 mod place;

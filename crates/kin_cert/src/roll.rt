@@ -1,11 +1,12 @@
 //! The roll of the live facts: an entry by id, and the id of each owner's form.
 
-ghost use Rattle.std.specs.Prelude.{◌≡◌, ◌+◌, [], Some, None, is_some, count_by, OnOk, OnErr, IfOk, IfSome, IfNone, IsSome, IsTrue, ◌↔◌, slice_set, ⊤};
+ghost use Rattle.std.specs.Prelude.{◌≡◌, ◌≤◌, length, ◌+◌, [], Some, None, is_some, count_by, OnOk, OnErr, IfOk, IfSome, IfNone, IsSome, IsTrue, ◌↔◌, slice_set, ⊤};
 ghost use Rattle.kin_cert.specs.declared.entry.Entry.{Entry as Kept};
 ghost use Rattle.kin_cert.specs.Place.{place_of};
 ghost use Rattle.kin_cert.specs.Rank.{padded_rank};
 ghost use Rattle.indexmap.specs.IndexMap.{get as look_up};
 ghost use Rattle.kin_cert.specs.Layout.{entry_at, owned_place, owned_rank, is_rank, fresh, waiting, timed, HasSlot, NoneTwice, IsFoundAt, IsNotFound, IsSeatOf, IsTakenOver};
+ghost use Rattle.kin_cert.specs.Names.{form_in, IsFreed};
 ghost use Rattle.kin_cert.specs.Rolls.{IsFirstAt, HasNoFirstAt, IsIdOf, HasNoId, IsStruck, MayFollow, IsEnrolled, IsSameIndex};
 
 use crate::entry::{Entry, Seat};
@@ -165,6 +166,37 @@ impl Roll {
             unreachable!()
         };
         entry.fails = Some(*at);
+    }
+
+    /// Lets a live fact be as a new one, which never fails as yet. Answers it with what its seat was.
+    pub(crate) fn free(&mut self, id: usize) -> (Owned, Seat)
+        requires { IsSome (entry_at self.old id) }
+        ensures { IsFreed self.old id result.0 result.1 self.new }
+    {
+        let Some(entry) = self.entries.get_mut(id) else {
+            unreachable!()
+        };
+        let is_queued = entry.is_queued();
+        entry.fails = None;
+        entry.is_waiting = false;
+        (entry.owned, Seat { id, is_queued })
+    }
+
+    /// From this id on there is no fact.
+    pub(crate) fn room(&self) -> usize
+        ensures { length self.now ≤ result }
+    {
+        self.entries.capacity()
+    }
+
+    /// The form of an id's fact, if there is one.
+    pub(crate) fn form_of(&self, id: usize) -> Option<Form>
+        ensures { result ≡ form_in (entry_at self.now id) }
+    {
+        match self.entries.get(id) {
+            Some(entry) => Some(entry.owned.fact.form),
+            None => None,
+        }
     }
 
     /// Lets a live fact wait to be dropped.

@@ -1,20 +1,24 @@
 //! When new facts fail first.
 
-ghost use Rattle.std.specs.Prelude.{◌≡◌, Some, None, OnOk, OnErr, is_some};
+ghost use Rattle.std.specs.Prelude.{◌≡◌, ℕ, ◌/◌, Contains, Some, None, OnOk, OnErr, is_some};
 ghost use Rattle.std.specs.FinMap as map;
+ghost use Rattle.kin_num.specs.Instants.{sign_at};
 ghost use Rattle.kin_motion.specs.Course.{live_of};
 ghost use Rattle.kin_motion.specs.Forms.{IsAskable};
 ghost use Rattle.kin_motion.specs.Scene.{scene_at, Holds};
-ghost use Rattle.kin_cert.specs.Layout.{entry_at, fresh, IsTimed};
+ghost use Rattle.kin_cert.specs.Failures.{seen_by};
+ghost use Rattle.kin_cert.specs.Layout.{entry_at, fresh, IsTable, IsTimed};
+ghost use Rattle.kin_cert.specs.Names.{HaveSameFacts, MayRenew, HasRenewed, AreRenewed};
 
 use crate::entry::Seat;
 use crate::first_fail::first_fail;
 use crate::owned::Owned;
 use crate::roll::Roll;
 use crate::schedule::Schedule;
+use kin_motion::form::Form;
 use kin_motion::motion::Motions;
-use kin_motion::poly::poly_of;
-use kin_num::{Moment, NoMemory, Steps};
+use kin_motion::poly::{poly_of, poly_of_line};
+use kin_num::{Moment, NoMemory, Poly, Steps};
 use std::sync::ledger::Ledger;
 
 /// Finds out when a new fact fails first, and puts its id in the schedule if it ever does.
@@ -35,9 +39,37 @@ pub(crate) fn time<L: Ledger>(
     ensures roll { OnErr result (roll.new ≡ roll.old) }
     ensures schedule { OnErr result (schedule.new ≡ schedule.old) }
 {
-    let fact = owned.fact;
-    let p = poly_of(&fact.form, motions);
-    let Some(at) = first_fail(&fact, &p, now, steps) else {
+    match owned.fact.form {
+        Form::Line { dx, dy, off, i, j } => {
+            let p = poly_of_line(motions, dx, dy, off, i, j);
+            time_by(roll, schedule, id, owned, &p, now, steps)
+        }
+        _ => {
+            let p = poly_of(&owned.fact.form, motions);
+            time_by(roll, schedule, id, owned, &p, now, steps)
+        }
+    }
+}
+
+// The same, where `p` is the polynomial of the fact's form.
+#[inline(always)]
+fn time_by<L: Ledger>(
+    roll: &mut Roll,
+    schedule: &mut Schedule,
+    id: usize,
+    owned: &Owned,
+    p: &Poly,
+    now: &Moment,
+    steps: &mut Steps<L>,
+) -> Result<(), NoMemory>
+    requires fresh { entry_at roll.old id ≡ Some (fresh owned.now) }
+    requires absent { map.get schedule.old id ≡ None }
+    requires holds { sign_at p.now now.now ≡ owned.now.fact.sign }
+    ensures ok { OnOk result (IsTimed (seen_by p.now) now.now owned.now id roll.old schedule.old roll.new schedule.new) }
+    ensures roll { OnErr result (roll.new ≡ roll.old) }
+    ensures schedule { OnErr result (schedule.new ≡ schedule.old) }
+{
+    let Some(at) = first_fail(&owned.fact, p, now, steps) else {
         return Ok(());
     };
     schedule.insert(id, &at, steps)?;
@@ -46,6 +78,7 @@ pub(crate) fn time<L: Ledger>(
 }
 
 /// Takes the id of a fact that is gone out, if the schedule has it.
+#[inline(always)]
 pub(crate) fn unqueue<L: Ledger>(schedule: &mut Schedule, seat: Seat, steps: &mut Steps<L>)
     requires { is_some (map.get schedule.old seat.id) ≡ seat.is_queued }
     ensures { schedule.new ≡ map.remove schedule.old seat.id }
@@ -53,4 +86,46 @@ pub(crate) fn unqueue<L: Ledger>(schedule: &mut Schedule, seat: Seat, steps: &mu
     if seat.is_queued {
         schedule.remove(seat.id, steps);
     }
+}
+
+/// Makes the failure moments of the live facts anew whose ids have these slots.
+pub(crate) fn time_each<L: Ledger>(
+    roll: &mut Roll,
+    schedule: &mut Schedule,
+    slots: &[u32],
+    motions: &Motions,
+    now: &Moment,
+    steps: &mut Steps<L>,
+) -> Result<(), NoMemory>
+    requires table { IsTable roll.old schedule.old }
+    requires may { (s : ℕ) → Contains slots.now s → MayRenew (live_of motions.now) (scene_at motions.now now.now) roll.old (s / 4) }
+    ensures renewed { OnOk result (AreRenewed (scene_at motions.now) now.now slots.now roll.old roll.new) }
+    ensures table { IsTable roll.new schedule.new }
+    ensures facts { HaveSameFacts roll.old roll.new }
+{
+    for slot in slots {
+        time_anew(roll, schedule, (*slot / 4) as usize, motions, now, steps)?;
+    }
+    Ok(())
+}
+
+// Makes the failure moment of a live fact anew.
+fn time_anew<L: Ledger>(
+    roll: &mut Roll,
+    schedule: &mut Schedule,
+    id: usize,
+    motions: &Motions,
+    now: &Moment,
+    steps: &mut Steps<L>,
+) -> Result<(), NoMemory>
+    requires table { IsTable roll.old schedule.old }
+    requires may { MayRenew (live_of motions.now) (scene_at motions.now now.now) roll.old id }
+    ensures renewed { OnOk result (HasRenewed (scene_at motions.now) now.now roll.old id roll.new) }
+    ensures table { IsTable roll.new schedule.new }
+    ensures facts { HaveSameFacts roll.old roll.new }
+{
+    let (owned, seat) = roll.free(id);
+    unqueue(schedule, seat, steps);
+    time(roll, schedule, id, &owned, motions, now, steps)?;
+    Ok(())
 }

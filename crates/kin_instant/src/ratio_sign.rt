@@ -9,6 +9,7 @@ use kin_algebra::sign::Sign;
 use kin_num::poly::Poly;
 
 /// The sign of `p` at `n / d`. A line takes two products.
+#[inline(always)]
 pub(crate) fn value_at_ratio(p: &Poly, n: i64, d: i64) -> Sign
     requires n_small { unsigned_abs n ≤ 2 ^ 31 }
     requires d_small { unsigned_abs d ≤ 2 ^ 31 }
@@ -23,6 +24,7 @@ pub(crate) fn value_at_ratio(p: &Poly, n: i64, d: i64) -> Sign
 }
 
 /// The sign of the slope of `p` at `n / d`.
+#[inline(always)]
 pub(crate) fn slope_at_ratio(p: &Poly, n: i64, d: i64) -> Sign
     requires n_small { unsigned_abs n ≤ 2 ^ 31 }
     requires d_small { unsigned_abs d ≤ 2 ^ 31 }

@@ -57,6 +57,7 @@ fn on_side(sign: Sign, upper: bool) -> Sign
 }
 
 /// The sign of `p` at a root of `(a, b, c)`, the greater one if `upper`.
+#[inline(never)]
 pub(crate) fn value_at_root(p: &Poly, a: i64, b: i64, c: i64, upper: bool) -> Sign
     requires a_positive { pos 0 <ℤ a }
     requires a_small { unsigned_abs a ≤ 2 ^ 29 }
@@ -88,6 +89,7 @@ pub(crate) fn radicand(a: i64, b: i64, c: i64) -> u64
 }
 
 /// The sign of the slope of `p` at a root of `(a, b, c)`, the greater one if `upper`.
+#[inline(never)]
 pub(crate) fn slope_at_root(p: &Poly, a: i64, b: i64, c: i64, upper: bool) -> Sign
     requires a_positive { pos 0 <ℤ a }
     requires a_small { unsigned_abs a ≤ 2 ^ 29 }

@@ -13,24 +13,34 @@ use kin_num::steps::Steps;
 use std::sync::ledger::Ledger;
 
 /// The sign of `p` at `w`.
+#[inline(always)]
 pub(crate) fn value_sign(p: &Poly, w: &Instant) -> Sign
     ensures value { result ≡ sign_at_instant p.now w.now }
     ensures canonical { IsCanonical w.now }
 {
     match w.shape() {
         Shape::Ratio { n, d } => value_at_ratio(p, n, d),
-        Shape::Root { a, b, c, upper } => value_at_root(p, a, b, c, upper),
+        Shape::Root { a, b, c, upper } => {
+            // a copy, so that the polynomial of a line needs no place in memory
+            let p = *p;
+            value_at_root(&p, a, b, c, upper)
+        }
     }
 }
 
 /// The sign of the slope of `p` at `w`.
+#[inline(always)]
 pub(crate) fn slope_sign(p: &Poly, w: &Instant) -> Sign
     ensures value { result ≡ sign_at_instant (derivative p.now) w.now }
     ensures canonical { IsCanonical w.now }
 {
     match w.shape() {
         Shape::Ratio { n, d } => slope_at_ratio(p, n, d),
-        Shape::Root { a, b, c, upper } => slope_at_root(p, a, b, c, upper),
+        Shape::Root { a, b, c, upper } => {
+            // as above
+            let p = *p;
+            slope_at_root(&p, a, b, c, upper)
+        }
     }
 }
 
@@ -38,7 +48,8 @@ pub(crate) fn slope_sign(p: &Poly, w: &Instant) -> Sign
 /// curvature that isn't zero there. Counts one step.
 ///
 /// At a fraction this takes a handful of products of 64-bit numbers, and two for a line; at an irrational root about
-/// ten. No root is taken.
+/// ten. No root is taken. It is made in line, so that whoever asks about a line is spared what only curves need.
+#[inline(always)]
 pub fn sign_at<L: Ledger>(p: &Poly, m: &Moment, steps: &mut Steps<L>) -> Sign
     ensures value { result ≡ sign_at_moment p.now m.now }
     ensures count { steps.new ≡ steps.old + 1 }

@@ -2,7 +2,7 @@
 
 ghost use Rattle.std.specs.Prelude.{◌≡◌, ◌≤◌, ◌^◌, ◌+ℤ◌, ◌-ℤ◌, ◌*ℤ◌, unsigned_abs, Some};
 ghost use Rattle.kin_motion.specs.Course.{live_of, motion_of, IsSlow};
-ghost use Rattle.kin_motion.specs.declared.form.Form.TheVariants.{Turn, Slope, Dist};
+ghost use Rattle.kin_motion.specs.declared.form.Form.TheVariants.{Line, Turn, Slope, Dist};
 ghost use Rattle.kin_motion.specs.Forms.{IsAskable, polynomial_of, product, minus, difference, along, square_of_step, x_step, y_step};
 ghost use Rattle.kin_num.specs.Quadratic.{quadratic_sum};
 ghost use Rattle.kin_motion.specs.Numbers.{IsIn};
@@ -195,8 +195,19 @@ fn of_dist(motions: &Motions, i: u32, j: u32, k: u32, l: u32) -> Poly
     difference(square(second), square(first))
 }
 
-/// The polynomial that a form names. Each named number is live. That of a line is made in line, so
-/// that its caller is spared what only polynomials of degree two need.
+/// The polynomial of a line. It is made in line, and whoever asks for it knows that its degree is at
+/// most one.
+#[inline(always)]
+#[tactic(auto, unfolding(crate::specs::Forms::polynomial_of))]
+pub fn poly_of_line(motions: &Motions, dx: i32, dy: i32, off: i32, i: u32, j: u32) -> Poly
+    requires askable { IsAskable (live_of motions.now) (Line dx dy off i j) }
+    ensures { result ≡ polynomial_of motions.now (Line dx dy off i j) }
+{
+    let step = step_between(motions, i, j);
+    along(i64::from(dx), i64::from(dy), i64::from(off), step)
+}
+
+/// The polynomial that a form names. Each named number is live.
 #[inline(always)]
 #[tactic(auto, unfolding(crate::specs::Forms::polynomial_of))]
 pub fn poly_of(form: &Form, motions: &Motions) -> Poly
@@ -204,12 +215,7 @@ pub fn poly_of(form: &Form, motions: &Motions) -> Poly
     ensures { result ≡ polynomial_of motions.now form.now }
 {
     match *form {
-        Form::Line { dx, dy, off, i, j } => along(
-            i64::from(dx),
-            i64::from(dy),
-            i64::from(off),
-            step_between(motions, i, j),
-        ),
+        Form::Line { dx, dy, off, i, j } => poly_of_line(motions, dx, dy, off, i, j),
         Form::Turn { i, j, k } => of_turn(motions, i, j, k),
         Form::Slope { i, j, k, l } => of_slope(motions, i, j, k, l),
         Form::Dist { i, j, k, l } => of_dist(motions, i, j, k, l),

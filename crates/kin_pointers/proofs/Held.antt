@@ -1,9 +1,9 @@
 -- What vectors hold, as lists.
-use Rattle.std.proofs.Common.{◌≡◌, refl, sym, ap, ◌∙◌, arith, List, [], ◌∷◌, ℕ, zero, suc, ◌<◌, length, map, set, get_or, Some, None, Option, option_map}
+use Rattle.std.proofs.Common.{◌≡◌, refl, sym, ap, ◌∙◌, arith, List, [], ◌∷◌, ◌++◌, ℕ, zero, suc, ◌+◌, ◌<◌, length, map, set, get_or, Some, None, Option, option_map}
 use Rattle.std.specs.Prelude.{slice_get}
 use Rattle.std.specs.Global.{Vec}
 use Rattle.std.proofs.Math.Seq.{map-set_same}
-use Rattle.std.proofs.lemmas.List.{map-set, length-map, length-set, set-get_or}
+use Rattle.std.proofs.lemmas.List.{map-set, length-map, length-set, length-append, set-get_or}
 use Rattle.std.proofs.lemmas.Option.{slice_get-map, slice_get-get_or, slice_get_within, get_or_from_slice_get, same_Some}
 use Rattle.kin_pointers.specs.declared.pointers.Pointer.{Pointer}
 use Rattle.kin_pointers.specs.Pointing.{target_in, lists_of, pointing, Pointing}
@@ -80,3 +80,10 @@ number_room held lists t was e low =
     let n = length-map lists (λ (w : Vec ℕ). w.items) in
     let m = ap (λ (p : Pointing). p.numbers) e in
     omega (arith, n, m, low)
+
+-- one more number
+pub seen_numbered : (held : List (Option Pointer)) (lists after : List (Vec ℕ)) (was : Pointing) → pointing held (lists_of lists) ≡ was → lists_of after ≡ lists_of lists ++ [] ∷ []
+    → pointing held (lists_of after) ≡ record was { numbers = was.numbers + 1 }
+seen_numbered held lists after was e more =
+    let count : length (lists_of after) ≡ length (lists_of lists) + 1 = ap (λ (xs : List (List ℕ)). length xs) more ∙ length-append (lists_of lists) ([] ∷ []) in
+    (λ k. record { targets = map target_in held; numbers = count k }) ∙ ap (λ (q : Pointing). record q { numbers = q.numbers + 1 }) e

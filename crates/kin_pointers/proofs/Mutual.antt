@@ -142,6 +142,13 @@ added held lists agree = record {
   back = λ t p q xs a e. get_front held (None ∷ []) q _ (agree.back t p q xs a e);
 }
 
+-- one more number, at which none points
+pub numbered : (held : List (Option Pointer)) (lists : List (List ℕ)) → AreMutual held lists → AreMutual held (lists ++ [] ∷ [])
+numbered held lists agree = record {
+  forth = λ slot p e. let l = agree.forth slot p e in record { slots = l.slots; listed = get_front lists ([] ∷ []) p.target l.slots l.listed; at = l.at };
+  back = λ t p q xs a e. elim (get-push_cases lists [] t xs a) [ inl f ↦ agree.back t p q xs f e | inr f ↦ absurd (let g = sym (ap (λ (ys : List ℕ). slice_get ys p) f.1) ∙ e in cc) ];
+}
+
 -- no slots over empty lists
 pub none_mutual : (lists : List (List ℕ)) → ((t : ℕ) (xs : List ℕ) → slice_get lists t ≡ Some xs → xs ≡ []) → AreMutual [] lists
 none_mutual lists empty = record { forth = λ slot p e. absurd cc; back = λ t p q xs a e. absurd (let f = sym (ap (λ (ys : List ℕ). slice_get ys p) (empty t xs a)) ∙ e in cc) }

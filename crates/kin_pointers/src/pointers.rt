@@ -1,6 +1,6 @@
 //! Slots that point at numbers.
 
-ghost use Rattle.std.specs.Prelude.{◌≡◌, ℕ, ◌<◌, ◌≤◌, ◌^◌, ◌++◌, ◌∷◌, [], Some, None, length, replicate, slice_get, slice_set, IfOk, OnOk, OnErr};
+ghost use Rattle.std.specs.Prelude.{◌≡◌, ℕ, ◌<◌, ◌≤◌, ◌^◌, ◌+◌, ◌++◌, ◌∷◌, [], Some, None, length, replicate, slice_get, slice_set, IfOk, OnOk, OnErr};
 ghost use Rattle.kin_pointers.specs.Pointing.{AreSlotsOf, IsStruck, lists_of};
 
 use kin_num::memory::NoMemory;
@@ -56,6 +56,29 @@ impl Pointers {
         Ok(())
     }
 
+    /// One more number, at which no slot points.
+    pub fn add_number(&mut self) -> Result<(), NoMemory>
+        ensures ok { OnOk result (self.new ≡ record self.old { numbers = self.old.numbers + 1 }) }
+        ensures err { OnErr result (self.new ≡ self.old) }
+    {
+        add_empty(&mut self.lists, self.alloc)?;
+        Ok(())
+    }
+
+    /// How many slots there are.
+    pub fn slots(&self) -> usize
+        ensures { result ≡ length self.now.targets }
+    {
+        self.held.len()
+    }
+
+    /// How many numbers there are.
+    pub fn numbers(&self) -> usize
+        ensures { result ≡ self.now.numbers }
+    {
+        self.lists.len()
+    }
+
     /// At which number a slot points.
     pub fn target(&self, slot: u32) -> Option<u32>
         requires { slot < length self.now.targets }
@@ -104,6 +127,14 @@ fn add_none(held: &mut Vec<Option<Pointer>>) -> Result<(), NoMemory>
     ensures err { OnErr result (held.new.items ≡ held.old.items) }
 {
     held.push(None).map_err(|_| NoMemory)
+}
+
+/// One more list, which is empty.
+fn add_empty(lists: &mut Vec<Vec<u32>>, alloc: Global) -> Result<(), NoMemory>
+    ensures ok { OnOk result (lists_of lists.new.items ≡ lists_of lists.old.items ++ [] ∷ []) }
+    ensures err { OnErr result (lists.new.items ≡ lists.old.items) }
+{
+    lists.push(Vec::new(alloc)).map_err(|_| NoMemory)
 }
 
 /// Empty lists, so many.

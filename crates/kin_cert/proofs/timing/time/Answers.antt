@@ -1,36 +1,35 @@
-use Rattle.std.proofs.Common.{Some, None, refl, sym, ap, subst, ◌∙◌}
+use Rattle.std.proofs.Common.{◌≡◌, ap, ◌∙◌}
 use Rattle.kin_num.specs.Quadratic.{Quadratic}
 use Rattle.kin_num.specs.Instants.{sign_at}
-use Rattle.kin_cert.specs.Failures.{IsFirstFailure, seen_by}
-use Rattle.kin_cert.specs.Layout.{fresh}
-use Rattle.kin_cert.proofs.Seen.{holds-seen, failure-seen}
-use Rattle.kin_cert.proofs.Tables.{same-slot}
+use Rattle.kin_motion.specs.declared.form.Form.{Form}
+use Rattle.kin_motion.specs.Forms.{polynomial_of}
+use Rattle.kin_cert.proofs.Seen.{holds-seen, on_timed, line-read}
 use Rattle.kin_cert.proofs.timing.time.Goals as goal
 
-pub first_fail-requires : goal.first_fail-requires
-first_fail-requires g c =
-    record { holds = ap (λ (q : Quadratic). sign_at q c.args.now.now) c.poly_of-p.ensures ∙ holds-seen c.args.motions.now c.args.owned.now.fact c.args.now.now c.requires.holds }
+pub time_by-requires-clause-holds : goal.time_by-requires-clause-holds
+time_by-requires-clause-holds g c =
+    let p_is : c.poly_of_line-p.result ≡ polynomial_of c.args.motions.now c.args.owned.now.fact.form = c.poly_of_line-p.ensures ∙ ap (λ (f : Form). polynomial_of c.args.motions.now f) (line-read _ c.args.owned.now.fact.form c.in-Line.dx c.in-Line.dy c.in-Line.off c.in-Line.i c.in-Line.j c.requires.askable c.in-Line.is) in
+    ap (λ (q : Quadratic). sign_at q c.args.now.now) p_is ∙ holds-seen c.args.motions.now c.args.owned.now.fact c.args.now.now c.requires.holds
+
+pub time_by-requires-in_default : goal.time_by-requires-in_default
+time_by-requires-in_default g c =
+    let p_is : c.poly_of-p.result ≡ polynomial_of c.args.motions.now c.args.owned.now.fact.form = c.poly_of-p.ensures in
+    record {
+      fresh = c.requires.fresh;
+      absent = c.requires.absent;
+      holds = ap (λ (q : Quadratic). sign_at q c.args.now.now) p_is ∙ holds-seen c.args.motions.now c.args.owned.now.fact c.args.now.now c.requires.holds;
+    }
+
+pub returns-in-Line-clause-ok : goal.returns-in-Line-clause-ok
+returns-in-Line-clause-ok g c =
+    let p_is : c.poly_of_line-p.result ≡ polynomial_of c.args.motions.now c.args.owned.now.fact.form = c.poly_of_line-p.ensures ∙ ap (λ (f : Form). polynomial_of c.args.motions.now f) (line-read _ c.args.owned.now.fact.form c.in-Line.dx c.in-Line.dy c.in-Line.off c.in-Line.i c.in-Line.j c.requires.askable c.in-Line.is) in
+    on_timed c.args.motions.now c.args.now.now c.args.owned.now c.args.id c.args.roll.now c.time_by.new.roll c.args.schedule.now c.time_by.new.schedule c.poly_of_line-p.result p_is c.time_by.result c.time_by.ensures.ok
 
 pub returns-in_default : goal.returns-in_default
 returns-in_default g c =
+    let p_is : c.poly_of-p.result ≡ polynomial_of c.args.motions.now c.args.owned.now.fact.form = c.poly_of-p.ensures in
     record {
-      ok = record {
-        fails = None;
-        first = failure-seen c.args.motions.now c.args.owned.now.fact c.args.now.now None
-            (subst (λ (q : Quadratic). IsFirstFailure (seen_by q) c.args.now.now c.args.owned.now.fact None) c.poly_of-p.ensures c.in_default.ensures.failure);
-        slots_are = sym (same-slot c.args.roll.now c.args.id (fresh c.args.owned.now) c.requires.fresh);
-        moments_are = refl;
-      };
-      roll = tt;
-      schedule = tt;
-    }
-
-pub returns-clause-ok : goal.returns-clause-ok
-returns-clause-ok g c =
-    record {
-      fails = Some c.in-Some.at;
-      first = failure-seen c.args.motions.now c.args.owned.now.fact c.args.now.now (Some c.in-Some.at)
-          (subst (λ (q : Quadratic). IsFirstFailure (seen_by q) c.args.now.now c.args.owned.now.fact (Some c.in-Some.at)) c.poly_of-p.ensures c.in-Some.ensures.failure);
-      slots_are = c.set_failure.ensures (fresh c.args.owned.now) c.requires.fresh;
-      moments_are = c.in_ok-insert.ensures.ok;
+      ok = on_timed c.args.motions.now c.args.now.now c.args.owned.now c.args.id c.args.roll.now c.time_by-in_default.new.roll c.args.schedule.now c.time_by-in_default.new.schedule c.poly_of-p.result p_is c.time_by-in_default.result c.time_by-in_default.ensures.ok;
+      roll = c.time_by-in_default.ensures.roll;
+      schedule = c.time_by-in_default.ensures.schedule;
     }

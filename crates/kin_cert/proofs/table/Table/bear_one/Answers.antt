@@ -1,11 +1,15 @@
-use Rattle.std.proofs.Common.{◌≡◌, ◌+◌, length, Some, subst, sym, ap, ◌∙◌, arith}
+use Rattle.std.proofs.Common.{◌≡◌, ◌+◌, List, Option, length, Some, refl, subst, sym, ap, ◌∙◌, arith}
 use Rattle.std.specs.List.{Contains}
 use Rattle.kin_motion.specs.Scene.{scene_at}
+use Rattle.kin_cert.specs.declared.entry.Entry.{Entry}
 use Rattle.kin_cert.specs.declared.owned.Owned.{Owned}
 use Rattle.kin_cert.specs.Facts.{Facts}
-use Rattle.kin_cert.specs.Layout.{live_in, owned_rank, fresh, HasSlot, IsNotFound, IsTimed, HasBorn}
+use Rattle.kin_cert.specs.Layout.{live_in, owned_rank, fresh, timed, HasSlot, IsNotFound, IsTimed, HasBorn}
+use Rattle.kin_cert.specs.Names.{numbers_at, IsListed}
+use Rattle.kin_cert.proofs.Schedules.{Moments}
+use Rattle.kin_cert.proofs.Naming.{renamed, still-named, same-facts}
 use Rattle.kin_cert.proofs.Slots.{live-count}
-use Rattle.kin_cert.proofs.Tables.{not-found, put-table, timed-table}
+use Rattle.kin_cert.proofs.Tables.{not-found, put-table, timed-slot, timed-table}
 use Rattle.kin_cert.proofs.Replacing.{held, has-born, born-count}
 use Rattle.kin_cert.proofs.table.Table.bear_one.Goals as goal
 
@@ -16,10 +20,36 @@ put_in-requires g c =
           (not-found c.self.inside.roll c.args.structure c.args.placed.part c.args.placed.fact.form (λ l there. c.requires.free l (subst (λ (t : Facts). Contains t.live l) c.self.view_is there)));
     }
 
+pub invariant_of-self-in_err-note : goal.invariant_of-self-in_err-note
+invariant_of-self-in_err-note g c =
+    let o = c.owned_by-owned.result in
+    record {
+      table = put-table c.self.inside.roll c.put_in.new.self c.self.inside.schedule c.in_ok-id.id o c.self.invariant.table c.in_ok-id.ensures.vacant c.in_ok-id.ensures.slot;
+      named = renamed c.self.inside.names c.note.new.self c.self.inside.roll c.put_in.new.self c.in_ok-id.id (numbers_at (Some (fresh o))) (Some (fresh o)) c.self.invariant.named c.in_ok-id.ensures.slot c.note.ensures refl;
+    }
+
+pub invariant_of-self-in_err-time : goal.invariant_of-self-in_err-time
+invariant_of-self-in_err-time g c =
+    let o = c.owned_by-owned.result in
+    subst (λ (m : Moments). IsListed c.time.new.roll m c.note.new.self) (sym c.in_err-time.ensures.schedule)
+    (subst (λ (slots : List (Option Entry)). IsListed slots c.self.inside.schedule c.note.new.self) (sym c.in_err-time.ensures.roll)
+    (record {
+      table = put-table c.self.inside.roll c.put_in.new.self c.self.inside.schedule c.in_ok-id.id o c.self.invariant.table c.in_ok-id.ensures.vacant c.in_ok-id.ensures.slot;
+      named = renamed c.self.inside.names c.note.new.self c.self.inside.roll c.put_in.new.self c.in_ok-id.id (numbers_at (Some (fresh o))) (Some (fresh o)) c.self.invariant.named c.in_ok-id.ensures.slot c.note.ensures refl;
+    }))
+
 pub invariant_of-self-2 : goal.invariant_of-self-2
 invariant_of-self-2 g c =
-    let table = put-table c.self.inside.roll c.put_in.new.self c.self.inside.schedule c.in_ok-id.id c.owned_by-owned.result c.self.invariant c.in_ok-id.ensures.vacant c.in_ok-id.ensures.slot in
-    timed-table (scene_at c.args.motions.now) c.args.now.now c.owned_by-owned.result c.in_ok-id.id c.put_in.new.self c.time.new.roll c.self.inside.schedule c.time.new.schedule table c.in_ok-id.ensures.slot.changed c.in_ok-time.ensures.ok
+    let o = c.owned_by-owned.result in
+    let scene = scene_at c.args.motions.now in
+    let table = put-table c.self.inside.roll c.put_in.new.self c.self.inside.schedule c.in_ok-id.id o c.self.invariant.table c.in_ok-id.ensures.vacant c.in_ok-id.ensures.slot in
+    let named = renamed c.self.inside.names c.note.new.self c.self.inside.roll c.put_in.new.self c.in_ok-id.id (numbers_at (Some (fresh o))) (Some (fresh o)) c.self.invariant.named c.in_ok-id.ensures.slot c.note.ensures refl in
+    let t = c.in_ok-time.ensures.ok in
+    let slot = timed-slot scene c.args.now.now o c.in_ok-id.id c.put_in.new.self c.time.new.roll c.self.inside.schedule c.time.new.schedule table c.in_ok-id.ensures.slot.changed t in
+    record {
+      table = timed-table scene c.args.now.now o c.in_ok-id.id c.put_in.new.self c.time.new.roll c.self.inside.schedule c.time.new.schedule table c.in_ok-id.ensures.slot.changed t;
+      named = still-named c.note.new.self c.put_in.new.self c.time.new.roll named (same-facts c.put_in.new.self c.time.new.roll c.in_ok-id.id (fresh o) (timed (fresh o) t.fails) c.in_ok-id.ensures.slot.changed slot refl);
+    }
 
 pub returns-clause-gained : goal.returns-clause-gained
 returns-clause-gained g c =

@@ -1,4 +1,4 @@
-use Rattle.std.proofs.Common.{◌≡◌, List, length, Option, None, refl, subst, sym, ap, ◌↔◌, arith}
+use Rattle.std.proofs.Common.{◌≡◌, List, [], length, Option, None, refl, subst, sym, ap, ◌↔◌, arith}
 use Rattle.std.specs.List.{Contains}
 use Rattle.kin_cert.specs.declared.entry.Entry.{Entry}
 use Rattle.kin_cert.specs.Facts.{Facts}
@@ -6,6 +6,7 @@ use Rattle.kin_cert.specs.Applied.{IsOf}
 use Rattle.kin_cert.specs.Layout.{live_in, HasSlot}
 use Rattle.kin_cert.proofs.Changes.{is-at}
 use Rattle.kin_cert.proofs.Slots.{live-from, live-count}
+use Rattle.kin_cert.proofs.Naming.{renamed}
 use Rattle.kin_cert.proofs.Tables.{at-rank, rank-of-live, has-slot, unqueued-table, dropped-rest}
 use Rattle.kin_cert.proofs.table.Table.drop_one.Goals as goal
 
@@ -22,7 +23,10 @@ invariant_of-self g c =
     let k = c.take_out-seat.ensures.seat in
     let slot : HasSlot c.self.inside.roll c.take_out-seat.new.self c.take_out-seat.result.id None =
     subst (λ (xs : List (Option Entry)). HasSlot c.self.inside.roll xs c.take_out-seat.result.id None) (sym c.take_out-seat.ensures.slots) (has-slot c.self.inside.roll c.take_out-seat.result.id k.entry None k.there) in
-    unqueued-table c.self.inside.roll c.take_out-seat.new.self c.self.inside.schedule c.unqueue.new.schedule c.take_out-seat.result.id None c.self.invariant slot refl c.unqueue.ensures
+    record {
+      table = unqueued-table c.self.inside.roll c.take_out-seat.new.self c.self.inside.schedule c.unqueue.new.schedule c.take_out-seat.result.id None c.self.invariant.table slot refl c.unqueue.ensures;
+      named = renamed c.self.inside.names c.note.new.self c.self.inside.roll c.take_out-seat.new.self c.take_out-seat.result.id [] None c.self.invariant.named slot c.note.ensures refl;
+    }
 
 pub returns-clause-rest : goal.returns-clause-rest
 returns-clause-rest g c = λ l.

@@ -14,4 +14,4 @@ due-least-of slots moments None table e = due-none slots moments table e
 due-least-of slots moments (Some m) table least = due-some slots moments table least.0 m least.1
 
 pub returns : goal.returns
-returns c = subst (λ (t : Facts). MatchOption c.least.result (NoneDue t.live) (λ m. IsDue t.live m)) c.self.view_is (due-least-of c.self.inside.roll c.self.inside.schedule c.least.result c.self.invariant c.least.ensures)
+returns c = subst (λ (t : Facts). MatchOption c.least.result (NoneDue t.live) (λ m. IsDue t.live m)) c.self.view_is (due-least-of c.self.inside.roll c.self.inside.schedule c.least.result c.self.invariant.table c.least.ensures)

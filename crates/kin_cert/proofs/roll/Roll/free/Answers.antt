@@ -1,0 +1,11 @@
+use Rattle.std.proofs.Common.{◌≡◌, Some, refl, sym}
+use Rattle.kin_cert.specs.Layout.{entry_at, fresh}
+use Rattle.kin_cert.proofs.Rolls.{kept-roll}
+use Rattle.kin_cert.proofs.Tables.{has-slot}
+use Rattle.kin_cert.proofs.roll.Roll.free.Goals as goal
+
+pub invariant_of-self : goal.invariant_of-self
+invariant_of-self c =
+    let e = c.in-Some.entry.now in
+    let there : entry_at c.self.inside.entries.slots c.args.id ≡ Some e = sym c.in-Some.ensures.value in
+    kept-roll c.self.inside.entries.slots c.self.inside.firsts c.self.inside.others c.self.invariant _ c.args.id e (fresh e.owned) there (has-slot c.self.inside.entries.slots c.args.id e (Some (fresh e.owned)) there) refl

@@ -1,0 +1,26 @@
+use Rattle.std.proofs.Common.{Some, None, refl, sym}
+use Rattle.kin_cert.specs.Layout.{fresh}
+use Rattle.kin_cert.proofs.Tables.{same-slot}
+use Rattle.kin_cert.proofs.timing.time_by.Goals as goal
+
+pub returns-in_default : goal.returns-in_default
+returns-in_default g c =
+    record {
+      ok = record {
+        fails = None;
+        first = c.in_default.ensures.failure;
+        slots_are = sym (same-slot c.args.roll.now c.args.id (fresh c.args.owned.now) c.requires.fresh);
+        moments_are = refl;
+      };
+      roll = tt;
+      schedule = tt;
+    }
+
+pub returns-clause-ok : goal.returns-clause-ok
+returns-clause-ok g c =
+    record {
+      fails = Some c.in-Some.at;
+      first = c.in-Some.ensures.failure;
+      slots_are = c.set_failure.ensures (fresh c.args.owned.now) c.requires.fresh;
+      moments_are = c.in_ok-insert.ensures.ok;
+    }

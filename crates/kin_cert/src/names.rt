@@ -1,0 +1,208 @@
+//! Which facts name each number.
+
+ghost use Rattle.std.specs.Prelude.{◌≡◌, ℕ, ◌+◌, ◌*◌, ◌<◌, ◌^◌, cond, length, Some, None, IsTrue, ◌↔◌, IfOk, OnOk};
+ghost use Rattle.kin_cert.specs.Names.{target_of, numbers_in, AreTargets, IsIndex, AreNamed, HasNumber, ListsSlotsOf, IsAimed, HasNumbers, AreKept};
+
+use crate::roll::Roll;
+use kin_motion::form::Form;
+use kin_num::NoMemory;
+use kin_pointers::pointers::Pointers;
+use std::alloc::Global;
+use std::marker::Model;
+
+/// The ids of the facts that name each number, once somebody has asked for those of one.
+///
+/// Each id has four slots, from `4 * id` on. The slot `4 * id + k` points at the number that the form
+/// names in its place `k`, if there is one that it doesn't name earlier too.
+#[derive(Drop)]
+pub(crate) struct Names {
+    alloc: Global,
+    pointers: Option<Pointers>,
+}
+
+impl Model for Names {
+    ghost use Rattle.std.specs.Prelude.{Option};
+    ghost use Rattle.kin_pointers.specs.Pointing.{Pointing};
+
+    ghost Value = { Option Pointing };
+
+    ghost view = { λ n. n.pointers };
+}
+
+impl Names {
+    /// Nobody has asked yet.
+    pub(crate) fn new(alloc: Global) -> Names
+        ensures { result ≡ None }
+    {
+        Names {
+            alloc,
+            pointers: None,
+        }
+    }
+
+    /// Gathers what the facts of the roll name, if nobody has asked before, and has this number. After
+    /// want of memory all is as if nobody had asked.
+    pub(crate) fn gather(&mut self, roll: &Roll, number: u32) -> Result<(), NoMemory>
+        requires { AreNamed self.old roll.now }
+        ensures named { AreNamed self.new roll.now }
+        ensures ok { OnOk result (HasNumber self.new number) }
+    {
+        let mut pointers = match self.pointers.take() {
+            Some(pointers) => pointers,
+            None => pointers_of(self.alloc, roll)?,
+        };
+        reach(&mut pointers, number)?;
+        self.pointers = Some(pointers);
+        Ok(())
+    }
+
+    /// The slots of the ids whose facts name a number.
+    pub(crate) fn slots_of(&self, number: u32) -> &[u32]
+        requires { HasNumber self.now number }
+        ensures { ListsSlotsOf self.now number result.now }
+    {
+        match &self.pointers {
+            Some(pointers) => pointers.slots_of(number),
+            None => unreachable!(),
+        }
+    }
+
+    /// Notes the form of an id's fact, or that there is none. After want of memory all is as if nobody
+    /// had asked.
+    pub(crate) fn note(&mut self, id: usize, form: Option<Form>) -> Result<(), NoMemory>
+        ensures { AreKept self.old self.new id (numbers_in form) }
+    {
+        // Nothing is moved while nobody has asked.
+        if self.pointers.is_none() {
+            return Ok(());
+        }
+        let Some(mut pointers) = self.pointers.take() else {
+            return Ok(());
+        };
+        aim_each(&mut pointers, id, form)?;
+        self.pointers = Some(pointers);
+        Ok(())
+    }
+}
+
+// What the facts of a roll name.
+fn pointers_of(alloc: Global, roll: &Roll) -> Result<Pointers, NoMemory>
+    ensures { IfOk result (λ p. IsIndex p roll.now) }
+{
+    let mut pointers = Pointers::new(alloc, 0)?;
+    for id in 0..roll.room() {
+        aim_each(&mut pointers, id, roll.form_of(id))?;
+    }
+    Ok(pointers)
+}
+
+// Lets the slots of an id point at the numbers of a form.
+fn aim_each(pointers: &mut Pointers, id: usize, form: Option<Form>) -> Result<(), NoMemory>
+    ensures { OnOk result (HasNumbers pointers.old pointers.new id (numbers_in form)) }
+{
+    let first = first_slot(id)?;
+    let [i, j, k, l] = targets(form);
+    aim(pointers, first, i)?;
+    aim(pointers, first + 1, j)?;
+    aim(pointers, first + 2, k)?;
+    aim(pointers, first + 3, l)
+}
+
+// The first slot of an id. Slots are numbered below 2^32.
+fn first_slot(id: usize) -> Result<u32, NoMemory>
+    ensures { IfOk result (λ slot. (slot ≡ 4 * id) × (slot + 3 < 2 ^ 32)) }
+{
+    let Ok(short) = u32::try_from(id) else {
+        return Err(NoMemory);
+    };
+    if short < 1 << 30 {
+        Ok(4 * short)
+    } else {
+        Err(NoMemory)
+    }
+}
+
+// At which numbers the slots of an id point whose fact has this form.
+fn targets(form: Option<Form>) -> [Option<u32>; 4]
+    ensures { AreTargets (numbers_in form) result }
+{
+    let Some(form) = form else {
+        return [None, None, None, None];
+    };
+    match form {
+        Form::Line { i, j, .. } => [Some(i), unless(j == i, j), None, None],
+        Form::Turn { i, j, k } => [
+            Some(i),
+            unless(j == i, j),
+            unless(k == j || k == i, k),
+            None,
+        ],
+        Form::Slope { i, j, k, l } => [
+            Some(i),
+            unless(j == i, j),
+            unless(k == j || k == i, k),
+            unless(l == k || l == j || l == i, l),
+        ],
+        Form::Dist { i, j, k, l } => [
+            Some(i),
+            unless(j == i, j),
+            unless(k == j || k == i, k),
+            unless(l == k || l == j || l == i, l),
+        ],
+    }
+}
+
+// The number, unless it is named already.
+fn unless(is_named: bool, number: u32) -> Option<u32>
+    ensures { result ≡ cond is_named None (Some number) }
+{
+    if is_named { None } else { Some(number) }
+}
+
+// Lets a slot point at a number, or at none.
+fn aim(pointers: &mut Pointers, slot: u32, target: Option<u32>) -> Result<(), NoMemory>
+    ensures { OnOk result (IsAimed pointers.old pointers.new slot target) }
+{
+    cover(pointers, slot)?;
+    if is_same(pointers.target(slot), target) {
+        return Ok(());
+    }
+    pointers.release(slot);
+    let Some(number) = target else {
+        return Ok(());
+    };
+    reach(pointers, number)?;
+    pointers.point(slot, number)
+}
+
+fn is_same(x: Option<u32>, y: Option<u32>) -> bool
+    ensures { IsTrue result ↔ (x ≡ y) }
+{
+    match (x, y) {
+        (None, None) => true,
+        (Some(x), Some(y)) => x == y,
+        _ => false,
+    }
+}
+
+// Adds slots until there is this one.
+fn cover(pointers: &mut Pointers, slot: u32) -> Result<(), NoMemory>
+    ensures there { OnOk result (slot < length pointers.new.targets) }
+    ensures same { OnOk result ((s : ℕ) → target_of pointers.new s ≡ target_of pointers.old s) }
+{
+    'slots: while pointers.slots() <= slot as usize {
+        pointers.add_slot()?;
+    }
+    Ok(())
+}
+
+// Adds numbers until there is this one.
+fn reach(pointers: &mut Pointers, number: u32) -> Result<(), NoMemory>
+    ensures there { OnOk result (number < pointers.new.numbers) }
+    ensures same { OnOk result (pointers.new.targets ≡ pointers.old.targets) }
+{
+    'numbers: while pointers.numbers() <= number as usize {
+        pointers.add_number()?;
+    }
+    Ok(())
+}
