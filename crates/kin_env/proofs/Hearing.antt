@@ -1,9 +1,9 @@
 -- A visited node among the others.
-use Rattle.std.proofs.Common.{◌≡◌, ◌≢◌, refl, sym, ap, ◌∙◌, subst, arith, List, [], ℕ, ◌+◌, ◌*◌, ◌<◌, length, set, get_or}
+use Rattle.std.proofs.Common.{◌≡◌, ◌≢◌, refl, sym, ap, ◌∙◌, subst, arith, List, [], ◌∷◌, ◌++◌, ℕ, zero, suc, ◌+◌, ◌*◌, ◌-◌, ◌<◌, length, set, get_or}
 use Rattle.std.specs.Prelude.{Option, Some, slice_get}
-use Rattle.std.proofs.lemmas.List.{length-set}
+use Rattle.std.proofs.lemmas.List.{length-set, length-append, set-append_left, set-append_right}
 use Rattle.std.proofs.lemmas.Option.{same_Some, slice_get_read}
-use Rattle.kin_basics.proofs.Places.{get-set_same, get-set_other}
+use Rattle.kin_basics.proofs.Places.{get-set_same, get-set_other, get_front}
 use Rattle.kin_motion.specs.Deltas.{Change}
 use Rattle.kin_motion.specs.Kinetics.{HasChanged}
 use Rattle.kin_motion.specs.Scene.{Scene}
@@ -12,21 +12,63 @@ use Rattle.kin_env.specs.Nodes.{chain_with, chain_of, merge_from, passed_from, e
 use Rattle.kin_env.specs.Joints.{Leads, IsJoint, IsSettledThere, IsVisited}
 use Rattle.kin_env.specs.Walks.{IsQuieted, IsHeard}
 
+pub chain_read : (ns : List Node) (u : ℕ) (n : Node) → slice_get ns u ≡ Some n → chain_at ns u ≡ chain_of n
+chain_read ns u n e = ap (λ (o : Option Node). chain_with (merge_from o) (passed_from o)) e
+
+get_behind : (xs ys : List Node) (n k : ℕ) → length xs ≡ n → slice_get (xs ++ ys) (n + k) ≡ slice_get ys k
+get_behind [] ys n k e = ap (λ (m : ℕ). slice_get ys m) (omega arith)
+get_behind (x ∷ xs) ys zero k e = absurd (omega arith)
+get_behind (x ∷ xs) ys (suc n) k e =
+    let further : suc n + k ≡ suc (n + k) = omega arith in
+    ap (λ (m : ℕ). slice_get (x ∷ (xs ++ ys)) m) further ∙ get_behind xs ys n k (omega arith)
+
 -- what a node is that is read where it stands
 pub read_there : (ns : List Node) (u : ℕ) (n : Node) → u < length ns → n ≡ get_or ns u n → slice_get ns u ≡ Some n
 read_there ns u n inside e = slice_get_read ns (length ns) u n refl inside e
 
--- and beside a node that was taken out
-pub read_beside : (ns : List Node) (v u : ℕ) (blank n : Node) → u ≢ v → u < length ns → n ≡ get_or (set ns v blank) u n → slice_get ns u ≡ Some n
-read_beside ns v u blank n other inside e = sym (get-set_other ns v u blank other) ∙ read_there (set ns v blank) u n (let k = length-set ns v blank in omega arith) e
+-- the nodes in two pieces: those above the halves of a node, and those from its halves on
+module _ (ns : List Node) (v : ℕ) (some : 0 < v) (room : 2 * v + 1 < length ns) (above below : List Node) (whole : above ++ below ≡ ns) (above_room : length above ≡ 2 * v) where
+  -- what a node is that is read in its piece
+  pub read_above : (n : Node) → n ≡ get_or above v n → slice_get ns v ≡ Some n
+  read_above n e =
+      let wide : v < length above = let k = above_room in omega arith in
+      subst (λ (l : List Node). slice_get l v ≡ Some n) whole (get_front above below v n (slice_get_read above (length above) v n refl wide e))
 
-pub chain_read : (ns : List Node) (u : ℕ) (n : Node) → slice_get ns u ≡ Some n → chain_at ns u ≡ chain_of n
-chain_read ns u n e = ap (λ (o : Option Node). chain_with (merge_from o) (passed_from o)) e
+  below_room : 1 < length below
+  below_room = let e : length (above ++ below) ≡ length ns = ap length whole in let f = length-append above below in let k = above_room in omega arith
 
-module _ (ns : List Node) (v : ℕ) (some : 0 < v) (room : 2 * v + 1 < length ns) (blank n l r visited l' r' left right : Node)
+  at_below : (k : ℕ) → slice_get ns (2 * v + k) ≡ slice_get below k
+  at_below k = sym (ap (λ (l : List Node). slice_get l (2 * v + k)) whole) ∙ get_behind above below (2 * v) k above_room
+
+  pub read_left : (n : Node) → n ≡ get_or below 0 n → slice_get ns (2 * v) ≡ Some n
+  read_left n e = ap (λ (m : ℕ). slice_get ns m) (omega arith) ∙ at_below 0 ∙ slice_get_read below (length below) 0 n refl (let k = below_room in omega arith) e
+
+  pub read_right : (n : Node) → n ≡ get_or below 1 n → slice_get ns (2 * v + 1) ≡ Some n
+  read_right n e = at_below 1 ∙ slice_get_read below (length below) 1 n refl below_room e
+
+  -- the right half, where the left one was changed
+  pub read_right_then : (left n : Node) → n ≡ get_or (set below 0 left) 1 n → slice_get ns (2 * v + 1) ≡ Some n
+  read_right_then left n e =
+      at_below 1 ∙ sym (get-set_other below 0 1 left (omega arith))
+      ∙ slice_get_read (set below 0 left) (length (set below 0 left)) 1 n refl (let k = length-set below 0 left in let m = below_room in omega arith) e
+
+  -- both pieces with three nodes changed, joined again
+  pub joined : (visited left right : Node) → set (set (set ns v visited) (2 * v) left) (2 * v + 1) right ≡ set above v visited ++ set (set below 0 left) 1 right
+  joined visited left right =
+      let wide : v < length above = let k = above_room in omega arith in
+      let front = set above v visited in
+      let front_room : length front ≡ 2 * v = length-set above v visited ∙ above_room in
+      let none : 2 * v - 2 * v ≡ 0 = omega arith in
+      let one : 2 * v + 1 - 2 * v ≡ 1 = omega arith in
+      let first : set ns v visited ≡ front ++ below = ap (λ (l : List Node). set l v visited) (sym whole) ∙ set-append_left above below v visited wide in
+      let second : set (set ns v visited) (2 * v) left ≡ front ++ set below 0 left =
+      ap (λ (l : List Node). set l (2 * v) left) first ∙ set-append_right front below (2 * v) (2 * v) left front_room (omega arith) ∙ ap (λ (k : ℕ). front ++ set below k left) none in
+      ap (λ (l : List Node). set l (2 * v + 1) right) second ∙ set-append_right front (set below 0 left) (2 * v) (2 * v + 1) right front_room (omega arith) ∙ ap (λ (k : ℕ). front ++ set (set below 0 left) k right) one
+
+module _ (ns : List Node) (v : ℕ) (some : 0 < v) (room : 2 * v + 1 < length ns) (above below : List Node) (whole : above ++ below ≡ ns) (above_room : length above ≡ 2 * v) (n l r visited l' r' left right : Node)
     (n_there : slice_get ns v ≡ Some n) (l_there : slice_get ns (2 * v) ≡ Some l) (r_there : slice_get ns (2 * v + 1) ≡ Some r) where
   abbrev with_visited : List Node
-  with_visited = set (set ns v blank) v visited
+  with_visited = set ns v visited
 
   abbrev with_left : List Node
   with_left = set with_visited (2 * v) left
@@ -35,10 +77,10 @@ module _ (ns : List Node) (v : ℕ) (some : 0 < v) (room : 2 * v + 1 < length ns
   with_right = set with_left (2 * v + 1) right
 
   same_room : length with_right ≡ length ns
-  same_room = length-set with_left (2 * v + 1) right ∙ length-set with_visited (2 * v) left ∙ length-set (set ns v blank) v visited ∙ length-set ns v blank
+  same_room = length-set with_left (2 * v + 1) right ∙ length-set with_visited (2 * v) left ∙ length-set ns v visited
 
   before_left : (u : ℕ) → u ≢ v → slice_get with_visited u ≡ slice_get ns u
-  before_left u m = get-set_other (set ns v blank) v u visited m ∙ get-set_other ns v u blank m
+  before_left u m = get-set_other ns v u visited m
 
   others : (u : ℕ) → u ≢ v → u ≢ 2 * v → u ≢ 2 * v + 1 → slice_get with_right u ≡ slice_get ns u
   others u m p q = get-set_other with_left (2 * v + 1) u right q ∙ get-set_other with_visited (2 * v) u left p ∙ before_left u m
@@ -46,15 +88,15 @@ module _ (ns : List Node) (v : ℕ) (some : 0 < v) (room : 2 * v + 1 < length ns
   at_node : slice_get with_right v ≡ Some visited
   at_node =
       get-set_other with_left (2 * v + 1) v right (omega arith) ∙ get-set_other with_visited (2 * v) v left (omega arith)
-      ∙ get-set_same (set ns v blank) v visited (let e = length-set ns v blank in omega arith)
+      ∙ get-set_same ns v visited (omega arith)
 
   at_left : slice_get with_right (2 * v) ≡ Some left
   at_left =
       get-set_other with_left (2 * v + 1) (2 * v) right (omega arith)
-      ∙ get-set_same with_visited (2 * v) left (let e : length with_visited ≡ length ns = length-set (set ns v blank) v visited ∙ length-set ns v blank in omega arith)
+      ∙ get-set_same with_visited (2 * v) left (let e : length with_visited ≡ length ns = length-set ns v visited in omega arith)
 
   at_right : slice_get with_right (2 * v + 1) ≡ Some right
-  at_right = get-set_same with_left (2 * v + 1) right (let e : length with_left ≡ length ns = length-set with_visited (2 * v) left ∙ length-set (set ns v blank) v visited ∙ length-set ns v blank in omega arith)
+  at_right = get-set_same with_left (2 * v + 1) right (let e : length with_left ≡ length ns = length-set with_visited (2 * v) left ∙ length-set ns v visited in omega arith)
 
   quieted : (u : ℕ) (old new : Node) → slice_get ns u ≡ Some old → slice_get with_right u ≡ Some new → new.merge ≡ old.merge → new.passed.items ≡ old.passed.items → new.failed.items ≡ old.failed.items → new.edits.items ≡ []
       → IsQuieted ns with_right u
@@ -66,24 +108,20 @@ module _ (ns : List Node) (v : ℕ) (some : 0 < v) (room : 2 * v + 1 < length ns
   }
 
   -- a half is what it was before its edits were cleared
-  left_was : l' ≡ get_or with_visited (2 * v) l' → l' ≡ l
-  left_was e =
-      same_Some _ _ (sym (read_there with_visited (2 * v) l' (let k : length with_visited ≡ length ns = length-set (set ns v blank) v visited ∙ length-set ns v blank in omega arith) e) ∙ before_left (2 * v) (omega arith) ∙ l_there)
+  left_was : l' ≡ get_or below 0 l' → l' ≡ l
+  left_was e = same_Some _ _ (sym (read_left ns v some room above below whole above_room l' e) ∙ l_there)
 
-  right_was : r' ≡ get_or with_left (2 * v + 1) r' → r' ≡ r
-  right_was e =
-      same_Some _ _
-      (sym (read_there with_left (2 * v + 1) r' (let k : length with_left ≡ length ns = length-set with_visited (2 * v) left ∙ length-set (set ns v blank) v visited ∙ length-set ns v blank in omega arith) e)
-      ∙ get-set_other with_visited (2 * v) (2 * v + 1) left (omega arith) ∙ before_left (2 * v + 1) (omega arith) ∙ r_there)
+  right_was : r' ≡ get_or (set below 0 left) 1 r' → r' ≡ r
+  right_was e = same_Some _ _ (sym (read_right_then ns v some room above below whole above_room left r' e) ∙ r_there)
 
   pub heard : (s : Scene) (before after : Change) → IsVisited v s n visited l r before after
-      → l' ≡ get_or with_visited (2 * v) l' → left.merge ≡ l'.merge → left.passed.items ≡ l'.passed.items → left.failed.items ≡ l'.failed.items → left.edits.items ≡ []
-      → r' ≡ get_or with_left (2 * v + 1) r' → right.merge ≡ r'.merge → right.passed.items ≡ r'.passed.items → right.failed.items ≡ r'.failed.items → right.edits.items ≡ []
-      → IsHeard v s ns with_right before after
+      → l' ≡ get_or below 0 l' → left.merge ≡ l'.merge → left.passed.items ≡ l'.passed.items → left.failed.items ≡ l'.failed.items → left.edits.items ≡ []
+      → r' ≡ get_or (set below 0 left) 1 r' → right.merge ≡ r'.merge → right.passed.items ≡ r'.passed.items → right.failed.items ≡ r'.failed.items → right.edits.items ≡ []
+      → IsHeard v s ns (set above v visited ++ set (set below 0 left) 1 right) before after
   heard s before after w lg lm lp lf le rg rm rp rf re =
       let lw = left_was lg in
       let rw' = right_was rg in
-      record {
+      subst (λ (ws : List Node). IsHeard v s ns ws before after) (joined ns v some room above below whole above_room visited left right) (record {
         room = same_room;
         others = others;
         left = quieted (2 * v) l left l_there at_left (lm ∙ ap (λ (x : Node). x.merge) lw) (lp ∙ ap (λ (x : Node). x.passed.items) lw) (lf ∙ ap (λ (x : Node). x.failed.items) lw) le;
@@ -97,4 +135,4 @@ module _ (ns : List Node) (v : ℕ) (some : 0 < v) (room : 2 * v + 1 < length ns
         failed = ap failed_from at_node ∙ w.failed;
         changed = subst (λ (o : Option Node). HasChanged (facts_at ns v) (facts_with (merge_from o)) before after) (sym at_node)
             (subst (λ (o : Option Node). HasChanged (facts_with (merge_from o)) (facts_with visited.merge) before after) (sym n_there) w.changed);
-      }
+      })

@@ -19,7 +19,6 @@ use kin_num::memory::NoMemory;
 use kin_num::steps::Steps;
 use kin_tourney::doubt::{Doubt, doubt_failed, doubt_path};
 use std::alloc::Global;
-use std::mem::swap;
 use std::sync::ledger::Ledger;
 
 /// A tree over `2^size` slots. Node 1 is the root, node v has the halves 2v and 2v + 1, and slot s
@@ -74,6 +73,31 @@ fn no_points(alloc: Global, count: usize) -> Result<Vec<Node>, NoMemory>
         nodes.push(Node::new(alloc)).map_err(|_| NoMemory)?;
     }
     Ok(nodes)
+}
+
+/// Takes in what has changed of the halves of a node, and lets their edits go. The node stays where it
+/// stands.
+fn visit_among<O: Signs, L: Ledger>(
+    nodes: &mut [Node],
+    alloc: Global,
+    node: usize,
+    now: &O,
+    out: &mut Delta,
+    steps: &mut Steps<L>,
+) -> Result<(), NoMemory>
+    requires real { IsReal (O.scene now.now) }
+    requires some { 0 < node }
+    requires small { node < 2 ^ 32 }
+    requires room { 2 * node + 1 < length nodes.old }
+    requires told { (n l r : Knot) → slice_get nodes.old node ≡ Some n → slice_get nodes.old (2 * node) ≡ Some l → slice_get nodes.old (2 * node + 1) ≡ Some r
+        → IsTold node (O.scene now.now) n l r × IsRestingWith l.merge × IsRestingWith r.merge }
+    ensures { OnOk result (IsHeard node (O.scene now.now) nodes.old nodes.new out.old out.new) }
+{
+    let (above, below) = nodes.split_at_mut(2 * node);
+    above[node].visit(alloc, node as u32, &below[0], &below[1], now, out, steps)?;
+    below[0].edits.clear();
+    below[1].edits.clear();
+    Ok(())
 }
 
 impl Branches {
@@ -268,14 +292,7 @@ impl Branches {
         ensures same { self.new ≡ record self.old { nodes = self.new.nodes } }
         ensures visited { OnOk result (IsHeard node (O.scene now.now) self.old.nodes.items self.new.nodes.items out.old out.new) }
     {
-        let mut visited = Node::new(self.alloc);
-        swap(&mut visited, &mut self.nodes[node]);
-        let (left, right) = (&self.nodes[2 * node], &self.nodes[2 * node + 1]);
-        visited.visit(self.alloc, node as u32, left, right, now, out, steps)?;
-        swap(&mut visited, &mut self.nodes[node]);
-        self.nodes[2 * node].edits.clear();
-        self.nodes[2 * node + 1].edits.clear();
-        Ok(())
+        visit_among(&mut self.nodes, self.alloc, node, now, out, steps)
     }
 
     /// Visits a node where it has work, and clears it. Where its chain has changed, the node above

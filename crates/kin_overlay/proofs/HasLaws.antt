@@ -1,12 +1,12 @@
 -- Which facts a list has.
-use Rattle.std.proofs.Common.{◌≡◌, ◌⊎◌, inl, inr, sym, ap, ◌∙◌, subst, List, [], ◌∷◌, ◌++◌, ℕ, Bool, true, false, nat_eq, map, ℤ, pos, Option, Some, None, Contains}
+use Rattle.std.proofs.Common.{◌≡◌, ◌⊎◌, inl, inr, sym, ap, ◌∙◌, subst, List, [], ◌∷◌, ◌++◌, ℕ, Bool, true, false, map, ℤ, pos, Option, Some, None, Contains}
 use Rattle.std.specs.Prelude.{flat_map, ◌↔◌, IsTrue, option_to_list}
-use Rattle.std.specs.Map.{lookup, keys_of}
-use Rattle.std.specs.List.{IsDistinct}
+use Rattle.std.proofs.lemmas.Bool.{both_ways}
 use Rattle.std.proofs.lemmas.List.Elements.{Contains-append_left, Contains-append_right, Contains-append_cases}
 use Rattle.kin_basics.proofs.Members.{contains_none, contains_head, contains_tail, contains_cases}
 use Rattle.kin_motion.specs.declared.form.Form.TheVariants.{Line, Turn, Slope, Dist}
 use Rattle.kin_motion.specs.declared.fact.Fact.{Fact}
+use Rattle.kin_motion.specs.Numbers.{is_in, IsOnce}
 use Rattle.kin_motion.proofs.SetLaws.{contains_map, contains_mapped}
 use Rattle.kin_overlay.specs.declared.record.Record.{Record}
 use Rattle.kin_overlay.specs.declared.record.Next.{Next}
@@ -14,9 +14,8 @@ use Rattle.kin_overlay.specs.declared.end.End.{End}
 use Rattle.kin_algebra.specs.declared.sign.Sign.{Sign}
 use Rattle.kin_motion.specs.Merges.{Breakpoint, slope_form}
 use Rattle.kin_overlay.specs.Seen.{seen}
-use Rattle.kin_overlay.specs.Layout.{AreKeyed, records_of}
-use Rattle.kin_overlay.specs.Remembered.{Remembered, place_of, turn_fact, slope_facts_of, slope_facts, y_facts, end_facts, facts_of}
-use Rattle.kin_overlay.proofs.LookupLaws.{Entry, found, the-one}
+use Rattle.kin_overlay.specs.Remembered.{Remembered, place_of, left_points, turn_fact, slope_facts_of, slope_facts, y_facts, end_facts, facts_of}
+use Rattle.kin_overlay.proofs.LookupLaws.{in-lefts, same-record}
 
 -- ---- the facts by their kinds
 module _ (m : Remembered) (f : Fact) where
@@ -70,6 +69,19 @@ in-record (q ∷ rs) r f c d = at (contains_cases q r rs c) (λ e. in-record rs 
     at (inl e) rest = Contains-append_left (slope_facts q) (flat_map slope_facts rs) f (subst (λ (z : Record). Contains (slope_facts z) f) (sym e) d)
     at (inr e) rest = Contains-append_right (slope_facts q) (flat_map slope_facts rs) f (rest e)
 
+-- the turn of a record
+pub has-turn : (m : Remembered) (r : Record) (f : Fact) → Contains m.records r → Contains (turn_fact r ∷ []) f → Contains (facts_of m) f
+has-turn m r f c d = at (contains_cases (turn_fact r) f [] d)
+  where
+    at : (turn_fact r ≡ f) ⊎ Contains [] f → Contains (facts_of m) f
+    at (inl e) = subst (λ (g : Fact). Contains (facts_of m) g) e (is-turn m (turn_fact r) (contains_map turn_fact m.records r c))
+    at (inr d) = absurd (contains_none f d)
+
+-- the facts of an end that is an end of the list
+pub has-end : (m : Remembered) (e : End) (f : Fact) → (m.left ≡ Some e) ⊎ (m.right ≡ Some e) → Contains (end_facts (Some e)) f → Contains (facts_of m) f
+has-end m e f (inl q) c = is-left m f (subst (λ (o : Option End). Contains (end_facts o) f) (sym q) c)
+has-end m e f (inr q) c = is-right m f (subst (λ (o : Option End). Contains (end_facts o) f) (sym q) c)
+
 -- the form of a slope fact
 pub slope-is : (e : Breakpoint) (o : Option Next) (f : Fact) → Contains (slope_facts_of e o) f → (k l : ℕ) × (f.form ≡ Slope e.left e.right k l)
 slope-is e None f c = absurd (contains_none f c)
@@ -100,63 +112,64 @@ end-is (Some e) f c = at (contains_cases x_line f (y_facts e.a e.b e.y) c)
     at (inr d) = by-y e.y d
 
 -- ---- what a search finds
-module _ (es : List Entry) (keyed : AreKeyed es) (unique : IsDistinct nat_eq (keys_of es)) (left right : Option End) (f : Fact) where
+module _ (rs : List Record) (once : IsOnce (left_points rs)) (left right : Option End) (f : Fact) where
   abbrev m : Remembered
-  m = record { records = records_of es; left = left; right = right }
+  m = record { records = rs; left = left; right = right }
 
   -- a turn is that of the record at its first number
-  turn-at : (i j k : ℕ) → f.form ≡ Turn i j k → Contains (facts_of m) f → (r : Record) × (lookup (nat_eq i) es ≡ Some r) × (turn_fact r ≡ f)
+  turn-at : (i j k : ℕ) → f.form ≡ Turn i j k → Contains (facts_of m) f → (r : Record) × Contains rs r × (r.at.left ≡ i) × (turn_fact r ≡ f)
   turn-at i j k is c = at (kinds m f c)
     where
-      at : Kinds m f → (r : Record) × (lookup (nat_eq i) es ≡ Some r) × (turn_fact r ≡ f)
+      at : Kinds m f → (r : Record) × Contains rs r × (r.at.left ≡ i) × (turn_fact r ≡ f)
       at (inl (inl d)) =
-          let w = contains_mapped turn_fact (records_of es) f d in
+          let w = contains_mapped turn_fact rs f d in
           let same : Turn i j k ≡ Turn w.0.at.left w.0.at.right w.0.across = sym is ∙ ap (λ (g : Fact). g.form) w.2 in
           let first : w.0.at.left ≡ i = cc in
-          (w.0, subst (λ (n : ℕ). lookup (nat_eq n) es ≡ Some w.0) first (the-one es w.0 keyed unique w.1), sym w.2)
+          (w.0, w.1, first, sym w.2)
       at (inl (inr d)) =
-          let w = of-record (records_of es) f d in
+          let w = of-record rs f d in
           let v = slope-is (place_of w.0) w.0.next f w.2 in
           absurd (let clash : Turn i j k ≡ Slope w.0.at.left w.0.at.right v.0 v.1 = sym is ∙ v.2 in cc)
       at (inr (inl d)) = let v = end-is left f d in absurd (let clash : Turn i j k ≡ Line v.0 v.1 (pos 0) v.2 v.3 = sym is ∙ v.4 in cc)
       at (inr (inr d)) = let v = end-is right f d in absurd (let clash : Turn i j k ≡ Line v.0 v.1 (pos 0) v.2 v.3 = sym is ∙ v.4 in cc)
 
   -- a slope is that of the record at its first number
-  slope-at : (i j k l : ℕ) → f.form ≡ Slope i j k l → Contains (facts_of m) f → (r : Record) × (lookup (nat_eq i) es ≡ Some r) × Contains (slope_facts r) f
+  slope-at : (i j k l : ℕ) → f.form ≡ Slope i j k l → Contains (facts_of m) f → (r : Record) × Contains rs r × (r.at.left ≡ i) × Contains (slope_facts r) f
   slope-at i j k l is c = at (kinds m f c)
     where
-      at : Kinds m f → (r : Record) × (lookup (nat_eq i) es ≡ Some r) × Contains (slope_facts r) f
+      at : Kinds m f → (r : Record) × Contains rs r × (r.at.left ≡ i) × Contains (slope_facts r) f
       at (inl (inl d)) =
-          let w = contains_mapped turn_fact (records_of es) f d in
+          let w = contains_mapped turn_fact rs f d in
           absurd (let clash : Slope i j k l ≡ Turn w.0.at.left w.0.at.right w.0.across = sym is ∙ ap (λ (g : Fact). g.form) w.2 in cc)
       at (inl (inr d)) =
-          let w = of-record (records_of es) f d in
+          let w = of-record rs f d in
           let v = slope-is (place_of w.0) w.0.next f w.2 in
           let same : Slope i j k l ≡ Slope w.0.at.left w.0.at.right v.0 v.1 = sym is ∙ v.2 in
           let first : w.0.at.left ≡ i = cc in
-          (w.0, subst (λ (n : ℕ). lookup (nat_eq n) es ≡ Some w.0) first (the-one es w.0 keyed unique w.1), w.2)
+          (w.0, w.1, first, w.2)
       at (inr (inl d)) = let v = end-is left f d in absurd (let clash : Slope i j k l ≡ Line v.0 v.1 (pos 0) v.2 v.3 = sym is ∙ v.4 in cc)
       at (inr (inr d)) = let v = end-is right f d in absurd (let clash : Slope i j k l ≡ Line v.0 v.1 (pos 0) v.2 v.3 = sym is ∙ v.4 in cc)
 
-  one_record : (i : ℕ) (r q : Record) → lookup (nat_eq i) es ≡ Some r → lookup (nat_eq i) es ≡ Some q → q ≡ r
-  one_record i r q e d = let same : Some q ≡ Some r = sym d ∙ e in cc
+  -- no record has the point on its left
+  nowhere : (i : ℕ) → is_in i (left_points rs) ≡ false → (r : Record) → Contains rs r → r.at.left ≡ i → IsTrue false
+  nowhere i none r c e = absurd (both_ways (is_in i (left_points rs)) none (ap (λ (n : ℕ). is_in n (left_points rs)) (sym e) ∙ in-lefts rs r c))
 
-  pub turn-found : (i j k : ℕ) → f.form ≡ Turn i j k → (r : Record) → Some r ≡ lookup (nat_eq i) es → (g : Fact) → g ≡ turn_fact r → (b : Bool) → IsTrue b ↔ (g ≡ f) → IsTrue b ↔ Contains (facts_of m) f
-  turn-found i j k is r e g own b test = (
-    λ t. is-turn m f (subst (λ (h : Fact). Contains (map turn_fact (records_of es)) h) (sym own ∙ test.0 t) (contains_map turn_fact (records_of es) r (found es i r keyed (sym e)).0)),
-    λ c. let w = turn-at i j k is c in test.1 (own ∙ ap turn_fact (sym (one_record i r w.0 (sym e) w.1)) ∙ w.2),
+  pub turn-found : (i j k : ℕ) → f.form ≡ Turn i j k → (r : Record) → Contains rs r → r.at.left ≡ i → (g : Fact) → g ≡ turn_fact r → (b : Bool) → IsTrue b ↔ (g ≡ f) → IsTrue b ↔ Contains (facts_of m) f
+  turn-found i j k is r there e g own b test = (
+    λ t. is-turn m f (subst (λ (h : Fact). Contains (map turn_fact rs) h) (sym own ∙ test.0 t) (contains_map turn_fact rs r there)),
+    λ c. let w = turn-at i j k is c in test.1 (own ∙ ap turn_fact (same-record rs r w.0 once there w.1 (e ∙ sym w.2)) ∙ w.3),
   )
 
-  pub turn-missing : (i j k : ℕ) → f.form ≡ Turn i j k → None ≡ lookup (nat_eq i) es → IsTrue false ↔ Contains (facts_of m) f
-  turn-missing i j k is e = (
+  pub turn-missing : (i j k : ℕ) → f.form ≡ Turn i j k → is_in i (left_points rs) ≡ false → IsTrue false ↔ Contains (facts_of m) f
+  turn-missing i j k is none = (
     λ t. absurd (let clash : false ≡ true = t in cc),
-    λ c. let w = turn-at i j k is c in absurd (let clash : None ≡ Some w.0 = e ∙ w.1 in cc),
+    λ c. let w = turn-at i j k is c in nowhere i none w.0 w.1 w.2,
   )
 
-  pub slope-found : (i j k l : ℕ) → f.form ≡ Slope i j k l → (r : Record) → Some r ≡ lookup (nat_eq i) es → (o : Option Fact) → option_to_list o ≡ slope_facts r → (b : Bool) → IsTrue b ↔ (o ≡ Some f) → IsTrue b ↔ Contains (facts_of m) f
-  slope-found i j k l is r e o own b test = (
-    λ t. is-slope m f (in-record (records_of es) r f (found es i r keyed (sym e)).0 (subst (λ (fs : List Fact). Contains fs f) (ap (λ (q : Option Fact). option_to_list q) (sym (test.0 t)) ∙ own) (contains_head f []))),
-    λ c. let w = slope-at i j k l is c in test.1 (only o (subst (λ (fs : List Fact). Contains fs f) (ap slope_facts (one_record i r w.0 (sym e) w.1) ∙ sym own) w.2)),
+  pub slope-found : (i j k l : ℕ) → f.form ≡ Slope i j k l → (r : Record) → Contains rs r → r.at.left ≡ i → (o : Option Fact) → option_to_list o ≡ slope_facts r → (b : Bool) → IsTrue b ↔ (o ≡ Some f) → IsTrue b ↔ Contains (facts_of m) f
+  slope-found i j k l is r there e o own b test = (
+    λ t. is-slope m f (in-record rs r f there (subst (λ (fs : List Fact). Contains fs f) (ap (λ (q : Option Fact). option_to_list q) (sym (test.0 t)) ∙ own) (contains_head f []))),
+    λ c. let w = slope-at i j k l is c in test.1 (only o (subst (λ (fs : List Fact). Contains fs f) (ap slope_facts (sym (same-record rs r w.0 once there w.1 (e ∙ sym w.2))) ∙ sym own) w.3)),
   )
     where
       only : (q : Option Fact) → Contains (option_to_list q) f → q ≡ Some f
@@ -167,10 +180,10 @@ module _ (es : List Entry) (keyed : AreKeyed es) (unique : IsDistinct nat_eq (ke
           at (inl q) = ap (λ (h : Fact). Some h) q
           at (inr d) = absurd (contains_none f d)
 
-  pub slope-missing : (i j k l : ℕ) → f.form ≡ Slope i j k l → None ≡ lookup (nat_eq i) es → IsTrue false ↔ Contains (facts_of m) f
-  slope-missing i j k l is e = (
+  pub slope-missing : (i j k l : ℕ) → f.form ≡ Slope i j k l → is_in i (left_points rs) ≡ false → IsTrue false ↔ Contains (facts_of m) f
+  slope-missing i j k l is none = (
     λ t. absurd (let clash : false ≡ true = t in cc),
-    λ c. let w = slope-at i j k l is c in absurd (let clash : None ≡ Some w.0 = e ∙ w.1 in cc),
+    λ c. let w = slope-at i j k l is c in nowhere i none w.0 w.1 w.2,
   )
 
   -- a line is that of an end
@@ -179,10 +192,10 @@ module _ (es : List Entry) (keyed : AreKeyed es) (unique : IsDistinct nat_eq (ke
     where
       at : Kinds m f → Contains (end_facts left) f ⊎ Contains (end_facts right) f
       at (inl (inl d)) =
-          let w = contains_mapped turn_fact (records_of es) f d in
+          let w = contains_mapped turn_fact rs f d in
           absurd (let clash : Line dx dy off i j ≡ Turn w.0.at.left w.0.at.right w.0.across = sym is ∙ ap (λ (g : Fact). g.form) w.2 in cc)
       at (inl (inr d)) =
-          let w = of-record (records_of es) f d in
+          let w = of-record rs f d in
           let v = slope-is (place_of w.0) w.0.next f w.2 in
           absurd (let clash : Line dx dy off i j ≡ Slope w.0.at.left w.0.at.right v.0 v.1 = sym is ∙ v.2 in cc)
       at (inr d) = d
@@ -205,10 +218,10 @@ module _ (es : List Entry) (keyed : AreKeyed es) (unique : IsDistinct nat_eq (ke
 
       at : Kinds m f → IsTrue false
       at (inl (inl d)) =
-          let w = contains_mapped turn_fact (records_of es) f d in
+          let w = contains_mapped turn_fact rs f d in
           absurd (let clash : Dist i j k l ≡ Turn w.0.at.left w.0.at.right w.0.across = sym is ∙ ap (λ (g : Fact). g.form) w.2 in cc)
       at (inl (inr d)) =
-          let w = of-record (records_of es) f d in
+          let w = of-record rs f d in
           let v = slope-is (place_of w.0) w.0.next f w.2 in
           absurd (let clash : Dist i j k l ≡ Slope w.0.at.left w.0.at.right v.0 v.1 = sym is ∙ v.2 in cc)
       at (inr (inl d)) = by-end left d

@@ -8,4 +8,5 @@ pub mod StepLaws
 pub mod WalkLaws
 pub mod FactLaws
 pub mod SoundLaws
+pub mod StandingLaws
 pub mod ApartLaws

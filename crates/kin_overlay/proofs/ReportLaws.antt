@@ -1,17 +1,19 @@
 -- What is told is what is missing.
-use Rattle.std.proofs.Common.{◌≡◌, ◌⊎◌, inl, inr, refl, sym, ap, ◌∙◌, subst, List, [], ◌∷◌, ◌++◌, ℕ, ◌+◌, map, take, Some, Contains}
+use Rattle.std.proofs.Common.{◌≡◌, ◌⊎◌, inl, inr, refl, sym, ap, ◌∙◌, subst, arith, List, [], ◌∷◌, ◌++◌, ℕ, zero, suc, ◌+◌, ◌-◌, ◌<◌, ◌≤◌, length, map, take, Some, Contains}
 use Rattle.std.specs.Prelude.{slice_get, flat_map}
-use Rattle.std.proofs.lemmas.List.{append-nil, append_assoc, take_more}
+use Rattle.std.proofs.lemmas.List.{append-nil, append_assoc, take_more, take_all}
 use Rattle.std.proofs.lemmas.Option.{slice_get_within, get_or_from_slice_get}
-use Rattle.kin_basics.proofs.Members.{contains_none, contains_head, contains_tail, contains_cases}
+use Rattle.kin_basics.proofs.Members.{contains_none, contains_head, contains_tail, contains_cases, contains_from_get}
+use Rattle.kin_basics.proofs.Places.{get_within}
 use Rattle.kin_motion.specs.declared.fact.Fact.{Fact}
 use Rattle.kin_motion.specs.declared.fact.Placed.{Placed}
 use Rattle.kin_motion.specs.Sets.{AreDistinct}
 use Rattle.kin_motion.specs.Kinetics.{HasGained}
 use Rattle.kin_motion.proofs.SetLaws.{contains_map, contains_mapped, distinct_head, distinct_tail, exactly_none, exactly_one, exactly_both, exactly_in_words}
 use Rattle.kin_overlay.specs.declared.record.Record.{Record}
+use Rattle.kin_overlay.specs.declared.shared.Shared.{Shared}
 use Rattle.kin_overlay.specs.Remembered.{placed, all_placed}
-use Rattle.kin_overlay.specs.Reports.{IsToldOne, IsTold}
+use Rattle.kin_overlay.specs.Reports.{AreShared, IsToldOne, IsTold}
 
 module _ (part : ℕ) (known : List Fact) where
   pub told-append : (fs gs : List Fact) (before middle after : List Placed) → IsTold part known fs before middle → IsTold part known gs middle after → IsTold part known (fs ++ gs) before after
@@ -43,6 +45,47 @@ module _ (part : ℕ) (known : List Fact) where
       let all = told-append (map g (take n rs)) (g r ∷ []) before middle after t (subst (λ (l : Fact). IsTold part known (l ∷ []) middle after) own u) in
       let next : map g (take (n + 1) rs) ≡ map g (take n rs) ++ g r ∷ [] = ap (λ (l : List Record). map g l) (more rs n r at) ∙ map-append g (take n rs) (r ∷ []) in
       subst (λ (l : List Fact). IsTold part known l before after) (sym next) all
+
+  -- nothing is told of facts that are known
+  pub all-known : (fs : List Fact) (after : List Placed) → ((f : Fact) → Contains fs f → Contains known f) → IsTold part known fs after after
+  all-known [] after k = refl
+  all-known (f ∷ fs) after k = (after, inl (k f (contains_head f fs), refl), all-known fs after (λ g c. k g (contains_tail f g fs c)))
+
+  -- nor of further records, whose facts are known
+  further : (g : Record → List Fact) (rs : List Record) (n k : ℕ) (before after : List Placed) → n + k ≤ length rs
+      → ((j : ℕ) (r : Record) (f : Fact) → n ≤ j → j < n + k → slice_get rs j ≡ Some r → Contains (g r) f → Contains known f)
+      → IsTold part known (flat_map g (take n rs)) before after → IsTold part known (flat_map g (take (n + k) rs)) before after
+  further g rs n zero before after room h t = subst (λ (m : ℕ). IsTold part known (flat_map g (take m rs)) before after) (omega arith) t
+  further g rs n (suc k) before after room h t =
+      let here = get_within rs (n + k) (omega arith) in
+      let earlier = further g rs n k before after (omega arith) (λ j r f low high. h j r f low (omega arith)) t in
+      subst (λ (m : ℕ). IsTold part known (flat_map g (take m rs)) before after) (omega arith)
+      (told-flat g rs (n + k) here.0 (g here.0) before after after here.1 refl earlier (all-known (g here.0) after (λ f c. h (n + k) here.0 f (omega arith) (omega arith) here.1 c)))
+
+  -- ---- the records that another list shares, all of whose facts are known
+  module _ (w : Shared) (rs others : List Record) (shared : AreShared w rs others) where
+    pub told-front : (g : Record → List Fact) (told : List Placed) → ((r : Record) (f : Fact) → Contains others r → Contains (g r) f → Contains known f) → IsTold part known (flat_map g (take w.front rs)) told told
+    told-front g told own =
+        let room = shared.room in
+        let all : 0 + w.front ≡ w.front = omega arith in
+        subst (λ (m : ℕ). IsTold part known (flat_map g (take m rs)) told told) all
+        (further g rs 0 w.front told told (omega arith) (λ j r f low high at c. own r f (contains_from_get others j r (sym (shared.front_is j (omega arith)) ∙ at)) c) refl)
+
+    pub told-back : (g : Record → List Fact) (n : ℕ) (before after : List Placed) → ((r : Record) (f : Fact) → Contains others r → Contains (g r) f → Contains known f) → n + w.back ≡ length rs
+        → IsTold part known (flat_map g (take n rs)) before after → IsTold part known (flat_map g rs) before after
+    told-back g n before after own e t =
+        subst (λ (l : List Record). IsTold part known (flat_map g l) before after) (take_all (n + w.back) rs (omega arith))
+        (further g rs n w.back before after (omega arith) (λ j r f low high at c. own r f (at-end j r low high at) c) t)
+      where
+        at-end : (j : ℕ) (r : Record) → n ≤ j → j < n + w.back → slice_get rs j ≡ Some r → Contains others r
+        at-end j r low high at =
+            let k = length rs - (j + 1) in
+            let here : length rs - (k + 1) ≡ j = omega arith in
+            contains_from_get others (length others - (k + 1)) r (sym (shared.back_is k (omega arith)) ∙ ap (λ (m : ℕ). slice_get rs m) here ∙ at)
+
+  pub map-flat : (g : Record → Fact) (rs : List Record) → flat_map (λ r. g r ∷ []) rs ≡ map g rs
+  map-flat g [] = refl
+  map-flat g (r ∷ rs) = ap (λ (l : List Fact). g r ∷ l) (map-flat g rs)
 
   same_fact : (f g : Fact) → placed part f ≡ placed part g → f ≡ g
   same_fact f g e = ap (λ (p : Placed). p.fact) e

@@ -1,11 +1,11 @@
 pub mod Lists
 pub mod Seen
 pub mod Remembered
-pub mod Layout
 pub mod Fingers
 pub mod Reports
 pub mod Walks
 pub mod Diffs
 pub mod Overlays
 pub mod Sound
+pub mod Standings
 pub mod OverlayLaws

@@ -1,6 +1,6 @@
 //! Breakpoints of chains.
 
-ghost use Rattle.std.specs.Prelude.{◌≡◌, option_map};
+ghost use Rattle.std.specs.Prelude.{◌≡◌, ◌↔◌, IsTrue, option_map};
 ghost use Rattle.kin_motion.specs.declared.form.Form.TheVariants.{Turn};
 ghost use Rattle.kin_motion.specs.Merges.{breakpoints_of, slope_form};
 ghost use Rattle.kin_overlay.specs.Lists.{first_of};
@@ -30,6 +30,13 @@ impl Breakpoint {
             left: chain[0],
             right: chain[1],
         })
+    }
+
+    /// Whether it is the same breakpoint.
+    pub fn is(self, other: Breakpoint) -> bool
+        ensures { IsTrue result ↔ (self ≡ other) }
+    {
+        self.half == other.half && self.left == other.left && self.right == other.right
     }
 
     /// The form that is positive where the point lies above the line through both.

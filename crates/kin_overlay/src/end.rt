@@ -1,6 +1,6 @@
 //! What is remembered at an outer end.
 
-ghost use Rattle.std.specs.Prelude.{◌≡◌, pos, option_to_list};
+ghost use Rattle.std.specs.Prelude.{◌≡◌, ◌↔◌, IsTrue, pos, option_to_list};
 ghost use Rattle.kin_motion.specs.declared.form.Form.TheVariants.{Line};
 ghost use Rattle.kin_overlay.specs.Remembered.{y_facts};
 
@@ -48,6 +48,13 @@ pub struct End {
 }
 
 impl End {
+    /// Whether it is the same end, with the same signs.
+    pub fn is(self, other: End) -> bool
+        ensures { IsTrue result ↔ (self ≡ other) }
+    {
+        self.a == other.a && self.b == other.b && self.x == other.x && are_same(self.y, other.y)
+    }
+
     /// The fact by x.
     pub fn x_fact(&self) -> Fact
         ensures { result ≡ record { form = Line (pos 1) (pos 0) (pos 0) self.now.a self.now.b; sign = self.now.x } }
@@ -67,5 +74,16 @@ impl End {
             form: y_line(self.a, self.b),
             sign,
         })
+    }
+}
+
+/// Whether neither sign was asked, or they are the same.
+fn are_same(one: Option<Sign>, other: Option<Sign>) -> bool
+    ensures { IsTrue result ↔ (one ≡ other) }
+{
+    match (one, other) {
+        (Some(one), Some(other)) => one == other,
+        (None, None) => true,
+        _ => false,
     }
 }

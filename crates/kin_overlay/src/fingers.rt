@@ -2,17 +2,21 @@
 
 ghost use Rattle.std.specs.Prelude.{◌≡◌, ◌<◌, ◌+◌, ◌≤◌, true, length, Some, OnOk};
 ghost use Rattle.kin_motion.specs.Numbers.{IsIn, IsOnce};
-ghost use Rattle.kin_motion.specs.Scene.{IsReal};
-ghost use Rattle.kin_motion.specs.Merges.{Half.{A, B}, other_current, breakpoints_of};
+ghost use Rattle.kin_motion.specs.Scene.{IsReal, x_sign};
+ghost use Rattle.kin_motion.specs.declared.form.Form.TheVariants.{Turn};
+ghost use Rattle.kin_motion.specs.Forms.{IsAskable};
+ghost use Rattle.kin_motion.specs.Merges.{Half.{A, B}, other_current, breakpoints_of, slope_form};
 ghost use Rattle.kin_overlay.specs.Fingers.{chain_of, passed, IsChosen, IsPick, next_of, end_at, IsMerged, AreLive, AreLess, IsBreakpointOf};
 ghost use Rattle.kin_overlay.specs.Lists.{front};
 ghost use Rattle.kin_overlay.specs.Seen.{half_of, seen};
+ghost use Rattle.kin_overlay.specs.Standings.{StandIn};
 
 use crate::breakpoint::Breakpoint;
 use crate::end::{End, x_line, y_line};
 use crate::half::Half;
 use crate::list::BreakpointList;
 use crate::record::{Next, Record};
+use crate::standing::Standing;
 use kin_motion::signs::Signs;
 use kin_num::Sign;
 use kin_num::memory::NoMemory;
@@ -27,16 +31,68 @@ struct Pick {
     rival: Option<Next>,
 }
 
-/// Of a breakpoint of A and one of B, the one that comes first in the list.
-fn choose<O: Signs, L: Ledger>(a: Breakpoint, b: Breakpoint, now: &O, steps: &mut Steps<L>) -> Pick
+/// The sign of the slope form of two breakpoints. It isn't asked where it is remembered at this place
+/// and stands.
+fn slope_sign<O: Signs, L: Ledger>(
+    a: Breakpoint,
+    b: Breakpoint,
+    standing: &Standing,
+    place: usize,
+    now: &O,
+    steps: &mut Steps<L>,
+) -> Sign
     requires real { IsReal (O.scene now.now) }
+    requires standing { StandIn (O.scene now.now) standing.now }
+    requires a_live { IsBreakpointOf (O.scene now.now).live a }
+    requires b_live { IsBreakpointOf (O.scene now.now).live b }
+    ensures { result ≡ (O.scene now.now).sign (slope_form (seen a) (seen b)) }
+{
+    if let Some(sign) = standing.slope(place, a, b) {
+        return sign;
+    }
+    if let Some(sign) = standing.slope(place, b, a) {
+        return sign.opposite();
+    }
+    now.sign(&a.slope(b), steps)
+}
+
+/// The sign of a turn. It isn't asked where it is remembered at this place and stands.
+fn turn_sign<O: Signs, L: Ledger>(
+    at: Breakpoint,
+    across: u32,
+    standing: &Standing,
+    place: usize,
+    now: &O,
+    steps: &mut Steps<L>,
+) -> Sign
+    requires standing { StandIn (O.scene now.now) standing.now }
+    requires askable { IsAskable (O.scene now.now).live (Turn at.left at.right across) }
+    ensures { result ≡ (O.scene now.now).sign (Turn at.left at.right across) }
+{
+    match standing.turn(place, at, across) {
+        Some(sign) => sign,
+        None => now.sign(&at.turn(across), steps),
+    }
+}
+
+/// Of a breakpoint of A and one of B, the one that comes first in the list.
+fn choose<O: Signs, L: Ledger>(
+    a: Breakpoint,
+    b: Breakpoint,
+    standing: &Standing,
+    place: usize,
+    now: &O,
+    steps: &mut Steps<L>,
+) -> Pick
+    requires real { IsReal (O.scene now.now) }
+    requires standing { StandIn (O.scene now.now) standing.now }
     requires a_half { (seen a).half ≡ A }
     requires b_half { (seen b).half ≡ B }
     requires a_live { IsBreakpointOf (O.scene now.now).live a }
     requires b_live { IsBreakpointOf (O.scene now.now).live b }
     ensures { IsChosen (O.scene now.now) (seen a) (seen b) result }
 {
-    let slope = now.sign(&a.slope(b), steps);
+    let slope = slope_sign(a, b, standing, place, now, steps);
     match slope {
         Sign::Minus => Pick {
             at: b,
@@ -52,20 +108,24 @@ fn choose<O: Signs, L: Ledger>(a: Breakpoint, b: Breakpoint, now: &O, steps: &mu
     }
 }
 
-/// The first of the breakpoints of both chains, if there is one.
+/// The first of the breakpoints of both chains, if there is one. It is expected at this place of what
+/// is remembered.
 fn pick_next<O: Signs, L: Ledger>(
     a: &[u32],
     b: &[u32],
+    standing: &Standing,
+    place: usize,
     now: &O,
     steps: &mut Steps<L>,
 ) -> Option<Pick>
     requires real { IsReal (O.scene now.now) }
+    requires standing { StandIn (O.scene now.now) standing.now }
     requires a_live { AreLive (O.scene now.now).live a.now }
     requires b_live { AreLive (O.scene now.now).live b.now }
     ensures { IsPick (O.scene now.now) a.now b.now result }
 {
     match (Breakpoint::first(Half::A, a), Breakpoint::first(Half::B, b)) {
-        (Some(e), Some(f)) => Some(choose(e, f, now, steps)),
+        (Some(e), Some(f)) => Some(choose(e, f, standing, place, now, steps)),
         (Some(e), None) => Some(Pick { at: e, rival: None }),
         (None, Some(f)) => Some(Pick { at: f, rival: None }),
         (None, None) => None,
@@ -113,13 +173,39 @@ fn pass<'a>(half: Half, a: &'a [u32], b: &'a [u32]) -> (&'a [u32], &'a [u32])
     }
 }
 
+/// The sign by x of an outer end. It isn't asked where it is remembered and stands.
+fn end_sign<O: Signs, L: Ledger>(
+    a: u32,
+    b: u32,
+    standing: &Standing,
+    now: &O,
+    steps: &mut Steps<L>,
+) -> Sign
+    requires standing { StandIn (O.scene now.now) standing.now }
+    requires a_live { IsIn a (O.scene now.now).live }
+    requires b_live { IsIn b (O.scene now.now).live }
+    ensures { result ≡ x_sign (O.scene now.now) a b }
+{
+    match standing.x_sign(a, b) {
+        Some(sign) => sign,
+        None => now.sign(&x_line(a, b), steps),
+    }
+}
+
 /// An outer end with these points.
-fn end_of<O: Signs, L: Ledger>(a: u32, b: u32, now: &O, steps: &mut Steps<L>) -> End
+fn end_of<O: Signs, L: Ledger>(
+    a: u32,
+    b: u32,
+    standing: &Standing,
+    now: &O,
+    steps: &mut Steps<L>,
+) -> End
+    requires standing { StandIn (O.scene now.now) standing.now }
     requires a_live { IsIn a (O.scene now.now).live }
     requires b_live { IsIn b (O.scene now.now).live }
     ensures { result ≡ end_at (O.scene now.now) a b }
 {
-    let x = now.sign(&x_line(a, b), steps);
+    let x = end_sign(a, b, standing, now, steps);
     let y = match x {
         Sign::Zero => Some(now.sign(&y_line(a, b), steps)),
         Sign::Minus | Sign::Plus => None,
@@ -128,11 +214,12 @@ fn end_of<O: Signs, L: Ledger>(a: u32, b: u32, now: &O, steps: &mut Steps<L>) ->
 }
 
 impl BreakpointList {
-    /// Makes the list of two chains anew.
+    /// Makes the list of two chains anew. Of the signs that are remembered and stand none is asked.
     pub fn merge<O: Signs, L: Ledger>(
         &mut self,
         a: &[u32],
         b: &[u32],
+        standing: &Standing,
         now: &O,
         steps: &mut Steps<L>,
     ) -> Result<(), NoMemory>
@@ -144,17 +231,23 @@ impl BreakpointList {
         requires a_once { IsOnce a.now }
         requires b_once { IsOnce b.now }
         requires less { AreLess a.now b.now }
+        requires standing { StandIn (O.scene now.now) standing.now }
         ensures { OnOk result (IsMerged (O.scene now.now) a.now b.now self.new) }
     {
         self.clear();
-        let left = end_of(a[0], b[0], now, steps);
+        let left = end_of(a[0], b[0], standing, now, steps);
         let (mut first, mut second) = (a, b);
-        let mut next = pick_next(a, b, now, steps);
+        let mut place = 0;
+        let mut next = pick_next(a, b, standing, place, now, steps);
         while let Some(picked) = next {
             let across = across(picked.at.half, first, second);
-            let turn = now.sign(&picked.at.turn(across), steps);
+            let found = standing.find(place, picked.at.left);
+            let turn = turn_sign(picked.at, across, standing, found, now, steps);
+            if found < standing.list.len() {
+                place = found + 1;
+            }
             (first, second) = pass(picked.at.half, first, second);
-            next = pick_next(first, second, now, steps);
+            next = pick_next(first, second, standing, place, now, steps);
             self.push(Record {
                 at: picked.at,
                 across,
@@ -165,7 +258,7 @@ impl BreakpointList {
         let right = if self.len() == 0 {
             None
         } else {
-            Some(end_of(first[0], second[0], now, steps))
+            Some(end_of(first[0], second[0], standing, now, steps))
         };
         self.set_ends(left, right);
         Ok(())

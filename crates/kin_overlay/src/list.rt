@@ -1,12 +1,11 @@
 //! The list of breakpoints with what is remembered.
 
-ghost use Rattle.std.specs.Prelude.{◌≡◌, ◌<◌, ◌↔◌, false, [], ◌∷◌, ◌++◌, Some, None, Contains, length, slice_get, IsTrue, OnOk};
+ghost use Rattle.std.specs.Prelude.{◌≡◌, ◌⊎◌, ◌<◌, ◌↔◌, false, [], ◌∷◌, ◌++◌, Some, None, Contains, MatchOption, length, slice_get, IsTrue, OnOk};
 ghost use Rattle.kin_motion.specs.Numbers.{is_in};
 ghost use Rattle.kin_overlay.specs.Remembered.{facts_of, left_points, end_facts};
 
 use crate::end::End;
 use crate::record::Record;
-use indexmap::IndexMap;
 use kin_motion::fact::Fact;
 use kin_motion::form::Form;
 use kin_num::memory::NoMemory;
@@ -17,24 +16,22 @@ use std::marker::Model;
 /// the signs that are remembered at each and at both outer ends.
 #[derive(Drop)]
 pub struct BreakpointList {
-    /// In the order of the list, each found by its left point.
-    records: IndexMap<u32, Record>,
+    /// In the order of the list. No two have the same left point.
+    records: Vec<Record>,
     left: Option<End>,
     /// None where both ends are one, as each chain has one point.
     right: Option<End>,
 }
 
 impl Model for BreakpointList {
-    ghost use Rattle.std.specs.Prelude.{nat_eq};
-    ghost use Rattle.indexmap.specs.IndexMap.{IsUnique};
-    ghost use Rattle.kin_overlay.specs.Remembered.{Remembered};
-    ghost use Rattle.kin_overlay.specs.Layout.{AreKeyed, records_of};
+    ghost use Rattle.kin_motion.specs.Numbers.{IsOnce};
+    ghost use Rattle.kin_overlay.specs.Remembered.{Remembered, left_points};
 
     ghost Value = { Remembered };
 
-    ghost view = { λ l. record { records = records_of l.records.entries; left = l.left; right = l.right } };
+    ghost view = { λ l. record { records = l.records.items; left = l.left; right = l.right } };
 
-    ghost invariant = { λ l. AreKeyed l.records.entries × IsUnique nat_eq l.records };
+    ghost invariant = { λ l. IsOnce (left_points l.records.items) };
 }
 
 impl BreakpointList {
@@ -43,7 +40,7 @@ impl BreakpointList {
         ensures { result ≡ record { records = []; left = None; right = None } }
     {
         BreakpointList {
-            records: IndexMap::new(alloc),
+            records: Vec::new(alloc),
             left: None,
             right: None,
         }
@@ -70,10 +67,7 @@ impl BreakpointList {
         requires { place < length self.now.records }
         ensures { slice_get self.now.records place ≡ Some result.now }
     {
-        match self.records.get_index(place) {
-            Some((_, record)) => record,
-            None => unreachable!(),
-        }
+        &self.records[place]
     }
 
     /// Puts a breakpoint at the end of the list.
@@ -81,7 +75,7 @@ impl BreakpointList {
         requires new { is_in noted.at.left (left_points self.old.records) ≡ false }
         ensures pushed { OnOk result (self.new ≡ record self.old { records = self.old.records ++ noted ∷ [] }) }
     {
-        let Ok(_) = self.records.insert(noted.at.left, noted) else {
+        let Ok(()) = self.records.push(noted) else {
             return Err(NoMemory);
         };
         Ok(())
@@ -107,16 +101,23 @@ impl BreakpointList {
         self.right
     }
 
-    /// Whether the fact is remembered.
-    pub fn has(&self, fact: Fact) -> bool
+    /// Whether one of the outer ends is this one, with the same signs.
+    pub fn has_end(&self, end: End) -> bool
+        ensures { IsTrue result → (self.now.left ≡ Some end) ⊎ (self.now.right ≡ Some end) }
+    {
+        is_end(self.left, end) || is_end(self.right, end)
+    }
+
+    /// Whether the fact is remembered. The search begins at this place.
+    pub fn has(&self, fact: Fact, place: usize) -> bool
         ensures { IsTrue result ↔ Contains (facts_of self.now) fact }
     {
         match fact.form {
-            Form::Turn { i, .. } => match self.records.get(&i) {
+            Form::Turn { i, .. } => match find(&self.records, i, place) {
                 Some(record) => record.turn_fact().is(fact),
                 None => false,
             },
-            Form::Slope { i, .. } => match self.records.get(&i) {
+            Form::Slope { i, .. } => match find(&self.records, i, place) {
                 Some(record) => is_the(record.slope_fact(), fact),
                 None => false,
             },
@@ -126,12 +127,39 @@ impl BreakpointList {
     }
 }
 
+/// The breakpoint with this left point, if there is one. The search begins at this place.
+fn find(records: &[Record], left: u32, place: usize) -> Option<&Record>
+    ensures { MatchOption result
+        (is_in left (left_points records.now) ≡ false)
+        (λ found. Contains records.now found.now × (found.now.at.left ≡ left)) }
+{
+    if place < records.len() && records[place].at.left == left {
+        return Some(&records[place]);
+    }
+    for record in records {
+        if record.at.left == left {
+            return Some(record);
+        }
+    }
+    None
+}
+
 /// Whether it is this fact.
 fn is_the(known: Option<Fact>, fact: Fact) -> bool
     ensures { IsTrue result ↔ (known ≡ Some fact) }
 {
     match known {
         Some(known) => known.is(fact),
+        None => false,
+    }
+}
+
+/// Whether it is this end.
+fn is_end(known: Option<End>, end: End) -> bool
+    ensures { IsTrue result ↔ (known ≡ Some end) }
+{
+    match known {
+        Some(known) => known.is(end),
         None => false,
     }
 }

@@ -15,11 +15,13 @@ use crate::diff::diff;
 use crate::edit::{ChainEdit, carry_out};
 use crate::half::Half;
 use crate::list::BreakpointList;
+use crate::names::names_any;
 use crate::report::tell_missing;
+use crate::shared::Shared;
 use crate::stage::Stage;
+use crate::standing::Standing;
 use crate::walk::merged_chain;
 use kin_motion::fact::{Delta, Placed};
-use kin_motion::form::Form;
 use kin_motion::kinetic::Kinetic;
 use kin_motion::signs::Signs;
 use kin_num::memory::NoMemory;
@@ -96,9 +98,14 @@ impl Overlay {
         ensures born { IfOk result (λ m. HasChanged [] m.facts out.old out.new) }
     {
         let mut list = BreakpointList::new(alloc);
-        list.merge(a, b, now, steps)?;
         let none = BreakpointList::new(alloc);
-        tell_missing(&list, &none, part, &mut out.born)?;
+        let standing = Standing {
+            list: &none,
+            failed: &[],
+            gone: &[],
+        };
+        list.merge(a, b, &standing, now, steps)?;
+        tell_missing(&list, &none, Shared::none(), part, &mut out.born)?;
         let mut chain = Vec::new(alloc);
         merged_chain(&list, &mut chain)?;
         Ok(Overlay {
@@ -163,7 +170,8 @@ impl Overlay {
         ensures dropped { OnOk result (HasChanged self.facts [] out.old out.new) }
     {
         let none = BreakpointList::new(self.alloc);
-        tell_missing(&self.list, &none, self.part, &mut out.dropped)?;
+        let shared = Shared::none();
+        tell_missing(&self.list, &none, shared, self.part, &mut out.dropped)?;
         Ok(())
     }
 
@@ -199,18 +207,6 @@ impl Overlay {
     }
 }
 
-/// Whether a form names one of the numbers.
-fn names_any(form: &Form, numbers: &[u32]) -> bool
-    ensures { result ≡ names_any form.now numbers.now }
-{
-    for no in numbers {
-        if form.names(*no) {
-            return true;
-        }
-    }
-    false
-}
-
 impl Kinetic for Overlay {
     ghost use Rattle.kin_overlay.specs.Overlays.{names_gone, IsReady, IsAtRest, IsSettled, AreChains};
     ghost use Rattle.kin_overlay.specs.OverlayLaws.{determined_lem};
@@ -232,13 +228,13 @@ impl Kinetic for Overlay {
     fn settle<O: Signs, L: Ledger>(
         &mut self,
         now: &O,
-        _failed: &[Placed],
+        failed: &[Placed],
         out: &mut Delta,
         steps: &mut Steps<L>,
     ) -> Result<(), NoMemory>
         requires real { IsReal (O.scene now.now) }
         requires ready { IsReady self.old (O.scene now.now) }
-        requires failing { ListsFailing self.old.facts (names_gone self.old) (O.scene now.now) _failed.now }
+        requires failing { ListsFailing self.old.facts (names_gone self.old) (O.scene now.now) failed.now }
         ensures rest { OnOk result (IsAtRest self.new) }
         ensures settled { OnOk result (IsSettled self.new (O.scene now.now)) }
         ensures delta { OnOk result (HasChanged self.old.facts self.new.facts out.old out.new) }
@@ -256,9 +252,17 @@ impl Kinetic for Overlay {
         ensures broken { OnErr result (self.new.stage ≡ Broken) }
     {
         self.stage = Stage::Broken;
-        self.spare_list.merge(&self.a, &self.b, now, steps)?;
-        tell_missing(&self.list, &self.spare_list, self.part, &mut out.dropped)?;
-        tell_missing(&self.spare_list, &self.list, self.part, &mut out.born)?;
+        let standing = Standing {
+            list: &self.list,
+            failed,
+            gone: &self.gone,
+        };
+        self.spare_list
+            .merge(&self.a, &self.b, &standing, now, steps)?;
+        let shared = Shared::between(&self.list, &self.spare_list);
+        let (old, new) = (&self.list, &self.spare_list);
+        tell_missing(old, new, shared, self.part, &mut out.dropped)?;
+        tell_missing(new, old, shared, self.part, &mut out.born)?;
         swap(&mut self.list, &mut self.spare_list);
         swap(&mut self.chain, &mut self.spare);
         merged_chain(&self.list, &mut self.chain)?;

@@ -1,6 +1,6 @@
 //! What is remembered at a breakpoint.
 
-ghost use Rattle.std.specs.Prelude.{◌≡◌, option_to_list};
+ghost use Rattle.std.specs.Prelude.{◌≡◌, ◌↔◌, IsTrue, option_to_list};
 ghost use Rattle.kin_overlay.specs.Remembered.{turn_fact, slope_facts};
 
 use crate::breakpoint::Breakpoint;
@@ -28,6 +28,16 @@ pub struct Record {
 }
 
 impl Record {
+    /// Whether it is the same record.
+    pub fn is(&self, other: &Record) -> bool
+        ensures { IsTrue result ↔ (self.now ≡ other.now) }
+    {
+        self.at.is(other.at)
+            && self.across == other.across
+            && self.turn == other.turn
+            && are_same(self.next, other.next)
+    }
+
     /// The fact of the turn.
     pub fn turn_fact(&self) -> Fact
         ensures { result ≡ turn_fact self.now }
@@ -47,5 +57,16 @@ impl Record {
             form: self.at.slope(next.at),
             sign: next.slope,
         })
+    }
+}
+
+/// Whether nothing is next of either, or they are the same.
+fn are_same(one: Option<Next>, other: Option<Next>) -> bool
+    ensures { IsTrue result ↔ (one ≡ other) }
+{
+    match (one, other) {
+        (Some(one), Some(other)) => one.at.is(other.at) && one.slope == other.slope,
+        (None, None) => true,
+        _ => false,
     }
 }

@@ -2,17 +2,20 @@
 
 ghost use Rattle.std.specs.Prelude.{◌≡◌, map, flat_map, OnOk, option_to_list};
 ghost use Rattle.kin_overlay.specs.Remembered.{turn_fact, slope_facts, end_facts, facts_of};
-ghost use Rattle.kin_overlay.specs.Reports.{IsTold};
+ghost use Rattle.kin_overlay.specs.Reports.{AreShared, IsTold};
 
 use crate::end::End;
 use crate::list::BreakpointList;
+use crate::shared::Shared;
 use kin_motion::fact::{Fact, Placed};
 use kin_num::memory::NoMemory;
 
-/// Tells a fact, if there is one that the other list doesn't have.
+/// Tells a fact, if there is one that the other list doesn't have. It is looked for at this place
+/// first.
 fn tell(
     fact: Option<Fact>,
     other: &BreakpointList,
+    place: usize,
     part: u32,
     told: &mut Vec<Placed>,
 ) -> Result<(), NoMemory>
@@ -21,7 +24,7 @@ fn tell(
     let Some(fact) = fact else {
         return Ok(());
     };
-    if other.has(fact) {
+    if other.has(fact, place) {
         return Ok(());
     }
     let Ok(()) = told.push(Placed { part, fact }) else {
@@ -33,13 +36,15 @@ fn tell(
 fn tell_turns(
     list: &BreakpointList,
     other: &BreakpointList,
+    shared: Shared,
     part: u32,
     told: &mut Vec<Placed>,
 ) -> Result<(), NoMemory>
+    requires shared { AreShared shared list.now.records other.now.records }
     ensures { OnOk result (IsTold part (facts_of other.now) (map turn_fact list.now.records) told.old.items told.new.items) }
 {
-    for place in 0..list.len() {
-        tell(Some(list.at(place).turn_fact()), other, part, told)?;
+    for place in shared.front..list.len() - shared.back {
+        tell(Some(list.at(place).turn_fact()), other, place, part, told)?;
     }
     Ok(())
 }
@@ -47,13 +52,15 @@ fn tell_turns(
 fn tell_slopes(
     list: &BreakpointList,
     other: &BreakpointList,
+    shared: Shared,
     part: u32,
     told: &mut Vec<Placed>,
 ) -> Result<(), NoMemory>
+    requires shared { AreShared shared list.now.records other.now.records }
     ensures { OnOk result (IsTold part (facts_of other.now) (flat_map slope_facts list.now.records) told.old.items told.new.items) }
 {
-    for place in 0..list.len() {
-        tell(list.at(place).slope_fact(), other, part, told)?;
+    for place in shared.front..list.len() - shared.back {
+        tell(list.at(place).slope_fact(), other, place, part, told)?;
     }
     Ok(())
 }
@@ -69,22 +76,28 @@ fn tell_end(
     let Some(end) = end else {
         return Ok(());
     };
-    tell(Some(end.x_fact()), other, part, told)?;
-    tell(end.y_fact(), other, part, told)?;
+    if other.has_end(end) {
+        return Ok(());
+    }
+    tell(Some(end.x_fact()), other, 0, part, told)?;
+    tell(end.y_fact(), other, 0, part, told)?;
     Ok(())
 }
 
-/// Tells the facts of one list that the other one doesn't have.
+/// Tells the facts of one list that the other one doesn't have. The records that both share aren't
+/// looked at.
 pub fn tell_missing(
     list: &BreakpointList,
     other: &BreakpointList,
+    shared: Shared,
     part: u32,
     told: &mut Vec<Placed>,
 ) -> Result<(), NoMemory>
+    requires shared { AreShared shared list.now.records other.now.records }
     ensures { OnOk result (IsTold part (facts_of other.now) (facts_of list.now) told.old.items told.new.items) }
 {
-    tell_turns(list, other, part, told)?;
-    tell_slopes(list, other, part, told)?;
+    tell_turns(list, other, shared, part, told)?;
+    tell_slopes(list, other, shared, part, told)?;
     tell_end(list.left(), other, part, told)?;
     tell_end(list.right(), other, part, told)?;
     Ok(())

@@ -12,7 +12,7 @@ returns-in-Minus g c =
     let a = c.args.a in
     let b = c.args.b in
     let turned : s.sign (slope_form (seen b) (seen a)) ≡ Plus =
-    (real_slope_laws s c.requires.real).opposite a.left a.right b.left b.right ∙ ap opposite_of (ap s.sign (sym c.slope.ensures) ∙ sym c.sign-slope.ensures.value ∙ c.in-Minus.is) in
+    (real_slope_laws s c.requires.real).opposite a.left a.right b.left b.right ∙ ap opposite_of (sym c.slope_sign-slope.ensures ∙ c.in-Minus.is) in
     inr (record {
       at = refl;
       rival = record { at = a; slope = Plus };

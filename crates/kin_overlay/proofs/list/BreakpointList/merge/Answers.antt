@@ -1,5 +1,4 @@
-use Rattle.std.proofs.Common.{◌≡◌, refl, sym, ap, ap₂, ◌∙◌, subst, arith, ℕ, List, [], ◌∷◌, get_or, Option, Some}
-use Rattle.kin_motion.specs.Forms.{IsAskable}
+use Rattle.std.proofs.Common.{◌≡◌, refl, sym, ap₂, ◌∙◌, subst, arith, ℕ, List, [], ◌∷◌, get_or, Option, Some}
 use Rattle.kin_motion.specs.Merges.{Half.{B}}
 use Rattle.kin_overlay.specs.declared.end.End.{End}
 use Rattle.kin_overlay.specs.declared.fingers.Pick.{Pick}
@@ -16,12 +15,12 @@ first-item : (xs : List ℕ) → get_or xs 0 0 ≡ front xs
 first-item [] = refl
 first-item (x ∷ xs) = refl
 
-pub sign-turn-requires : goal.sign-turn-requires
-sign-turn-requires g c =
+pub turn_sign-turn-requires-clause-askable : goal.turn_sign-turn-requires-clause-askable
+turn_sign-turn-requires-clause-askable g c =
     let s = g.O.Signs.scene c.args.now.now in
     let p = c.in-Some.picked in
     let u = subst (λ (o : Option Pick). IsUnderway s c.args.a.now c.args.b.now c.pick_next-next.result c.loop-next.first.now c.loop-next.second.now o c.loop-next.self.records) c.in-Some.is c.loop-next.invariant in
-    record { askable = subst (IsAskable s.live) (sym c.turn.ensures) (turn-askable s c.args.a.now c.args.b.now c.pick_next-next.result c.loop-next.first.now c.loop-next.second.now p.at.half p.at.left p.at.right p.rival c.loop-next.self.records c.across-across.result u c.across-across.ensures) }
+    turn-askable s c.args.a.now c.args.b.now c.pick_next-next.result c.loop-next.first.now c.loop-next.second.now p.at.half p.at.left p.at.right p.rival c.loop-next.self.records c.across-across.result u c.across-across.ensures
 
 pub pick_next-next-requires-in-Some-clause-b_live : goal.pick_next-next-requires-in-Some-clause-b_live
 pick_next-next-requires-in-Some-clause-b_live g c =
@@ -42,7 +41,7 @@ loop-next-preserved g c =
     let p = c.in-Some.picked in
     let u = subst (λ (o : Option Pick). IsUnderway s c.args.a.now c.args.b.now c.pick_next-next.result c.loop-next.first.now c.loop-next.second.now o c.loop-next.self.records) c.in-Some.is c.loop-next.invariant in
     let done = step s c.args.a.now c.args.b.now c.pick_next-next.result c.loop-next.first.now c.loop-next.second.now c.pass.result.0.now c.pass.result.1.now p.at.half p.at.left p.at.right p.rival c.loop-next.self.records
-    c.pick_next-next-in-Some.result c.across-across.result c.sign-turn.result u c.pass.ensures.a c.pass.ensures.b c.pick_next-next-in-Some.ensures c.across-across.ensures (c.sign-turn.ensures.value ∙ ap s.sign c.turn.ensures) c.next_of.result c.next_of.ensures in
+    c.pick_next-next-in-Some.result c.across-across.result c.turn_sign-turn.result u c.pass.ensures.a c.pass.ensures.b c.pick_next-next-in-Some.ensures c.across-across.ensures c.turn_sign-turn.ensures c.next_of.result c.next_of.ensures in
     subst (λ (m : Remembered). IsUnderway s c.args.a.now c.args.b.now c.pick_next-next.result c.pass.result.0.now c.pass.result.1.now c.pick_next-next-in-Some.result m.records) (sym c.in_ok-push.ensures.pushed) done
 
 pub returns : goal.returns
@@ -56,9 +55,9 @@ returns g c =
     subst (IsMerged s a b) (sym c.set_ends.ensures) (elim c.if-len-eq0.branch as (λ x. IsMerged s a b (record { records = rs; left = Some c.end_of-left.result; right = c.if-len-eq0.right })) [
       | then-len-eq0 w ↦
           subst (λ (o : Option End). IsMerged s a b (record { records = rs; left = Some c.end_of-left.result; right = o })) (sym w.right-is)
-          (merged-one s a b c.pick_next-next.result c.loop-next.first.now c.loop-next.second.now rs u c.end_of-left.result left c.requires.a_some c.requires.b_some (sym c.len.ensures ∙ w.if-len-eq0.true))
+          (merged-one s a b c.pick_next-next.result c.loop-next.first.now c.loop-next.second.now rs u c.end_of-left.result left c.requires.a_some c.requires.b_some (sym c.len-2.ensures ∙ w.if-len-eq0.true))
       | else-len-eq0 w ↦
           subst (λ (o : Option End). IsMerged s a b (record { records = rs; left = Some c.end_of-left.result; right = o })) (sym w.right-is)
           (merged-more s a b c.pick_next-next.result c.loop-next.first.now c.loop-next.second.now rs u c.end_of-left.result w.end_of.result left
-          (w.end_of.ensures ∙ ap₂ (λ (x y : ℕ). end_at s x y) (first-item c.loop-next.first.now) (first-item c.loop-next.second.now)) (omega (arith, w.if-len-eq0.false, c.len.ensures)))
+          (w.end_of.ensures ∙ ap₂ (λ (x y : ℕ). end_at s x y) (first-item c.loop-next.first.now) (first-item c.loop-next.second.now)) (omega (arith, w.if-len-eq0.false, c.len-2.ensures)))
     ])

@@ -1,0 +1,68 @@
+//! The records that two lists of breakpoints share at their ends.
+
+ghost use Rattle.std.specs.Prelude.{◌≡◌, ℕ, ◌+◌, ◌-◌, ◌<◌, ◌≤◌, length, slice_get};
+ghost use Rattle.kin_overlay.specs.Reports.{AreShared};
+
+use crate::list::BreakpointList;
+
+/// How many records stand at the front of both lists, and how many others at the end of both.
+#[derive(Clone, Copy, Debug, PartialEq, Eq)]
+pub struct Shared {
+    pub front: usize,
+    pub back: usize,
+}
+
+impl Shared {
+    /// No record is known to be shared.
+    pub fn none() -> Shared
+        ensures { result ≡ record { front = 0; back = 0 } }
+    {
+        Shared { front: 0, back: 0 }
+    }
+
+    /// What both lists share.
+    pub fn between(one: &BreakpointList, other: &BreakpointList) -> Shared
+        ensures one { AreShared result one.now.records other.now.records }
+        ensures other { AreShared result other.now.records one.now.records }
+    {
+        let front = shared_front(one, other);
+        Shared {
+            front,
+            back: shared_back(one, other, front),
+        }
+    }
+}
+
+/// How many records stand at the front of both lists.
+fn shared_front(one: &BreakpointList, other: &BreakpointList) -> usize
+    ensures one_room { result ≤ length one.now.records }
+    ensures other_room { result ≤ length other.now.records }
+    ensures same { (k : ℕ) → k < result → slice_get one.now.records k ≡ slice_get other.now.records k }
+{
+    let most = one.len().min(other.len());
+    let mut count = 0;
+    while count < most && one.at(count).is(other.at(count)) {
+        count += 1;
+    }
+    count
+}
+
+/// How many records stand at the end of both lists, beside these at the front.
+fn shared_back(one: &BreakpointList, other: &BreakpointList, front: usize) -> usize
+    requires one_front { front ≤ length one.now.records }
+    requires other_front { front ≤ length other.now.records }
+    ensures one_room { front + result ≤ length one.now.records }
+    ensures other_room { front + result ≤ length other.now.records }
+    ensures same { (k : ℕ) → k < result → slice_get one.now.records (length one.now.records - (k + 1)) ≡ slice_get other.now.records (length other.now.records - (k + 1)) }
+{
+    let most = one.len().min(other.len()) - front;
+    let mut count = 0;
+    while count < most
+        && one
+            .at(one.len() - 1 - count)
+            .is(other.at(other.len() - 1 - count))
+    {
+        count += 1;
+    }
+    count
+}
