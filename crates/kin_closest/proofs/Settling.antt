@@ -20,7 +20,7 @@ use Rattle.kin_list.specs.declared.mark.Mark.{Mark}
 use Rattle.kin_list.specs.declared.mark.Mark.TheVariants.{Rest, Enters, Leaves, Broken}
 use Rattle.kin_list.specs.Listing.{HasMarked, names_leaving, without}
 use Rattle.kin_list.proofs.ListLaws.{is_in-without, not_in-without}
-use Rattle.kin_tourney.specs.Tournament.{Tournament, IsAtRest, IsReady, IsSettled, is_above_mark, mark_count, CoversFailing}
+use Rattle.kin_tourney.specs.Tournament.{Tournament, IsAtRest, IsReady, IsSettled, mark_count, CoversAskable}
 use Rattle.kin_tourney.proofs.Marks.{mark_none}
 use Rattle.kin_wedge.specs.Wedging.{Wedging, candidate_told, members_of, IsSettledWedging}
 use Rattle.kin_near.specs.BestPairs.{HoldCandidates}
@@ -32,9 +32,9 @@ use Rattle.kin_closest.specs.DistanceKey.{pair_names}
 use Rattle.kin_closest.specs.Sorting.{is_of_order, is_of_pair, taken_back}
 use Rattle.kin_closest.specs.Told.{AreTold}
 use Rattle.kin_closest.proofs.Joining.{joined, facts_low}
-use Rattle.kin_closest.proofs.Readiness.{ready, spares}
+use Rattle.kin_closest.proofs.Readiness.{ready, names_live}
 use Rattle.kin_closest.proofs.Splitting.{orders_failing, pairs_covered}
-use Rattle.kin_closest.proofs.Telling.{held_after, unmarked_same}
+use Rattle.kin_closest.proofs.Telling.{held_after}
 
 -- who stays or enters is below the size
 marked_low : (mark : Mark) (members live : List ℕ) (n : ℕ) → HasMarked mark members live → ((i : ℕ) → IsIn i members → i < n) → ((i : ℕ) → mark ≡ Enters i → i < n) → (i : ℕ) → IsIn i live → i < n
@@ -105,16 +105,11 @@ module _ {old : Closing} {s : Scene} {failed : List Placed} (call : IsCalled old
       pub pairs_ready : IsReady pair_names u s
       pairs_ready = ready old.wedges.size s call.real fits (candidate_told new) octants_here.wedges.candidates u held (ap (λ (t : Tournament Distance Near). t.whole) told.same ∙ call.known.rest.whole)
 
-      pub pairs_told : CoversFailing u.facts (λ p. is_above_mark u.size u.marked p.part) s (map taken_back (filter is_of_pair failed))
+      pub pairs_told : CoversAskable u.facts s (map taken_back (filter is_of_pair failed))
       pairs_told =
-          subst (λ fs. CoversFailing fs (λ p. is_above_mark u.size u.marked p.part) s (map taken_back (filter is_of_pair failed))) (sym same_facts)
-          (pairs_covered (names_leaving old.wedges.mark) s old.wedges.facts old.pairs.facts failed orders_low call.failing (λ p. is_above_mark u.size u.marked p.part) spared)
-        where
-          spared : (x : Placed) → Contains old.pairs.facts x → is_above_mark u.size u.marked x.part ≡ false → names_leaving old.wedges.mark (moved_by 8 x) ≡ false
-          spared x c free =
-              none_leaving old.wedges.mark (members_of old.wedges) s.live x call.may.members
-              (spares old.wedges.size s call.real fits (candidate_told new) octants_here.wedges.candidates u held old.pairs call.known.seen call.known.settled.pairs
-              (unmarked_same old.wedges.size (candidate_told old.wedges) (candidate_told new) new.changed old.pairs u told) x c (subst (λ n. is_above_mark n u.marked x.part ≡ false) same_size free))
+          subst (λ fs. CoversAskable fs s (map taken_back (filter is_of_pair failed))) (sym same_facts)
+          (pairs_covered (names_leaving old.wedges.mark) s old.wedges.facts old.pairs.facts failed orders_low call.failing
+          (λ x c live. none_leaving old.wedges.mark (members_of old.wedges) s.live x call.may.members (λ i absent. names_live s.live i absent x.fact.form live)))
 
       pub pairs_small : u.size ≤ 15
       pairs_small = let e : u.size ≡ old.wedges.size + 3 = same_size ∙ call.known.settled.size in let k = call.known.small in omega (arith, e, k)

@@ -4,12 +4,13 @@ use Rattle.std.specs.Prelude.{Contains}
 use Rattle.std.proofs.lemmas.Bool.Decides.{nat_tests}
 use Rattle.std.proofs.lemmas.List.Elements.{Contains-append_left, Contains-append_right, Contains-append_cases}
 use Rattle.kin_motion.specs.declared.fact.Placed.{Placed}
+use Rattle.kin_motion.specs.Forms.{IsAskable}
 use Rattle.kin_motion.specs.Kinetics.{ListsFailing}
 use Rattle.kin_motion.specs.Parts.{moved_by}
 use Rattle.kin_motion.specs.Scene.{Scene}
 use Rattle.kin_motion.proofs.FailureOrder.{distinct_filter}
 use Rattle.kin_motion.proofs.SetLaws.{contains_map, contains_mapped, filter-sound, filter-complete}
-use Rattle.kin_tourney.specs.Tournament.{CoversFailing}
+use Rattle.kin_tourney.specs.Tournament.{CoversAskable}
 use Rattle.kin_closest.specs.Sorting.{is_of_order, is_of_pair, taken_back}
 
 low_part : (p : Placed) → p.part < 8 → is_of_order p ≡ true
@@ -58,16 +59,16 @@ module _ (is_spared : Placed → Bool) (s : Scene) (orders pairs failed : List P
     );
   }
 
-  pub pairs_covered : (is_above : Placed → Bool) → ((x : Placed) → Contains pairs x → is_above x ≡ false → is_spared (moved_by 8 x) ≡ false)
-      → CoversFailing pairs is_above s (map taken_back (filter is_of_pair failed))
-  pairs_covered is_above spares = record {
+  -- all failed facts of the tournament are told that name live numbers alone, where only others are spared
+  pub pairs_covered : ((x : Placed) → Contains pairs x → IsAskable s.live x.fact.form → is_spared (moved_by 8 x) ≡ false) → CoversAskable pairs s (map taken_back (filter is_of_pair failed))
+  pairs_covered spares = record {
     only = λ p c.
         let m = contains_mapped taken_back (filter is_of_pair failed) p c in
         let k = filter-sound is_of_pair failed m.0 m.1 in
         let x = of_pairs m.0 (part_high m.0 k.1) ((failing.each m.0).0 k.0).0 in
         subst (Contains pairs) (sym (m.2 ∙ ap taken_back x.2 ∙ there_and_back x.0)) x.1;
-    all = λ x c free fails.
-        let k = (failing.each (moved_by 8 x)).1 (Contains-append_right orders (map (moved_by 8) pairs) (moved_by 8 x) (contains_map (moved_by 8) pairs x c), spares x c free, fails) in
+    all = λ x c live fails.
+        let k = (failing.each (moved_by 8 x)).1 (Contains-append_right orders (map (moved_by 8) pairs) (moved_by 8 x) (contains_map (moved_by 8) pairs x c), spares x c live, fails) in
         subst (Contains (map taken_back (filter is_of_pair failed))) (there_and_back x)
         (contains_map taken_back (filter is_of_pair failed) (moved_by 8 x) (filter-complete is_of_pair failed (moved_by 8 x) k (high_part (moved_by 8 x) (omega arith))));
   }

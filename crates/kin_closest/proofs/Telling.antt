@@ -72,10 +72,6 @@ module _ {K : Type 0} (candidate : ℕ → ℕ → Option ℕ) (changed : List �
       fewer false f = let k = mark_more u.marked slot marks f in let c : mark_count v.marked ≡ mark_count (set u.marked slot true) = ap mark_count marked in let g = h.few in omega (arith, k, c, g)
 
 module _ {K : Type 0} (size : ℕ) (old new : ℕ → ℕ → Option ℕ) (changed : List ℕ) (t u : Tournament K Near) (told : AreTold new changed (length changed) t u) where
-  -- what isn't marked holds what it held
-  pub unmarked_same : (i : ℕ) → mark_in u.marked i ≡ false → slice_get u.slots i ≡ slice_get t.slots i
-  unmarked_same i e = told.kept i (λ k low f. absurd (let clash : true ≡ false = sym (told.marked k i low f) ∙ e in cc))
-
   same_option : (a b : Option ℕ) → (a ≡ b) ⊎ (a ≢ b)
   same_option None None = inl refl
   same_option None (Some y) = inr (λ e. absurd cc)

@@ -6,7 +6,7 @@ ghost use Rattle.kin_motion.specs.ClosestPairs.{distance_key};
 ghost use Rattle.kin_motion.specs.Kinetics.{HasChanged};
 ghost use Rattle.kin_motion.specs.Parts.{moved_by};
 ghost use Rattle.kin_motion.specs.Scene.{IsReal};
-ghost use Rattle.kin_tourney.specs.Tournament.{IsAtRest, IsReady, IsSettled, is_above_mark, mark_count, CoversFailing};
+ghost use Rattle.kin_tourney.specs.Tournament.{IsAtRest, IsReady, IsSettled, mark_count, CoversAskable};
 ghost use Rattle.kin_closest.specs.DistanceKey.{pair_names};
 ghost use Rattle.kin_closest.specs.Sorting.{is_of_order, is_of_pair, taken_back};
 
@@ -64,7 +64,7 @@ impl Mail {
     ) -> Result<(), NoMemory>
         requires real { IsReal (O.scene now.now) }
         requires ready { IsReady pair_names pairs.old (O.scene now.now) }
-        requires failing { CoversFailing pairs.old.facts (λ p. is_above_mark pairs.old.size pairs.old.marked p.part) (O.scene now.now) self.old.pairs.items }
+        requires failing { CoversAskable pairs.old.facts (O.scene now.now) self.old.pairs.items }
         requires small { pairs.old.size ≤ 15 }
         requires low { (p : Put) → Contains pairs.old.facts p → p.part < 2 ^ 15 }
         ensures rest { OnOk result (IsAtRest pairs.new) }
@@ -75,7 +75,7 @@ impl Mail {
         ensures cost { OnOk result (steps.new ≤ steps.old + pairs.old.size * (mark_count pairs.old.marked + length self.old.pairs.items)) }
     {
         self.delta.clear();
-        pairs.settle(now, &self.pairs, &mut self.delta, steps)?;
+        pairs.settle_told(now, &self.pairs, &mut self.delta, steps)?;
         pass_on(&self.delta, out)
     }
 }

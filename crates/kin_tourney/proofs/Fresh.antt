@@ -67,20 +67,13 @@ module _ (Item : Type 0) (size : ℕ) where
   pub fresh_sound : 1 ≤ size → (key : Key Item) → IsSound key (fresh Item size)
   fresh_sound some key = record {
     some = some;
-    no_way = way;
     leaves = λ i e. absurd (let k : false ≡ true = sym (same_all (2 ^ size) i false) ∙ e in cc);
+    won = λ i u e. absurd (let k : false ≡ true = sym (same_all (2 ^ size) i false) ∙ e in cc);
     consistent = λ v some inside e. (Zero, right v);
     no_root = same_all (2 ^ size) 0 None;
     few = let k = count_of_top (set (replicate (2 ^ size) Clear) 0 Here) closed others_clear in omega arith;
   }
     where
-      way : (v : ℕ) → doubt_in (set (replicate (2 ^ size) Clear) 0 Here) v ≢ Below
-      way v e = at (cases_eq v 0)
-        where
-          at : (v ≡ 0) ⊎ (v ≢ 0) → ⊥
-          at (inl z) = absurd (let k : Here ≡ Below = sym top_set ∙ ap (doubt_in (set (replicate (2 ^ size) Clear) 0 Here)) (sym z) ∙ e in cc)
-          at (inr n) = absurd (let k : Clear ≡ Below = sym (others_clear v (omega arith)) ∙ e in cc)
-
       right : (v : ℕ) → IsRight key (λ f. Zero) (fresh Item size) v
       right v =
           ap (λ (o : Option ℕ). (o, fact_in (fresh Item size).facts v)) (same_all (2 ^ size) v None) ∙ ap (λ (o : Option Fact). (None, o)) (same_all (2 ^ size) v None)

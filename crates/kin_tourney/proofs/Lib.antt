@@ -3,6 +3,7 @@ pub mod Doubts
 pub mod Entries
 pub mod Placements
 pub mod Trees
+pub mod Raising
 pub mod Mending
 pub mod Marks
 pub mod Entrants

@@ -1,5 +1,5 @@
 -- A repair, node by node.
-use Rattle.std.proofs.Common.{◌≡◌, ◌≢◌, ◌⊎◌, inl, inr, refl, sym, ap, ◌∙◌, subst, arith, List, ℕ, ◌+◌, ◌*◌, ◌-◌, ◌/◌, ◌<◌, length, true, false, cond, nat_lt, set}
+use Rattle.std.proofs.Common.{◌≡◌, ◌≢◌, ◌⊎◌, inl, inr, refl, sym, ap, ◌∙◌, subst, arith, List, ℕ, ◌+◌, ◌*◌, ◌-◌, ◌/◌, ◌<◌, length, Bool, true, false, cond, nat_lt, set}
 use Rattle.std.specs.Prelude.{Option, Some}
 use Rattle.std.proofs.lemmas.List.{get_or-set_other}
 use Rattle.std.proofs.lemmas.Bool.{cases_eq}
@@ -13,7 +13,7 @@ use Rattle.kin_motion.proofs.ChangeLaws.{nothing_changed}
 use Rattle.kin_tourney.specs.declared.doubt.Doubt.TheVariants.{Clear, Here}
 use Rattle.kin_tourney.specs.Tournament.{mark_in}
 use Rattle.kin_tourney.specs.Standings.{Standings, IsTree, IsRight, best_in, fact_in, doubt_in, doubt_count, entry_in, entry_at, match_of, match_at, placed_facts}
-use Rattle.kin_tourney.specs.Repairs.{IsDoubtful, IsReplayed, IsRenewed, IsCleared}
+use Rattle.kin_tourney.specs.Repairs.{IsDoubtful, IsReplayed, IsRenewed, IsCleared, needs_play}
 use Rattle.kin_tourney.proofs.AfterWrite.{read_set}
 use Rattle.kin_tourney.proofs.Doubts.{here_is_doubt, count_kept, count_lowered}
 use Rattle.kin_tourney.proofs.Placements.{changed_on}
@@ -26,16 +26,16 @@ falls n count less at e inside = let k : count * n ≡ less * n + n = ap (λ c. 
     more : (a b : ℕ) → (a + 1) * b ≡ a * b + b
     more a b = omega arith
 
-module _ {Item : Type 0} (key : Key Item) (sign : Form → Sign) where
+module _ {Item : Type 0} (all : Bool) (key : Key Item) (sign : Form → Sign) where
   -- from the start on; only the node "except" may differ in its fact though it is still in doubt
   pub record IsMending (start : Standings Item) (except : ℕ) (t : Standings Item) (before after : Change) : Type 0 where
-    pub doubtful : IsDoubtful key sign t
+    pub doubtful : IsDoubtful all key sign t
     pub same_size : t.size ≡ start.size
     pub same_items : t.items ≡ start.items
     pub untouched : (v : ℕ) → 0 < v → v ≢ except → doubt_in t.doubts v ≢ Clear → fact_in t.facts v ≡ fact_in start.facts v
     pub changed : HasChanged (placed_facts start) (placed_facts t) before after
 
-  pub mending_starts : (t : Standings Item) (c : Change) → IsDoubtful key sign t → IsMending t 0 t c c
+  pub mending_starts : (t : Standings Item) (c : Change) → IsDoubtful all key sign t → IsMending t 0 t c c
   mending_starts t c h = record { doubtful = h; same_size = refl; same_items = refl; untouched = λ v some n d. refl; changed = nothing_changed (placed_facts t) c }
 
   entry_same : (t u : Standings Item) → t.items ≡ u.items → (v : ℕ) → best_in t.best v ≡ best_in u.best v → entry_at t v ≡ entry_at u v
@@ -53,13 +53,10 @@ module _ {Item : Type 0} (key : Key Item) (sign : Form → Sign) where
       ap (λ b. (b, fact_in t.facts v)) best ∙ ap (λ f. (best_in u.best v, f)) fact ∙ h ∙ sym (match_same t u items v left right)
 
   -- a node is played again
-  module _ (start t mid : Standings Item) (before middle after : Change) (node : ℕ) (some : 0 < node) (inside : node < length t.items) (here : doubt_in t.doubts node ≡ Here)
+  module _ (start t mid : Standings Item) (before middle after : Change) (node : ℕ) (some : 0 < node) (inside : node < length t.items) (doubted : doubt_in t.doubts node ≢ Clear)
       (h : IsMending start 0 t before middle) (tree : IsTree mid) (r : IsReplayed key sign node t mid middle after) where
     fits : node / 2 < length t.doubts
     fits = let room = h.doubtful.tree.doubts_room in omega arith
-
-    doubted : doubt_in t.doubts node ≢ Clear
-    doubted e = here_is_doubt (sym here ∙ e)
 
     cleared_was : (v : ℕ) → doubt_in mid.doubts v ≡ Clear → doubt_in t.doubts v ≡ Clear
     cleared_was v e = at r.doubts
@@ -73,7 +70,7 @@ module _ {Item : Type 0} (key : Key Item) (sign : Form → Sign) where
         at (inr k) = raised (read_set t.doubts (node / 2) v Here Clear fits) (sym (ap (λ ds. doubt_in ds v) k) ∙ e)
 
     -- a node that need not be played again was so before, and its halves' winners are as they were
-    still : (v : ℕ) → doubt_in mid.doubts v ≢ Here → (doubt_in t.doubts v ≢ Here) × ((u : ℕ) → u / 2 ≡ v → best_in mid.best u ≡ best_in t.best u)
+    still : (v : ℕ) → needs_play all (doubt_in mid.doubts v) ≡ false → (needs_play all (doubt_in t.doubts v) ≡ false) × ((u : ℕ) → u / 2 ≡ v → best_in mid.best u ≡ best_in t.best u)
     still v n = at r.doubts
       where
         kept : (best_in mid.best node ≡ best_in t.best node) ⊎ (v ≢ node / 2) → (u : ℕ) → u / 2 ≡ v → best_in mid.best u ≡ best_in t.best u
@@ -85,18 +82,18 @@ module _ {Item : Type 0} (key : Key Item) (sign : Form → Sign) where
             own (inl e) (inr m) = absurd (m (sym up ∙ ap (λ w. w / 2) e))
 
         raised : ((v ≡ node / 2) × (doubt_in (set t.doubts (node / 2) Here) v ≡ Here)) ⊎ ((v ≢ node / 2) × (doubt_in (set t.doubts (node / 2) Here) v ≡ doubt_in t.doubts v)) → (doubt_in (set t.doubts (node / 2) Here) v ≡ doubt_in mid.doubts v)
-            → (doubt_in t.doubts v ≢ Here) × ((u : ℕ) → u / 2 ≡ v → best_in mid.best u ≡ best_in t.best u)
-        raised (inl k) f = absurd (n (sym f ∙ k.1))
-        raised (inr k) f = ((λ e. n (sym f ∙ k.1 ∙ e)), kept (inr k.0))
+            → (needs_play all (doubt_in t.doubts v) ≡ false) × ((u : ℕ) → u / 2 ≡ v → best_in mid.best u ≡ best_in t.best u)
+        raised (inl k) f = absurd (let z : true ≡ false = sym (ap (needs_play all) k.1) ∙ ap (needs_play all) f ∙ n in cc)
+        raised (inr k) f = (sym (ap (needs_play all) k.1) ∙ ap (needs_play all) f ∙ n, kept (inr k.0))
 
-        at : ((best_in mid.best node ≡ best_in t.best node) × (mid.doubts ≡ t.doubts)) ⊎ (mid.doubts ≡ set t.doubts (node / 2) Here) → (doubt_in t.doubts v ≢ Here) × ((u : ℕ) → u / 2 ≡ v → best_in mid.best u ≡ best_in t.best u)
-        at (inl k) = ((λ e. n (ap (λ ds. doubt_in ds v) k.1 ∙ e)), kept (inl k.0))
+        at : ((best_in mid.best node ≡ best_in t.best node) × (mid.doubts ≡ t.doubts)) ⊎ (mid.doubts ≡ set t.doubts (node / 2) Here) → (needs_play all (doubt_in t.doubts v) ≡ false) × ((u : ℕ) → u / 2 ≡ v → best_in mid.best u ≡ best_in t.best u)
+        at (inl k) = (sym (ap (λ ds. needs_play all (doubt_in ds v)) k.1) ∙ n, kept (inl k.0))
         at (inr k) = raised (read_set t.doubts (node / 2) v Here Clear fits) (sym (ap (λ ds. doubt_in ds v) k))
 
     pub played_right : IsRight key sign mid node
     played_right = r.played ∙ sym (match_same mid t r.same_items node (r.other_best (2 * node) (omega arith)) (r.other_best (2 * node + 1) (omega arith)))
 
-    right_next : (v : ℕ) → 0 < v → v < length mid.items → doubt_in mid.doubts v ≢ Here → IsRight key sign mid v
+    right_next : (v : ℕ) → 0 < v → v < length mid.items → needs_play all (doubt_in mid.doubts v) ≡ false → IsRight key sign mid v
     right_next v big low n = own (cases_eq v node)
       where
         own : (v ≡ node) ⊎ (v ≢ node) → IsRight key sign mid v
@@ -176,7 +173,7 @@ module _ {Item : Type 0} (key : Key Item) (sign : Form → Sign) where
     doubt_next : (v : ℕ) → ((v ≡ node) × (doubt_in next.doubts v ≡ Clear)) ⊎ ((v ≢ node) × (doubt_in next.doubts v ≡ doubt_in t.doubts v))
     doubt_next v = subst (λ ds. ((v ≡ node) × (doubt_in ds v ≡ Clear)) ⊎ ((v ≢ node) × (doubt_in ds v ≡ doubt_in t.doubts v))) (sym doubts_are) (read_set t.doubts node v Clear Clear room)
 
-    right_after : (v : ℕ) → 0 < v → v < length next.items → doubt_in next.doubts v ≢ Here → IsRight key sign next v
+    right_after : (v : ℕ) → 0 < v → v < length next.items → needs_play all (doubt_in next.doubts v) ≡ false → IsRight key sign next v
     right_after v big low n = at (doubt_next v)
       where
         carried : IsRight key sign t v → IsRight key sign next v
@@ -184,7 +181,7 @@ module _ {Item : Type 0} (key : Key Item) (sign : Form → Sign) where
 
         at : ((v ≡ node) × (doubt_in next.doubts v ≡ Clear)) ⊎ ((v ≢ node) × (doubt_in next.doubts v ≡ doubt_in t.doubts v)) → IsRight key sign next v
         at (inl k) = carried (subst (IsRight key sign t) (sym k.0) own)
-        at (inr k) = carried (h.doubtful.right v big (let e = ap length items_are in omega arith) (λ e. n (k.1 ∙ e)))
+        at (inr k) = carried (h.doubtful.right v big (let e = ap length items_are in omega arith) (sym (ap (needs_play all) k.1) ∙ n))
 
     leaves_after : (i : ℕ) → mark_in next.marked i ≡ true → doubt_in next.doubts ((length t.items + i) / 2) ≢ Clear
     leaves_after i e d = at (doubt_next ((length t.items + i) / 2))
@@ -239,14 +236,14 @@ module _ {Item : Type 0} (key : Key Item) (sign : Form → Sign) where
     pub same_room : length mid.items ≡ room
 
   pub passed : (start t mid : Standings Item) (before middle after : Change) (node : ℕ) → 0 < node → node < length t.items → doubt_in t.doubts node ≢ Clear
-      → ((v : ℕ) → 0 < v → v / 2 ≡ node → doubt_in t.doubts v ≡ Clear) → IsMending start 0 t before middle → IsTree mid → IsRenewed key sign node t mid middle after
+      → ((v : ℕ) → 0 < v → v / 2 ≡ node → doubt_in t.doubts v ≡ Clear) → IsMending start 0 t before middle → IsTree mid → IsRenewed all key sign node t mid middle after
       → IsPassed start mid node before after (doubt_count t.doubts) (length t.items)
   passed start t mid before middle after node some inside in_doubt halves h tree (inl (here, r)) = record {
-    mending = mending_replayed start t mid before middle after node some inside here h tree r;
-    own = played_right start t mid before middle after node some inside here h tree r;
-    doubted = doubt_kept start t mid before middle after node some inside here h tree r;
-    halves_clear = halves_kept start t mid before middle after node some inside here h tree r halves;
-    same_count = count_replayed start t mid before middle after node some inside here h tree r;
+    mending = mending_replayed start t mid before middle after node some inside in_doubt h tree r;
+    own = played_right start t mid before middle after node some inside in_doubt h tree r;
+    doubted = doubt_kept start t mid before middle after node some inside in_doubt h tree r;
+    halves_clear = halves_kept start t mid before middle after node some inside in_doubt h tree r halves;
+    same_count = count_replayed start t mid before middle after node some inside in_doubt h tree r;
     same_room = ap length r.same_items;
   }
   passed start t mid before middle after node some inside in_doubt halves h tree (inr (n, same, told)) =

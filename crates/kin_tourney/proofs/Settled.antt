@@ -2,22 +2,24 @@
 use Rattle.std.proofs.Common.{◌≡◌, ◌≢◌, refl, sym, ap, ◌∙◌, subst, arith, List, ℕ, ◌+◌, ◌^◌, ◌<◌, ◌≤◌, ◌/◌, length, set, Bool, true, false, not}
 use Rattle.std.proofs.lemmas.Nat.{pow-add}
 use Rattle.kin_tourney.proofs.Vacant.{vacant}
-use Rattle.std.specs.Prelude.{Option, None, IsTrue, slice_index_or}
+use Rattle.std.specs.Prelude.{Option, None, Contains, IsTrue, slice_index_or}
 use Rattle.kin_motion.specs.declared.fact.Placed.{Placed}
+use Rattle.kin_motion.specs.Forms.{IsAskable}
 use Rattle.kin_motion.specs.Kinetics.{ListsFailing}
 use Rattle.kin_motion.specs.Scene.{Scene, IsReal}
 use Rattle.kin_motion.specs.Tournaments.{Key, beats, item_in, is_under}
-use Rattle.kin_tourney.specs.declared.doubt.Doubt.TheVariants.{Clear, Here}
+use Rattle.kin_tourney.specs.declared.doubt.Doubt.{Doubt}
+use Rattle.kin_tourney.specs.declared.doubt.Doubt.TheVariants.{Clear, Below, Here}
 use Rattle.kin_tourney.specs.Names.{AreLive}
-use Rattle.kin_tourney.specs.Tournament.{IsAtRest, IsReady, IsSettled, mark_in, is_above_mark, winner_at, CoversFailing}
+use Rattle.kin_tourney.specs.Tournament.{IsAtRest, IsReady, IsSettled, mark_in, is_above_mark, winner_at, CoversFailing, CoversAskable}
 use Rattle.kin_tourney.specs.Ready.{fair_when_ready}
 use Rattle.kin_tourney.specs.Played.{settled_from_played}
 use Rattle.kin_tourney.specs.Standings.{Standings, IsTree, doubt_in, entry_at, item_of, placed_facts, seen_as}
-use Rattle.kin_tourney.specs.Repairs.{IsSpread, IsDoubtful, IsDoubted}
+use Rattle.kin_tourney.specs.Repairs.{IsMarkedUp, IsDoubtful, IsDoubted, needs_play}
 use Rattle.kin_tourney.specs.Sound.{IsSound}
 use Rattle.kin_tourney.proofs.Entrants.{played_from_right}
-use Rattle.kin_tourney.proofs.Soundness.{all_right, sound_put, parts_inside, doubtful_starts, sound_repaired, unmarked_repaired, clear_at_rest}
-use Rattle.kin_tourney.proofs.Trees.{some_inner}
+use Rattle.kin_tourney.proofs.Soundness.{all_right, sound_put, parts_inside, doubtful_starts, doubtful_told, right_askable, sound_repaired, unmarked_repaired, clear_at_rest}
+use Rattle.kin_tourney.proofs.Trees.{all_clear, some_inner}
 
 -- exactly the failed facts are all of them
 pub covers_failing : (facts : List Placed) (is_spared : Placed → Bool) (s : Scene) (failed : List Placed) → ListsFailing facts is_spared s failed → CoversFailing facts is_spared s failed
@@ -26,12 +28,12 @@ covers_failing facts is_spared s failed h = record { only = λ p c. ((h.each p).
 module _ {K Item : Type 0} (k : K) (names : Item → List ℕ) (key : Key Item)
     (total : (s : Scene) (x y : Item) → IsReal s → AreLive s.live (names x) → AreLive s.live (names y) → x ≢ y → beats s key y x ≡ not (beats s key x y))
     (through : (s : Scene) (x y z : Item) → IsReal s → AreLive s.live (names x) → AreLive s.live (names y) → AreLive s.live (names z) → beats s key x y ≡ true → beats s key y z ≡ true → beats s key x z ≡ true) where
-  pub settled_repaired : (t : Standings Item) (s : Scene) → IsReal s → IsDoubtful key s.sign t → ((v : ℕ) → 0 < v → doubt_in t.doubts v ≡ Clear) → IsReady names (seen_as k t true) s → IsSettled names key (seen_as k t true) s
-  settled_repaired t s real h clear ready = record {
+  pub settled_repaired : (all : Bool) (t : Standings Item) (s : Scene) → IsReal s → IsDoubtful all key s.sign t → ((v : ℕ) → 0 < v → doubt_in t.doubts v ≡ Clear) → IsReady names (seen_as k t true) s → IsSettled names key (seen_as k t true) s
+  settled_repaired all t s real h clear ready = record {
     room = h.tree.items_room;
     ready = ready;
     tournament = settled_from_played s key t.size t.items h.tree.items_room (fair_when_ready names key total through (seen_as k t true) s real ready) (winner_at (seen_as k t true)) (placed_facts t)
-        (played_from_right s key t h.tree h.no_root (all_right key t s.sign h clear));
+        (played_from_right s key t h.tree h.no_root (all_right key all t s.sign h clear));
   }
 
 -- the same items are ready
@@ -45,7 +47,7 @@ ready_repaired {K} {Item} k names old new s whole same h = record {
 -- a slot is marked
 pub kept_put : {Item : Type 0} (key : Key Item) (t new : Standings Item) (whole : Bool) (slot : ℕ) (item : Option Item) → IsTree t × (IsTrue whole → IsSound key t) → slot < 2 ^ t.size → IsTree new
     → new ≡ record t { items = set t.items slot item; marked = set t.marked slot true; doubts = new.doubts }
-    → (mark_in t.marked slot ≡ false → IsSpread t.doubts new.doubts Here ((length t.items + slot) / 2)) → (mark_in t.marked slot ≡ true → new.doubts ≡ t.doubts)
+    → (mark_in t.marked slot ≡ false → IsMarkedUp slot t new.doubts) → (mark_in t.marked slot ≡ true → new.doubts ≡ t.doubts)
     → IsTree new × (IsTrue whole → IsSound key new)
 kept_put {Item} key t new whole slot item kept low tree same spread again =
     (tree, λ w. sound_put key t new kept.0 tree (kept.1 w) slot (let r = kept.0.items_room in omega arith) item same spread again)
@@ -58,13 +60,31 @@ pub record IsLast {K Item : Type 0} (k : K) (names : Item → List ℕ) (key : K
 
 -- failed facts are in doubt
 module _ {K Item : Type 0} (k : K) (names : Item → List ℕ) (key : Key Item) (t doubted : Standings Item) (whole : Bool) (s : Scene) (failed : List Placed)
-    (kept : IsTree t × (IsTrue whole → IsSound key t)) (ready : IsReady names (seen_as k t whole) s) (failing : CoversFailing (placed_facts t) (λ p. is_above_mark t.size t.marked p.part) s failed) where
-  pub parts_low : (i : ℕ) (d : Placed) → i < length failed → (slice_index_or failed i d).part < length t.items
-  parts_low = parts_inside key t s failed kept.0 failing
+    (kept : IsTree t × (IsTrue whole → IsSound key t)) (ready : IsReady names (seen_as k t whole) s) where
+  pub some_slots : 1 ≤ t.size
+  some_slots = (kept.1 ready.whole).some
+
+  pub parts_low : ((p : Placed) → Contains failed p → Contains (placed_facts t) p) → (i : ℕ) (d : Placed) → i < length failed → (slice_index_or failed i d).part < length t.items
+  parts_low only = parts_inside key t failed kept.0 only
 
   module _ (tree : IsTree doubted) (same : doubted ≡ record t { doubts = doubted.doubts }) (doubts : IsDoubted t.doubts doubted.doubts failed (length failed)) where
-    pub doubtful_now : IsDoubtful key s.sign doubted
-    doubtful_now = doubtful_starts key t doubted s failed kept.0 tree (kept.1 ready.whole) same failing doubts
+    -- all matches above marks are played again, if there are marks at all
+    pub doubtful_now : CoversFailing (placed_facts t) (λ p. is_above_mark t.size t.marked p.part) s failed → (untouched : Bool) → (untouched ≡ true → doubt_in t.doubts 1 ≡ Clear) → IsDoubtful (not untouched) key s.sign doubted
+    doubtful_now failing untouched root = doubtful_starts key (not untouched) t doubted s failed kept.0 tree (kept.1 ready.whole) same doubts failing (λ v some. first untouched root v some)
+      where
+        was_clear : (v : ℕ) (d : Doubt) → d ≡ doubt_in doubted.doubts v → needs_play true d ≡ false → doubt_in t.doubts v ≡ Clear
+        was_clear v Clear e n = doubts.kept v (sym e)
+        was_clear v Below e n = absurd cc
+        was_clear v Here e n = absurd cc
+
+        first : (u : Bool) → (u ≡ true → doubt_in t.doubts 1 ≡ Clear) → (v : ℕ) → 0 < v → needs_play (not u) (doubt_in doubted.doubts v) ≡ false → doubt_in t.doubts v ≡ Clear
+        first true root v some n = all_clear t.doubts kept.0.closed (root refl) v some
+        first false root v some n = was_clear v (doubt_in doubted.doubts v) refl n
+
+    -- only those matches that are in doubt themselves are played again
+    pub doubtful_of_told : ((live : List ℕ) (x y : Item) → AreLive live (names x) → AreLive live (names y) → IsAskable live (key.form x y)) → CoversAskable (placed_facts t) s failed → IsDoubtful false key s.sign doubted
+    doubtful_of_told askable failing = doubtful_told key false t doubted s failed kept.0 tree (kept.1 ready.whole) same doubts failing
+        (λ v sign f right e. right_askable key s.live names (λ x y. askable s.live x y) t ready.live v sign f right e)
 
     same_size : doubted.size ≡ t.size
     same_size = ap (λ (x : Standings Item). x.size) same
@@ -73,20 +93,23 @@ module _ {K Item : Type 0} (k : K) (names : Item → List ℕ) (key : Key Item) 
     same_items = ap (λ (x : Standings Item). x.items) same
 
     pub some_now : 1 ≤ doubted.size
-    some_now = subst (λ n. 1 ≤ n) (sym same_size) (kept.1 ready.whole).some
+    some_now = subst (λ n. 1 ≤ n) (sym same_size) some_slots
 
     -- and repaired
     module _ (total : (s : Scene) (x y : Item) → IsReal s → AreLive s.live (names x) → AreLive s.live (names y) → x ≢ y → beats s key y x ≡ not (beats s key x y))
         (through : (s : Scene) (x y z : Item) → IsReal s → AreLive s.live (names x) → AreLive s.live (names y) → AreLive s.live (names z) → beats s key x y ≡ true → beats s key y z ≡ true → beats s key x z ≡ true)
-        (real : IsReal s) (new : Standings Item) (size : new.size ≡ doubted.size) (items : new.items ≡ doubted.items) (known : IsDoubtful key s.sign new) (clear : (v : ℕ) → 0 < v → doubt_in new.doubts v ≡ Clear) where
+        (real : IsReal s) (all : Bool) (new : Standings Item) (size : new.size ≡ doubted.size) (items : new.items ≡ doubted.items) (known : IsDoubtful all key s.sign new) (clear : (v : ℕ) → 0 < v → doubt_in new.doubts v ≡ Clear) where
       some_last : 1 ≤ new.size
       some_last = subst (λ n. 1 ≤ n) (sym size) some_now
 
+      many_last : 1 < length new.items
+      many_last = some_inner new known.tree some_last
+
       pub last : IsLast k names key new s
       last = record {
-        kept = (known.tree, λ w. sound_repaired key new s.sign some_last known clear);
-        rest = record { whole = refl; unmarked = unmarked_repaired key new s.sign known (some_inner new known.tree some_last) clear };
-        settled = settled_repaired k names key total through new s real known clear (ready_repaired k names t new s whole (items ∙ same_items) ready);
+        kept = (known.tree, λ w. sound_repaired key all new s.sign some_last many_last known clear);
+        rest = record { whole = refl; unmarked = unmarked_repaired key all new s.sign known many_last clear };
+        settled = settled_repaired k names key total through all new s real known clear (ready_repaired k names t new s whole (items ∙ same_items) ready);
       }
 
 -- a node has no winner exactly where its slots are empty
@@ -95,5 +118,5 @@ pub winner_none : {K Item : Type 0} (k : K) (key : Key Item) (t : Standings Item
 winner_none {K} {Item} k key t whole kept rest v some inside o is =
     let sound = kept.1 rest.whole in
     let clear = clear_at_rest key t kept.0 sound rest.unmarked in
-    let both = vacant key t kept.0 (λ u big low. sound.consistent u big low (clear u big)) v some (let p = pow-add 2 t.size 1 in omega arith) in
+    let both = vacant key t kept.0 (λ u big low. sound.consistent u big low (λ e. absurd (let z : Clear ≡ Here = sym (clear u big) ∙ e in cc))) v some (let p = pow-add 2 t.size 1 in omega arith) in
     ((λ e. both.0 (is ∙ e)), (λ none. sym is ∙ both.1 none))

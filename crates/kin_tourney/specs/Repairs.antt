@@ -1,15 +1,15 @@
 -- What the steps of a repair do to a tree of matches.
-use Rattle.std.specs.Prelude.{◌≡◌, ◌≢◌, ◌⊎◌, ℕ, ◌+◌, ◌*◌, ◌/◌, ◌^◌, ◌≤◌, ◌<◌, true, false, List, ◌++◌, length, Option, None, slice_set, slice_index_or}
+use Rattle.std.specs.Prelude.{◌≡◌, ◌≢◌, ◌⊎◌, ℕ, ◌+◌, ◌*◌, ◌/◌, ◌^◌, ◌≤◌, ◌<◌, Bool, true, false, List, ◌++◌, length, Option, Some, None, slice_set, slice_index_or}
 use Rattle.kin_motion.specs.declared.form.Form.{Form}
 use Rattle.kin_algebra.specs.declared.sign.Sign.{Sign}
 use Rattle.kin_motion.specs.declared.fact.Fact.{Fact}
 use Rattle.kin_motion.specs.declared.fact.Placed.{Placed}
 use Rattle.kin_motion.specs.Deltas.{Change}
-use Rattle.kin_motion.specs.Tournaments.{Key}
+use Rattle.kin_motion.specs.Tournaments.{Key, is_under}
 use Rattle.kin_tourney.specs.declared.doubt.Doubt.{Doubt}
-use Rattle.kin_tourney.specs.declared.doubt.Doubt.TheVariants.{Clear, Here}
+use Rattle.kin_tourney.specs.declared.doubt.Doubt.TheVariants.{Clear, Below, Here}
 use Rattle.kin_tourney.specs.Tournament.{mark_in}
-use Rattle.kin_tourney.specs.Standings.{Standings, IsTree, doubt_in, doubt_count, best_in, fact_in, match_at, IsRight, placed_of}
+use Rattle.kin_tourney.specs.Standings.{Standings, IsTree, doubt_in, doubt_count, best_in, fact_in, named_at, match_at, IsRight, placed_of}
 
 -- a node and those above it came into a doubt where they were clear
 pub record IsSpread (old new : List Doubt) (doubt : Doubt) (node : ℕ) : Type 0 where
@@ -17,6 +17,21 @@ pub record IsSpread (old new : List Doubt) (doubt : Doubt) (node : ℕ) : Type 0
   pub reached : doubt_in new node ≢ Clear
   pub each : (v : ℕ) → (doubt_in new v ≡ doubt_in old v) ⊎ ((doubt_in old v ≡ Clear) × (doubt_in new v ≡ doubt))
   pub few : (height : ℕ) → node < 2 ^ height → doubt_count new ≤ doubt_count old + height
+
+-- the nodes above a slot came into doubt where they were clear, and those of which the slot is the best of a half are in doubt themselves
+pub record IsMarkedUp {Item : Type 0} (slot : ℕ) (old : Standings Item) (new : List Doubt) : Type 0 where
+  pub room : length new ≡ length old.doubts
+  pub reached : doubt_in new ((length old.items + slot) / 2) ≢ Clear
+  pub won : (u : ℕ) → is_under old.size u slot ≡ true → named_at old u ≡ Some slot → doubt_in new (u / 2) ≡ Here
+  pub here_kept : (v : ℕ) → doubt_in old.doubts v ≡ Here → doubt_in new v ≡ Here
+  pub kept : (v : ℕ) → doubt_in new v ≡ Clear → doubt_in old.doubts v ≡ Clear
+  pub few : doubt_count new ≤ doubt_count old.doubts + old.size
+
+-- whether a match has to be played again: every one in doubt, or only those that are in doubt themselves
+abbrev pub needs_play : Bool → Doubt → Bool
+needs_play all Clear = false
+needs_play all Below = all
+needs_play all Here = true
 
 -- the parts of these facts came into doubt, and what was in doubt still is
 pub record IsDoubted (old new : List Doubt) (failed : List Placed) (count : ℕ) : Type 0 where
@@ -33,10 +48,10 @@ IsReported v old new before after =
     ⊎ ((old ≢ new) × (after ≡ record { dropped = before.dropped ++ placed_of v old; born = before.born ++ placed_of v new }))
 
 -- what is known while nodes are in doubt: a node that need not be played again is right
-pub record IsDoubtful {Item : Type 0} (key : Key Item) (sign : Form → Sign) (t : Standings Item) : Type 0 where
+pub record IsDoubtful {Item : Type 0} (all : Bool) (key : Key Item) (sign : Form → Sign) (t : Standings Item) : Type 0 where
   pub tree : IsTree t
   pub leaves : (i : ℕ) → mark_in t.marked i ≡ true → doubt_in t.doubts ((length t.items + i) / 2) ≢ Clear
-  pub right : (v : ℕ) → 0 < v → v < length t.items → doubt_in t.doubts v ≢ Here → IsRight key sign t v
+  pub right : (v : ℕ) → 0 < v → v < length t.items → needs_play all (doubt_in t.doubts v) ≡ false → IsRight key sign t v
   pub no_root : fact_in t.facts 0 ≡ None
 
 -- a node was played again; where its winner changed, the node above has to be
@@ -50,11 +65,11 @@ pub record IsReplayed {Item : Type 0} (key : Key Item) (sign : Form → Sign) (n
   pub reported : IsReported node (fact_in old.facts node) (fact_in new.facts node) before after
   pub doubts : ((best_in new.best node ≡ best_in old.best node) × (new.doubts ≡ old.doubts)) ⊎ (new.doubts ≡ slice_set old.doubts (node / 2) Here)
 
--- a node was played again where it was in doubt itself
-abbrev pub IsRenewed : {Item : Type 0} → Key Item → (Form → Sign) → ℕ → Standings Item → Standings Item → Change → Change → Type 0
-IsRenewed key sign node old new before after =
-    ((doubt_in old.doubts node ≡ Here) × IsReplayed key sign node old new before after)
-    ⊎ ((doubt_in old.doubts node ≢ Here) × (new ≡ old) × (after ≡ before))
+-- a node was played again where it has to be
+abbrev pub IsRenewed : {Item : Type 0} → Bool → Key Item → (Form → Sign) → ℕ → Standings Item → Standings Item → Change → Change → Type 0
+IsRenewed all key sign node old new before after =
+    ((needs_play all (doubt_in old.doubts node) ≡ true) × IsReplayed key sign node old new before after)
+    ⊎ ((needs_play all (doubt_in old.doubts node) ≡ false) × (new ≡ old) × (after ≡ before))
 
 -- a node is clear now, and slots right below it are unmarked
 pub record IsCleared {Item : Type 0} (node : ℕ) (old new : Standings Item) : Type 0 where

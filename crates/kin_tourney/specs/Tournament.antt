@@ -2,6 +2,7 @@
 use Rattle.std.specs.Prelude.{◌≡◌, ℕ, ◌+◌, ◌^◌, Bool, false, ◌&&◌, ◌||◌, List, [], ◌∷◌, length, Option, Some, None, slice_index_or, Contains, IsTrue, IsFalse}
 use Rattle.std.specs.List.{count_by}
 use Rattle.kin_motion.specs.declared.fact.Placed.{Placed}
+use Rattle.kin_motion.specs.Forms.{IsAskable}
 use Rattle.kin_motion.specs.Scene.{Scene, Holds}
 use Rattle.kin_motion.specs.Tournaments.{Key, item_in, is_under}
 use Rattle.kin_motion.specs.Contents.{IsSettledTournament}
@@ -54,6 +55,11 @@ pub record IsSettled {K Item : Type 0} (names : Item → List ℕ) (key : Key It
   pub room : length t.slots ≡ 2 ^ t.size
   pub ready : IsReady names t s
   pub tournament : IsSettledTournament s key t.size t.slots (winner_at t) t.facts
+
+-- the list has facts alone, and of those that may be asked for, as they name live numbers alone, all that don't hold
+pub record CoversAskable (facts : List Placed) (s : Scene) (failed : List Placed) : Type 0 where
+  pub only : (p : Placed) → Contains failed p → Contains facts p
+  pub all : (p : Placed) → Contains facts p → IsAskable s.live p.fact.form → ¬ (Holds s p.fact) → Contains failed p
 
 -- the list has facts alone, and of those that aren't spared all that don't hold
 pub record CoversFailing (facts : List Placed) (is_spared : Placed → Bool) (s : Scene) (failed : List Placed) : Type 0 where

@@ -1,9 +1,10 @@
 //! The tournament as its callers see it.
 
-ghost use Rattle.std.specs.Prelude.{unsigned_abs, ◌≡◌, ℕ, ◌+◌, ◌*◌, ◌^◌, ◌<◌, ◌≤◌, ◌↔◌, true, false, [], length, replicate, slice_set, IsTrue, IfOk, OnOk, Some, None};
-ghost use Rattle.kin_motion.specs.Scene.{Scene};
+ghost use Rattle.std.specs.Prelude.{unsigned_abs, ◌≡◌, ℕ, ◌+◌, ◌*◌, ◌^◌, ◌<◌, ◌≤◌, ◌↔◌, true, false, [], length, replicate, slice_set, IsTrue, IfOk, OnOk, OnErr, Some, None};
+ghost use Rattle.kin_motion.specs.Kinetics.{HasChanged};
+ghost use Rattle.kin_motion.specs.Scene.{Scene, IsReal};
 ghost use Rattle.kin_motion.specs.Tournaments.{item_in, is_under};
-ghost use Rattle.kin_tourney.specs.Tournament.{IsAtRest, IsSettled, winner_at};
+ghost use Rattle.kin_tourney.specs.Tournament.{IsAtRest, IsReady, IsSettled, winner_at, mark_count, CoversAskable};
 
 use crate::keyed::Keyed;
 use crate::tree::Tree;
@@ -91,6 +92,34 @@ impl<K: Keyed> Tourney<K> {
         let entry = self.tree.entry(node as usize)?;
         Some(entry.item)
     }
+
+    /// Repairs the marked slots and the failed facts, where no fact but those that name other than live
+    /// numbers is left out of `failed`. Above a marked slot only those matches are played again that it
+    /// had won, and those whose halves have another winner.
+    pub fn settle_told<O: Signs, L: Ledger>(
+        &mut self,
+        now: &O,
+        failed: &[Placed],
+        out: &mut Delta,
+        steps: &mut Steps<L>,
+    ) -> Result<(), NoMemory>
+        requires real { IsReal (O.scene now.now) }
+        requires ready { IsReady K.names self.old (O.scene now.now) }
+        requires failing { CoversAskable self.old.facts (O.scene now.now) failed.now }
+        ensures rest { OnOk result (IsAtRest self.new) }
+        ensures settled { OnOk result (IsSettled K.names (K.key self.new.key) self.new (O.scene now.now)) }
+        ensures delta { OnOk result (HasChanged self.old.facts self.new.facts out.old out.new) }
+        ensures broken { OnErr result (self.new.whole ≡ false) }
+        ensures same { OnOk result (self.new ≡ record self.old { marked = self.new.marked; winners = self.new.winners; facts = self.new.facts }) }
+        ensures room { OnOk result (length self.new.marked ≡ length self.old.marked) }
+        ensures cost { OnOk result (steps.new ≤ steps.old + self.old.size * (mark_count self.old.marked + length failed.now)) }
+    {
+        self.whole = false;
+        self.tree.doubt_failed(failed);
+        self.tree.repair(false, &self.key, now, out, steps)?;
+        self.whole = true;
+        Ok(())
+    }
 }
 
 impl<K: Keyed> Kinetic for Tourney<K> {
@@ -135,8 +164,10 @@ impl<K: Keyed> Kinetic for Tourney<K> {
         ensures cost { OnOk result (steps.new ≤ steps.old + self.old.size * (mark_count self.old.marked + length failed.now)) }
     {
         self.whole = false;
+        // A fact above a marked slot may be left out of `failed`, so each match there is played again.
+        let all = !self.tree.is_untouched();
         self.tree.doubt_failed(failed);
-        self.tree.repair(&self.key, now, out, steps)?;
+        self.tree.repair(all, &self.key, now, out, steps)?;
         self.whole = true;
         Ok(())
     }

@@ -3,12 +3,13 @@
 ghost use Rattle.std.specs.Prelude.{◌≡◌, ◌≢◌, ◌⊎◌, ℕ, ◌+◌, ◌*◌, ◌/◌, ◌^◌, ◌<◌, ◌≤◌, ◌↔◌, true, false, length, replicate, slice_set, slice_index_or, IsTrue, IfOk, IfSome, OnOk, MatchOption, Contains, Some};
 ghost use Rattle.kin_motion.specs.declared.fact.Placed.{Placed as Put};
 ghost use Rattle.kin_motion.specs.Scene.{Scene};
+ghost use Rattle.kin_tourney.specs.declared.doubt.Doubt.TheVariants.{Below};
 ghost use Rattle.kin_motion.specs.Tournaments.{item_in};
 ghost use Rattle.kin_tourney.specs.Names.{AreLive};
 ghost use Rattle.kin_motion.specs.Kinetics.{HasChanged};
 ghost use Rattle.kin_tourney.specs.Standings.{Standings, IsTree, named_at, entry_at, match_at, match_of, fact_in, doubt_in, doubt_count, placed_facts};
 ghost use Rattle.kin_tourney.specs.Tournament.{mark_in};
-ghost use Rattle.kin_tourney.specs.Repairs.{IsSpread, IsDoubted, IsReplayed, IsRenewed, IsReported, IsCleared, IsDoubtful};
+ghost use Rattle.kin_tourney.specs.Repairs.{IsSpread, IsMarkedUp, IsDoubted, needs_play, IsReplayed, IsRenewed, IsReported, IsCleared, IsDoubtful};
 
 use crate::doubt::{Doubt, doubt_failed, doubt_path};
 use crate::entry::Entry;
@@ -112,12 +113,74 @@ impl<I: Copy> Tree<I> {
         self.doubts[node].is_clear()
     }
 
-    fn is_here(&self, node: usize) -> bool
+    fn needs_play(&self, node: usize, all: bool) -> bool
         requires tree { IsTree self.now }
         requires inner { node < length self.now.items }
-        ensures { IsTrue result ↔ (doubt_in self.now.doubts node ≡ Doubt.Here) }
+        ensures { result ≡ needs_play all (doubt_in self.now.doubts node) }
     {
-        self.doubts[node].is_here()
+        self.doubts[node].needs_play(all)
+    }
+
+    /// Whether no slot is marked, and no failed fact told.
+    pub fn is_untouched(&self) -> bool
+        requires tree { IsTree self.now }
+        requires some { 1 ≤ self.now.size }
+        ensures { IsTrue result ↔ (doubt_in self.now.doubts 1 ≡ Doubt.Clear) }
+    {
+        self.is_clear(1)
+    }
+
+    /// Whether a slot is the best of a node, or the node is its leaf.
+    fn is_best_of(&self, slot: u32, node: usize) -> bool
+        requires tree { IsTree self.now }
+        requires node { node < 2 * length self.now.items }
+        ensures { IsTrue result ↔ (named_at self.now node ≡ Some slot) }
+    {
+        match self.named(node) {
+            Some(best) => best == slot,
+            None => false,
+        }
+    }
+
+    /// Puts a node and those above it into doubt, where they are clear: the way leads through them.
+    fn lead_to(&mut self, node: usize)
+        requires tree { IsTree self.old }
+        requires inner { node < length self.old.items }
+        ensures tree { IsTree self.new }
+        ensures same { self.new ≡ record self.old { doubts = self.new.doubts } }
+        ensures spread { IsSpread self.old.doubts self.new.doubts Below node }
+    {
+        doubt_path(&mut self.doubts, node, Doubt::Below);
+    }
+
+    /// Has the match of a node in doubt played again.
+    fn raise(&mut self, node: usize)
+        requires tree { IsTree self.old }
+        requires inner { node < length self.old.items }
+        requires doubted { doubt_in self.old.doubts node ≢ Doubt.Clear }
+        ensures tree { IsTree self.new }
+        ensures same { self.new ≡ record self.old { doubts = slice_set self.old.doubts node Doubt.Here } }
+    {
+        self.doubts[node] = Doubt::Here;
+    }
+
+    /// Puts the nodes above a slot into doubt. Only where it is the best of a half, the match itself
+    /// has to be played again.
+    fn doubt_above(&mut self, slot: u32)
+        requires tree { IsTree self.old }
+        requires slot { slot < length self.old.items }
+        ensures tree { IsTree self.new }
+        ensures same { self.new ≡ record self.old { doubts = self.new.doubts } }
+        ensures marked { IsMarkedUp slot self.old self.new.doubts }
+    {
+        let mut node = self.slots() + slot as usize;
+        self.lead_to(node / 2);
+        while node > 1 {
+            if self.is_best_of(slot, node) {
+                self.raise(node / 2);
+            }
+            node /= 2;
+        }
     }
 
     /// Marks a slot and changes what it holds.
@@ -126,15 +189,14 @@ impl<I: Copy> Tree<I> {
         requires slot { slot < length self.old.items }
         ensures tree { IsTree self.new }
         ensures same { self.new ≡ record self.old { items = slice_set self.old.items slot item; marked = slice_set self.old.marked slot true; doubts = self.new.doubts } }
-        ensures spread { mark_in self.old.marked slot ≡ false → IsSpread self.old.doubts self.new.doubts Doubt.Here ((length self.old.items + slot) / 2) }
+        ensures spread { mark_in self.old.marked slot ≡ false → IsMarkedUp slot self.old self.new.doubts }
         ensures again { mark_in self.old.marked slot ≡ true → self.new.doubts ≡ self.old.doubts }
     {
-        let leaf = self.slots() + slot as usize;
-        self.items[slot as usize] = item;
         if !self.marked[slot as usize] {
+            self.doubt_above(slot);
             self.marked[slot as usize] = true;
-            doubt_path(&mut self.doubts, leaf / 2, Doubt::Here);
         }
+        self.items[slot as usize] = item;
     }
 
     /// Puts the nodes of failed facts into doubt.
@@ -231,7 +293,7 @@ impl<I: Copy> Tree<I> {
         requires tree { IsTree self.old }
         requires root { 0 < node }
         requires inner { node < length self.old.items }
-        requires here { doubt_in self.old.doubts node ≡ Doubt.Here }
+        requires doubted { doubt_in self.old.doubts node ≢ Doubt.Clear }
         requires live { (i : ℕ) (a : I) → item_in self.old.items i ≡ Some a → AreLive (O.scene now.now).live (K.names a) }
         ensures tree { IsTree self.new }
         ensures replayed { OnOk result (IsReplayed (K.key key.now) (O.scene now.now).sign node self.old self.new out.old out.new) }
@@ -245,10 +307,11 @@ impl<I: Copy> Tree<I> {
         Ok(())
     }
 
-    /// Plays the match of a node again where it is in doubt itself.
+    /// Plays the match of a node again where it has to be.
     fn renew<K: Keyed<Item = I>, O: Signs, L: Ledger>(
         &mut self,
         node: usize,
+        all: bool,
         key: &K,
         now: &O,
         out: &mut Delta,
@@ -259,10 +322,10 @@ impl<I: Copy> Tree<I> {
         requires inner { node < length self.old.items }
         requires live { (i : ℕ) (a : I) → item_in self.old.items i ≡ Some a → AreLive (O.scene now.now).live (K.names a) }
         ensures tree { IsTree self.new }
-        ensures renewed { OnOk result (IsRenewed (K.key key.now) (O.scene now.now).sign node self.old self.new out.old out.new) }
+        ensures renewed { OnOk result (IsRenewed all (K.key key.now) (O.scene now.now).sign node self.old self.new out.old out.new) }
         ensures cost { OnOk result (steps.new ≤ steps.old + 1) }
     {
-        if self.is_here(node) {
+        if self.needs_play(node, all) {
             return self.replay(node, key, now, out, steps);
         }
         Ok(())
@@ -312,22 +375,23 @@ impl<I: Copy> Tree<I> {
         None
     }
 
-    /// Plays every match in doubt again, the halves of a node before the node. The doubts lead the
-    /// way down, and only nodes in doubt are visited.
+    /// Plays the matches in doubt again, all or only those that are in doubt themselves, the halves of
+    /// a node before the node. The doubts lead the way down, and only nodes in doubt are visited.
     pub fn repair<K: Keyed<Item = I>, O: Signs, L: Ledger>(
         &mut self,
+        all: bool,
         key: &K,
         now: &O,
         out: &mut Delta,
         steps: &mut Steps<L>,
     ) -> Result<(), NoMemory>
-        requires doubtful { IsDoubtful (K.key key.now) (O.scene now.now).sign self.old }
+        requires doubtful { IsDoubtful all (K.key key.now) (O.scene now.now).sign self.old }
         requires some { 1 ≤ self.old.size }
         requires live { (i : ℕ) (a : I) → item_in self.old.items i ≡ Some a → AreLive (O.scene now.now).live (K.names a) }
         ensures tree { IsTree self.new }
         ensures same_size { OnOk result (self.new.size ≡ self.old.size) }
         ensures same_items { OnOk result (self.new.items ≡ self.old.items) }
-        ensures known { OnOk result (IsDoubtful (K.key key.now) (O.scene now.now).sign self.new) }
+        ensures known { OnOk result (IsDoubtful all (K.key key.now) (O.scene now.now).sign self.new) }
         ensures clear { OnOk result ((v : ℕ) → 0 < v → doubt_in self.new.doubts v ≡ Doubt.Clear) }
         ensures delta { OnOk result (HasChanged (placed_facts self.old) (placed_facts self.new) out.old out.new) }
         ensures cost { OnOk result (steps.new + 1 ≤ steps.old + doubt_count self.old.doubts) }
@@ -337,7 +401,7 @@ impl<I: Copy> Tree<I> {
             if let Some(half) = self.doubted_half(node) {
                 node = half;
             } else {
-                self.renew(node, key, now, out, steps)?;
+                self.renew(node, all, key, now, out, steps)?;
                 self.settle_node(node);
                 node /= 2;
             }

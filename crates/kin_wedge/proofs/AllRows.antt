@@ -95,7 +95,7 @@ pub record AreFollowed (mark : Mark) (lists : List Listing) (candidates : List (
   pub count : length now ≡ length old
   pub done : (part : ℕ) → part < i → row_of now part ≡ row_of (rows_of lists) part
   pub left : (part : ℕ) → i ≤ part → row_of now part ≡ row_of old part
-  pub offered : (part a b : ℕ) → part < i → WereExchanged (row_of (swaps_of lists) part) (staying mark (row_of old part)) a b → HasOfferedBoth candidates part a b ts
+  pub offered : (part a b : ℕ) → part < i → WereExchanged (row_of (swaps_of lists) part) (staying mark (row_of old part)) a b → HasOfferedBoth (rows_of lists) candidates part a b ts
   pub touched : HasTouched candidates first ts
 
 module _ (mark : Mark) (lists : List Listing) (candidates : List (Option ℕ)) (old : List (List ℕ)) (first : List Touch) where
@@ -103,7 +103,7 @@ module _ (mark : Mark) (lists : List Listing) (candidates : List (Option ℕ)) (
   followed_none = record { count = refl; done = λ part h. absurd (omega (arith, h)); left = λ part h. refl; offered = λ part a b h. absurd (omega (arith, h)); touched = touched_none candidates first }
 
   pub followed_more : (now : List (List ℕ)) (row : List ℕ) (ts us : List Touch) (i : ℕ) (l : Listing) → slice_get lists i ≡ Some l → i < length now → AreFollowed mark lists candidates old now first ts i → row ≡ l.items
-      → ((a b : ℕ) → WereExchanged l.swaps (staying mark (row_of now i)) a b → HasOfferedBoth candidates i a b us) → HasTouched candidates ts us → AreFollowed mark lists candidates old (set now i row) first us (i + 1)
+      → ((a b : ℕ) → WereExchanged l.swaps (staying mark (row_of now i)) a b → HasOfferedBoth (rows_of lists) candidates i a b us) → HasTouched candidates ts us → AreFollowed mark lists candidates old (set now i row) first us (i + 1)
   followed_more now row ts us i l here w a e o t = record {
     count = length-set now i row ∙ a.count;
     done = λ part h. done part h (cases_eq part i);
@@ -116,12 +116,12 @@ module _ (mark : Mark) (lists : List Listing) (candidates : List (Option ℕ)) (
       done part h (inl s) = ap (row_of (set now i row)) s ∙ get-set_here now i row w ∙ e ∙ sym (items_there lists i l here) ∙ ap (row_of (rows_of lists)) (sym s)
       done part h (inr n) = get-set_there now i part row n ∙ a.done part (omega (arith, h, n))
 
-      own : (x y : ℕ) → WereExchanged (row_of (swaps_of lists) i) (staying mark (row_of old i)) x y → HasOfferedBoth candidates i x y us
+      own : (x y : ℕ) → WereExchanged (row_of (swaps_of lists) i) (staying mark (row_of old i)) x y → HasOfferedBoth (rows_of lists) candidates i x y us
       own x y k = o x y (subst (λ (sw : List ℕ). WereExchanged sw (staying mark (row_of now i)) x y) (swaps_there lists i l here) (subst (λ (r : List ℕ). WereExchanged (row_of (swaps_of lists) i) (staying mark r) x y) (sym (a.left i (omega arith))) k))
 
-      offered : (part x y : ℕ) → part < i + 1 → WereExchanged (row_of (swaps_of lists) part) (staying mark (row_of old part)) x y → (part ≡ i) ⊎ (part ≢ i) → HasOfferedBoth candidates part x y us
-      offered part x y h k (inl s) = subst (λ (n : ℕ). HasOfferedBoth candidates n x y us) (sym s) (own x y (subst (λ (n : ℕ). WereExchanged (row_of (swaps_of lists) n) (staying mark (row_of old n)) x y) s k))
-      offered part x y h k (inr n) = offered_stays candidates ts us part x y t (a.offered part x y (omega (arith, h, n)) k)
+      offered : (part x y : ℕ) → part < i + 1 → WereExchanged (row_of (swaps_of lists) part) (staying mark (row_of old part)) x y → (part ≡ i) ⊎ (part ≢ i) → HasOfferedBoth (rows_of lists) candidates part x y us
+      offered part x y h k (inl s) = subst (λ (n : ℕ). HasOfferedBoth (rows_of lists) candidates n x y us) (sym s) (own x y (subst (λ (n : ℕ). WereExchanged (row_of (swaps_of lists) n) (staying mark (row_of old n)) x y) s k))
+      offered part x y h k (inr n) = offered_stays (rows_of lists) candidates ts us part x y t (a.offered part x y (omega (arith, h, n)) k)
 
   pub followed_rows : (now : List (List ℕ)) (ts : List Touch) (i : ℕ) → length old ≡ 8 → length lists ≡ 8 → 8 ≤ i → AreFollowed mark lists candidates old now first ts i → now ≡ rows_of lists
   followed_rows now ts i m n h a =
@@ -129,13 +129,13 @@ module _ (mark : Mark) (lists : List Listing) (candidates : List (Option ℕ)) (
       let r = length-map lists (λ (x : Listing). x.items) in
       same_rows now (rows_of lists) (c ∙ m ∙ sym (r ∙ n)) (λ k w. a.done k (omega (arith, w, c, m, h)))
 
-  pub followed_offers : (now : List (List ℕ)) (ts : List Touch) (i : ℕ) → length lists ≡ 8 → 8 ≤ i → AreFollowed mark lists candidates old now first ts i → AreExchangesOffered mark (swaps_of lists) old candidates ts
+  pub followed_offers : (now : List (List ℕ)) (ts : List Touch) (i : ℕ) → length lists ≡ 8 → 8 ≤ i → AreFollowed mark lists candidates old now first ts i → AreExchangesOffered mark (swaps_of lists) old (rows_of lists) candidates ts
   followed_offers now ts i n h a = λ part x y k. at part x y k (cases_le part)
     where
       cases_le : (part : ℕ) → (part < i) ⊎ (8 ≤ part)
       cases_le part = grind (arith, h)
 
-      at : (part x y : ℕ) → WereExchanged (row_of (swaps_of lists) part) (staying mark (row_of old part)) x y → (part < i) ⊎ (8 ≤ part) → HasOfferedBoth candidates part x y ts
+      at : (part x y : ℕ) → WereExchanged (row_of (swaps_of lists) part) (staying mark (row_of old part)) x y → (part < i) ⊎ (8 ≤ part) → HasOfferedBoth (rows_of lists) candidates part x y ts
       at part x y k (inl w) = a.offered part x y w k
       at part x y k (inr w) =
           let r = length-map lists (λ (l : Listing). l.swaps) in

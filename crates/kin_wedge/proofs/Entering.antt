@@ -10,36 +10,23 @@ use Rattle.kin_list.proofs.RowLaws.{get_from_is_in}
 use Rattle.kin_wedge.specs.declared.touch.Touch.{Touch}
 use Rattle.kin_wedge.specs.Passages.{IsOfferedAround}
 use Rattle.kin_wedge.specs.Rows.{row_of, is_in_wedge}
-use Rattle.kin_wedge.specs.Touched.{IsOffered, HasTouched}
+use Rattle.kin_wedge.specs.Touched.{ComesFirst, IsOffered, HasTouched}
 use Rattle.kin_wedge.proofs.Places.{first_is_in, second_is_in}
 use Rattle.kin_wedge.proofs.Touching.{touched_none, touched_through}
-use Rattle.kin_wedge.proofs.Slots.{below_eight}
 
--- a number is offered to the octants below w of an apex that it is in
-pub record AreOfferedBelow (rows : List (List ℕ)) (candidates : List (Option ℕ)) (apex no : ℕ) (first now : List Touch) (w : ℕ) : Type 0 where
-  pub offered : (v : ℕ) (o : Octant) → v < w → slice_get octants v ≡ Some o → is_in_wedge rows o apex no ≡ true → IsOffered now (8 * apex + v) (Some no)
-  pub touched : HasTouched candidates first now
-
-module _ (rows : List (List ℕ)) (candidates : List (Option ℕ)) (apex no : ℕ) (first : List Touch) where
-  pub below_none : AreOfferedBelow rows candidates apex no first first 0
-  below_none = record { offered = λ v o h. absurd (omega (arith, h)); touched = touched_none candidates first }
-
-  pub below_more : (now next : List Touch) (w : ℕ) (o : Octant) (within : Bool) → AreOfferedBelow rows candidates apex no first now w → slice_get octants w ≡ Some o → within ≡ is_in_wedge rows o apex no
-      → (within ≡ true → IsOffered next (8 * apex + w) (Some no)) → HasTouched candidates now next → AreOfferedBelow rows candidates apex no first next (w + 1)
-  below_more now next w o within a here e f t = record { offered = λ v p h k m. at v p (cases_eq v w) h k m; touched = touched_through candidates first now next a.touched t }
-    where
-      at : (v : ℕ) (p : Octant) → (v ≡ w) ⊎ (v ≢ w) → v < w + 1 → slice_get octants v ≡ Some p → is_in_wedge rows p apex no ≡ true → IsOffered next (8 * apex + v) (Some no)
-      at v p (inl s) h k m =
-          let same : p ≡ o = same_Some p o (sym k ∙ ap (slice_get octants) s ∙ here) in
-          subst (λ (n : ℕ). IsOffered next (8 * apex + n) (Some no)) (sym s) (f (e ∙ ap (λ (x : Octant). is_in_wedge rows x apex no) (sym same) ∙ m))
-      at v p (inr n) h k m = t.keeps (8 * apex + v) (Some no) (a.offered v p (omega (arith, h, n)) k m)
-
-  pub below_all : (now : List Touch) (w : ℕ) → 8 ≤ w → AreOfferedBelow rows candidates apex no first now w → (v : ℕ) (o : Octant) → slice_get octants v ≡ Some o → is_in_wedge rows o apex no ≡ true → IsOffered now (8 * apex + v) (Some no)
-  below_all now w h a v o k m = let b = below_eight v o k in a.offered v o (omega (arith, b, h)) k m
+-- a number is offered to the one octant of an apex that it can be in
+pub only_there : (rows : List (List ℕ)) (candidates : List (Option ℕ)) (apex who v : ℕ) (wanted : Bool) (next : List Touch)
+    → ((w : ℕ) (o : Octant) → slice_get octants w ≡ Some o → is_in_wedge rows o apex who ≡ true → v ≡ w)
+    → ((o : Octant) → slice_get octants v ≡ Some o → ComesFirst rows candidates o apex v who → wanted ≡ true) → (wanted ≡ true → IsOffered next (8 * apex + v) (Some who))
+    → (w : ℕ) (o : Octant) → slice_get octants w ≡ Some o → ComesFirst rows candidates o apex w who → IsOffered next (8 * apex + w) (Some who)
+only_there rows candidates apex who v wanted next told leads offered w o e k =
+    let same = told w o e k.0 in
+    subst (λ (n : ℕ). IsOffered next (8 * apex + n) (Some who)) same
+    (offered (leads o (ap (slice_get octants) same ∙ e) (subst (λ (n : ℕ). ComesFirst rows candidates o apex n who) (sym same) k)))
 
 -- a number is offered to each octant of the first i of these apexes that it is in
 pub record AreOfferedTo (rows : List (List ℕ)) (candidates : List (Option ℕ)) (no : ℕ) (first now : List Touch) (apexes : List ℕ) (i : ℕ) : Type 0 where
-  pub offered : (k p v : ℕ) (o : Octant) → k < i → slice_get apexes k ≡ Some p → slice_get octants v ≡ Some o → is_in_wedge rows o p no ≡ true → IsOffered now (8 * p + v) (Some no)
+  pub offered : (k p v : ℕ) (o : Octant) → k < i → slice_get apexes k ≡ Some p → slice_get octants v ≡ Some o → ComesFirst rows candidates o p v no → IsOffered now (8 * p + v) (Some no)
   pub touched : HasTouched candidates first now
 
 module _ (rows : List (List ℕ)) (candidates : List (Option ℕ)) (no : ℕ) (first : List Touch) (apexes : List ℕ) where
@@ -47,13 +34,13 @@ module _ (rows : List (List ℕ)) (candidates : List (Option ℕ)) (no : ℕ) (f
   to_none = record { offered = λ k p v o h. absurd (omega (arith, h)); touched = touched_none candidates first }
 
   pub to_more : (now next : List Touch) (i apex : ℕ) → AreOfferedTo rows candidates no first now apexes i → slice_get apexes i ≡ Some apex
-      → ((v : ℕ) (o : Octant) → slice_get octants v ≡ Some o → is_in_wedge rows o apex no ≡ true → IsOffered next (8 * apex + v) (Some no)) → HasTouched candidates now next → AreOfferedTo rows candidates no first next apexes (i + 1)
+      → ((v : ℕ) (o : Octant) → slice_get octants v ≡ Some o → ComesFirst rows candidates o apex v no → IsOffered next (8 * apex + v) (Some no)) → HasTouched candidates now next → AreOfferedTo rows candidates no first next apexes (i + 1)
   to_more now next i apex a here f t = record { offered = λ k p v o h g m n. at k p v o (cases_eq k i) h g m n; touched = touched_through candidates first now next a.touched t }
     where
-      at : (k p v : ℕ) (o : Octant) → (k ≡ i) ⊎ (k ≢ i) → k < i + 1 → slice_get apexes k ≡ Some p → slice_get octants v ≡ Some o → is_in_wedge rows o p no ≡ true → IsOffered next (8 * p + v) (Some no)
+      at : (k p v : ℕ) (o : Octant) → (k ≡ i) ⊎ (k ≢ i) → k < i + 1 → slice_get apexes k ≡ Some p → slice_get octants v ≡ Some o → ComesFirst rows candidates o p v no → IsOffered next (8 * p + v) (Some no)
       at k p v o (inl s) h g m n =
           let same : p ≡ apex = same_Some p apex (sym g ∙ ap (slice_get apexes) s ∙ here) in
-          subst (λ (x : ℕ). IsOffered next (8 * x + v) (Some no)) (sym same) (f v o m (ap (λ (x : ℕ). is_in_wedge rows o x no) (sym same) ∙ n))
+          subst (λ (x : ℕ). IsOffered next (8 * x + v) (Some no)) (sym same) (f v o m (subst (λ (x : ℕ). ComesFirst rows candidates o x v no) same n))
       at k p v o (inr d) h g m n = t.keeps (8 * p + v) (Some no) (a.offered k p v o (omega (arith, h, d)) g m n)
 
 -- who is the apex of an octant with a member is in the row of the octant's first order
@@ -66,8 +53,8 @@ apex_in rows o p q h = at o.first.from_end (and_parts _ _ h).0
 
 -- all members are among the apexes
 pub to_all : (rows : List (List ℕ)) (candidates : List (Option ℕ)) (who : ℕ) (first now : List Touch) (apexes : List ℕ) (i : ℕ) → length apexes ≤ i → ((part p : ℕ) → is_in p (row_of rows part) ≡ true → is_in p apexes ≡ true)
-    → AreOfferedTo rows candidates who first now apexes i → IsOfferedAround rows who now
+    → AreOfferedTo rows candidates who first now apexes i → IsOfferedAround rows candidates who now
 to_all rows candidates who first now apexes i h all a = λ p w o k m.
-    let g = get_from_is_in apexes p (all o.first.part p (apex_in rows o p who m)) in
+    let g = get_from_is_in apexes p (all o.first.part p (apex_in rows o p who m.0)) in
     let b = slice_get_within apexes g.0 p g.1 in
     a.offered g.0 p w o (omega (arith, b, h)) g.1 k m

@@ -29,18 +29,18 @@ pub read_there : (xs : List ℕ) (p x : ℕ) → p < length xs → x ≡ get_or 
 read_there xs p x l e = slice_get_read xs (length xs) p x refl l e
 
 -- so many exchanges are made
-pub record IsFollowed (candidates : List (Option ℕ)) (part : ℕ) (swaps start now : List ℕ) (first ts : List Touch) (i : ℕ) : Type 0 where
+pub record IsFollowed (rows : List (List ℕ)) (candidates : List (Option ℕ)) (part : ℕ) (swaps start now : List ℕ) (first ts : List Touch) (i : ℕ) : Type 0 where
   pub row : exchanged (drop i swaps) now ≡ exchanged swaps start
   pub members : (x : ℕ) → is_in x now ≡ is_in x start
-  pub offered : (a b : ℕ) → WereExchanged swaps start a b → WereExchanged (drop i swaps) now a b ⊎ HasOfferedBoth candidates part a b ts
+  pub offered : (a b : ℕ) → WereExchanged swaps start a b → WereExchanged (drop i swaps) now a b ⊎ HasOfferedBoth rows candidates part a b ts
   pub touched : HasTouched candidates first ts
 
-module _ (candidates : List (Option ℕ)) (part : ℕ) (swaps start : List ℕ) (first : List Touch) where
-  pub follow_first : IsFollowed candidates part swaps start start first first 0
+module _ (rows : List (List ℕ)) (candidates : List (Option ℕ)) (part : ℕ) (swaps start : List ℕ) (first : List Touch) where
+  pub follow_first : IsFollowed rows candidates part swaps start start first first 0
   follow_first = record { row = refl; members = λ x. refl; offered = λ a b h. inl h; touched = touched_none candidates first }
 
-  pub follow_more : (now next : List ℕ) (ts us : List Touch) (i : ℕ) → i < length swaps → IsFollowed candidates part swaps start now first ts i → next ≡ exchange (get_or swaps i 0) now
-      → ((a b : ℕ) → slice_get now (get_or swaps i 0) ≡ Some a → slice_get now (suc (get_or swaps i 0)) ≡ Some b → HasOfferedBoth candidates part a b us) → HasTouched candidates ts us → IsFollowed candidates part swaps start next first us (i + 1)
+  pub follow_more : (now next : List ℕ) (ts us : List Touch) (i : ℕ) → i < length swaps → IsFollowed rows candidates part swaps start now first ts i → next ≡ exchange (get_or swaps i 0) now
+      → ((a b : ℕ) → slice_get now (get_or swaps i 0) ≡ Some a → slice_get now (suc (get_or swaps i 0)) ≡ Some b → HasOfferedBoth rows candidates part a b us) → HasTouched candidates ts us → IsFollowed rows candidates part swaps start next first us (i + 1)
   follow_more now next ts us i l f e o t = record {
     row = ap (exchanged (drop (i + 1) swaps)) e ∙ sym (ap (λ (ps : List ℕ). exchanged ps now) rest) ∙ f.row;
     members = λ x. ap (is_in x) e ∙ is_in-exchange (get_or swaps i 0) x now ∙ f.members x;
@@ -51,20 +51,20 @@ module _ (candidates : List (Option ℕ)) (part : ℕ) (swaps start : List ℕ) 
       rest : drop i swaps ≡ get_or swaps i 0 ∷ drop (i + 1) swaps
       rest = drop_more swaps i 0 l
 
-      here : (a b : ℕ) → WereExchanged (get_or swaps i 0 ∷ drop (i + 1) swaps) now a b → WereExchanged (drop (i + 1) swaps) next a b ⊎ HasOfferedBoth candidates part a b us
+      here : (a b : ℕ) → WereExchanged (get_or swaps i 0 ∷ drop (i + 1) swaps) now a b → WereExchanged (drop (i + 1) swaps) next a b ⊎ HasOfferedBoth rows candidates part a b us
       here a b (inl h) = inr (o a b h.0 h.1)
       here a b (inr h) = inl (subst (λ (xs : List ℕ). WereExchanged (drop (i + 1) swaps) xs a b) (sym e) h)
 
-      at : (a b : ℕ) → WereExchanged (drop i swaps) now a b ⊎ HasOfferedBoth candidates part a b ts → WereExchanged (drop (i + 1) swaps) next a b ⊎ HasOfferedBoth candidates part a b us
+      at : (a b : ℕ) → WereExchanged (drop i swaps) now a b ⊎ HasOfferedBoth rows candidates part a b ts → WereExchanged (drop (i + 1) swaps) next a b ⊎ HasOfferedBoth rows candidates part a b us
       at a b (inl h) = here a b (subst (λ (ps : List ℕ). WereExchanged ps now a b) rest h)
-      at a b (inr h) = inr (offered_stays candidates ts us part a b t h)
+      at a b (inr h) = inr (offered_stays rows candidates ts us part a b t h)
 
-  pub follow_row_done : (now : List ℕ) (ts : List Touch) (i : ℕ) → length swaps ≤ i → IsFollowed candidates part swaps start now first ts i → now ≡ exchanged swaps start
+  pub follow_row_done : (now : List ℕ) (ts : List Touch) (i : ℕ) → length swaps ≤ i → IsFollowed rows candidates part swaps start now first ts i → now ≡ exchanged swaps start
   follow_row_done now ts i l f = sym (ap (λ (ps : List ℕ). exchanged ps now) (drop_all i swaps l)) ∙ f.row
 
-  pub follow_offered : (now : List ℕ) (ts : List Touch) (i : ℕ) → length swaps ≤ i → IsFollowed candidates part swaps start now first ts i → (a b : ℕ) → WereExchanged swaps start a b → HasOfferedBoth candidates part a b ts
+  pub follow_offered : (now : List ℕ) (ts : List Touch) (i : ℕ) → length swaps ≤ i → IsFollowed rows candidates part swaps start now first ts i → (a b : ℕ) → WereExchanged swaps start a b → HasOfferedBoth rows candidates part a b ts
   follow_offered now ts i l f a b h = at (f.offered a b h)
     where
-      at : WereExchanged (drop i swaps) now a b ⊎ HasOfferedBoth candidates part a b ts → HasOfferedBoth candidates part a b ts
+      at : WereExchanged (drop i swaps) now a b ⊎ HasOfferedBoth rows candidates part a b ts → HasOfferedBoth rows candidates part a b ts
       at (inl k) = absurd (subst (λ (ps : List ℕ). WereExchanged ps now a b) (drop_all i swaps l) k)
       at (inr k) = k

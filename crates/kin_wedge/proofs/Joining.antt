@@ -14,7 +14,7 @@ use Rattle.kin_list.specs.Rows.{exchanged}
 use Rattle.kin_wedge.specs.declared.touch.Touch.{Touch}
 use Rattle.kin_wedge.specs.Passages.{AreAnswered, AreBeside, AreChanged, AreExchangesOffered, HasNoted, IsMarkOffered, IsPassage}
 use Rattle.kin_wedge.specs.Rows.{row_of, stands_after, is_in_wedge, IsFirstAnswer, WereExchanged}
-use Rattle.kin_wedge.specs.Touched.{offers_for, AreKnown, HasOffered, IsAnswered, IsAwaited, IsOffered, IsOnItsWay}
+use Rattle.kin_wedge.specs.Touched.{offers_for, AreKnown, ComesFirst, ComesOrGoes, HasOffered, IsAnswered, IsAwaited, IsOffered, IsOnItsWay}
 use Rattle.kin_wedge.proofs.Exchanges.{kept_or_exchanged, order-without}
 use Rattle.kin_wedge.proofs.Places.{first_is_in, second_is_in}
 use Rattle.kin_wedge.proofs.StillThere.{HasPassed, AreOffered, awaited_first}
@@ -171,17 +171,17 @@ module _ (mark : Mark) (swaps old new : List (List ℕ)) (h : IsPassage mark swa
     gone_second = λ r a b e. never_second new r a b (absent_new mark old new b r.part h.beside e);
   }
 
-  module _ (candidates : List (Option ℕ)) (ts : List Touch) (exchanges : AreExchangesOffered mark swaps old candidates ts) (number : IsMarkOffered mark new candidates ts) where
-    exchange_offered : (part a b : ℕ) → WereBothExchanged part a b → HasOffered candidates part a b ts
+  module _ (candidates : List (Option ℕ)) (ts : List Touch) (exchanges : AreExchangesOffered mark swaps old new candidates ts) (number : IsMarkOffered mark new candidates ts) where
+    exchange_offered : (part a b : ℕ) → WereBothExchanged part a b → HasOffered new candidates part a b ts
     unfolding WereBothExchanged
     exchange_offered part a b (inl x) = (exchanges part a b x).0
     exchange_offered part a b (inr x) = (exchanges part b a x).1
 
     module _ (p w : ℕ) (o : Octant) (now : Option ℕ) (here : slice_get octants w ≡ Some o) (held : slice_get candidates (8 * p + w) ≡ Some now) where
-      entered : (m : Mark) → IsMarkOffered m new candidates ts → (q : ℕ) → IsEntering m q → is_in_wedge new o p q ≡ true → IsOffered ts (8 * p + w) (Some q)
+      entered : (m : Mark) → IsMarkOffered m new candidates ts → (q : ℕ) → IsEntering m q → ComesFirst new candidates o p w q → IsOffered ts (8 * p + w) (Some q)
       unfolding IsEntering
       entered Rest g q e k = absurd e
-      entered (Enters i) g q e k = subst (λ (x : ℕ). IsOffered ts (8 * p + w) (Some x)) (sym e) (g.1 p w o here (ap (is_in_wedge new o p) (sym e) ∙ k))
+      entered (Enters i) g q e k = subst (λ (x : ℕ). IsOffered ts (8 * p + w) (Some x)) (sym e) (g.1 p w o here (subst (λ (x : ℕ). ComesFirst new candidates o p w x) e k))
       entered (Leaves i) g q e k = absurd e
       entered Broken g q e k = absurd e
 
@@ -203,16 +203,20 @@ module _ (mark : Mark) (swaps old new : List (List ℕ)) (h : IsPassage mark swa
       left (Leaves i) g c e k = g.1 (8 * p + w) (held ∙ ap (λ (x : Option ℕ). Some x) (e ∙ ap (λ (x : ℕ). Some x) k))
       left Broken g c e k = absurd k
 
-      by_bounds : (q : ℕ) → WereBothExchanged o.first.part p q ⊎ WereBothExchanged o.second.part p q → Contains (offers_for (8 * p + w) ts) (Some q)
-      by_bounds q (inl x) = offer_among ts (8 * p + w) (Some q) ((exchange_offered o.first.part p q x).bounded w o here (inl refl))
-      by_bounds q (inr x) = offer_among ts (8 * p + w) (Some q) ((exchange_offered o.second.part p q x).bounded w o here (inr refl))
+      comes_or_goes : (q : ℕ) → ((is_in_wedge new o p q ≡ true) × ((c : ℕ) → now ≡ Some c → stands_after new o.third c q ≡ false)) ⊎ (now ≡ Some q) → ComesOrGoes new candidates o p w q
+      comes_or_goes q (inl k) = inl (k.0, λ c f. k.1 c (same_Some now (Some c) (sym held ∙ f)))
+      comes_or_goes q (inr k) = inr (held ∙ ap (λ (v : Option ℕ). Some v) k)
+
+      by_bounds : (q : ℕ) → WereBothExchanged o.first.part p q ⊎ WereBothExchanged o.second.part p q → ComesOrGoes new candidates o p w q → Contains (offers_for (8 * p + w) ts) (Some q)
+      by_bounds q (inl x) k = offer_among ts (8 * p + w) (Some q) ((exchange_offered o.first.part p q x).bounded w o here (inl refl) k)
+      by_bounds q (inr x) k = offer_among ts (8 * p + w) (Some q) ((exchange_offered o.second.part p q x).bounded w o here (inr refl) k)
 
       pub are_offered : AreOffered old new passed o p now (offers_for (8 * p + w) ts)
       unfolding passed
       are_offered = record {
-        bounded = by_bounds;
-        ranked = λ c q e x. offer_among ts (8 * p + w) (Some q) ((exchange_offered o.third.part c q x).ranked p w o here refl (held ∙ ap (λ (v : Option ℕ). Some v) e));
-        entered = λ q e k. offer_among ts (8 * p + w) (Some q) (entered mark number q e k);
+        bounded = λ q x k. by_bounds q x (comes_or_goes q k);
+        ranked = λ c q e x k. offer_among ts (8 * p + w) (Some q) ((exchange_offered o.third.part c q x).ranked p w o here refl (held ∙ ap (λ (v : Option ℕ). Some v) e) k);
+        entered = λ q e k first. offer_among ts (8 * p + w) (Some q) (entered mark number q e (k, λ c f. first c (same_Some now (Some c) (sym held ∙ f))));
         apex = λ e. offer_among ts (8 * p + w) None (apex mark number e);
         left = λ c e k. offer_among ts (8 * p + w) None (left mark number c e k);
       }

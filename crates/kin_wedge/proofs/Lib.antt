@@ -3,11 +3,13 @@ pub mod Exchanges
 pub mod Awaited
 pub mod ThirdAfter
 pub mod Scenes
+pub mod OctantSides
 pub mod StillThere
 pub mod Scanning
 pub mod Mirrors
 pub mod Cursors
 pub mod Slots
+pub mod Halves
 pub mod Touching
 pub mod HitLists
 pub mod Lost

@@ -1,18 +1,18 @@
 -- An offer to all slots whose candidate a number is.
 use Rattle.std.proofs.Common.{◌≡◌, refl, sym, ap, ◌∙◌, subst, arith, List, [], ◌∷◌, ℕ, ◌+◌, ◌*◌, ◌/◌, ◌%◌, ◌<◌, length, Some, Option, inl, inr, ◌⊎◌}
 use Rattle.std.specs.Prelude.{slice_get, Contains}
-use Rattle.std.proofs.lemmas.Option.{slice_get_within, same_Some}
+use Rattle.std.proofs.lemmas.Option.{slice_get_within}
 use Rattle.kin_basics.proofs.Members.{contains_tail, contains_cases}
 use Rattle.kin_motion.specs.Octants.{Octant, octants}
 use Rattle.kin_wedge.specs.declared.touch.Touch.{Touch}
 use Rattle.kin_wedge.specs.Tables.{AreHits}
-use Rattle.kin_wedge.specs.Touched.{IsOffered, HasTouched}
-use Rattle.kin_wedge.proofs.Slots.{slot_of}
+use Rattle.kin_wedge.specs.Touched.{IsOffered, HasPassedBy, HasTouched}
+use Rattle.kin_wedge.proofs.Slots.{slot_of, octant_again}
 use Rattle.kin_wedge.proofs.Touching.{touched_none, touched_through}
 
 -- x is offered to each wanted slot whose candidate c is, but for those that are left
 pub record AreOfferedBut (candidates : List (Option ℕ)) (c : ℕ) (Wanted : ℕ → Type 0) (x : Option ℕ) (first now : List Touch) (left : List (ℕ × ℕ)) : Type 0 where
-  pub done : (slot : ℕ) → Wanted (slot % 8) → slice_get candidates slot ≡ Some (Some c) → Contains left (slot / 8, slot % 8) ⊎ IsOffered now slot x
+  pub done : (slot : ℕ) → Wanted slot → slice_get candidates slot ≡ Some (Some c) → Contains left (slot / 8, slot % 8) ⊎ IsOffered now slot x
   pub hits : (h : ℕ × ℕ) → Contains left h → (h.1 < 8) × (slice_get candidates (8 * h.0 + h.1) ≡ Some (Some c))
   pub touched : HasTouched candidates first now
 
@@ -30,31 +30,40 @@ module _ (candidates : List (Option ℕ)) (c : ℕ) (Wanted : ℕ → Type 0) (x
   pub head_in : (left rest : List (ℕ × ℕ)) (h : ℕ × ℕ) → left ≡ h ∷ rest → Contains left h
   head_in left rest h e = subst (λ (xs : List (ℕ × ℕ)). Contains xs h) (sym e) (0, omega arith, refl)
 
-  pub offered_more : (first now next : List Touch) (left rest : List (ℕ × ℕ)) (h : ℕ × ℕ) → left ≡ h ∷ rest → AreOfferedBut candidates c Wanted x first now left → (Wanted h.1 → IsOffered next (8 * h.0 + h.1) x) → HasTouched candidates now next → AreOfferedBut candidates c Wanted x first next rest
+  pub offered_more : (first now next : List Touch) (left rest : List (ℕ × ℕ)) (h : ℕ × ℕ) → left ≡ h ∷ rest → AreOfferedBut candidates c Wanted x first now left → (Wanted (8 * h.0 + h.1) → IsOffered next (8 * h.0 + h.1) x) → HasTouched candidates now next → AreOfferedBut candidates c Wanted x first next rest
   offered_more first now next left rest h e a o t = record {
     done = λ slot w k. at slot w (a.done slot w k);
     hits = λ p k. a.hits p (subst (λ (xs : List (ℕ × ℕ)). Contains xs p) (sym e) (contains_tail h p rest k));
     touched = touched_through candidates first now next a.touched t;
   }
     where
-      here : (slot : ℕ) → Wanted (slot % 8) → (h ≡ (slot / 8, slot % 8)) ⊎ Contains rest (slot / 8, slot % 8) → Contains rest (slot / 8, slot % 8) ⊎ IsOffered next slot x
-      here slot w (inl s) = inr (subst (λ (n : ℕ). IsOffered next n x) (ap (λ (p : ℕ × ℕ). 8 * p.0 + p.1) s ∙ slot_of slot) (o (subst Wanted (ap (λ (p : ℕ × ℕ). p.1) (sym s)) w)))
+      here : (slot : ℕ) → Wanted slot → (h ≡ (slot / 8, slot % 8)) ⊎ Contains rest (slot / 8, slot % 8) → Contains rest (slot / 8, slot % 8) ⊎ IsOffered next slot x
+      here slot w (inl s) =
+          let same : 8 * h.0 + h.1 ≡ slot = ap (λ (p : ℕ × ℕ). 8 * p.0 + p.1) s ∙ slot_of slot in
+          inr (subst (λ (n : ℕ). IsOffered next n x) same (o (subst Wanted (sym same) w)))
       here slot w (inr k) = inl k
 
-      at : (slot : ℕ) → Wanted (slot % 8) → Contains left (slot / 8, slot % 8) ⊎ IsOffered now slot x → Contains rest (slot / 8, slot % 8) ⊎ IsOffered next slot x
+      at : (slot : ℕ) → Wanted slot → Contains left (slot / 8, slot % 8) ⊎ IsOffered now slot x → Contains rest (slot / 8, slot % 8) ⊎ IsOffered next slot x
       at slot w (inl k) = here slot w (contains_cases h (slot / 8, slot % 8) rest (subst (λ (xs : List (ℕ × ℕ)). Contains xs (slot / 8, slot % 8)) e k))
       at slot w (inr k) = inr (t.keeps slot x k)
 
-  pub offered_done : (first now : List Touch) (left : List (ℕ × ℕ)) → left ≡ [] → AreOfferedBut candidates c Wanted x first now left → (slot : ℕ) → Wanted (slot % 8) → slice_get candidates slot ≡ Some (Some c) → IsOffered now slot x
+  pub offered_done : (first now : List Touch) (left : List (ℕ × ℕ)) → left ≡ [] → AreOfferedBut candidates c Wanted x first now left → (slot : ℕ) → Wanted slot → slice_get candidates slot ≡ Some (Some c) → IsOffered now slot x
   offered_done first now left e a slot w k = at (a.done slot w k)
     where
       at : Contains left (slot / 8, slot % 8) ⊎ IsOffered now slot x → IsOffered now slot x
       at (inl h) = absurd (let z = subst (λ (xs : List (ℕ × ℕ)). Contains xs (slot / 8, slot % 8)) e h in omega (arith, z.1))
       at (inr h) = h
 
--- an order ranks the octant
-abbrev pub IsRankedBy : ℕ → ℕ → Type 0
-IsRankedBy part w = (o : Octant) × (slice_get octants w ≡ Some o) × (o.third.part ≡ part)
+-- an order ranks the octant of a slot, and there a number has passed another by
+abbrev pub IsPassedAt : List (List ℕ) → ℕ → ℕ → ℕ → ℕ → Type 0
+IsPassedAt rows part a b slot = (o : Octant) × (slice_get octants (slot % 8) ≡ Some o) × (o.third.part ≡ part) × HasPassedBy rows o (slot / 8) a b
 
-pub ranked_here : (w : ℕ) (here : Octant) (part : ℕ) → slice_get octants w ≡ Some here → IsRankedBy part w → here.third.part ≡ part
-ranked_here w here part e r = ap (λ (o : Octant). o.third.part) (same_Some here r.0 (sym e ∙ r.1)) ∙ r.2
+module _ (rows : List (List ℕ)) (part a b apex w : ℕ) (small : w < 8) where
+  apex_is : (8 * apex + w) / 8 ≡ apex
+  apex_is = omega (arith, small)
+
+  pub passed_here : IsPassedAt rows part a b (8 * apex + w) → (o : Octant) × (slice_get octants w ≡ Some o) × (o.third.part ≡ part) × HasPassedBy rows o apex a b
+  passed_here r = (r.0, sym (ap (slice_get octants) (octant_again apex w small)) ∙ r.1, r.2, subst (λ (n : ℕ). HasPassedBy rows r.0 n a b) apex_is r.3)
+
+  pub passed_there : (o : Octant) → slice_get octants w ≡ Some o → o.third.part ≡ part → HasPassedBy rows o apex a b → IsPassedAt rows part a b (8 * apex + w)
+  passed_there o e f h = (o, ap (slice_get octants) (octant_again apex w small) ∙ e, f, subst (λ (n : ℕ). HasPassedBy rows o n a b) (sym apex_is) h)

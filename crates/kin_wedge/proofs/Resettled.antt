@@ -28,11 +28,13 @@ use Rattle.kin_wedge.specs.Parts.{EachTo, IsResettled, facts_from, swaps_of}
 use Rattle.kin_wedge.specs.Passages.{AreAnswered, AreBeside, IsPassage}
 use Rattle.kin_wedge.specs.Rows.{row_of, AreOrders, AreRanked, AreRows, HaveSlots}
 use Rattle.kin_wedge.specs.Seen.{rows_of}
+use Rattle.kin_wedge.specs.Sides.{AreParted}
 use Rattle.kin_wedge.specs.Wedging.{Wedging, candidate_at, members_of, AreKept, AreWedges, IsListOf, IsMarkable}
 use Rattle.kin_wedge.specs.WedgingLaws.{way_known, way_of}
 use Rattle.kin_wedge.proofs.AllRows.{items_there, swaps_there, row_past}
 use Rattle.kin_wedge.proofs.Keeping.{kept_marked, wedging}
 use Rattle.kin_wedge.proofs.Parting.{AllAtNought, among_part, fact_there, has_fact, here_in, here_out}
+use Rattle.kin_wedge.proofs.OctantSides.{parted}
 use Rattle.kin_wedge.proofs.Posted.{nought_settled}
 use Rattle.kin_wedge.proofs.Readiness.{list_ready, live_below}
 use Rattle.kin_wedge.proofs.Scenes.{row_apart, third_behind, ranked, candidate, none_of_others}
@@ -133,6 +135,9 @@ module _ {s : Scene} {size : ℕ} {mark : Mark} {old new : List Listing} {rows :
     behind = λ w p q o here h. third_behind s laws (rows_of new) orders w o here p q h;
     ranked = λ w p a b o here h g. ranked s laws (rows_of new) orders w o here p a b h g;
   }
+
+  pub parted_now : AreParted (rows_of new)
+  parted_now = parted s laws (rows_of new) orders
 
   pub alike_now : (part i : ℕ) → is_in i (row_of (rows_of new) part) ≡ true → is_in i (row_of (rows_of new) 0) ≡ true
   alike_now part i h = (orders.order 0 (omega arith)).all.same i ∙ live part i h

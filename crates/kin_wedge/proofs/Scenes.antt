@@ -31,7 +31,7 @@ module _ (s : Scene) (laws : HasLineLaws s) (rows : List (List ℕ)) (orders : A
   row_apart part h = apart_from_once (row_of rows part) (orders.order part h).all.once
 
   -- the order of two live numbers in the lists is that of the scene
-  as_read : (r : Reading) (p q : ℕ) → r.part < 8 → p ≢ q → is_in p s.live ≡ true → is_in q s.live ≡ true → stands_after rows r p q ≡ comes_after s r p q
+  pub as_read : (r : Reading) (p q : ℕ) → r.part < 8 → p ≢ q → is_in p s.live ≡ true → is_in q s.live ≡ true → stands_after rows r p q ≡ comes_after s r p q
   as_read r p q h n a b = at r.from_end
     where
       forth : stands_before (row_of rows r.part) p q ≡ is_before s (direction_of r.part).dx (direction_of r.part).dy p q

@@ -2,10 +2,10 @@
 use Rattle.std.proofs.Common.{◌≡◌, refl, sym, ap, ap₂, ◌∙◌, subst, List, ℕ, true, false, ◌&&◌, Some, None, Option, inl, inr, ◌⊎◌}
 use Rattle.std.specs.Prelude.{Contains}
 use Rattle.std.proofs.lemmas.Option.{same_Some}
-use Rattle.std.proofs.lemmas.Bool.{and_parts, both_ways}
+use Rattle.std.proofs.lemmas.Bool.{cases_Bool, and_parts, both_ways}
 use Rattle.kin_motion.specs.Octants.{Octant, Reading}
 use Rattle.kin_wedge.specs.Rows.{stands_after, is_in_wedge, IsFirstAnswer}
-use Rattle.kin_wedge.specs.Touched.{IsAwaited}
+use Rattle.kin_wedge.specs.Touched.{IsAwaited, HasPassedBy}
 
 -- in the course of a settle a number stays, enters or leaves; an order of two that stay is kept, or they were exchanged in it
 pub record HasPassed (old new : List (List ℕ)) : Type 1 where
@@ -22,9 +22,9 @@ pub record HasPassed (old new : List (List ℕ)) : Type 1 where
 
 -- what is offered to the slot of p that had this candidate
 pub record AreOffered (old new : List (List ℕ)) (passed : HasPassed old new) (o : Octant) (p : ℕ) (now : Option ℕ) (offers : List (Option ℕ)) : Type 0 where
-  pub bounded : (q : ℕ) → passed.Exchanged o.first.part p q ⊎ passed.Exchanged o.second.part p q → Contains offers (Some q)
-  pub ranked : (c q : ℕ) → now ≡ Some c → passed.Exchanged o.third.part c q → Contains offers (Some q)
-  pub entered : (q : ℕ) → passed.Enters q → is_in_wedge new o p q ≡ true → Contains offers (Some q)
+  pub bounded : (q : ℕ) → passed.Exchanged o.first.part p q ⊎ passed.Exchanged o.second.part p q → ((is_in_wedge new o p q ≡ true) × ((c : ℕ) → now ≡ Some c → stands_after new o.third c q ≡ false)) ⊎ (now ≡ Some q) → Contains offers (Some q)
+  pub ranked : (c q : ℕ) → now ≡ Some c → passed.Exchanged o.third.part c q → HasPassedBy new o p c q → Contains offers (Some q)
+  pub entered : (q : ℕ) → passed.Enters q → is_in_wedge new o p q ≡ true → ((c : ℕ) → now ≡ Some c → stands_after new o.third c q ≡ false) → Contains offers (Some q)
   pub apex : passed.Enters p ⊎ passed.Leaves p → Contains offers None
   pub left : (c : ℕ) → now ≡ Some c → passed.Leaves c → Contains offers None
 
@@ -50,8 +50,8 @@ module _ (old new : List (List ℕ)) (passed : HasPassed old new) (o : Octant) (
         where
           within : (is_in_wedge new o p q ≡ is_in_wedge old o p q) ⊎ (passed.Exchanged o.first.part p q ⊎ passed.Exchanged o.second.part p q) → Contains offers (Some q) ⊎ Contains offers None
           within (inl e) = absurd (both_ways (is_in_wedge old o p q) (first q) (sym e ∙ k))
-          within (inr x) = inl (given.bounded q x)
-      of_number q k a (inr (inl b)) = inl (given.entered q b k)
+          within (inr x) = inl (given.bounded q x (inl (k, λ c e. absurd cc)))
+      of_number q k a (inr (inl b)) = inl (given.entered q b k (λ c e. absurd cc))
       of_number q k a (inr (inr b)) = absurd (passed.gone_second o.first p q b (and_parts _ _ k).0)
 
       of_apex : (q : ℕ) → is_in_wedge new o p q ≡ true → passed.Stays p ⊎ (passed.Enters p ⊎ passed.Leaves p) → Contains offers (Some q) ⊎ Contains offers None
@@ -69,11 +69,19 @@ module _ (old new : List (List ℕ)) (passed : HasPassed old new) (o : Octant) (
           order : (q ≡ d) ⊎ (stands_after old o.third d q ≡ true) → (stands_after new o.third d q ≡ stands_after old o.third d q) ⊎ passed.Exchanged o.third.part d q → ((q ≡ d) ⊎ (stands_after new o.third d q ≡ true)) ⊎ (Contains offers (Some q) ⊎ Contains offers None)
           order (inl e) x = inl (inl e)
           order (inr t) (inl e) = inl (inr (e ∙ t))
-          order (inr t) (inr x) = inr (inl (given.ranked d q refl x))
+          order (inr t) (inr x) = turned (cases_Bool (stands_after new o.third d q))
+            where
+              turned : (stands_after new o.third d q ≡ true) ⊎ (stands_after new o.third d q ≡ false) → ((q ≡ d) ⊎ (stands_after new o.third d q ≡ true)) ⊎ (Contains offers (Some q) ⊎ Contains offers None)
+              turned (inl e) = inl (inr e)
+              turned (inr e) = inr (inl (given.ranked d q refl x (k, e)))
 
           within : (is_in_wedge new o p q ≡ is_in_wedge old o p q) ⊎ (passed.Exchanged o.first.part p q ⊎ passed.Exchanged o.second.part p q) → ((q ≡ d) ⊎ (stands_after new o.third d q ≡ true)) ⊎ (Contains offers (Some q) ⊎ Contains offers None)
           within (inl e) = order (first.first q (sym e ∙ k)) (passed.kept o.third d q s b)
-          within (inr x) = inr (inl (given.bounded q x))
+          within (inr x) = leads (cases_Bool (stands_after new o.third d q))
+            where
+              leads : (stands_after new o.third d q ≡ true) ⊎ (stands_after new o.third d q ≡ false) → ((q ≡ d) ⊎ (stands_after new o.third d q ≡ true)) ⊎ (Contains offers (Some q) ⊎ Contains offers None)
+              leads (inl e) = inl (inr e)
+              leads (inr e) = inr (inl (given.bounded q x (inl (k, λ c f. subst (λ (y : ℕ). stands_after new o.third y q ≡ false) (same_Some d c f) e))))
 
       of_candidate : (q : ℕ) → is_in_wedge new o p q ≡ true → passed.Stays p → passed.Stays q → passed.Stays d ⊎ (passed.Enters d ⊎ passed.Leaves d) → ((q ≡ d) ⊎ (stands_after new o.third d q ≡ true)) ⊎ (Contains offers (Some q) ⊎ Contains offers None)
       of_candidate q k a b (inl s) = of_both q k a b s
@@ -82,7 +90,11 @@ module _ (old new : List (List ℕ)) (passed : HasPassed old new) (o : Octant) (
 
       of_number : (q : ℕ) → is_in_wedge new o p q ≡ true → passed.Stays p → passed.Stays q ⊎ (passed.Enters q ⊎ passed.Leaves q) → ((q ≡ d) ⊎ (stands_after new o.third d q ≡ true)) ⊎ (Contains offers (Some q) ⊎ Contains offers None)
       of_number q k a (inl b) = of_candidate q k a b (passed.kind d)
-      of_number q k a (inr (inl b)) = inr (inl (given.entered q b k))
+      of_number q k a (inr (inl b)) = leads (cases_Bool (stands_after new o.third d q))
+        where
+          leads : (stands_after new o.third d q ≡ true) ⊎ (stands_after new o.third d q ≡ false) → ((q ≡ d) ⊎ (stands_after new o.third d q ≡ true)) ⊎ (Contains offers (Some q) ⊎ Contains offers None)
+          leads (inl e) = inl (inr e)
+          leads (inr e) = inr (inl (given.entered q b k (λ c f. subst (λ (x : ℕ). stands_after new o.third x q ≡ false) (same_Some d c f) e)))
       of_number q k a (inr (inr b)) = absurd (passed.gone_second o.first p q b (and_parts _ _ k).0)
 
       of_apex : (q : ℕ) → is_in_wedge new o p q ≡ true → passed.Stays p ⊎ (passed.Enters p ⊎ passed.Leaves p) → ((q ≡ d) ⊎ (stands_after new o.third d q ≡ true)) ⊎ (Contains offers (Some q) ⊎ Contains offers None)
@@ -94,7 +106,7 @@ module _ (old new : List (List ℕ)) (passed : HasPassed old new) (o : Octant) (
         where
           within : (is_in_wedge new o p d ≡ is_in_wedge old o p d) ⊎ (passed.Exchanged o.first.part p d ⊎ passed.Exchanged o.second.part p d) → (x : Option ℕ) × Contains offers x
           within (inl e) = absurd (both_ways (is_in_wedge new o p d) m (e ∙ first.member))
-          within (inr x) = (Some d, given.bounded d x)
+          within (inr x) = (Some d, given.bounded d x (inr refl))
       lost_candidate m a (inr (inl s)) = absurd (passed.new_second o.first p d s (and_parts _ _ first.member).0)
       lost_candidate m a (inr (inr s)) = (None, given.left d refl s)
 

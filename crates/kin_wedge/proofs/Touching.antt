@@ -1,5 +1,5 @@
 -- Touches that are added.
-use Rattle.std.proofs.Common.{◌≡◌, ◌≢◌, ◌+◌, ◌*◌, ◌<◌, None, refl, sym, ap, ◌∙◌, subst, List, [], ◌∷◌, ◌++◌, ℕ, Some, Option, inl, inr, ◌⊎◌, arith}
+use Rattle.std.proofs.Common.{◌≡◌, ◌≢◌, ◌+◌, ◌*◌, ◌<◌, ◌≤◌, None, refl, sym, ap, ◌∙◌, subst, List, [], ◌∷◌, ◌++◌, ℕ, Some, Option, inl, inr, ◌⊎◌, arith}
 use Rattle.std.specs.Prelude.{Contains, slice_get}
 use Rattle.std.proofs.lemmas.Bool.{cases_eq}
 use Rattle.std.proofs.lemmas.List.Elements.{Contains-append_left}
@@ -7,7 +7,9 @@ use Rattle.std.proofs.lemmas.Option.{same_Some}
 use Rattle.kin_basics.proofs.Members.{contains_tail, contains_cases}
 use Rattle.kin_motion.specs.Octants.{Octant, octants}
 use Rattle.kin_wedge.specs.declared.touch.Touch.{Touch}
-use Rattle.kin_wedge.specs.Touched.{IsOffered, AreKnown, HasTouched, HasOfferedBoth}
+use Rattle.kin_wedge.specs.Touched.{IsOffered, AreKnown, HasTouched, HasOfferedBoth, IsBoundedBy, ComesFirst, ComesOrGoes, HasPassedBy}
+use Rattle.kin_wedge.proofs.Halves.{bounds_low, third_high}
+use Rattle.kin_wedge.proofs.Slots.{below_eight}
 
 at_end : (xs : List Touch) (y : Touch) → Contains (xs ++ y ∷ []) y
 at_end [] y = (0, omega arith, refl)
@@ -66,46 +68,63 @@ looked_up_more candidates first now next apex w a o t = record {
     at v (inl e) h = subst (λ (n : ℕ). IsOffered next (8 * apex + n) None) (sym e) o
     at v (inr n) h = t.keeps (8 * apex + v) None (a.offered v (omega (arith, h, n)))
 
--- a number is offered to the slots of an apex in the octants below w that an order bounds
-pub record AreOfferedWithin (candidates : List (Option ℕ)) (first now : List Touch) (part apex hit w : ℕ) : Type 0 where
-  pub offered : (v : ℕ) (o : Octant) → v < w → slice_get octants v ≡ Some o → (o.first.part ≡ part) ⊎ (o.second.part ≡ part) → IsOffered now (8 * apex + v) (Some hit)
+-- a number is offered to the slots of an apex in the octants below w whose candidate it was
+pub record AreOfferedAgain (candidates : List (Option ℕ)) (first now : List Touch) (apex hit w : ℕ) : Type 0 where
+  pub offered : (v : ℕ) → v < w → slice_get candidates (8 * apex + v) ≡ Some (Some hit) → IsOffered now (8 * apex + v) (Some hit)
   pub touched : HasTouched candidates first now
 
-pub offered_within_none : (candidates : List (Option ℕ)) (first : List Touch) (part apex hit : ℕ) → AreOfferedWithin candidates first first part apex hit 0
-offered_within_none candidates first part apex hit = record { offered = λ v o h. absurd (omega (arith, h)); touched = touched_none candidates first }
+pub offered_again_none : (candidates : List (Option ℕ)) (first : List Touch) (apex hit : ℕ) → AreOfferedAgain candidates first first apex hit 0
+offered_again_none candidates first apex hit = record { offered = λ v h. absurd (omega (arith, h)); touched = touched_none candidates first }
 
-pub offered_within_more : (candidates : List (Option ℕ)) (first now next : List Touch) (part apex hit w : ℕ) (o : Octant) → AreOfferedWithin candidates first now part apex hit w → slice_get octants w ≡ Some o
-    → ((o.first.part ≡ part) ⊎ (o.second.part ≡ part) → IsOffered next (8 * apex + w) (Some hit)) → HasTouched candidates now next → AreOfferedWithin candidates first next part apex hit (w + 1)
-offered_within_more candidates first now next part apex hit w o a here f t = record {
-  offered = λ v p h e b. at v p (cases_eq v w) h e b;
+pub offered_again_more : (candidates : List (Option ℕ)) (first now next : List Touch) (apex hit w : ℕ) → AreOfferedAgain candidates first now apex hit w
+    → (slice_get candidates (8 * apex + w) ≡ Some (Some hit) → IsOffered next (8 * apex + w) (Some hit)) → HasTouched candidates now next → AreOfferedAgain candidates first next apex hit (w + 1)
+offered_again_more candidates first now next apex hit w a f t = record {
+  offered = λ v h k. at v (cases_eq v w) h k;
   touched = touched_through candidates first now next a.touched t;
 }
   where
-    same_octant : (p : Octant) → slice_get octants w ≡ Some p → o ≡ p
-    same_octant p e = same_Some o p (sym here ∙ e)
+    at : (v : ℕ) → (v ≡ w) ⊎ (v ≢ w) → v < w + 1 → slice_get candidates (8 * apex + v) ≡ Some (Some hit) → IsOffered next (8 * apex + v) (Some hit)
+    at v (inl s) h k = subst (λ (n : ℕ). IsOffered next (8 * apex + n) (Some hit)) (sym s) (f (subst (λ (n : ℕ). slice_get candidates (8 * apex + n) ≡ Some (Some hit)) s k))
+    at v (inr n) h k = t.keeps (8 * apex + v) (Some hit) (a.offered v (omega (arith, h, n)) k)
 
-    at : (v : ℕ) (p : Octant) → (v ≡ w) ⊎ (v ≢ w) → v < w + 1 → slice_get octants v ≡ Some p → (p.first.part ≡ part) ⊎ (p.second.part ≡ part) → IsOffered next (8 * apex + v) (Some hit)
-    at v p (inl s) h e b =
-        subst (λ (n : ℕ). IsOffered next (8 * apex + n) (Some hit)) (sym s)
-        (f (subst (λ (x : Octant). (x.first.part ≡ part) ⊎ (x.second.part ≡ part)) (sym (same_octant p (ap (slice_get octants) (sym s) ∙ e))) b))
-    at v p (inr n) h e b = t.keeps (8 * apex + v) (Some hit) (a.offered v p (omega (arith, h, n)) e b)
+-- a number that comes is offered, and so is one that goes
+pub come_or_gone : (rows : List (List ℕ)) (candidates : List (Option ℕ)) (now next : List Touch) (apex hit : ℕ)
+    → ((w : ℕ) (o : Octant) → slice_get octants w ≡ Some o → ComesFirst rows candidates o apex w hit → IsOffered now (8 * apex + w) (Some hit))
+    → ((w : ℕ) → w < 8 → slice_get candidates (8 * apex + w) ≡ Some (Some hit) → IsOffered next (8 * apex + w) (Some hit)) → HasTouched candidates now next
+    → (w : ℕ) (o : Octant) → slice_get octants w ≡ Some o → ComesOrGoes rows candidates o apex w hit → IsOffered next (8 * apex + w) (Some hit)
+come_or_gone rows candidates now next apex hit come gone t w o e (inl k) = t.keeps (8 * apex + w) (Some hit) (come w o e k)
+come_or_gone rows candidates now next apex hit come gone t w o e (inr k) = gone w (below_eight w o e) k
 
 -- what is offered of an exchange stays offered
-pub offered_stays : (candidates : List (Option ℕ)) (now next : List Touch) (part a b : ℕ) → HasTouched candidates now next → HasOfferedBoth candidates part a b now → HasOfferedBoth candidates part a b next
-offered_stays candidates now next part a b t h = (
-  record { bounded = λ w o e k. t.keeps _ _ (h.0.bounded w o e k); ranked = λ apex w o e p k. t.keeps _ _ (h.0.ranked apex w o e p k) },
-  record { bounded = λ w o e k. t.keeps _ _ (h.1.bounded w o e k); ranked = λ apex w o e p k. t.keeps _ _ (h.1.ranked apex w o e p k) },
+pub offered_stays : (rows : List (List ℕ)) (candidates : List (Option ℕ)) (now next : List Touch) (part a b : ℕ) → HasTouched candidates now next → HasOfferedBoth rows candidates part a b now → HasOfferedBoth rows candidates part a b next
+offered_stays rows candidates now next part a b t h = (
+  record { bounded = λ w o e k m. t.keeps _ _ (h.0.bounded w o e k m); ranked = λ apex w o e p k m. t.keeps _ _ (h.0.ranked apex w o e p k m) },
+  record { bounded = λ w o e k m. t.keeps _ _ (h.1.bounded w o e k m); ranked = λ apex w o e p k m. t.keeps _ _ (h.1.ranked apex w o e p k m) },
 )
 
-abbrev IsOfferedWithin : List Touch → ℕ → ℕ → ℕ → Type 0
-IsOfferedWithin ts part a b = (w : ℕ) (o : Octant) → slice_get octants w ≡ Some o → (o.first.part ≡ part) ⊎ (o.second.part ≡ part) → IsOffered ts (8 * a + w) (Some b)
+-- what is offered to the slots of a number
+abbrev pub IsOfferedWithin : List (List ℕ) → List (Option ℕ) → List Touch → ℕ → ℕ → Type 0
+IsOfferedWithin rows candidates ts a b = (w : ℕ) (o : Octant) → slice_get octants w ≡ Some o → ComesOrGoes rows candidates o a w b → IsOffered ts (8 * a + w) (Some b)
 
-abbrev IsOfferedBeside : List (Option ℕ) → List Touch → ℕ → ℕ → ℕ → Type 0
-IsOfferedBeside candidates ts part a b = (apex w : ℕ) (o : Octant) → slice_get octants w ≡ Some o → o.third.part ≡ part → slice_get candidates (8 * apex + w) ≡ Some (Some a) → IsOffered ts (8 * apex + w) (Some b)
+-- what is offered to the slots whose candidate a number is in the octants that an order ranks
+abbrev pub IsOfferedBeside : List (List ℕ) → List (Option ℕ) → List Touch → ℕ → ℕ → ℕ → Type 0
+IsOfferedBeside rows candidates ts part a b = (apex w : ℕ) (o : Octant) → slice_get octants w ≡ Some o → o.third.part ≡ part → slice_get candidates (8 * apex + w) ≡ Some (Some a) → HasPassedBy rows o apex a b → IsOffered ts (8 * apex + w) (Some b)
 
-pub both_offered : (candidates : List (Option ℕ)) (s t u v : List Touch) (part a b : ℕ) → HasTouched candidates s t → HasTouched candidates t u → HasTouched candidates u v
-    → IsOfferedWithin s part a b → IsOfferedWithin t part b a → IsOfferedBeside candidates u part a b → IsOfferedBeside candidates v part b a → HasOfferedBoth candidates part a b v
-both_offered candidates s t u v part a b h k l p q r z = (
-  record { bounded = λ w o e m. l.keeps _ _ (k.keeps _ _ (h.keeps _ _ (p w o e m))); ranked = λ apex w o e m n. l.keeps _ _ (r apex w o e m n) },
-  record { bounded = λ w o e m. l.keeps _ _ (k.keeps _ _ (q w o e m)); ranked = z },
-)
+module _ (rows : List (List ℕ)) (candidates : List (Option ℕ)) (s t : List Touch) (part a b : ℕ) (h : HasTouched candidates s t) where
+  -- the first four orders rank no octant
+  pub both_within : part < 4 → IsOfferedWithin rows candidates s a b → IsOfferedWithin rows candidates t b a → HasOfferedBoth rows candidates part a b t
+  both_within small p q = (
+    record { bounded = λ w o e k m. h.keeps _ _ (p w o e m); ranked = λ apex w o e r. absurd (let high = third_high w o e in omega (arith, small, high, r)) },
+    record { bounded = λ w o e k m. q w o e m; ranked = λ apex w o e r. absurd (let high = third_high w o e in omega (arith, small, high, r)) },
+  )
+
+  -- the last four orders bound no octant
+  pub both_beside : 4 ≤ part → IsOfferedBeside rows candidates s part a b → IsOfferedBeside rows candidates t part b a → HasOfferedBoth rows candidates part a b t
+  both_beside large p q = (
+    record { bounded = λ w o e k. absurd (bounds_none w o e k); ranked = λ apex w o e r k m. h.keeps _ _ (p apex w o e r k m) },
+    record { bounded = λ w o e k. absurd (bounds_none w o e k); ranked = q },
+  )
+    where
+      bounds_none : (w : ℕ) (o : Octant) → slice_get octants w ≡ Some o → IsBoundedBy o part → ⊥
+      bounds_none w o e (inl k) = let low = (bounds_low w o e).0 in omega (arith, large, low, k)
+      bounds_none w o e (inr k) = let low = (bounds_low w o e).1 in omega (arith, large, low, k)

@@ -11,3 +11,4 @@ pub mod Costs
 pub mod Passages
 pub mod Wedging
 pub mod WedgingLaws
+pub mod Sides

@@ -7,8 +7,8 @@ use Rattle.kin_list.specs.declared.mark.Mark.TheVariants.{Rest, Enters, Leaves, 
 use Rattle.kin_list.specs.Listing.{staying, lasting}
 use Rattle.kin_list.specs.Rows.{exchanged}
 use Rattle.kin_wedge.specs.declared.touch.Touch.{Touch}
-use Rattle.kin_wedge.specs.Rows.{row_of, is_in_wedge, IsFirstAnswer, WereExchanged}
-use Rattle.kin_wedge.specs.Touched.{IsOffered, HasOfferedBoth}
+use Rattle.kin_wedge.specs.Rows.{row_of, IsFirstAnswer, WereExchanged}
+use Rattle.kin_wedge.specs.Touched.{ComesFirst, IsOffered, HasOfferedBoth}
 
 -- the number of the mark is new, or it is gone
 abbrev pub AreBeside : Mark → List (List ℕ) → List (List ℕ) → Type 0
@@ -26,17 +26,17 @@ pub record IsPassage (mark : Mark) (swaps old new : List (List ℕ)) : Type 0 wh
 abbrev pub AreAnswered : List (List ℕ) → List (Option ℕ) → Type 0
 AreAnswered rows candidates = (p w : ℕ) (o : Octant) (answer : Option ℕ) → slice_get octants w ≡ Some o → slice_get candidates (8 * p + w) ≡ Some answer → IsFirstAnswer rows o p answer
 
--- the numbers of each exchange are offered
-abbrev pub AreExchangesOffered : Mark → List (List ℕ) → List (List ℕ) → List (Option ℕ) → List Touch → Type 0
-AreExchangesOffered mark swaps old candidates ts = (part a b : ℕ) → WereExchanged (row_of swaps part) (staying mark (row_of old part)) a b → HasOfferedBoth candidates part a b ts
+-- the numbers of each exchange are offered where they can have changed a slot
+abbrev pub AreExchangesOffered : Mark → List (List ℕ) → List (List ℕ) → List (List ℕ) → List (Option ℕ) → List Touch → Type 0
+AreExchangesOffered mark swaps old new candidates ts = (part a b : ℕ) → WereExchanged (row_of swaps part) (staying mark (row_of old part)) a b → HasOfferedBoth new candidates part a b ts
 
 -- all slots of a number are looked up
 abbrev pub IsLookedUp : ℕ → List Touch → Type 0
 IsLookedUp i ts = (w : ℕ) → w < 8 → IsOffered ts (8 * i + w) None
 
--- a number is offered to each octant that it is in
-abbrev pub IsOfferedAround : List (List ℕ) → ℕ → List Touch → Type 0
-IsOfferedAround rows i ts = (p w : ℕ) (o : Octant) → slice_get octants w ≡ Some o → is_in_wedge rows o p i ≡ true → IsOffered ts (8 * p + w) (Some i)
+-- a number is offered to each octant that it is in, where no candidate stands before it
+abbrev pub IsOfferedAround : List (List ℕ) → List (Option ℕ) → ℕ → List Touch → Type 0
+IsOfferedAround rows candidates i ts = (p w : ℕ) (o : Octant) → slice_get octants w ≡ Some o → ComesFirst rows candidates o p w i → IsOffered ts (8 * p + w) (Some i)
 
 -- each slot whose candidate a number is, is looked up
 abbrev pub IsLost : List (Option ℕ) → ℕ → List Touch → Type 0
@@ -52,7 +52,7 @@ IsNumberOf Broken i = ⊥
 -- what the number of the mark can have changed is noted
 abbrev pub IsMarkOffered : Mark → List (List ℕ) → List (Option ℕ) → List Touch → Type 0
 IsMarkOffered Rest new candidates ts = Unit {0}
-IsMarkOffered (Enters i) new candidates ts = IsLookedUp i ts × IsOfferedAround new i ts
+IsMarkOffered (Enters i) new candidates ts = IsLookedUp i ts × IsOfferedAround new candidates i ts
 IsMarkOffered (Leaves i) new candidates ts = IsLookedUp i ts × IsLost candidates i ts
 IsMarkOffered Broken new candidates ts = Unit {0}
 

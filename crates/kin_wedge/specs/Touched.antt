@@ -37,13 +37,29 @@ pub record HasTouched (candidates : List (Option ℕ)) (old new : List Touch) : 
   pub keeps : (slot : ℕ) (x : Option ℕ) → IsOffered old slot x → IsOffered new slot x
   pub known : AreKnown candidates old → AreKnown candidates new
 
--- of the exchange of a and b in an order, each is offered to the other's slots in the octants that the order bounds, and to the slots whose candidate the other is in those that it ranks
-pub record HasOffered (candidates : List (Option ℕ)) (part a b : ℕ) (ts : List Touch) : Type 0 where
-  pub bounded : (w : ℕ) (o : Octant) → slice_get octants w ≡ Some o → (o.first.part ≡ part) ⊎ (o.second.part ≡ part) → IsOffered ts (8 * a + w) (Some b)
-  pub ranked : (apex w : ℕ) (o : Octant) → slice_get octants w ≡ Some o → o.third.part ≡ part → slice_get candidates (8 * apex + w) ≡ Some (Some a) → IsOffered ts (8 * apex + w) (Some b)
+-- an order bounds an octant
+abbrev pub IsBoundedBy : Octant → ℕ → Type 0
+IsBoundedBy o part = (o.first.part ≡ part) ⊎ (o.second.part ≡ part)
 
-abbrev pub HasOfferedBoth : List (Option ℕ) → ℕ → ℕ → ℕ → List Touch → Type 0
-HasOfferedBoth candidates part a b ts = HasOffered candidates part a b ts × HasOffered candidates part b a ts
+-- by the new orders b is in the octant of p, and no candidate that the slot had stands before it there
+abbrev pub ComesFirst : List (List ℕ) → List (Option ℕ) → Octant → ℕ → ℕ → ℕ → Type 0
+ComesFirst rows candidates o p w b = (is_in_wedge rows o p b ≡ true) × ((c : ℕ) → slice_get candidates (8 * p + w) ≡ Some (Some c) → stands_after rows o.third c b ≡ false)
+
+-- the same, or b was the candidate there
+abbrev pub ComesOrGoes : List (List ℕ) → List (Option ℕ) → Octant → ℕ → ℕ → ℕ → Type 0
+ComesOrGoes rows candidates o p w b = ComesFirst rows candidates o p w b ⊎ (slice_get candidates (8 * p + w) ≡ Some (Some b))
+
+-- by the new orders b is in the octant of p, and a doesn't stand before it there
+abbrev pub HasPassedBy : List (List ℕ) → Octant → ℕ → ℕ → ℕ → Type 0
+HasPassedBy rows o p a b = (is_in_wedge rows o p b ≡ true) × (stands_after rows o.third a b ≡ false)
+
+-- of the exchange of a and b in an order, b is offered to those slots of a in the octants that the order bounds where it comes or goes, and to the slots whose candidate a is in the octants that it ranks where b has passed by
+pub record HasOffered (rows : List (List ℕ)) (candidates : List (Option ℕ)) (part a b : ℕ) (ts : List Touch) : Type 0 where
+  pub bounded : (w : ℕ) (o : Octant) → slice_get octants w ≡ Some o → IsBoundedBy o part → ComesOrGoes rows candidates o a w b → IsOffered ts (8 * a + w) (Some b)
+  pub ranked : (apex w : ℕ) (o : Octant) → slice_get octants w ≡ Some o → o.third.part ≡ part → slice_get candidates (8 * apex + w) ≡ Some (Some a) → HasPassedBy rows o apex a b → IsOffered ts (8 * apex + w) (Some b)
+
+abbrev pub HasOfferedBoth : List (List ℕ) → List (Option ℕ) → ℕ → ℕ → ℕ → List Touch → Type 0
+HasOfferedBoth rows candidates part a b ts = HasOffered rows candidates part a b ts × HasOffered rows candidates part b a ts
 
 -- the slot has a candidate that these offers bring to the first of its octant
 pub record IsOnItsWay (rows : List (List ℕ)) (o : Octant) (slot : ℕ) (candidates : List (Option ℕ)) (offers : List (Option ℕ)) : Type 0 where

@@ -4,37 +4,16 @@ ghost use Rattle.std.specs.Prelude.{◌≡◌, ℕ, ◌+◌, ◌*◌, ◌<◌, �
 ghost use Rattle.kin_motion.specs.Numbers.{is_in};
 ghost use Rattle.kin_motion.specs.Octants.{Octant as Bounds, octants};
 ghost use Rattle.kin_wedge.specs.Passages.{IsNumberOf, IsLookedUp, IsLost, IsMarkOffered, IsOfferedAround};
-ghost use Rattle.kin_wedge.specs.Rows.{row_of, is_in_wedge, AreRows, HaveSlots};
+ghost use Rattle.kin_wedge.specs.Rows.{row_of, AreRows, HaveSlots};
 ghost use Rattle.kin_wedge.specs.Seen.{rows_of};
-ghost use Rattle.kin_wedge.specs.Touched.{IsOffered, HasTouched};
+ghost use Rattle.kin_wedge.specs.Sides.{AreParted};
+ghost use Rattle.kin_wedge.specs.Touched.{HasTouched};
 
-use crate::octant::orders_of;
 use crate::orders::Orders;
 use crate::table::Table;
 use crate::touch::Touches;
 use kin_list::Mark;
 use kin_num::memory::NoMemory;
-
-/// Offers a number to the octant of an apex that it is in.
-fn offer_to(
-    orders: &Orders,
-    table: &Table,
-    touches: &mut Touches,
-    apex: u32,
-    no: u32,
-) -> Result<(), NoMemory>
-    requires rows { AreRows (rows_of orders.now.lists.items) }
-    requires slot { 8 * apex + 7 < length table.now }
-    requires small { length table.now < 2 ^ 32 }
-    ensures offered { OnOk result ((w : ℕ) (o : Bounds) → slice_get octants w ≡ Some o → is_in_wedge (rows_of orders.now.lists.items) o apex no ≡ true → IsOffered touches.new.all.items (8 * apex + w) (Some no)) }
-    ensures touched { OnOk result (HasTouched table.now touches.old.all.items touches.new.all.items) }
-{
-    for w in 0..8 {
-        let within = orders.is_in_octant(orders_of(w), apex, no);
-        touches.add_if(within, table, apex, w, no)?;
-    }
-    Ok(())
-}
 
 /// Offers a number to all members, each in the octant that it is in.
 fn offer_to_all(
@@ -44,14 +23,15 @@ fn offer_to_all(
     no: u32,
 ) -> Result<(), NoMemory>
     requires rows { AreRows (rows_of orders.now.lists.items) }
+    requires parted { AreParted (rows_of orders.now.lists.items) }
     requires members { HaveSlots (rows_of orders.now.lists.items) (length table.now) }
     requires alike { (part x : ℕ) → is_in x (row_of (rows_of orders.now.lists.items) part) ≡ true → is_in x (row_of (rows_of orders.now.lists.items) 0) ≡ true }
     requires small { length table.now < 2 ^ 32 }
-    ensures offered { OnOk result (IsOfferedAround (rows_of orders.now.lists.items) no touches.new.all.items) }
+    ensures offered { OnOk result (IsOfferedAround (rows_of orders.now.lists.items) table.now no touches.new.all.items) }
     ensures touched { OnOk result (HasTouched table.now touches.old.all.items touches.new.all.items) }
 {
     for apex in orders.list(0).items() {
-        offer_to(orders, table, touches, *apex, no)?;
+        touches.offer(orders, table, *apex, no)?;
     }
     Ok(())
 }
@@ -64,12 +44,13 @@ fn note_entering(
     no: u32,
 ) -> Result<(), NoMemory>
     requires rows { AreRows (rows_of orders.now.lists.items) }
+    requires parted { AreParted (rows_of orders.now.lists.items) }
     requires members { HaveSlots (rows_of orders.now.lists.items) (length table.now) }
     requires alike { (part x : ℕ) → is_in x (row_of (rows_of orders.now.lists.items) part) ≡ true → is_in x (row_of (rows_of orders.now.lists.items) 0) ≡ true }
     requires small { length table.now < 2 ^ 32 }
     requires slot { 8 * no + 7 < length table.now }
     ensures looked_up { OnOk result (IsLookedUp no touches.new.all.items) }
-    ensures offered { OnOk result (IsOfferedAround (rows_of orders.now.lists.items) no touches.new.all.items) }
+    ensures offered { OnOk result (IsOfferedAround (rows_of orders.now.lists.items) table.now no touches.new.all.items) }
     ensures touched { OnOk result (HasTouched table.now touches.old.all.items touches.new.all.items) }
 {
     offer_to_all(orders, table, touches, no)?;
@@ -98,6 +79,7 @@ pub fn note_mark(
     mark: Mark,
 ) -> Result<(), NoMemory>
     requires rows { AreRows (rows_of orders.now.lists.items) }
+    requires parted { AreParted (rows_of orders.now.lists.items) }
     requires members { HaveSlots (rows_of orders.now.lists.items) (length table.now) }
     requires alike { (part x : ℕ) → is_in x (row_of (rows_of orders.now.lists.items) part) ≡ true → is_in x (row_of (rows_of orders.now.lists.items) 0) ≡ true }
     requires small { length table.now < 2 ^ 32 }

@@ -6,6 +6,7 @@ ghost use Rattle.kin_wedge.specs.Parts.{swaps_of};
 ghost use Rattle.kin_wedge.specs.Passages.{AreAnswered, AreChanged, AreExchangesOffered, AreVacantRows, IsMarkOffered, IsNumberOf, IsPassage};
 ghost use Rattle.kin_wedge.specs.Rows.{row_of, AreRows, AreRanked, HaveSlots};
 ghost use Rattle.kin_wedge.specs.Seen.{rows_of};
+ghost use Rattle.kin_wedge.specs.Sides.{AreParted};
 ghost use Rattle.kin_wedge.specs.Touched.{AreKnown};
 
 use crate::around::note_mark;
@@ -48,6 +49,7 @@ impl Candidates {
     /// Notes the slots that a settle of the orders can have touched.
     fn note(&mut self, mark: Mark, orders: &Orders) -> Result<(), NoMemory>
         requires rows { AreRows (rows_of orders.now.lists.items) }
+        requires parted { AreParted (rows_of orders.now.lists.items) }
         requires alike { (part x : ℕ) → is_in x (row_of (rows_of orders.now.lists.items) part) ≡ true → is_in x (row_of (rows_of orders.now.lists.items) 0) ≡ true }
         requires members { HaveSlots (rows_of orders.now.lists.items) (length self.old.table) }
         requires old_rows { length self.old.rows.rows.items ≡ 8 }
@@ -56,7 +58,7 @@ impl Candidates {
         requires passage { IsPassage mark (swaps_of orders.now.lists.items) self.old.rows.rows.items (rows_of orders.now.lists.items) }
         requires slot { (i : ℕ) → IsNumberOf mark i → 8 * i + 7 < length self.old.table }
         ensures rows { OnOk result (self.new.rows.rows.items ≡ rows_of orders.now.lists.items) }
-        ensures exchanges { OnOk result (AreExchangesOffered mark (swaps_of orders.now.lists.items) self.old.rows.rows.items self.old.table self.new.touches.all.items) }
+        ensures exchanges { OnOk result (AreExchangesOffered mark (swaps_of orders.now.lists.items) self.old.rows.rows.items (rows_of orders.now.lists.items) self.old.table self.new.touches.all.items) }
         ensures number { OnOk result (IsMarkOffered mark (rows_of orders.now.lists.items) self.old.table self.new.touches.all.items) }
         ensures known { OnOk result (AreKnown self.old.table self.new.touches.all.items) }
         ensures table { self.new.table ≡ self.old.table }
@@ -72,6 +74,7 @@ impl Candidates {
     pub fn follow(&mut self, mark: Mark, orders: &Orders) -> Result<(), NoMemory>
         requires rows { AreRows (rows_of orders.now.lists.items) }
         requires ranked { AreRanked (rows_of orders.now.lists.items) }
+        requires parted { AreParted (rows_of orders.now.lists.items) }
         requires alike { (part x : ℕ) → is_in x (row_of (rows_of orders.now.lists.items) part) ≡ true → is_in x (row_of (rows_of orders.now.lists.items) 0) ≡ true }
         requires members { HaveSlots (rows_of orders.now.lists.items) (length self.old.table) }
         requires old_rows { length self.old.rows.rows.items ≡ 8 }

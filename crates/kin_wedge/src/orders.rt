@@ -54,7 +54,7 @@ impl Orders {
     }
 
     /// Whether a number stands before another in the order of a part.
-    fn stands_before(&self, part: u32, first: u32, second: u32) -> bool
+    pub fn stands_before(&self, part: u32, first: u32, second: u32) -> bool
         requires rows { AreRows (rows_of self.now.lists.items) }
         requires part { part < 8 }
         ensures { result ≡ stands_before (row_of (rows_of self.now.lists.items) part) first second }

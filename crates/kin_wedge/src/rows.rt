@@ -6,8 +6,9 @@ ghost use Rattle.kin_list.specs.Listing.{staying, lasting, without};
 ghost use Rattle.kin_list.specs.Rows.{exchange, exchanged};
 ghost use Rattle.kin_wedge.specs.Parts.{swaps_of};
 ghost use Rattle.kin_wedge.specs.Passages.{AreExchangesOffered, AreVacantRows};
-ghost use Rattle.kin_wedge.specs.Rows.{row_of, HaveSlots, WereExchanged};
+ghost use Rattle.kin_wedge.specs.Rows.{row_of, AreRows, HaveSlots, WereExchanged};
 ghost use Rattle.kin_wedge.specs.Seen.{rows_of};
+ghost use Rattle.kin_wedge.specs.Sides.{AreParted};
 ghost use Rattle.kin_wedge.specs.Touched.{HasTouched, HasOfferedBoth};
 
 use crate::orders::Orders;
@@ -24,20 +25,23 @@ fn follow_one(
     row: &mut Vec<u32>,
     part: u32,
     place: u32,
+    orders: &Orders,
     table: &Table,
     touches: &mut Touches,
 ) -> Result<(), NoMemory>
+    requires rows { AreRows (rows_of orders.now.lists.items) }
+    requires parted { AreParted (rows_of orders.now.lists.items) }
     requires members { (x : ℕ) → is_in x row.old.items ≡ true → 8 * x + 7 < length table.now }
     requires small { length table.now < 2 ^ 32 }
     ensures row { OnOk result (row.new.items ≡ exchange place row.old.items) }
-    ensures offered { OnOk result ((a b : ℕ) → slice_get row.old.items place ≡ Some a → slice_get row.old.items (suc place) ≡ Some b → HasOfferedBoth table.now part a b touches.new.all.items) }
+    ensures offered { OnOk result ((a b : ℕ) → slice_get row.old.items place ≡ Some a → slice_get row.old.items (suc place) ≡ Some b → HasOfferedBoth (rows_of orders.now.lists.items) table.now part a b touches.new.all.items) }
     ensures touched { OnOk result (HasTouched table.now touches.old.all.items touches.new.all.items) }
 {
     let place = place as usize;
     if place + 1 >= row.len() {
         return Ok(());
     }
-    touches.add_exchange(table, part, row[place], row[place + 1])?;
+    touches.add_exchange(orders, table, part, row[place], row[place + 1])?;
     row.swap(place, place + 1);
     Ok(())
 }
@@ -47,17 +51,20 @@ pub fn follow_row(
     row: &mut Vec<u32>,
     part: u32,
     swaps: &[u32],
+    orders: &Orders,
     table: &Table,
     touches: &mut Touches,
 ) -> Result<(), NoMemory>
+    requires rows { AreRows (rows_of orders.now.lists.items) }
+    requires parted { AreParted (rows_of orders.now.lists.items) }
     requires members { (x : ℕ) → is_in x row.old.items ≡ true → 8 * x + 7 < length table.now }
     requires small { length table.now < 2 ^ 32 }
     ensures row { OnOk result (row.new.items ≡ exchanged swaps.now row.old.items) }
-    ensures offered { OnOk result ((a b : ℕ) → WereExchanged swaps.now row.old.items a b → HasOfferedBoth table.now part a b touches.new.all.items) }
+    ensures offered { OnOk result ((a b : ℕ) → WereExchanged swaps.now row.old.items a b → HasOfferedBoth (rows_of orders.now.lists.items) table.now part a b touches.new.all.items) }
     ensures touched { OnOk result (HasTouched table.now touches.old.all.items touches.new.all.items) }
 {
     for place in swaps {
-        follow_one(row, part, *place, table, touches)?;
+        follow_one(row, part, *place, orders, table, touches)?;
     }
     Ok(())
 }
@@ -113,18 +120,28 @@ impl Row {
         mark: Mark,
         part: u32,
         list: &KinList,
+        orders: &Orders,
         table: &Table,
         touches: &mut Touches,
     ) -> Result<(), NoMemory>
+        requires rows { AreRows (rows_of orders.now.lists.items) }
+        requires parted { AreParted (rows_of orders.now.lists.items) }
         requires exchanges { exchanged list.now.swaps (staying mark self.old) ≡ lasting mark list.now.items }
         requires members { (x : ℕ) → is_in x self.old ≡ true → 8 * x + 7 < length table.now }
         requires small { length table.now < 2 ^ 32 }
         ensures row { OnOk result (self.new ≡ list.now.items) }
-        ensures offered { OnOk result ((a b : ℕ) → WereExchanged list.now.swaps (staying mark self.old) a b → HasOfferedBoth table.now part a b touches.new.all.items) }
+        ensures offered { OnOk result ((a b : ℕ) → WereExchanged list.now.swaps (staying mark self.old) a b → HasOfferedBoth (rows_of orders.now.lists.items) table.now part a b touches.new.all.items) }
         ensures touched { OnOk result (HasTouched table.now touches.old.all.items touches.new.all.items) }
     {
         self.let_go(mark);
-        follow_row(&mut self.numbers, part, list.swaps(), table, touches)?;
+        follow_row(
+            &mut self.numbers,
+            part,
+            list.swaps(),
+            orders,
+            table,
+            touches,
+        )?;
         self.take_in(mark, list)
     }
 }
@@ -164,18 +181,20 @@ impl Rows {
         table: &Table,
         touches: &mut Touches,
     ) -> Result<(), NoMemory>
+        requires orders { AreRows (rows_of orders.now.lists.items) }
+        requires parted { AreParted (rows_of orders.now.lists.items) }
         requires count { length orders.now.lists.items ≡ 8 }
         requires rows { length self.old.rows.items ≡ 8 }
         requires exchanges { (part : ℕ) → exchanged (row_of (swaps_of orders.now.lists.items) part) (staying mark (row_of self.old.rows.items part)) ≡ lasting mark (row_of (rows_of orders.now.lists.items) part) }
         requires members { HaveSlots self.old.rows.items (length table.now) }
         requires small { length table.now < 2 ^ 32 }
         ensures rows { OnOk result (self.new.rows.items ≡ rows_of orders.now.lists.items) }
-        ensures offered { OnOk result (AreExchangesOffered mark (swaps_of orders.now.lists.items) self.old.rows.items table.now touches.new.all.items) }
+        ensures offered { OnOk result (AreExchangesOffered mark (swaps_of orders.now.lists.items) self.old.rows.items (rows_of orders.now.lists.items) table.now touches.new.all.items) }
         ensures touched { OnOk result (HasTouched table.now touches.old.all.items touches.new.all.items) }
     {
         for part in 0..8 {
             let row = &mut self.rows[part as usize];
-            row.follow(mark, part, orders.list(part), table, touches)?;
+            row.follow(mark, part, orders.list(part), orders, table, touches)?;
         }
         Ok(())
     }

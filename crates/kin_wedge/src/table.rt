@@ -1,6 +1,6 @@
 //! The candidates, and the slots that each number is the candidate of.
 
-ghost use Rattle.std.specs.Prelude.{◌≡◌, ℕ, ◌+◌, ◌*◌, ◌^◌, ◌<◌, ◌≤◌, List, Option, Some, None, length, replicate, slice_get, slice_set, IfOk, OnOk, OnErr};
+ghost use Rattle.std.specs.Prelude.{◌≡◌, ℕ, ◌+◌, ◌*◌, ◌^◌, ◌<◌, ◌≤◌, List, Option, Some, None, true, length, replicate, slice_get, slice_set, IfOk, OnOk, OnErr};
 ghost use Rattle.kin_wedge.specs.Tables.{AreHits, AreEmpty};
 
 use crate::hits::Hits;
@@ -44,6 +44,17 @@ impl Table {
         match self.held[slot as usize] {
             Some(hit) => Some(hit.candidate),
             None => None,
+        }
+    }
+
+    /// Whether a number is the candidate of a slot.
+    pub fn holds(&self, slot: u32, no: u32) -> bool
+        requires { slot < length self.now }
+        ensures { slice_get self.now slot ≡ Some (Some no) → result ≡ true }
+    {
+        match self.candidate(slot) {
+            Some(candidate) => candidate == no,
+            None => false,
         }
     }
 

@@ -1,10 +1,14 @@
 //! Slots whose candidate may change.
 
-ghost use Rattle.std.specs.Prelude.{◌≡◌, ℕ, ◌+◌, ◌*◌, ◌<◌, ◌^◌, ◌⊎◌, [], Option, Some, None, true, length, slice_get, OnOk};
+ghost use Rattle.std.specs.Prelude.{◌≡◌, ℕ, ◌+◌, ◌*◌, ◌<◌, ◌≤◌, ◌^◌, [], Option, Some, None, true, length, slice_get, OnOk};
 ghost use Rattle.kin_motion.specs.Octants.{Octant as Bounds, octants};
-ghost use Rattle.kin_wedge.specs.Touched.{IsOffered, HasTouched, HasOfferedBoth};
+ghost use Rattle.kin_wedge.specs.Rows.{AreRows};
+ghost use Rattle.kin_wedge.specs.Seen.{rows_of};
+ghost use Rattle.kin_wedge.specs.Sides.{AreParted};
+ghost use Rattle.kin_wedge.specs.Touched.{IsOffered, ComesFirst, ComesOrGoes, HasPassedBy, HasTouched, HasOfferedBoth};
 
-use crate::octant::{Octant, orders_of};
+use crate::offer::{has_passed_by, leads};
+use crate::orders::Orders;
 use crate::table::Table;
 use kin_num::memory::NoMemory;
 use std::alloc::Global;
@@ -16,20 +20,6 @@ pub struct Touch {
     pub old: Option<u32>,
     /// The number that may be the new candidate, or `None` where it has to be looked up.
     pub offer: Option<u32>,
-}
-
-/// Whether an order is one of the two that bound an octant.
-fn is_bounded_by(octant: Octant, part: u32) -> bool
-    ensures { (octant.first.part ≡ part) ⊎ (octant.second.part ≡ part) → result ≡ true }
-{
-    octant.first.part == part || octant.second.part == part
-}
-
-/// Whether an order is the one that ranks the members of an octant.
-fn is_ranked_by(octant: Octant, part: u32) -> bool
-    ensures { octant.third.part ≡ part → result ≡ true }
-{
-    octant.third.part == part
 }
 
 /// The touched slots of one settle.
@@ -125,46 +115,108 @@ impl Touches {
         Ok(())
     }
 
-    /// Offers a number to the slots whose candidate another is, in the octants that an order ranks.
-    fn offer_beside(&mut self, table: &Table, part: u32, of: u32, no: u32) -> Result<(), NoMemory>
+    /// Offers a number to the slots whose candidate another is, in the octants that an order ranks, where it
+    /// has passed the other by.
+    fn offer_beside(
+        &mut self,
+        orders: &Orders,
+        table: &Table,
+        part: u32,
+        of: u32,
+        no: u32,
+    ) -> Result<(), NoMemory>
+        requires rows { AreRows (rows_of orders.now.lists.items) }
         requires small { length table.now < 2 ^ 32 }
-        ensures offered { OnOk result ((apex w : ℕ) (o : Bounds) → slice_get octants w ≡ Some o → o.third.part ≡ part → slice_get table.now (8 * apex + w) ≡ Some (Some of) → IsOffered self.new.all.items (8 * apex + w) (Some no)) }
+        ensures offered { OnOk result ((apex w : ℕ) (o : Bounds) → slice_get octants w ≡ Some o → o.third.part ≡ part → slice_get table.now (8 * apex + w) ≡ Some (Some of) → HasPassedBy (rows_of orders.now.lists.items) o apex of no → IsOffered self.new.all.items (8 * apex + w) (Some no)) }
         ensures touched { OnOk result (HasTouched table.now self.old.all.items self.new.all.items) }
     {
         for (apex, w) in table.hits(of) {
-            let ranked = is_ranked_by(orders_of(w), part);
-            self.add_if(ranked, table, apex, w, no)?;
+            let wanted = has_passed_by(orders, part, apex, w, of, no);
+            self.add_if(wanted, table, apex, w, no)?;
         }
         Ok(())
     }
 
-    /// Offers a number to the slots of another in the octants that an order bounds.
-    fn offer_within(&mut self, table: &Table, part: u32, apex: u32, no: u32) -> Result<(), NoMemory>
+    /// Offers a number to the octant of an apex that it is in, where no candidate stands before it.
+    pub fn offer(
+        &mut self,
+        orders: &Orders,
+        table: &Table,
+        apex: u32,
+        no: u32,
+    ) -> Result<(), NoMemory>
+        requires rows { AreRows (rows_of orders.now.lists.items) }
+        requires parted { AreParted (rows_of orders.now.lists.items) }
         requires slot { 8 * apex + 7 < length table.now }
         requires small { length table.now < 2 ^ 32 }
-        ensures offered { OnOk result ((w : ℕ) (o : Bounds) → slice_get octants w ≡ Some o → (o.first.part ≡ part) ⊎ (o.second.part ≡ part) → IsOffered self.new.all.items (8 * apex + w) (Some no)) }
+        ensures offered { OnOk result ((w : ℕ) (o : Bounds) → slice_get octants w ≡ Some o → ComesFirst (rows_of orders.now.lists.items) table.now o apex w no → IsOffered self.new.all.items (8 * apex + w) (Some no)) }
+        ensures touched { OnOk result (HasTouched table.now self.old.all.items self.new.all.items) }
+    {
+        let w = orders.octant_of(apex, no);
+        let wanted = leads(orders, table, apex, w, no);
+        self.add_if(wanted, table, apex, w, no)?;
+        Ok(())
+    }
+
+    /// Offers a number to the slots of an apex whose candidate it was.
+    fn offer_again(&mut self, table: &Table, apex: u32, no: u32) -> Result<(), NoMemory>
+        requires slot { 8 * apex + 7 < length table.now }
+        requires small { length table.now < 2 ^ 32 }
+        ensures offered { OnOk result ((w : ℕ) → w < 8 → slice_get table.now (8 * apex + w) ≡ Some (Some no) → IsOffered self.new.all.items (8 * apex + w) (Some no)) }
         ensures touched { OnOk result (HasTouched table.now self.old.all.items self.new.all.items) }
     {
         for w in 0..8 {
-            let bounded = is_bounded_by(orders_of(w), part);
-            self.add_if(bounded, table, apex, w, no)?;
+            let wanted = table.holds(8 * apex + w, no);
+            self.add_if(wanted, table, apex, w, no)?;
         }
         Ok(())
     }
 
-    /// Offers the two numbers of an exchange in an order: each to the other's slots in the octants
-    /// that the order bounds, and to the slots whose candidate the other is in those that it ranks.
-    pub fn add_exchange(&mut self, table: &Table, part: u32, a: u32, b: u32) -> Result<(), NoMemory>
+    /// Offers a number to the slots of another where it comes or goes.
+    fn offer_within(
+        &mut self,
+        orders: &Orders,
+        table: &Table,
+        apex: u32,
+        no: u32,
+    ) -> Result<(), NoMemory>
+        requires rows { AreRows (rows_of orders.now.lists.items) }
+        requires parted { AreParted (rows_of orders.now.lists.items) }
+        requires slot { 8 * apex + 7 < length table.now }
+        requires small { length table.now < 2 ^ 32 }
+        ensures offered { OnOk result ((w : ℕ) (o : Bounds) → slice_get octants w ≡ Some o → ComesOrGoes (rows_of orders.now.lists.items) table.now o apex w no → IsOffered self.new.all.items (8 * apex + w) (Some no)) }
+        ensures touched { OnOk result (HasTouched table.now self.old.all.items self.new.all.items) }
+    {
+        self.offer(orders, table, apex, no)?;
+        self.offer_again(table, apex, no)?;
+        Ok(())
+    }
+
+    /// Offers the two numbers of an exchange in an order: each to the other's slots, if the order
+    /// bounds octants, or else to the slots whose candidate the other is in the octants that it ranks.
+    pub fn add_exchange(
+        &mut self,
+        orders: &Orders,
+        table: &Table,
+        part: u32,
+        a: u32,
+        b: u32,
+    ) -> Result<(), NoMemory>
+        requires rows { AreRows (rows_of orders.now.lists.items) }
+        requires parted { AreParted (rows_of orders.now.lists.items) }
         requires a { 8 * a + 7 < length table.now }
         requires b { 8 * b + 7 < length table.now }
         requires small { length table.now < 2 ^ 32 }
-        ensures offered { OnOk result (HasOfferedBoth table.now part a b self.new.all.items) }
+        ensures offered { OnOk result (HasOfferedBoth (rows_of orders.now.lists.items) table.now part a b self.new.all.items) }
         ensures touched { OnOk result (HasTouched table.now self.old.all.items self.new.all.items) }
     {
-        self.offer_within(table, part, a, b)?;
-        self.offer_within(table, part, b, a)?;
-        self.offer_beside(table, part, a, b)?;
-        self.offer_beside(table, part, b, a)?;
+        if part < 4 {
+            self.offer_within(orders, table, a, b)?;
+            self.offer_within(orders, table, b, a)?;
+            return Ok(());
+        }
+        self.offer_beside(orders, table, part, a, b)?;
+        self.offer_beside(orders, table, part, b, a)?;
         Ok(())
     }
 }

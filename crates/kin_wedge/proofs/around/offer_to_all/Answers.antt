@@ -9,14 +9,14 @@ use Rattle.kin_wedge.proofs.around.offer_to_all.Goals as goal
 pub loop-apex-init : goal.loop-apex-init
 loop-apex-init c = to_none (rows_of c.args.orders.now.lists.items) c.args.table.now c.args.no c.args.touches.now.all.items c.items-apex-items.result.now
 
-pub offer_to-requires-clause-slot : goal.offer_to-requires-clause-slot
-offer_to-requires-clause-slot c =
+pub offer-requires-clause-slot : goal.offer-requires-clause-slot
+offer-requires-clause-slot c =
     c.requires.members 0 _ (ap (is_in _) (sym (c.items-apex-items.ensures ∙ c.list.ensures.row)) ∙ is_in_from_get c.items-apex-items.result.now c.loop-apex.apex-index _ (slice_get-get_or c.items-apex-items.result.now c.loop-apex.apex-index 0 c.loop-apex-test.true))
 
 pub loop-apex-preserved : goal.loop-apex-preserved
 loop-apex-preserved c =
-    to_more (rows_of c.args.orders.now.lists.items) c.args.table.now c.args.no c.args.touches.now.all.items c.items-apex-items.result.now c.loop-apex.touches.all.items c.offer_to.new.touches.all.items c.loop-apex.apex-index _
-    c.loop-apex.invariant (slice_get-get_or c.items-apex-items.result.now c.loop-apex.apex-index 0 c.loop-apex-test.true) c.in_ok-offer_to.ensures.offered c.in_ok-offer_to.ensures.touched
+    to_more (rows_of c.args.orders.now.lists.items) c.args.table.now c.args.no c.args.touches.now.all.items c.items-apex-items.result.now c.loop-apex.touches.all.items c.offer.new.self.all.items c.loop-apex.apex-index _
+    c.loop-apex.invariant (slice_get-get_or c.items-apex-items.result.now c.loop-apex.apex-index 0 c.loop-apex-test.true) c.in_ok-offer.ensures.offered c.in_ok-offer.ensures.touched
 
 pub returns-clause-offered : goal.returns-clause-offered
 returns-clause-offered c =

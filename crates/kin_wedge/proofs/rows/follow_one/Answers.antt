@@ -3,17 +3,18 @@ use Rattle.std.specs.Prelude.{slice_get}
 use Rattle.std.proofs.lemmas.Option.{same_Some}
 use Rattle.kin_list.proofs.RowLaws.{exchange-is_swap}
 use Rattle.kin_wedge.specs.declared.touch.Touch.{Touch}
+use Rattle.kin_wedge.specs.Seen.{rows_of}
 use Rattle.kin_wedge.specs.Touched.{HasOfferedBoth}
 use Rattle.kin_wedge.proofs.Following.{past_end, none_past, read_member, read_there}
 use Rattle.kin_wedge.proofs.rows.follow_one.Goals as goal
 
 -- the two numbers at the places that are read
-offered_there : (candidates : List (Option ℕ)) (part : ℕ) (xs : List ℕ) (p x y : ℕ) (ts : List Touch) → p + 1 < length xs → x ≡ get_or xs p x → y ≡ get_or xs (p + 1) y → HasOfferedBoth candidates part x y ts
-    → (a b : ℕ) → slice_get xs p ≡ Some a → slice_get xs (suc p) ≡ Some b → HasOfferedBoth candidates part a b ts
-offered_there candidates part xs p x y ts l e f h a b k m =
+offered_there : (rows : List (List ℕ)) (candidates : List (Option ℕ)) (part : ℕ) (xs : List ℕ) (p x y : ℕ) (ts : List Touch) → p + 1 < length xs → x ≡ get_or xs p x → y ≡ get_or xs (p + 1) y → HasOfferedBoth rows candidates part x y ts
+    → (a b : ℕ) → slice_get xs p ≡ Some a → slice_get xs (suc p) ≡ Some b → HasOfferedBoth rows candidates part a b ts
+offered_there rows candidates part xs p x y ts l e f h a b k m =
     let s : x ≡ a = same_Some x a (sym (read_there xs p x (omega (arith, l)) e) ∙ k) in
     let t : y ≡ b = same_Some y b (sym (read_there xs (p + 1) y l f) ∙ ap (slice_get xs) (add-one p) ∙ m) in
-    subst (λ (z : ℕ). HasOfferedBoth candidates part a z ts) t (subst (λ (z : ℕ). HasOfferedBoth candidates part z y ts) s h)
+    subst (λ (z : ℕ). HasOfferedBoth rows candidates part a z ts) t (subst (λ (z : ℕ). HasOfferedBoth rows candidates part z y ts) s h)
 
 pub returns-then-place-len-clause-row : goal.returns-then-place-len-clause-row
 returns-then-place-len-clause-row c = past_end c.args.place c.args.row.now.items (subst (λ (n : ℕ). n ≤ c.args.place + 1) (c.len.ensures ∙ c.args.row.now.ok.0) c.if-place-len.true)
@@ -35,4 +36,4 @@ returns-clause-row c = c.swap.ensures.items ∙ exchange-is_swap c.args.place c.
 
 pub returns-clause-offered : goal.returns-clause-offered
 returns-clause-offered c =
-    offered_there c.args.table.now c.args.part c.args.row.now.items c.args.place c.index.result.now c.index-2.result.now c.add_exchange.new.self.all.items (subst (λ (n : ℕ). c.args.place + 1 < n) (c.len.ensures ∙ c.args.row.now.ok.0) c.if-place-len.false) c.index.ensures c.index-2.ensures c.in_ok-add_exchange.ensures.offered
+    offered_there (rows_of c.args.orders.now.lists.items) c.args.table.now c.args.part c.args.row.now.items c.args.place c.index.result.now c.index-2.result.now c.add_exchange.new.self.all.items (subst (λ (n : ℕ). c.args.place + 1 < n) (c.len.ensures ∙ c.args.row.now.ok.0) c.if-place-len.false) c.index.ensures c.index-2.ensures c.in_ok-add_exchange.ensures.offered

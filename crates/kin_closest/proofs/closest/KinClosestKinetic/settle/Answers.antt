@@ -3,7 +3,7 @@ use Rattle.kin_motion.specs.declared.fact.Placed.{Placed}
 use Rattle.kin_motion.specs.Kinetics.{ListsFailing, HasChanged}
 use Rattle.kin_motion.specs.Parts.{moved_by}
 use Rattle.kin_list.specs.Listing.{names_leaving}
-use Rattle.kin_tourney.specs.Tournament.{is_above_mark, CoversFailing}
+use Rattle.kin_tourney.specs.Tournament.{CoversAskable}
 use Rattle.kin_closest.specs.Closing.{Closing, facts_of, AreFewTests}
 use Rattle.kin_closest.proofs.Settling.{called, orders_told, within, pairs_ready, pairs_told, pairs_small, pairs_low, tests_few, settled_now, joined_now, changed_now}
 use Rattle.kin_closest.proofs.closest.KinClosestKinetic.settle.Goals as goal
@@ -22,7 +22,7 @@ settle_pairs-requires-clause-ready g c = pairs_ready (called c.self.view_is c.se
 pub settle_pairs-requires-clause-failing : goal.settle_pairs-requires-clause-failing
 settle_pairs-requires-clause-failing g c =
     let u = c.tell_all.new.pairs in
-    subst (λ (fs : List Placed). CoversFailing u.facts (λ p. is_above_mark u.size u.marked p.part) (g.O.Signs.scene c.args.now.now) fs) (sym c.in_ok-sort.ensures.pairs) (pairs_told (called c.self.view_is c.self.invariant c.requires.real c.requires.ready c.requires.failing) c.settle.ensures.same c.in_ok-settle.ensures.settled c.in_ok-settle.ensures.changed c.tell_all.ensures)
+    subst (λ (fs : List Placed). CoversAskable u.facts (g.O.Signs.scene c.args.now.now) fs) (sym c.in_ok-sort.ensures.pairs) (pairs_told (called c.self.view_is c.self.invariant c.requires.real c.requires.ready c.requires.failing) c.settle.ensures.same c.in_ok-settle.ensures.settled c.in_ok-settle.ensures.changed c.tell_all.ensures)
 
 pub settle_pairs-requires-clause-small : goal.settle_pairs-requires-clause-small
 settle_pairs-requires-clause-small g c = pairs_small (called c.self.view_is c.self.invariant c.requires.real c.requires.ready c.requires.failing) c.settle.ensures.same c.in_ok-settle.ensures.settled c.in_ok-settle.ensures.changed c.tell_all.ensures

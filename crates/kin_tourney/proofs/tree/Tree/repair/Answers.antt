@@ -19,7 +19,7 @@ doubted_root-node-requires-clause-some g c = some_inner c.args.self.now c.requir
 
 pub loop-node-init : goal.loop-node-init
 loop-node-init g c = record {
-  mending = mending_starts (g.K.Keyed.key c.args.key.now) (g.O.Signs.scene c.args.now.now).sign c.args.self.now c.args.out.now c.requires.doubtful;
+  mending = mending_starts c.args.all (g.K.Keyed.key c.args.key.now) (g.O.Signs.scene c.args.now.now).sign c.args.self.now c.args.out.now c.requires.doubtful;
   place = place_first c.args.self.now.doubts (length c.args.self.now.items) c.doubted_root-node.result (some_inner c.args.self.now c.requires.doubtful.tree c.requires.some) c.doubted_root-node.ensures;
   ended = ended_first c.args.self.now.doubts c.doubted_root-node.result c.doubted_root-node.ensures;
   cost = omega arith;
@@ -27,7 +27,7 @@ loop-node-init g c = record {
 
 pub settle_node-requires-clause-halves : goal.settle_node-requires-clause-halves
 settle_node-requires-clause-halves g c =
-    (passed (g.K.Keyed.key c.args.key.now) (g.O.Signs.scene c.args.now.now).sign c.args.self.now c.loop-node.self c.renew.new.self c.args.out.now c.loop-node.out c.renew.new.out c.loop-node.node c.loop-node-test.true
+    (passed c.args.all (g.K.Keyed.key c.args.key.now) (g.O.Signs.scene c.args.now.now).sign c.args.self.now c.loop-node.self c.renew.new.self c.args.out.now c.loop-node.out c.renew.new.out c.loop-node.node c.loop-node-test.true
     (c.loop-node.invariant.place c.loop-node-test.true).0 (c.loop-node.invariant.place c.loop-node-test.true).1 c.in_default.ensures c.loop-node.invariant.mending c.renew.ensures.tree c.in_ok-renew.ensures.renewed).halves_clear
 
 pub loop-node-smaller : goal.loop-node-smaller
@@ -35,8 +35,8 @@ loop-node-smaller g c =
     let sign = (g.O.Signs.scene c.args.now.now).sign in
     let key = g.K.Keyed.key c.args.key.now in
     let at = c.loop-node.invariant.place c.loop-node-test.true in
-    let p = passed key sign c.args.self.now c.loop-node.self c.renew.new.self c.args.out.now c.loop-node.out c.renew.new.out c.loop-node.node c.loop-node-test.true at.0 at.1 c.in_default.ensures c.loop-node.invariant.mending c.renew.ensures.tree c.in_ok-renew.ensures.renewed in
-    let q = stepped key sign c.args.self.now c.loop-node.self c.renew.new.self c.settle_node.new.self c.args.out.now c.renew.new.out c.loop-node.node c.loop-node-test.true at.0 p c.settle_node.ensures.tree c.settle_node.ensures.cleared in
+    let p = passed c.args.all key sign c.args.self.now c.loop-node.self c.renew.new.self c.args.out.now c.loop-node.out c.renew.new.out c.loop-node.node c.loop-node-test.true at.0 at.1 c.in_default.ensures c.loop-node.invariant.mending c.renew.ensures.tree c.in_ok-renew.ensures.renewed in
+    let q = stepped c.args.all key sign c.args.self.now c.loop-node.self c.renew.new.self c.settle_node.new.self c.args.out.now c.renew.new.out c.loop-node.node c.loop-node-test.true at.0 p c.settle_node.ensures.tree c.settle_node.ensures.cleared in
     q.smaller
 
 pub loop-node-preserved : goal.loop-node-preserved
@@ -44,8 +44,8 @@ loop-node-preserved g c =
     let sign = (g.O.Signs.scene c.args.now.now).sign in
     let key = g.K.Keyed.key c.args.key.now in
     let at = c.loop-node.invariant.place c.loop-node-test.true in
-    let p = passed key sign c.args.self.now c.loop-node.self c.renew.new.self c.args.out.now c.loop-node.out c.renew.new.out c.loop-node.node c.loop-node-test.true at.0 at.1 c.in_default.ensures c.loop-node.invariant.mending c.renew.ensures.tree c.in_ok-renew.ensures.renewed in
-    let q = stepped key sign c.args.self.now c.loop-node.self c.renew.new.self c.settle_node.new.self c.args.out.now c.renew.new.out c.loop-node.node c.loop-node-test.true at.0 p c.settle_node.ensures.tree c.settle_node.ensures.cleared in
+    let p = passed c.args.all key sign c.args.self.now c.loop-node.self c.renew.new.self c.args.out.now c.loop-node.out c.renew.new.out c.loop-node.node c.loop-node-test.true at.0 at.1 c.in_default.ensures c.loop-node.invariant.mending c.renew.ensures.tree c.in_ok-renew.ensures.renewed in
+    let q = stepped c.args.all key sign c.args.self.now c.loop-node.self c.renew.new.self c.settle_node.new.self c.args.out.now c.renew.new.out c.loop-node.node c.loop-node-test.true at.0 p c.settle_node.ensures.tree c.settle_node.ensures.cleared in
     let less = q.count in
     let was = c.loop-node.invariant.cost in
     let more = c.in_ok-renew.ensures.cost in

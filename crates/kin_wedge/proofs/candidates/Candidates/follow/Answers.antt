@@ -23,7 +23,7 @@ pub returns-clause-answered : goal.returns-clause-answered
 returns-clause-answered c =
     let e = sym c.all-touches.ensures in
     answered c.args.mark (swaps_of c.args.orders.now.lists.items) c.args.self.now.rows.rows.items (rows_of c.args.orders.now.lists.items) c.requires.passage c.args.self.now.table c.all-touches.result.now
-    (subst (AreExchangesOffered c.args.mark (swaps_of c.args.orders.now.lists.items) c.args.self.now.rows.rows.items c.args.self.now.table) e c.in_ok-note.ensures.exchanges)
+    (subst (AreExchangesOffered c.args.mark (swaps_of c.args.orders.now.lists.items) c.args.self.now.rows.rows.items (rows_of c.args.orders.now.lists.items) c.args.self.now.table) e c.in_ok-note.ensures.exchanges)
     (subst (IsMarkOffered c.args.mark (rows_of c.args.orders.now.lists.items) c.args.self.now.table) e c.in_ok-note.ensures.number)
     c.renew_all.new.table (c.renew_all.ensures.length ∙ ap (λ (v : List (Option ℕ)). length v) c.note.ensures.table) c.requires.answered
     (λ slot o here h. c.in_ok-renew_all.ensures.answered slot o here (subst (λ (v : List (Option ℕ)). IsOnItsWay (rows_of c.args.orders.now.lists.items) o slot v (offers_for slot c.all-touches.result.now)) (sym c.note.ensures.table) h))

@@ -7,7 +7,7 @@ use Rattle.kin_wedge.specs.Costs.{AreFewBelow}
 use Rattle.kin_wedge.specs.Parts.{facts_from}
 use Rattle.kin_wedge.specs.Seen.{rows_of}
 use Rattle.kin_wedge.specs.Wedging.{Wedging, candidate_at, candidate_told}
-use Rattle.kin_wedge.proofs.Resettled.{may_settle, kept, lists_ready, orders, rows_now, ranked_now, alike_now, slots_now, passage, wedges_now, kept_now}
+use Rattle.kin_wedge.proofs.Resettled.{may_settle, kept, lists_ready, orders, rows_now, ranked_now, parted_now, alike_now, slots_now, passage, wedges_now, kept_now}
 use Rattle.kin_wedge.proofs.Told.{changed_told}
 use Rattle.kin_wedge.proofs.wedges.WedgesKinetic.settle.Goals as goal
 
@@ -28,6 +28,9 @@ follow-requires-clause-rows g c = rows_now (may_settle c.requires.real c.self.in
 
 pub follow-requires-clause-ranked : goal.follow-requires-clause-ranked
 follow-requires-clause-ranked g c = ranked_now (may_settle c.requires.real c.self.invariant c.self.view_is c.requires.ready) c.in_ok-settle.ensures.settled
+
+pub follow-requires-clause-parted : goal.follow-requires-clause-parted
+follow-requires-clause-parted g c = parted_now (may_settle c.requires.real c.self.invariant c.self.view_is c.requires.ready) c.in_ok-settle.ensures.settled
 
 pub follow-requires-clause-alike : goal.follow-requires-clause-alike
 follow-requires-clause-alike g c = alike_now (may_settle c.requires.real c.self.invariant c.self.view_is c.requires.ready) c.in_ok-settle.ensures.settled

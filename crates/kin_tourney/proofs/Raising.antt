@@ -1,0 +1,153 @@
+-- Doubts above a marked slot: the matches that it had won are to be played again.
+use Rattle.std.proofs.Common.{◌≡◌, ◌≢◌, ◌⊎◌, inl, inr, refl, sym, ap, ◌∙◌, subst, arith, ℕ, zero, suc, ◌+◌, ◌*◌, ◌/◌, ◌^◌, ◌<◌, ◌≤◌, length, true, nat_eq, set}
+use Rattle.std.specs.Prelude.{Option, Some}
+use Rattle.std.proofs.lemmas.Bool.{or_cases}
+use Rattle.std.proofs.lemmas.Bool.Decides.{nat_tests}
+use Rattle.std.proofs.lemmas.List.{get_or-set_same, length-set}
+use Rattle.kin_motion.specs.Tournaments.{comes_to, is_under}
+use Rattle.kin_motion.proofs.NodeLaws.{not_above}
+use Rattle.kin_tourney.specs.declared.doubt.Doubt.{Doubt}
+use Rattle.kin_tourney.specs.declared.doubt.Doubt.TheVariants.{Clear, Below, Here}
+use Rattle.kin_tourney.specs.Standings.{Standings, IsTree, doubt_in, doubt_count, named_at}
+use Rattle.kin_tourney.specs.Repairs.{IsSpread, IsMarkedUp}
+use Rattle.kin_tourney.proofs.AfterWrite.{read_set}
+use Rattle.kin_tourney.proofs.Doubts.{closed_raised, count_kept, here_is_doubt}
+use Rattle.kin_tourney.proofs.Trees.{above_in_doubt}
+
+-- a node in doubt is to be played again
+pub tree_raised : {Item : Type 0} (t : Standings Item) → IsTree t → (node : ℕ) → node < length t.items → doubt_in t.doubts node ≢ Clear → IsTree (record t { doubts = set t.doubts node Here })
+tree_raised {Item} t h node inside doubted = record {
+  small = h.small;
+  items_room = h.items_room;
+  marked_room = h.marked_room;
+  best_room = h.best_room;
+  facts_room = h.facts_room;
+  doubts_room = length-set t.doubts node Here ∙ h.doubts_room;
+  best_low = h.best_low;
+  best_under = h.best_under;
+  closed = closed_raised t.doubts node h.closed (let r = h.doubts_room in omega arith) doubted;
+}
+
+-- on the way up from a slot: the nodes that are passed are done
+pub record IsRaising {Item : Type 0} (slot : ℕ) (start now : Standings Item) (node : ℕ) : Type 0 where
+  pub tree : IsTree now
+  pub same : now ≡ record start { doubts = now.doubts }
+  pub room : length now.doubts ≡ length start.doubts
+  pub count : doubt_count now.doubts ≡ doubt_count start.doubts
+  pub here_kept : (v : ℕ) → doubt_in start.doubts v ≡ Here → doubt_in now.doubts v ≡ Here
+  pub kept : (v : ℕ) → doubt_in now.doubts v ≡ Clear → doubt_in start.doubts v ≡ Clear
+  pub doubted : 1 < node → doubt_in now.doubts (node / 2) ≢ Clear
+  pub low : node < 2 * length start.items
+  pub won : (u : ℕ) → is_under start.size u slot ≡ true → (named_at start u ≡ Some slot → doubt_in now.doubts (u / 2) ≡ Here) ⊎ ((k : ℕ) × (comes_to k node u ≡ true))
+
+pub raising_starts : {Item : Type 0} (slot : ℕ) (start : Standings Item) → IsTree start → slot < length start.items → doubt_in start.doubts ((length start.items + slot) / 2) ≢ Clear → IsRaising slot start start (length start.items + slot)
+raising_starts {Item} slot start tree inside reached = record {
+  tree = tree;
+  same = refl;
+  room = refl;
+  count = refl;
+  here_kept = λ v e. e;
+  kept = λ v e. e;
+  doubted = λ big. reached;
+  low = omega arith;
+  won = λ u e. inr (start.size, subst (λ (n : ℕ). comes_to start.size (n + slot) u ≡ true) (sym tree.items_room) e);
+}
+
+module _ {Item : Type 0} (slot : ℕ) (start now next : Standings Item) (node : ℕ) (big : 1 < node) (h : IsRaising slot start now node) (tree : IsTree next) where
+  -- one node further, where no doubt is lost
+  raising_on : next ≡ record now { doubts = next.doubts } → length next.doubts ≡ length now.doubts → doubt_count next.doubts ≡ doubt_count now.doubts
+      → ((v : ℕ) → doubt_in now.doubts v ≡ Here → doubt_in next.doubts v ≡ Here) → ((v : ℕ) → doubt_in next.doubts v ≡ Clear → doubt_in now.doubts v ≡ Clear)
+      → (named_at start node ≡ Some slot → doubt_in next.doubts (node / 2) ≡ Here) → IsRaising slot start next (node / 2)
+  raising_on same room count here_kept kept own = record {
+    tree = tree;
+    same = same ∙ ap (λ (t : Standings Item). record t { doubts = next.doubts }) h.same;
+    room = room ∙ h.room;
+    count = count ∙ h.count;
+    here_kept = λ v e. here_kept v (h.here_kept v e);
+    kept = λ v e. h.kept v (kept v e);
+    doubted = λ more. above_in_doubt next.doubts tree.closed (node / 2) (omega arith) (λ e. h.doubted big (kept (node / 2) e));
+    low = let l = h.low in omega arith;
+    won = λ u e. on u (h.won u e);
+  }
+    where
+      own_node : (u : ℕ) → node ≡ u → named_at start u ≡ Some slot → doubt_in next.doubts (u / 2) ≡ Here
+      own_node u same e = subst (λ (w : ℕ). doubt_in next.doubts (w / 2) ≡ Here) same (own (subst (λ (w : ℕ). named_at start w ≡ Some slot) (sym same) e))
+
+      on : (u : ℕ) → (named_at start u ≡ Some slot → doubt_in now.doubts (u / 2) ≡ Here) ⊎ ((k : ℕ) × (comes_to k node u ≡ true))
+          → (named_at start u ≡ Some slot → doubt_in next.doubts (u / 2) ≡ Here) ⊎ ((k : ℕ) × (comes_to k (node / 2) u ≡ true))
+      on u (inl f) = inl (λ e. here_kept (u / 2) (f e))
+      on u (inr (zero, c)) = let same : node ≡ u = grind (arith, nat_tests, c) in inl (own_node u same)
+      on u (inr (suc k, c)) = at (or_cases (nat_eq node u) (comes_to k (node / 2) u) c)
+        where
+          at : (nat_eq node u ≡ true) ⊎ (comes_to k (node / 2) u ≡ true) → (named_at start u ≡ Some slot → doubt_in next.doubts (u / 2) ≡ Here) ⊎ ((k : ℕ) × (comes_to k (node / 2) u ≡ true))
+          at (inl f) = let same : node ≡ u = grind (arith, nat_tests, f) in inl (own_node u same)
+          at (inr f) = inr (k, f)
+
+  inside : node / 2 < length now.doubts
+  inside = let l = h.low in let r = h.room in let d = h.tree.doubts_room in let i = ap (λ (t : Standings Item). length t.items) h.same in omega arith
+
+  pub raised : next ≡ record now { doubts = set now.doubts (node / 2) Here } → IsRaising slot start next (node / 2)
+  raised same = raising_on whole (doubts_length) (ap doubt_count doubts_are ∙ count_kept now.doubts (node / 2) Here inside (h.doubted big) here_is_doubt) here_kept kept (λ e. ap (λ ds. doubt_in ds (node / 2)) doubts_are ∙ get_or-set_same now.doubts (node / 2) Here Clear inside)
+    where
+      doubts_are : next.doubts ≡ set now.doubts (node / 2) Here
+      doubts_are = ap (λ (t : Standings Item). t.doubts) same
+
+      doubts_length : length next.doubts ≡ length now.doubts
+      doubts_length = ap length doubts_are ∙ length-set now.doubts (node / 2) Here
+
+      whole : next ≡ record now { doubts = next.doubts }
+      whole = same ∙ ap (λ ds. record now { doubts = ds }) (sym doubts_are)
+
+      at_next : (v : ℕ) → ((v ≡ node / 2) × (doubt_in next.doubts v ≡ Here)) ⊎ ((v ≢ node / 2) × (doubt_in next.doubts v ≡ doubt_in now.doubts v))
+      at_next v = subst (λ ds. ((v ≡ node / 2) × (doubt_in ds v ≡ Here)) ⊎ ((v ≢ node / 2) × (doubt_in ds v ≡ doubt_in now.doubts v))) (sym doubts_are) (read_set now.doubts (node / 2) v Here Clear inside)
+
+      here_kept : (v : ℕ) → doubt_in now.doubts v ≡ Here → doubt_in next.doubts v ≡ Here
+      here_kept v e = at (at_next v)
+        where
+          at : ((v ≡ node / 2) × (doubt_in next.doubts v ≡ Here)) ⊎ ((v ≢ node / 2) × (doubt_in next.doubts v ≡ doubt_in now.doubts v)) → doubt_in next.doubts v ≡ Here
+          at (inl k) = k.1
+          at (inr k) = k.1 ∙ e
+
+      kept : (v : ℕ) → doubt_in next.doubts v ≡ Clear → doubt_in now.doubts v ≡ Clear
+      kept v e = at (at_next v)
+        where
+          at : ((v ≡ node / 2) × (doubt_in next.doubts v ≡ Here)) ⊎ ((v ≢ node / 2) × (doubt_in next.doubts v ≡ doubt_in now.doubts v)) → doubt_in now.doubts v ≡ Clear
+          at (inl k) = absurd (here_is_doubt (sym k.1 ∙ e))
+          at (inr k) = sym k.1 ∙ e
+
+  pub passed_by : next ≡ now → (named_at now node ≢ Some slot) → IsRaising slot start next (node / 2)
+  passed_by same n = raising_on (same ∙ ap (λ (t : Standings Item). record now { doubts = t.doubts }) (sym same)) (ap (λ (t : Standings Item). length t.doubts) same) (ap (λ (t : Standings Item). doubt_count t.doubts) same)
+      (λ v e. ap (λ (t : Standings Item). doubt_in t.doubts v) same ∙ e) (λ v e. sym (ap (λ (t : Standings Item). doubt_in t.doubts v) same) ∙ e) (λ e. absurd (n (ap (λ (t : Standings Item). named_at t node) h.same ∙ e)))
+
+-- at the root all is done
+pub raising_ends : {Item : Type 0} (slot : ℕ) (old mid now : Standings Item) (node : ℕ) → IsTree old → slot < length old.items → mid ≡ record old { doubts = mid.doubts } → IsSpread old.doubts mid.doubts Below ((length old.items + slot) / 2)
+    → node ≤ 1 → IsRaising slot mid now node → (now ≡ record old { doubts = now.doubts }) × IsMarkedUp slot old now.doubts
+raising_ends {Item} slot old mid now node tree inside same spread ended h = (
+  h.same ∙ ap (λ (t : Standings Item). record t { doubts = now.doubts }) same,
+  record {
+    room = h.room ∙ spread.room;
+    reached = λ e. spread.reached (h.kept ((length old.items + slot) / 2) e);
+    won = λ u under best. at u (h.won u (subst (λ (n : ℕ). is_under n u slot ≡ true) (sym size) under)) (names_same u ∙ best);
+    here_kept = λ v e. h.here_kept v (here_first v e (spread.each v));
+    kept = λ v e. clear_first v (h.kept v e) (spread.each v);
+    few = let f = spread.few old.size (let r = tree.items_room in omega arith) in let c = h.count in omega arith;
+  },
+)
+  where
+    size : mid.size ≡ old.size
+    size = ap (λ (t : Standings Item). t.size) same
+
+    names_same : (u : ℕ) → named_at mid u ≡ named_at old u
+    names_same u = ap (λ (t : Standings Item). named_at t u) same
+
+    at : (u : ℕ) → (named_at mid u ≡ Some slot → doubt_in now.doubts (u / 2) ≡ Here) ⊎ ((k : ℕ) × (comes_to k node u ≡ true)) → named_at mid u ≡ Some slot → doubt_in now.doubts (u / 2) ≡ Here
+    at u (inl f) e = f e
+    at u (inr (k, c)) e = let l = not_above k node u c in let z : u / 2 ≡ 0 = omega arith in ap (doubt_in now.doubts) z ∙ h.tree.closed.top
+
+    here_first : (v : ℕ) → doubt_in old.doubts v ≡ Here → (doubt_in mid.doubts v ≡ doubt_in old.doubts v) ⊎ ((doubt_in old.doubts v ≡ Clear) × (doubt_in mid.doubts v ≡ Below)) → doubt_in mid.doubts v ≡ Here
+    here_first v e (inl k) = k ∙ e
+    here_first v e (inr k) = absurd (here_is_doubt (sym e ∙ k.0))
+
+    clear_first : (v : ℕ) → doubt_in mid.doubts v ≡ Clear → (doubt_in mid.doubts v ≡ doubt_in old.doubts v) ⊎ ((doubt_in old.doubts v ≡ Clear) × (doubt_in mid.doubts v ≡ Below)) → doubt_in old.doubts v ≡ Clear
+    clear_first v e (inl k) = sym k ∙ e
+    clear_first v e (inr k) = k.0

@@ -1,0 +1,33 @@
+-- The first four orders bound the octants, and the last four rank their members.
+use Rattle.std.proofs.Common.{◌≡◌, refl, subst, arith, ℕ, zero, suc, ◌+◌, ◌%◌, ◌<◌, ◌≤◌, Some}
+use Rattle.std.specs.Prelude.{slice_get}
+use Rattle.kin_motion.specs.Octants.{Octant, octants}
+
+-- the orders of an octant by their halves
+record IsSplit (w : ℕ) (o : Octant) : Type 0 where
+  pub bounds : (o.first.part < 4) × (o.second.part < 4)
+  pub third : 4 ≤ o.third.part
+  pub rank : o.third.part ≡ w % 4 + 4
+
+same_split : (w : ℕ) (a o : Octant) → IsSplit w a → Some a ≡ Some o → IsSplit w o
+same_split w a o h e = let same : a ≡ o = cc in subst (IsSplit w) same h
+
+split : (w : ℕ) (o : Octant) → slice_get octants w ≡ Some o → IsSplit w o
+split zero o e = same_split _ _ o (record { bounds = (omega arith, omega arith); third = omega arith; rank = refl }) e
+split (suc zero) o e = same_split _ _ o (record { bounds = (omega arith, omega arith); third = omega arith; rank = refl }) e
+split (suc (suc zero)) o e = same_split _ _ o (record { bounds = (omega arith, omega arith); third = omega arith; rank = refl }) e
+split (suc (suc (suc zero))) o e = same_split _ _ o (record { bounds = (omega arith, omega arith); third = omega arith; rank = refl }) e
+split (suc (suc (suc (suc zero)))) o e = same_split _ _ o (record { bounds = (omega arith, omega arith); third = omega arith; rank = refl }) e
+split (suc (suc (suc (suc (suc zero))))) o e = same_split _ _ o (record { bounds = (omega arith, omega arith); third = omega arith; rank = refl }) e
+split (suc (suc (suc (suc (suc (suc zero)))))) o e = same_split _ _ o (record { bounds = (omega arith, omega arith); third = omega arith; rank = refl }) e
+split (suc (suc (suc (suc (suc (suc (suc zero))))))) o e = same_split _ _ o (record { bounds = (omega arith, omega arith); third = omega arith; rank = refl }) e
+split (suc (suc (suc (suc (suc (suc (suc (suc w)))))))) o e = absurd cc
+
+pub bounds_low : (w : ℕ) (o : Octant) → slice_get octants w ≡ Some o → (o.first.part < 4) × (o.second.part < 4)
+bounds_low w o e = (split w o e).bounds
+
+pub third_high : (w : ℕ) (o : Octant) → slice_get octants w ≡ Some o → 4 ≤ o.third.part
+third_high w o e = (split w o e).third
+
+pub ranked_by : (w : ℕ) (o : Octant) → slice_get octants w ≡ Some o → o.third.part ≡ w % 4 + 4
+ranked_by w o e = (split w o e).rank

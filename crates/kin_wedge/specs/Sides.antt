@@ -1,0 +1,21 @@
+-- On which sides of a point another one lies, by the four orders that bound the octants.
+use Rattle.std.specs.Prelude.{◌≡◌, ℕ, true, cond, List, Some, slice_get}
+use Rattle.kin_motion.specs.Changes.{stands_before}
+use Rattle.kin_motion.specs.Octants.{Octant, octants}
+use Rattle.kin_wedge.specs.declared.sides.Sides.{Sides}
+use Rattle.kin_wedge.specs.Rows.{row_of, is_in_wedge}
+
+-- whether q stands behind p in each of the first four orders
+pub record AreSides (rows : List (List ℕ)) (p q : ℕ) (s : Sides) : Type 0 where
+  pub y : s.y ≡ stands_before (row_of rows 0) p q
+  pub difference : s.difference ≡ stands_before (row_of rows 1) p q
+  pub x : s.x ≡ stands_before (row_of rows 2) p q
+  pub sum : s.sum ≡ stands_before (row_of rows 3) p q
+
+-- the octant in which q then lies, if it lies in one
+abbrev pub octant_by : Sides → ℕ
+octant_by s = cond s.y (cond s.difference 0 (cond s.x 1 (cond s.sum 2 3))) (cond s.difference (cond s.x (cond s.sum 7 6) 5) 4)
+
+-- who lies in an octant lies in the one that its sides tell
+abbrev pub AreParted : List (List ℕ) → Type 0
+AreParted rows = (w p q : ℕ) (o : Octant) (s : Sides) → slice_get octants w ≡ Some o → AreSides rows p q s → is_in_wedge rows o p q ≡ true → octant_by s ≡ w
