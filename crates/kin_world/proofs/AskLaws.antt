@@ -9,6 +9,18 @@ use Rattle.kin_cert.specs.Facts.{LiveFact, IsAt}
 use Rattle.kin_cert.specs.Told.{certificates_of}
 use Rattle.kin_world.specs.Worlds.{certificate}
 
+-- the certificate of a fact of the owner and the form
+fact_certificate : (structure part : ℕ) (form : Form) (sign : Sign) (l : LiveFact) → IsAt structure part form l → l.certificate.placed.fact.sign ≡ sign → l.certificate ≡ certificate structure part form sign
+fact_certificate structure part form sign l at e = λ i. record { structure = at.structure_is i; placed = record { part = at.part_is i; fact = record { form = at.form_is i; sign = e i } } }
+
+-- a fact that the table has is a certificate
+pub some_certificate : (live : List LiveFact) (structure part : ℕ) (form : Form) (answer : Option Sign)
+    → IfSome answer (λ sign. (l : LiveFact) × Contains live l × IsAt structure part form l × (l.certificate.placed.fact.sign ≡ sign))
+    → IfSome answer (λ sign. Contains (certificates_of live) (certificate structure part form sign))
+some_certificate live structure part form None some = tt
+some_certificate live structure part form (Some x) (l, there, at, sign_is) =
+    subst (λ (c : Certificate). Contains (certificates_of live) c) (fact_certificate structure part form x l at sign_is) (contains_map (λ (k : LiveFact). k.certificate) live l there)
+
 -- the table has no fact of the owner and the form exactly where no certificate is of them
 pub no_certificate : (live : List LiveFact) (structure part : ℕ) (form : Form) (answer : Option Sign)
     → IfSome answer (λ sign. (l : LiveFact) × Contains live l × IsAt structure part form l × (l.certificate.placed.fact.sign ≡ sign))
@@ -29,8 +41,4 @@ no_certificate live structure part form answer some none = (to answer none, from
 
     from : (a : Option Sign) → IfSome a (λ sign. (l : LiveFact) × Contains live l × IsAt structure part form l × (l.certificate.placed.fact.sign ≡ sign)) → ((sign : Sign) → ¬ (Contains (certificates_of live) (certificate structure part form sign))) → IsNone a
     from None some never = refl
-    from (Some x) (l, there, at, sign_is) never =
-        absurd (never x (subst (λ (c : Certificate). Contains (certificates_of live) c) (same l at sign_is) (contains_map (λ (k : LiveFact). k.certificate) live l there)))
-      where
-        same : (l : LiveFact) → IsAt structure part form l → l.certificate.placed.fact.sign ≡ x → l.certificate ≡ certificate structure part form x
-        same l at e = λ i. record { structure = at.structure_is i; placed = record { part = at.part_is i; fact = record { form = at.form_is i; sign = e i } } }
+    from (Some x) some never = absurd (never x (some_certificate live structure part form (Some x) some))

@@ -1,63 +1,22 @@
--- Failed facts are gathered structure by structure: in the journal's order those of one structure stand together.
-use Rattle.std.proofs.Common.{◌≡◌, ◌≢◌, ◌⊎◌, inl, inr, refl, sym, ap, ap₂, ◌∙◌, subst, arith, ℕ, ◌+◌, ◌<◌, ◌≤◌, pos, Bool, true, false, List, [], ◌∷◌, ◌++◌, map, length, length-append}
-use Rattle.std.specs.Prelude.{Contains, IsTrue, int_lt, int_le}
-use Rattle.std.proofs.lemmas.Int.{ints}
+-- Failed facts are gathered structure by structure, from the least one on.
+use Rattle.std.proofs.Common.{◌≡◌, ◌≢◌, ◌⊎◌, inl, inr, refl, sym, ap, ap₂, ◌∙◌, subst, arith, ℕ, ◌+◌, ◌-◌, ◌<◌, ◌≤◌, Bool, true, false, cond, List, [], ◌∷◌, ◌++◌, map, length, Option, Some, None}
+use Rattle.std.specs.Prelude.{Contains, IsTrue, filter, nat_eq, MatchOption}
+use Rattle.std.proofs.lemmas.Bool.Decides.{nat_tests}
 use Rattle.std.proofs.lemmas.List.Elements.{Contains-append_left, Contains-append_right, Contains-append_cases}
 use Rattle.kin_motion.specs.declared.fact.Placed.{Placed}
 use Rattle.kin_motion.specs.Live.{Certificate, owned_by}
-use Rattle.kin_motion.specs.Numbers.{IsChain}
 use Rattle.kin_motion.specs.Sets.{AreDistinct}
-use Rattle.kin_motion.proofs.JournalLaws.{never_less_rank, less_rank_through, rank_cases}
 use Rattle.kin_basics.proofs.Members.{contains_head, contains_none, contains_cases}
-use Rattle.kin_motion.proofs.SetLaws.{contains_map, contains_mapped, distinct_mapped_on}
+use Rattle.kin_motion.proofs.SetLaws.{contains_map, contains_mapped, distinct_mapped_on, distinct_none, distinct_cons, distinct_head, distinct_tail, filter-sound, filter-complete}
 use Rattle.kin_cert.specs.declared.owned.Owned.{Owned}
 use Rattle.kin_cert.specs.Facts.{LiveFact, certificate_of}
-use Rattle.kin_cert.specs.Taken.{is_taken_before, certificate_rank}
-use Rattle.kin_world.specs.Upkeep.{Stage, HasSameFrame, HasSettled, HasRepaired, ListsWaiting, AreWaiting, GoesOn, IsGathered, IsRepairing, placed_of}
-use Rattle.kin_motion.proofs.ListChains.{chain_back, chain_front, chain_first, chain_distinct}
-use Rattle.kin_world.proofs.MadeLaws.{come_on}
+use Rattle.kin_world.specs.Upkeep.{Stage, HasSameFrame, HasSettled, HasRepaired, ListsWaiting, AreWaiting, IsRepairing, IsAtTurn, NoneFrom, IsNextFrom, IsTurn, IsSooner, gathered, is_of, placed_of, turns_left}
+use Rattle.kin_world.proofs.MadeLaws.{come_first, come_on}
 use Rattle.kin_world.proofs.RepairLaws.{sound_when_none_waits}
-
--- the order of the journal goes through and is strict
-listed_through : (o p q : Owned) → is_taken_before o p ≡ true → is_taken_before p q ≡ true → is_taken_before o q ≡ true
-listed_through o p q = less_rank_through (certificate_rank (certificate_of o)) (certificate_rank (certificate_of p)) (certificate_rank (certificate_of q))
-
-never_itself : (o : Owned) → is_taken_before o o ≡ true → ⊥
-never_itself o = never_less_rank (certificate_rank (certificate_of o))
-
--- structures rise along it
-structures_rise : (o p : Owned) → is_taken_before o p ≡ true → o.structure ≤ p.structure
-structures_rise o p h = at (rank_cases (pos o.structure) (pos p.structure) _ h)
-  where
-    at : {r : Bool} → (int_lt (pos o.structure) (pos p.structure) ≡ true) ⊎ ((int_le (pos o.structure) (pos p.structure) ≡ true) × (r ≡ true)) → o.structure ≤ p.structure
-    at (inl e) = omega (arith, ints, e)
-    at (inr (e, r)) = omega (arith, ints, e)
-
--- what comes after the facts of the structure k is of later structures
-later_than : (k : ℕ) (group rest : List Owned) → IsChain is_taken_before (group ++ rest) → ((o : Owned) → Contains group o → o.structure ≡ k) → ¬ (group ≡ []) → ¬ (GoesOn k rest) → (o : Owned) → Contains rest o → k < o.structure
-later_than k [] rest chain owned some ends o h = absurd (some refl)
-later_than k (x ∷ xs) [] chain owned some ends o h = absurd (contains_none o h)
-later_than k (x ∷ xs) (next ∷ others) chain owned some ends o h = at (contains_cases next o others h)
-  where
-    next_is_later : k < next.structure
-    next_is_later =
-        let is : x.structure ≡ k = owned x (contains_head x xs) in
-        let low : x.structure ≤ next.structure = structures_rise x next (chain_first is_taken_before listed_through x (xs ++ next ∷ others) chain next (Contains-append_right xs (next ∷ others) next (contains_head next others))) in
-        omega (arith, is, low, λ (e : next.structure ≡ k). ends e)
-
-    at : (next ≡ o) ⊎ Contains others o → k < o.structure
-    at (inl e) = subst (λ (p : Owned). k < p.structure) e next_is_later
-    at (inr behind) =
-        let low : next.structure ≤ o.structure = structures_rise next o (chain_first is_taken_before listed_through next others (chain_back is_taken_before (x ∷ xs) (next ∷ others) chain) o behind) in
-        omega (arith, next_is_later, low)
 
 joined : {A : Type 0} (xs : List A) (y : A) (zs : List A) → (xs ++ y ∷ []) ++ zs ≡ xs ++ y ∷ zs
 joined {A} [] y zs = refl
 joined {A} (x ∷ xs) y zs = ap (λ ws. x ∷ ws) (joined xs y zs)
-
-map_joined : (xs : List Owned) (y : Owned) → map placed_of (xs ++ y ∷ []) ≡ map placed_of xs ++ placed_of y ∷ []
-map_joined [] y = refl
-map_joined (x ∷ xs) y = ap (λ ws. placed_of x ∷ ws) (map_joined xs y)
 
 -- the structure and the fact in its part tell the owned fact
 by_parts : (o p : Owned) → o.structure ≡ p.structure → placed_of o ≡ placed_of p → o ≡ p
@@ -67,142 +26,208 @@ by_parts o p e f = ap₂ (λ (n : ℕ) (q : Placed). record { structure = n; par
 pub frame_through : (a b c : Stage) → HasSameFrame a b → HasSameFrame b c → HasSameFrame a c
 frame_through a b c first second = second ∙ ap (λ (x : Stage). record x { structures = c.structures; table = c.table }) first
 
--- ---- the facts of one structure
-pub gathers_nothing : (k : ℕ) (taken : List Owned) (failed : List Placed) → failed ≡ [] → IsGathered k taken taken failed
-gathers_nothing k taken failed none = record { group = []; split = refl; owned = λ o h. absurd (contains_none o h); gathered = none }
+-- ---- whose turn it is
+low_or_high : (s k : ℕ) → (s < k) ⊎ (k ≤ s)
+low_or_high s k = grind arith
 
-pub gathers_one : (k : ℕ) (taken rest tail : List Owned) (failed failed' : List Placed) (o : Owned) → IsGathered k taken rest failed → rest ≡ o ∷ tail → o.structure ≡ k → failed' ≡ failed ++ placed_of o ∷ []
-    → IsGathered k taken tail failed'
-gathers_one k taken rest tail failed failed' o g here is pushed = record {
-  group = g.group ++ o ∷ [];
-  split = g.split ∙ ap (λ os. g.group ++ os) here ∙ sym (joined g.group o tail);
-  owned = λ p there. at p (Contains-append_cases g.group (o ∷ []) p there);
-  gathered = pushed ∙ ap (λ ps. ps ++ placed_of o ∷ []) g.gathered ∙ sym (map_joined g.group o);
-}
+pub turn_of_none : (k : ℕ) → IsTurn k [] None
+turn_of_none k = λ o there. absurd (contains_none o there)
+
+pub turn_more : (k : ℕ) (front : List Owned) (turn turn' : Option ℕ) (o : Owned) → IsTurn k front turn → IsSooner k o.structure turn turn' → IsTurn k (front ++ o ∷ []) turn'
+turn_more k front turn turn' o was is = at turn refl was (low_or_high o.structure k)
   where
-    alone : (p : Owned) → (o ≡ p) ⊎ Contains [] p → p.structure ≡ k
-    alone p (inl e) = ap (λ (q : Owned). q.structure) (sym e) ∙ is
-    alone p (inr none) = absurd (contains_none p none)
-
-    at : (p : Owned) → Contains g.group p ⊎ Contains (o ∷ []) p → p.structure ≡ k
-    at p (inl old) = g.owned p old
-    at p (inr new) = alone p (contains_cases o p [] new)
-
--- the next fact is of another structure, or there is none
-pub ends_here : (k : ℕ) (rest tail : List Owned) (o : Owned) → rest ≡ o ∷ tail → o.structure ≢ k → ¬ (GoesOn k rest)
-ends_here k rest tail o here other goes = other (subst (GoesOn k) here goes)
-
-pub ends_empty : (k : ℕ) (rest : List Owned) → length rest ≡ 0 → ¬ (GoesOn k rest)
-ends_empty k [] e goes = goes
-ends_empty k (o ∷ os) e goes = absurd (omega (arith, e))
-
--- ---- one turn: the facts of the first structure are gathered, and it is repaired
-module _ {start s : Stage} {taken : List Owned} (repairing : IsRepairing start s taken) (k : ℕ) (goes : GoesOn k taken) where
-  first : (o : Owned) × Contains taken o × (o.structure ≡ k)
-  first = at taken goes
-    where
-      at : (os : List Owned) → GoesOn k os → (o : Owned) × Contains os o × (o.structure ≡ k)
-      at [] never = absurd never
-      at (o ∷ os) is = (o, contains_head o os, is)
-
-  -- the first fact is live, so its structure is there
-  pub turn_within : k < length s.structures
-  turn_within =
-      let l = repairing.waiting.only first.0 first.1 in
-      subst (λ n. n < length s.structures) (ap (λ (c : Certificate). c.structure) l.3 ∙ first.2) (repairing.repair.owned l.0 l.1)
-
-  first_reached : repairing.reached ≤ k
-  first_reached = subst (λ n. repairing.reached ≤ n) first.2 (repairing.behind first.0 first.1)
-
-  module _ (rest : List Owned) (failed : List Placed) (g : IsGathered k taken rest failed) (ends : ¬ (GoesOn k rest)) where
-    some : ¬ (g.group ≡ [])
-    some none = ends (subst (GoesOn k) (g.split ∙ ap (λ os. os ++ rest) none) goes)
-
-    pub turn_shorter : length rest < length taken
-    turn_shorter = subst (λ os. length rest < length os) (sym g.split) (at g.group some)
+    among : (p : Owned) → Contains (front ++ o ∷ []) p → Contains front p ⊎ (o ≡ p)
+    among p there = near (Contains-append_cases front (o ∷ []) p there)
       where
-        at : (os : List Owned) → ¬ (os ≡ []) → length rest < length (os ++ rest)
-        at [] none = absurd (none refl)
-        at (o ∷ os) none = omega (arith, length-append (o ∷ os) rest)
+        alone : (o ≡ p) ⊎ Contains [] p → o ≡ p
+        alone (inl e) = e
+        alone (inr none) = absurd (contains_none p none)
 
-    waiting : AreWaiting s.table.live (g.group ++ rest)
-    waiting = subst (λ (os : List Owned). AreWaiting s.table.live os) g.split repairing.waiting
+        near : Contains front p ⊎ Contains (o ∷ []) p → Contains front p ⊎ (o ≡ p)
+        near (inl old) = inl old
+        near (inr new) = inr (alone (contains_cases o p [] new))
 
-    later : (o : Owned) → Contains rest o → k < o.structure
-    later = later_than k g.group rest waiting.in_order g.owned some ends
+    last : Contains (front ++ o ∷ []) o
+    last = Contains-append_right front (o ∷ []) o (contains_head o [])
 
-    -- the gathered facts are all that wait of their structure
-    pub turn_failed : ListsWaiting k s.table.live failed
-    turn_failed = record {
-      once = subst (λ (ps : List Placed). AreDistinct ps) (sym g.gathered)
-          (distinct_mapped_on placed_of g.group (λ o p in_o in_p e. by_parts o p (g.owned o in_o ∙ sym (g.owned p in_p)) e)
-          (chain_distinct is_taken_before listed_through never_itself g.group (chain_front is_taken_before g.group rest waiting.in_order)));
-      each = λ p. (to p, from p);
+    becomes : {t : Option ℕ} → turn' ≡ t → IsTurn k (front ++ o ∷ []) t → IsTurn k (front ++ o ∷ []) turn'
+    becomes e h = subst (λ (t : Option ℕ). IsTurn k (front ++ o ∷ []) t) (sym e) h
+
+    this_first : k ≤ o.structure → ((p : Owned) → Contains front p → k ≤ p.structure → o.structure ≤ p.structure) → IsTurn k (front ++ o ∷ []) (Some o.structure)
+    this_first from least = record {
+      some = (o, last, refl);
+      from = from;
+      least = λ p there low. by p (among p there) low;
     }
       where
-        to : (p : Placed) → Contains failed p → (l : LiveFact) × Contains s.table.live l × IsTrue l.waits × (l.certificate ≡ owned_by k p)
-        to p there =
-            let o = contains_mapped placed_of g.group p (subst (λ (ps : List Placed). Contains ps p) g.gathered there) in
-            let l = waiting.only o.0 (Contains-append_left g.group rest o.0 o.1) in
-            (l.0, l.1, l.2, l.3 ∙ ap₂ (λ (n : ℕ) (q : Placed). owned_by n q) (g.owned o.0 o.1) (sym o.2))
+        by : (p : Owned) → Contains front p ⊎ (o ≡ p) → k ≤ p.structure → o.structure ≤ p.structure
+        by p (inl old) low = least p old low
+        by p (inr e) low = let same : o.structure ≡ p.structure = ap (λ (x : Owned). x.structure) e in omega (arith, same)
 
-        from : (p : Placed) → ((l : LiveFact) × Contains s.table.live l × IsTrue l.waits × (l.certificate ≡ owned_by k p)) → Contains failed p
-        from p (l, there, waits, is) = at (Contains-append_cases g.group rest o.0 o.1)
+    at : (t : Option ℕ) → turn ≡ t → IsTurn k front t → (o.structure < k) ⊎ (k ≤ o.structure) → IsTurn k (front ++ o ∷ []) turn'
+    at None e none (inl low) = becomes (is.below low ∙ e) (λ p there from. by p (among p there) from)
+      where
+        by : (p : Owned) → Contains front p ⊎ (o ≡ p) → k ≤ p.structure → ⊥
+        by p (inl old) from = none p old from
+        by p (inr same) from = let e : o.structure ≡ p.structure = ap (λ (x : Owned). x.structure) same in absurd (omega (arith, e, low, from))
+    at None e none (inr high) = becomes (is.first high e) (this_first high (λ p old from. absurd (none p old from)))
+    at (Some j) e next side = by_side side (low_or_high o.structure j)
+      where
+        stays : turn' ≡ turn → (k ≤ o.structure → j ≤ o.structure) → IsTurn k (front ++ o ∷ []) turn'
+        stays f more = becomes (f ∙ e) (record {
+          some = (next.some.0, Contains-append_left front (o ∷ []) next.some.0 next.some.1, next.some.2);
+          from = next.from;
+          least = λ p there low. by p (among p there) low;
+        })
           where
-            o : (o : Owned) × Contains (g.group ++ rest) o × (l.certificate ≡ certificate_of o)
-            o = waiting.each l there waits
+            by : (p : Owned) → Contains front p ⊎ (o ≡ p) → k ≤ p.structure → j ≤ p.structure
+            by p (inl old) low = next.least p old low
+            by p (inr same) low = subst (λ (x : Owned). k ≤ x.structure → j ≤ x.structure) same more low
 
-            same : owned_by k p ≡ certificate_of o.0
-            same = sym is ∙ o.2
+        by_side : (o.structure < k) ⊎ (k ≤ o.structure) → (o.structure < j) ⊎ (j ≤ o.structure) → IsTurn k (front ++ o ∷ []) turn'
+        by_side (inl low) _ = stays (is.below low) (λ high. absurd (omega (arith, low, high)))
+        by_side (inr high) (inl less) = becomes (is.sooner j high e less) (this_first high (λ p old from. let far : j ≤ p.structure = next.least p old from in omega (arith, far, less)))
+        by_side (inr high) (inr more) = stays (is.later j e more) (λ _. more)
 
-            at : Contains g.group o.0 ⊎ Contains rest o.0 → Contains failed p
-            at (inl near) = subst (λ (ps : List Placed). Contains ps p) (sym g.gathered)
-                (subst (λ (q : Placed). Contains (map placed_of g.group) q) (sym (ap (λ (c : Certificate). c.placed) same)) (contains_map placed_of g.group o.0 near))
-            at (inr far) = let more : k < o.0.structure = later o.0 far in let e : k ≡ o.0.structure = ap (λ (c : Certificate). c.structure) same in absurd (omega (arith, more, e))
+-- whose turn it is among those looked at
+pub record IsSeen (k : ℕ) (taken rest : List Owned) (turn : Option ℕ) : Type 0 where
+  pub front : List Owned
+  pub split : taken ≡ front ++ rest
+  pub turn_is : IsTurn k front turn
 
-    module _ {t : Stage} (did : HasRepaired k s t) (frame : HasSameFrame s t) where
-      waiting_after : AreWaiting t.table.live rest
-      waiting_after = record {
-        in_order = chain_back is_taken_before g.group rest waiting.in_order;
-        each = each;
-        only = λ o there.
-            let l = waiting.only o (Contains-append_right g.group rest o there) in
-            let more : k < o.structure = later o there in
-            (l.0, (did.others l.0 (λ e. let s : o.structure ≡ k = sym (ap (λ (c : Certificate). c.structure) l.3) ∙ e in omega (arith, more, s))).0 l.1, l.2, l.3);
-      }
-        where
-          each : (l : LiveFact) → Contains t.table.live l → IsTrue l.waits → (o : Owned) × Contains rest o × (l.certificate ≡ certificate_of o)
-          each l there waits = at (Contains-append_cases g.group rest o.0 o.1)
-            where
-              away : l.certificate.structure ≢ k
-              away e = let no_wait : l.waits ≡ false = did.own l there e in let w : l.waits ≡ true = waits in absurd cc
+pub seen_none : (k : ℕ) (taken : List Owned) → IsSeen k taken taken None
+seen_none k taken = record { front = []; split = refl; turn_is = turn_of_none k }
 
-              o : (o : Owned) × Contains (g.group ++ rest) o × (l.certificate ≡ certificate_of o)
-              o = waiting.each l ((did.others l away).1 there) waits
+pub seen_more : (k : ℕ) (taken rest tail : List Owned) (turn turn' : Option ℕ) (o : Owned) → IsSeen k taken rest turn → rest ≡ o ∷ tail → IsSooner k o.structure turn turn' → IsSeen k taken tail turn'
+seen_more k taken rest tail turn turn' o h here is = record {
+  front = h.front ++ o ∷ [];
+  split = h.split ∙ ap (λ os. h.front ++ os) here ∙ sym (joined h.front o tail);
+  turn_is = turn_more k h.front turn turn' o h.turn_is is;
+}
 
-              at : Contains g.group o.0 ⊎ Contains rest o.0 → (o : Owned) × Contains rest o × (l.certificate ≡ certificate_of o)
-              at (inl near) = absurd (away (ap (λ (c : Certificate). c.structure) o.2 ∙ g.owned o.0 near))
-              at (inr far) = (o.0, far, o.2)
+none_behind : {A : Type 0} (xs ys : List A) → length ys ≡ 0 → xs ++ ys ≡ xs
+none_behind {A} [] [] e = refl
+none_behind {A} (x ∷ xs) [] e = ap (λ zs. x ∷ zs) (none_behind xs [] e)
+none_behind {A} xs (y ∷ ys) e = absurd (omega (arith, e))
 
-      -- the structure is repaired
-      pub turn_repaired : IsRepairing start t rest
-      turn_repaired = record {
-        repair = did.repair;
-        waiting = waiting_after;
-        reached = k + 1;
-        behind = λ o there. let more : k < o.structure = later o there in omega (arith, more);
-        come = come_on repairing.reached k start.table s.table t.table first_reached repairing.come did.others did.made;
-        frame = frame_through start s t repairing.frame frame;
-      }
+pub seen_all : (k : ℕ) (taken rest : List Owned) (turn : Option ℕ) → IsSeen k taken rest turn → length rest ≡ 0 → IsTurn k taken turn
+seen_all k taken rest turn h none = subst (λ (os : List Owned). IsTurn k os turn) (sym (h.split ∙ none_behind h.front rest none)) h.turn_is
+
+-- ---- the facts of one structure
+pub gathers_more : (k : ℕ) (failed all : List Placed) (rest tail : List Owned) (o : Owned) → failed ++ gathered k rest ≡ all → rest ≡ o ∷ tail → o.structure ≡ k
+    → (failed ++ placed_of o ∷ []) ++ gathered k tail ≡ all
+gathers_more k failed all rest tail o h here is =
+    joined failed (placed_of o) (gathered k tail) ∙ ap (λ ps. failed ++ ps) (sym (own (nat_eq o.structure k) (grind (arith, nat_tests, is)) ∙ refl)) ∙ ap (λ (os : List Owned). failed ++ gathered k os) (sym here) ∙ h
+  where
+    own : (b : Bool) → b ≡ true → map placed_of (cond b (o ∷ filter (is_of k) tail) (filter (is_of k) tail)) ≡ placed_of o ∷ gathered k tail
+    own true e = refl
+    own false e = absurd cc
+
+pub gathers_less : (k : ℕ) (failed all : List Placed) (rest tail : List Owned) (o : Owned) → failed ++ gathered k rest ≡ all → rest ≡ o ∷ tail → o.structure ≢ k
+    → failed ++ gathered k tail ≡ all
+gathers_less k failed all rest tail o h here is_not =
+    ap (λ ps. failed ++ ps) (sym (other (nat_eq o.structure k) (grind (arith, nat_tests, is_not)))) ∙ ap (λ (os : List Owned). failed ++ gathered k os) (sym here) ∙ h
+  where
+    other : (b : Bool) → b ≡ false → map placed_of (cond b (o ∷ filter (is_of k) tail) (filter (is_of k) tail)) ≡ gathered k tail
+    other true e = absurd cc
+    other false e = refl
+
+pub gathers_all : (k : ℕ) (failed all : List Placed) (rest : List Owned) → failed ++ gathered k rest ≡ all → length rest ≡ 0 → failed ≡ all
+gathers_all k failed all [] h none = sym (none_behind failed [] refl) ∙ h
+gathers_all k failed all (o ∷ os) h none = absurd (omega (arith, none))
+
+distinct_filtered : (test : Owned → Bool) (os : List Owned) → AreDistinct os → AreDistinct (filter test os)
+distinct_filtered test [] d = distinct_none
+distinct_filtered test (o ∷ os) d = at (distinct_filtered test os (distinct_tail o os d)) (test o)
+  where
+    at : AreDistinct (filter test os) → (b : Bool) → AreDistinct (cond b (o ∷ filter test os) (filter test os))
+    at rest true = distinct_cons o (filter test os) (λ h. distinct_head o os d (filter-sound test os o h).0) rest
+    at rest false = rest
+
+-- ---- one turn: the facts of the structure are gathered, and it is repaired
+module _ {start s : Stage} {reached : ℕ} {taken : List Owned} (repairing : IsRepairing start s reached taken) (k : ℕ) (next : IsNextFrom reached taken k) where
+  waiting : AreWaiting reached s.table.live taken
+  waiting = repairing.waiting
+
+  reached_by : (o : Owned) → o.structure ≡ k → reached ≤ o.structure
+  reached_by o e = let low : reached ≤ k = next.from in omega (arith, e, low)
+
+  -- the fact is live, so its structure is there
+  pub turn_within : k < length s.structures
+  turn_within =
+      let l = waiting.only next.some.0 next.some.1 (reached_by next.some.0 next.some.2) in
+      subst (λ n. n < length s.structures) (ap (λ (c : Certificate). c.structure) l.3 ∙ next.some.2) (repairing.repair.owned l.0 l.1)
+
+  of_structure : (o : Owned) → Contains (filter (is_of k) taken) o → o.structure ≡ k
+  of_structure o there = let t = (filter-sound (is_of k) taken o there).1 in grind (arith, nat_tests, t)
+
+  -- the gathered facts are all that wait of their structure
+  pub turn_failed : ListsWaiting k s.table.live (gathered k taken)
+  turn_failed = record {
+    once = distinct_mapped_on placed_of (filter (is_of k) taken) (λ o p in_o in_p e. by_parts o p (of_structure o in_o ∙ sym (of_structure p in_p)) e) (distinct_filtered (is_of k) taken waiting.once);
+    each = λ p. (to p, from p);
+  }
+    where
+      to : (p : Placed) → Contains (gathered k taken) p → (l : LiveFact) × Contains s.table.live l × IsTrue l.waits × (l.certificate ≡ owned_by k p)
+      to p there =
+          let o = contains_mapped placed_of (filter (is_of k) taken) p there in
+          let l = waiting.only o.0 (filter-sound (is_of k) taken o.0 o.1).0 (reached_by o.0 (of_structure o.0 o.1)) in
+          (l.0, l.1, l.2, l.3 ∙ ap₂ (λ (n : ℕ) (q : Placed). owned_by n q) (of_structure o.0 o.1) (sym o.2))
+
+      from : (p : Placed) → ((l : LiveFact) × Contains s.table.live l × IsTrue l.waits × (l.certificate ≡ owned_by k p)) → Contains (gathered k taken) p
+      from p (l, there, waits, is) =
+          let o = waiting.each l there waits in
+          let same : owned_by k p ≡ certificate_of o.0 = sym is ∙ o.3 in
+          let e : o.0.structure ≡ k = sym (ap (λ (c : Certificate). c.structure) same) in
+          let own : is_of k o.0 ≡ true = grind (arith, nat_tests, e) in
+          subst (λ (q : Placed). Contains (gathered k taken) q) (sym (ap (λ (c : Certificate). c.placed) same)) (contains_map placed_of (filter (is_of k) taken) o.0 (filter-complete (is_of k) taken o.0 o.1 own))
+
+  module _ {t : Stage} (did : HasRepaired k s t) (frame : HasSameFrame s t) where
+    waiting_after : AreWaiting (k + 1) t.table.live taken
+    waiting_after = record {
+      once = waiting.once;
+      each = each;
+      only = λ o there more.
+          let low : reached ≤ k = next.from in
+          let l = waiting.only o there (omega (arith, low, more)) in
+          (l.0, (did.others l.0 (λ e. let s : o.structure ≡ k = sym (ap (λ (c : Certificate). c.structure) l.3) ∙ e in omega (arith, more, s))).0 l.1, l.2, l.3);
+    }
+      where
+        each : (l : LiveFact) → Contains t.table.live l → IsTrue l.waits → (o : Owned) × Contains taken o × (k + 1 ≤ o.structure) × (l.certificate ≡ certificate_of o)
+        each l there waits = (o.0, o.1, further, o.3)
+          where
+            away : l.certificate.structure ≢ k
+            away e = let no_wait : l.waits ≡ false = did.own l there e in let w : l.waits ≡ true = waits in absurd cc
+
+            o : (o : Owned) × Contains taken o × (reached ≤ o.structure) × (l.certificate ≡ certificate_of o)
+            o = waiting.each l ((did.others l away).1 there) waits
+
+            further : k + 1 ≤ o.0.structure
+            further =
+                let least : k ≤ o.0.structure = next.least o.0 o.1 o.2 in
+                let other : o.0.structure ≢ k = λ e. away (ap (λ (c : Certificate). c.structure) o.3 ∙ e) in
+                omega (arith, least, other)
+
+    -- the structure is repaired
+    pub turn_repaired : IsRepairing start t (k + 1) taken
+    turn_repaired = record {
+      repair = did.repair;
+      waiting = waiting_after;
+      come = come_on reached k start.table s.table t.table next.from repairing.come did.others did.made;
+      frame = frame_through start s t repairing.frame frame;
+    }
+
+    same_count : length t.structures ≡ length s.structures
+    same_count = did.repair.count ∙ ap (λ (x : Stage). length x.keeps) frame ∙ sym repairing.repair.count
+
+    pub turn_shorter : (turn : Option ℕ) → IsTurn (k + 1) taken turn → turns_left (length t.structures) turn < turns_left (length s.structures) (Some k)
+    turn_shorter None none = let within = turn_within in omega (arith, within)
+    turn_shorter (Some j) later = let within = turn_within in let h : IsNextFrom (k + 1) taken j = later in let more : k + 1 ≤ j = h.from in omega (arith, within, more, same_count)
 
 -- at the end no fact waits
-pub repaired_all : {start s : Stage} {rest : List Owned} → IsRepairing start s rest → length rest ≡ 0 → HasSettled start.table s
-repaired_all {start} {s} {rest} h none = record { sound = sound_when_none_waits h.repair (λ l there. at l there l.waits refl); made = h.come.made }
+pub repaired_all : {start s : Stage} {taken : List Owned} → IsAtTurn start s taken None → HasSettled start.table s
+repaired_all {start} {s} {taken} h = record { sound = sound_when_none_waits h.repairing.repair (λ l there. at l there l.waits refl); made = h.repairing.come.made }
   where
-    empty : (os : List Owned) → length os ≡ 0 → (o : Owned) → ¬ (Contains os o)
-    empty [] e o there = contains_none o there
-    empty (p ∷ os) e o there = absurd (omega (arith, e))
-
     at : (l : LiveFact) → Contains s.table.live l → (w : Bool) → l.waits ≡ w → l.waits ≡ false
     at l there false is = is
-    at l there true is = let o = h.waiting.each l there is in absurd (empty rest none o.0 o.1)
+    at l there true is = let o = h.repairing.waiting.each l there is in let none : NoneFrom h.reached taken = h.turn_is in absurd (none o.0 o.1 o.2)

@@ -20,7 +20,7 @@ use Rattle.kin_cert.proofs.NextLaws.{timed_holds}
 use Rattle.kin_world.specs.declared.structure.Structure.{Structure}
 use Rattle.kin_world.specs.Kinds.{placed_facts}
 use Rattle.kin_world.specs.Structures.{IsSettledFor}
-use Rattle.kin_world.specs.Upkeep.{Stage, sight, IsInPlace, IsInOrder, IsTimedOrFailed, HasTimedNew, HasReplaced}
+use Rattle.kin_world.specs.Upkeep.{Stage, sight, IsInPlace, IsInOrder, IsTimedOrFailed, HasTimedNew, HasUpdated}
 use Rattle.kin_world.proofs.StructureLaws.{settled_holds, settled_askable}
 
 -- what is so of the certificate's fact is so of the fact
@@ -97,7 +97,7 @@ module _ {is_fine : ℕ → Keep → Structure → Type 0} {s : Stage} (o : IsIn
     askable = settled_askable s.size keep now after (o.fit.keepable.small k keep kept) settled;
   }
 
-  module _ {k : ℕ} {now : Scene} {keep : Keep} {st after : Structure} {table : Facts} (r : HasReplaced k now s keep st after table) where
+  module _ {k : ℕ} {now : Scene} {keep : Keep} {st after : Structure} {table : Facts} (r : HasUpdated k now s keep st after table) where
     -- the structure's own facts are tabled
     pub tabled_here : HasFactsOf table.live k (placed_facts after)
     tabled_here = r.told.facts (placed_facts st) (placed_facts after) (o.each k keep st r.kept r.here).tabled r.changed

@@ -1,3 +1,4 @@
+pub mod ApproachLaws
 pub mod StructureLaws
 pub mod InOrder
 pub mod SoundLaws
@@ -6,8 +7,10 @@ pub mod RepairLaws
 pub mod MadeLaws
 pub mod GatherLaws
 pub mod OverLaws
-pub mod EnterLaws
-pub mod LeaveLaws
+pub mod Unnamed
+pub mod OneMore
+pub mod MarkLaws
 pub mod StartLaws
 pub mod AskLaws
 pub mod RootLaws
+pub mod TurnLaws

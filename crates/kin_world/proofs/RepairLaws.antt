@@ -15,7 +15,7 @@ use Rattle.kin_cert.specs.Told.{HasFactsOf, IsTimed}
 use Rattle.kin_cert.proofs.NextLaws.{timed_holds}
 use Rattle.kin_world.specs.declared.structure.Structure.{Structure}
 use Rattle.kin_world.specs.Kinds.{placed_facts}
-use Rattle.kin_world.specs.Upkeep.{Stage, sight, IsSound, IsUnderRepair, ListsWaiting, HasReplaced, HasRepaired}
+use Rattle.kin_world.specs.Upkeep.{Stage, sight, IsSound, IsUnderRepair, ListsWaiting, HasUpdated, HasRepaired}
 use Rattle.kin_world.proofs.InOrder.{by_certificate, all_hold, restated, replaced, tabled_here, timed_new}
 use Rattle.kin_world.proofs.StructureLaws.{settled_holds, settled_from_hold}
 
@@ -43,7 +43,7 @@ module _ {s : Stage} (repair : IsUnderRepair s) where
           by_wait l live is (inr not) = absurd (fails (by_certificate (λ q. Holds (sight s) q.fact) k p l.certificate is (timed_holds (scene_at s.motions) s.moment repair.canonical l ((repair.timely l live).timed not))))
 
   -- no fact of the repaired structure waits
-  pub repaired : (k : ℕ) (keep : Keep) (st after : Structure) (table : Facts) → HasReplaced k (sight s) s keep st after table → HasRepaired k s (record s { structures = slice_set s.structures k after; table = table })
+  pub repaired : (k : ℕ) (keep : Keep) (st after : Structure) (table : Facts) → HasUpdated k (sight s) s keep st after table → HasRepaired k s (record s { structures = slice_set s.structures k after; table = table })
   repaired k keep st after table r = record {
     repair = replaced repair r (record { kind = r.settled.kind; rest = r.settled.rest; members = r.settled.members; settled = λ h. r.settled.settled }) (λ j x y apart fine. fine);
     own = λ l there is. by_age l there is (r.told.own l there is);

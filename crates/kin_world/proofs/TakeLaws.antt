@@ -1,5 +1,5 @@
 -- What fails at the least failure moment is taken out, and all else is seen from there.
-use Rattle.std.proofs.Common.{◌≡◌, ◌⊎◌, inl, inr, refl, sym, ap, ◌∙◌, subst, ℕ, false, ◌<◌, ◌≤◌, ◌+◌, ◌-◌, ◌^◌, List, length, get_or, map, Option, Some}
+use Rattle.std.proofs.Common.{◌≡◌, ◌⊎◌, inl, inr, refl, sym, ap, ◌∙◌, subst, arith, ℕ, false, ◌<◌, ◌≤◌, ◌+◌, ◌-◌, ◌^◌, List, length, get_or, map, Option, Some}
 use Rattle.std.specs.Prelude.{Contains, ◌↔◌, IsTrue, min, true}
 use Rattle.std.specs.List.{All}
 use Rattle.std.proofs.lemmas.List.Elements.{Contains-get_or}
@@ -13,12 +13,15 @@ use Rattle.kin_motion.specs.Journal.{Block, IsNextBlock, seen_in}
 use Rattle.kin_motion.specs.Live.{Certificate}
 use Rattle.kin_motion.specs.Moments.{HoldsAt, FailsFirst}
 use Rattle.kin_motion.specs.Scene.{scene_at}
+use Rattle.kin_motion.specs.Sets.{AreDistinct}
+use Rattle.kin_motion.proofs.JournalLaws.{never_less_rank, less_rank_through}
+use Rattle.kin_motion.proofs.ListChains.{chain_distinct}
 use Rattle.kin_motion.proofs.MotionScenes.{real_at}
 use Rattle.kin_motion.proofs.SetLaws.{contains_map, contains_mapped, exactly_in_words}
 use Rattle.kin_cert.specs.declared.owned.Owned.{Owned}
 use Rattle.kin_cert.specs.Facts.{LiveFact, Facts, NoneAlike, certificate_of}
 use Rattle.kin_cert.specs.Failures.{IsFirstFailure}
-use Rattle.kin_cert.specs.Taken.{IsLeastFailure, IsMarked, HasTaken}
+use Rattle.kin_cert.specs.Taken.{IsLeastFailure, IsMarked, HasTaken, is_taken_before, certificate_rank}
 use Rattle.kin_cert.specs.Told.{HasFactsOf, IsTimed, certificates_of}
 use Rattle.kin_cert.proofs.NextLaws.{fails_now, later_start, next_block}
 use Rattle.kin_world.specs.Kinds.{placed_facts}
@@ -26,6 +29,13 @@ use Rattle.kin_world.specs.Upkeep.{Stage, IsSound, IsUnderRepair, AreWaiting, Ha
 use Rattle.kin_world.proofs.InOrder.{timed}
 use Rattle.kin_world.proofs.SoundLaws.{failure_at, in_time, least_fails, live_askable, one_least, real}
 use Rattle.kin_world.proofs.StructureLaws.{settled_where_hold}
+
+-- the order of the journal goes through and is strict
+listed_through : (o p q : Owned) → is_taken_before o p ≡ true → is_taken_before p q ≡ true → is_taken_before o q ≡ true
+listed_through o p q = less_rank_through (certificate_rank (certificate_of o)) (certificate_rank (certificate_of p)) (certificate_rank (certificate_of q))
+
+never_itself : (o : Owned) → is_taken_before o o ≡ true → ⊥
+never_itself o = never_less_rank (certificate_rank (certificate_of o))
 
 module _ {s : Stage} (sound : IsSound s) (table : Facts) {taken : List Owned} (has : HasTaken s.table.live table.live taken) where
   first : FailsFirst (scene_at s.motions) s.moment has.moment has.least.some.0.certificate.placed.fact
@@ -62,19 +72,22 @@ module _ {s : Stage} (sound : IsSound s) (table : Facts) {taken : List Owned} (h
       subst (λ (c : Certificate). ¬ (HoldsAt (scene_at s.motions) has.moment c.placed.fact)) (sym was.2.certificate)
       (fails_now (scene_at s.motions) s.moment sound.in_order.canonical was.0 (timed sound.in_order sound.none_waits was.0 was.1) has.moment (was.2.waits.0 waits))
 
-  -- the facts that were taken out wait for the repair of their structures
-  pub taken_waiting : AreWaiting table.live taken
-  taken_waiting = record {
-    in_order = has.in_order;
+  -- the facts that were taken out wait for the repair of their structures, in whatever order they stand
+  pub given_waiting : (given : List Owned) → AreDistinct given → ((o : Owned) → Contains given o ↔ Contains taken o) → AreWaiting 0 table.live given
+  given_waiting given once same = record {
+    once = once;
     each = λ l there waits.
         let was = has.only l there in
         let o : Owned = record { structure = was.0.certificate.structure; part = was.0.certificate.placed.part; fact = was.0.certificate.placed.fact } in
-        (o, (has.each o).1 (was.0, was.1, was.2.waits.0 waits, refl), was.2.certificate);
-    only = λ o there.
-        let l = (has.each o).0 there in
+        (o, (same o).1 ((has.each o).1 (was.0, was.1, was.2.waits.0 waits, refl)), omega arith, was.2.certificate);
+    only = λ o there _.
+        let l = (has.each o).0 ((same o).0 there) in
         let k = has.stays l.0 l.1 in
         (k.0, k.1, k.2.waits.1 l.2, k.2.certificate ∙ l.3);
   }
+
+  pub taken_waiting : AreWaiting 0 table.live taken
+  taken_waiting = given_waiting taken (chain_distinct is_taken_before listed_through never_itself taken has.in_order) (λ o. ((λ h. h), λ h. h))
 
   -- a fact that was taken out may be asked for
   pub taken_askable : All (λ (o : Owned). IsAskable (live_of s.motions) o.fact.form) taken

@@ -1,3 +1,4 @@
+pub mod Approach
 pub mod Laws
 pub mod Kinds
 pub mod Structures

@@ -5,8 +5,11 @@ use Rattle.kin_motion.specs.declared.keep.Keep.{Keep}
 use Rattle.kin_motion.specs.Agreements.{FitsSize}
 use Rattle.kin_motion.specs.Forms.{names}
 use Rattle.kin_motion.specs.Kinetics.{AllHold}
+use Rattle.kin_motion.specs.Numbers.{HasEntered}
 use Rattle.kin_motion.specs.Scene.{Scene, IsReal, Holds}
 use Rattle.kin_motion.specs.Sets.{ListsExactly}
+use Rattle.kin_world.specs.declared.structure.Mark.{Mark}
+use Rattle.kin_world.specs.declared.structure.Mark.TheVariants.{Enters, Leaves}
 use Rattle.kin_world.specs.declared.structure.Structure.{Structure}
 use Rattle.kin_world.specs.Kinds.{placed_facts, IsFor, IsAtRest, HasMembers, IsSettledIn}
 
@@ -17,6 +20,21 @@ pub record AreFailing (facts : List Placed) (s : Scene) (failed : List Placed) :
 -- all of these hold that don't name the number
 pub record HoldBut (number : ℕ) (facts : List Placed) (s : Scene) : Type 0 where
   pub hold : (p : Placed) → Contains facts p → names p.fact.form number ≡ false → Holds s p.fact
+
+-- the number that enters or leaves
+abbrev pub marked : Mark → ℕ
+marked (Enters n) = n
+marked (Leaves n) = n
+
+-- the live numbers have changed as the mark says
+abbrev pub AreLiveAfter : Mark → List ℕ → List ℕ → Type 0
+AreLiveAfter (Enters n) before now = HasEntered n before now
+AreLiveAfter (Leaves n) before now = HasEntered n now before
+
+-- all of these hold, but for those that name a number that leaves
+abbrev pub HoldFor : Mark → List Placed → Scene → Type 0
+HoldFor (Enters n) facts s = AllHold s facts
+HoldFor (Leaves n) facts s = HoldBut n facts s
 
 -- it is the structure of the keep, at rest and settled in the scene over the live numbers
 pub record IsSettledFor (size : ℕ) (keep : Keep) (s : Scene) (st : Structure) : Type 0 where

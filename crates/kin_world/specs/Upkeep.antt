@@ -1,26 +1,27 @@
 -- All that a world is made of, in one piece: what is true of it between two calls, and while it is repaired. No public clause of the world cites this module.
-use Rattle.std.specs.Prelude.{◌≡◌, ◌≢◌, ℕ, ◌+◌, ◌<◌, ◌≤◌, ◌^◌, ◌-◌, min, false, Bool, List, [], ◌∷◌, ◌++◌, map, length, slice_get, slice_set, Option, Some, Contains, ◌↔◌, IsTrue}
+use Rattle.std.specs.Prelude.{◌≡◌, ◌≢◌, ℕ, ◌+◌, ◌<◌, ◌≤◌, ◌^◌, ◌-◌, min, false, Bool, List, map, length, slice_get, slice_set, Option, Some, None, MatchOption, filter, nat_eq, Contains, ◌↔◌, IsTrue}
 use Rattle.kin_num.specs.declared.instant.Moment.{Moment}
 use Rattle.kin_num.specs.Canonical.{IsCanonical}
 use Rattle.kin_motion.specs.declared.fact.Placed.{Placed}
 use Rattle.kin_motion.specs.declared.keep.Keep.{Keep}
-use Rattle.kin_motion.specs.Course.{Course, AreSlow, is_live, live_of}
+use Rattle.kin_motion.specs.Course.{Course, AreSlow, is_live}
 use Rattle.kin_motion.specs.Deltas.{Change}
 use Rattle.kin_motion.specs.Journal.{Setting, setting_of}
 use Rattle.kin_motion.specs.Kinetics.{HasChanged}
 use Rattle.kin_motion.specs.Live.{Certificate, owned_by}
 use Rattle.kin_motion.specs.Moments.{HoldsAt}
-use Rattle.kin_motion.specs.Numbers.{IsChain, HasEntered}
 use Rattle.kin_motion.specs.Scene.{Scene, scene_at}
-use Rattle.kin_motion.specs.Sets.{ListsExactly}
+use Rattle.kin_motion.specs.Sets.{AreDistinct, ListsExactly}
 use Rattle.kin_cert.specs.declared.owned.Owned.{Owned}
 use Rattle.kin_cert.specs.Facts.{LiveFact, Facts, NoneAlike, certificate_of}
-use Rattle.kin_cert.specs.Taken.{NoneWaits, is_taken_before}
+use Rattle.kin_cert.specs.Taken.{NoneWaits}
 use Rattle.kin_cert.specs.Told.{HasFactsOf, IsTimed, IsTold, AreNew, certificates_of, nothing}
+use Rattle.kin_world.specs.declared.structure.Mark.{Mark}
+use Rattle.kin_world.specs.declared.structure.Mark.TheVariants.{Enters, Leaves}
 use Rattle.kin_world.specs.declared.structure.Structure.{Structure}
 use Rattle.kin_world.specs.declared.upkeep.Upkeep.{Upkeep}
 use Rattle.kin_world.specs.Kinds.{placed_facts}
-use Rattle.kin_world.specs.Structures.{IsSettledFor, IsSettledWhereAllHold}
+use Rattle.kin_world.specs.Structures.{IsSettledFor, IsSettledWhereAllHold, marked}
 use Rattle.kin_world.specs.Worlds.{World, AreKeepable}
 
 -- what is kept, the structures in the same order, the table of their live facts, the motions, and the moment now
@@ -94,56 +95,75 @@ pub record HasGoneOver (size k : ℕ) (before now : Scene) (j : ℕ) (keep : Kee
   pub done : j < k → IsSettledFor size keep now st
   pub ahead : k ≤ j → IsSettledFor size keep before st
 
--- a number enters, structure after structure
-pub record IsEntering (entering k : ℕ) (before : Scene) (s : Stage) : Type 0 where
-  pub in_order : IsInOrder (HasGoneOver s.size k before (sight s)) s
-  pub none_waits : NoneWaits s.table.live
-  pub room : entering < 2 ^ s.size
-  pub entered : HasEntered entering before.live (live_of s.motions)
-
--- the structures below k have taken a number in
-abbrev pub IsTakenIn : ℕ → ℕ → Stage → Type 0
-IsTakenIn entering k s = (before : Scene) × IsEntering entering k before s
-
--- a number that had a motion has left, and structure after structure lets it go: until all have, failures are those seen with that motion
-pub record IsLeaving (leaving k : ℕ) (before : List (Option Course)) (s : Stage) : Type 0 where
-  pub in_order : IsInOrder (HasGoneOver s.size k (scene_at before s.moment) (sight s)) (record s { motions = before })
-  pub none_waits : NoneWaits s.table.live
-  pub room : leaving < 2 ^ s.size
-  pub slow : AreSlow s.motions
-  pub gone : is_live s.motions leaving ≡ false
+-- the second list of motions has one number's motion more
+pub record HasOneMore (number : ℕ) (less more : List (Option Course)) : Type 0 where
+  pub free : is_live less number ≡ false
   pub motion : Course
-  pub had : before ≡ slice_set s.motions leaving (Some motion)
+  pub is : more ≡ slice_set less number (Some motion)
 
--- the structures below k have let a number go
-abbrev pub IsLetGo : ℕ → ℕ → Stage → Type 0
-IsLetGo leaving k s = (before : List (Option Course)) × IsLeaving leaving k before s
+-- the motions have changed as the mark says
+abbrev pub AreChangedBy : Mark → List (Option Course) → List (Option Course) → Type 0
+AreChangedBy (Enters n) before now = HasOneMore n before now
+AreChangedBy (Leaves n) before now = HasOneMore n now before
+
+-- of the motions before and now, those that have the marked number's
+abbrev pub with_marked : Mark → List (Option Course) → List (Option Course) → List (Option Course)
+with_marked (Enters n) before now = now
+with_marked (Leaves n) before now = before
+
+-- structure after structure carries a mark out; until all have, failures are those seen with the marked number's motion
+pub record IsMarked (mark : Mark) (k : ℕ) (before : List (Option Course)) (s : Stage) : Type 0 where
+  pub in_order : IsInOrder (HasGoneOver s.size k (scene_at before s.moment) (sight s)) (record s { motions = with_marked mark before s.motions })
+  pub none_waits : NoneWaits s.table.live
+  pub room : marked mark < 2 ^ s.size
+  pub slow : AreSlow s.motions
+  pub changed : AreChangedBy mark before s.motions
+
+-- the structures below k have carried the mark out
+abbrev pub IsCarriedOut : Mark → ℕ → Stage → Type 0
+IsCarriedOut mark k s = (before : List (Option Course)) × IsMarked mark k before s
 
 -- these are the facts of the structure k that wait
 abbrev pub ListsWaiting : ℕ → List LiveFact → List Placed → Type 0
 ListsWaiting k live failed = ListsExactly failed (λ p. (l : LiveFact) × Contains live l × IsTrue l.waits × (l.certificate ≡ owned_by k p))
 
--- the certificates given out are those of the facts that wait, in the journal's order
-pub record AreWaiting (live : List LiveFact) (taken : List Owned) : Type 0 where
-  pub in_order : IsChain is_taken_before taken
-  pub each : (l : LiveFact) → Contains live l → IsTrue l.waits → (o : Owned) × Contains taken o × (l.certificate ≡ certificate_of o)
-  pub only : (o : Owned) → Contains taken o → (l : LiveFact) × Contains live l × IsTrue l.waits × (l.certificate ≡ certificate_of o)
+-- the certificates given out, but those of structures below k, are those of the facts that wait, each once
+pub record AreWaiting (k : ℕ) (live : List LiveFact) (taken : List Owned) : Type 0 where
+  pub once : AreDistinct taken
+  pub each : (l : LiveFact) → Contains live l → IsTrue l.waits → (o : Owned) × Contains taken o × (k ≤ o.structure) × (l.certificate ≡ certificate_of o)
+  pub only : (o : Owned) → Contains taken o → k ≤ o.structure → (l : LiveFact) × Contains live l × IsTrue l.waits × (l.certificate ≡ certificate_of o)
 
 -- a fact that was given out, in its part
 abbrev pub placed_of : Owned → Placed
 placed_of o = record { part = o.part; fact = o.fact }
 
--- the first of these is of the structure k
-abbrev pub GoesOn : ℕ → List Owned → Type 0
-GoesOn k [] = ⊥
-GoesOn k (o ∷ os) = o.structure ≡ k
+abbrev pub is_of : ℕ → Owned → Bool
+is_of k o = nat_eq o.structure k
 
--- the facts before the rest are those of the structure k, and these are gathered
-pub record IsGathered (k : ℕ) (taken rest : List Owned) (failed : List Placed) : Type 0 where
-  pub group : List Owned
-  pub split : taken ≡ group ++ rest
-  pub owned : (o : Owned) → Contains group o → o.structure ≡ k
-  pub gathered : failed ≡ map placed_of group
+-- those of the structure k
+abbrev pub gathered : ℕ → List Owned → List Placed
+gathered k taken = map placed_of (filter (is_of k) taken)
+
+-- none is of a structure from k on
+abbrev pub NoneFrom : ℕ → List Owned → Type 0
+NoneFrom k taken = (o : Owned) → Contains taken o → ¬ (k ≤ o.structure)
+
+-- the least structure from k on that one of these is of
+pub record IsNextFrom (k : ℕ) (taken : List Owned) (j : ℕ) : Type 0 where
+  pub some : (o : Owned) × Contains taken o × (o.structure ≡ j)
+  pub from : k ≤ j
+  pub least : (o : Owned) → Contains taken o → k ≤ o.structure → j ≤ o.structure
+
+-- whose turn it is, from the structure k on
+abbrev pub IsTurn : ℕ → List Owned → Option ℕ → Type 0
+IsTurn k taken turn = MatchOption turn (NoneFrom k taken) (IsNextFrom k taken)
+
+-- whose turn it is once the structure s is looked at, too
+pub record IsSooner (k s : ℕ) (turn turn' : Option ℕ) : Type 0 where
+  pub below : s < k → turn' ≡ turn
+  pub first : k ≤ s → turn ≡ None → turn' ≡ Some s
+  pub later : (j : ℕ) → turn ≡ Some j → j ≤ s → turn' ≡ turn
+  pub sooner : (j : ℕ) → k ≤ s → turn ≡ Some j → s < j → turn' ≡ Some s
 
 -- some certificates are new, and as many failure moments were made
 pub record HasTimedNew (old new : Facts) : Type 0 where
@@ -156,7 +176,7 @@ abbrev pub AreLeft : ℕ → List LiveFact → List LiveFact → Type 0
 AreLeft k old new = (l : LiveFact) → l.certificate.structure ≢ k → Contains old l ↔ Contains new l
 
 -- the structure k has become another, which is settled in the scene now, and the table was told what has changed
-pub record HasReplaced (k : ℕ) (now : Scene) (s : Stage) (keep : Keep) (st after : Structure) (table : Facts) : Type 0 where
+pub record HasUpdated (k : ℕ) (now : Scene) (s : Stage) (keep : Keep) (st after : Structure) (table : Facts) : Type 0 where
   pub kept : slice_get s.keeps k ≡ Some keep
   pub here : slice_get s.structures k ≡ Some st
   pub settled : IsSettledFor s.size keep now after
@@ -183,14 +203,23 @@ pub record HasComeTo (k : ℕ) (start now : Facts) : Type 0 where
   pub made : HasTimedNew start now
   pub ahead : (c : Certificate) → k ≤ c.structure → Contains (certificates_of start.live) c ↔ Contains (certificates_of now.live) c
 
--- the structures of the rest aren't repaired yet, and nothing has changed of them and of those behind
-pub record IsRepairing (start s : Stage) (rest : List Owned) : Type 0 where
+-- the structures from the one reached on aren't repaired yet, and nothing has changed of them
+pub record IsRepairing (start s : Stage) (reached : ℕ) (taken : List Owned) : Type 0 where
   pub repair : IsUnderRepair s
-  pub waiting : AreWaiting s.table.live rest
-  pub reached : ℕ
-  pub behind : (o : Owned) → Contains rest o → reached ≤ o.structure
+  pub waiting : AreWaiting reached s.table.live taken
   pub come : HasComeTo reached start.table s.table
   pub frame : HasSameFrame start s
+
+-- repair has reached some structure, and it is known whose turn it is
+pub record IsAtTurn (start s : Stage) (taken : List Owned) (turn : Option ℕ) : Type 0 where
+  pub reached : ℕ
+  pub repairing : IsRepairing start s reached taken
+  pub turn_is : IsTurn reached taken turn
+
+-- how many structures may still have their turn
+abbrev pub turns_left : ℕ → Option ℕ → ℕ
+turns_left n None = 0
+turns_left n (Some k) = n - k
 
 -- the world is sound, and as many failure moments were made as certificates are new
 pub record HasSettled (before : Facts) (s : Stage) : Type 0 where

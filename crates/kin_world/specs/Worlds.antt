@@ -1,5 +1,5 @@
 -- What a world means, and what its calls do.
-use Rattle.std.specs.Prelude.{◌≡◌, ℕ, ◌+◌, ◌-◌, ◌≤◌, ◌^◌, pos, min, Bool, true, List, [], Option, Some, None, length, slice_get, slice_set, replicate, Contains, IsTrue}
+use Rattle.std.specs.Prelude.{◌≡◌, ◌↔◌, ℕ, ℤ, ◌+◌, ◌-◌, ◌≤◌, ◌^◌, pos, min, Bool, true, List, [], Option, Some, None, length, slice_get, slice_set, replicate, count_by, Contains, IsTrue}
 use Rattle.kin_algebra.specs.declared.sign.Sign.{Sign}
 use Rattle.kin_num.specs.declared.instant.Moment.{Moment}
 use Rattle.kin_num.specs.declared.instant.Phase.TheVariants.{At}
@@ -8,13 +8,15 @@ use Rattle.kin_num.specs.Canonical.{IsCanonical}
 use Rattle.kin_num.specs.Order.{IsEarlier}
 use Rattle.kin_motion.specs.declared.form.Form.{Form}
 use Rattle.kin_motion.specs.declared.keep.Keep.{Keep}
-use Rattle.kin_motion.specs.Course.{Course, AreSlow}
+use Rattle.kin_motion.specs.Course.{Course, IsSlow, AreSlow, motion_of}
+use Rattle.kin_motion.specs.Forms.{names}
 use Rattle.kin_motion.specs.Journal.{Setting, setting_of, Failure, Block, IsNextBlock, IsJournal}
 use Rattle.kin_motion.specs.Keeps.{are_few}
 use Rattle.kin_motion.specs.Live.{Certificate, IsLiveFact, IsSmallKeep, ListsLive}
 use Rattle.kin_motion.specs.Moments.{FailsFirst}
 use Rattle.kin_motion.specs.Scene.{Scene, scene_at}
 use Rattle.kin_motion.specs.Sets.{ListsExactly}
+use Rattle.kin_motion.specs.Turning.{TurnsTo}
 
 -- the size, what is kept, the motion of each live number, the moment now, the live facts with their owners, how many failure moments were made, and false after a changing call that found no memory
 pub record World : Type 0 where
@@ -89,10 +91,31 @@ pub record HasRemoved (leaving : ℕ) (old new : World) : Type 0 where
   pub made : HasMade old new
 
 -- a number has left and entered again with this motion, at the same moment, and both halves have made failure moments
-pub record HasExchanged (number : ℕ) (motion : Course) (old new : World) : Type 0 where
+pub record HasReplaced (number : ℕ) (motion : Course) (old new : World) : Type 0 where
   pub between : World
   pub removed : HasRemoved number old between
   pub inserted : HasInserted number motion between new
+
+-- the number may take this motion up now: it has the velocity (u, v), and the number is where it was
+pub record CanTurn (turning : ℕ) (u v : ℤ) (w : World) (motion : Course) : Type 0 where
+  pub before : Course
+  pub had : motion_of w.motions turning ≡ Some before
+  pub at : w.moment.phase ≡ At
+  pub turns : TurnsTo w.moment.at u v before motion
+  pub slow : IsSlow motion
+
+-- whether the fact is about the number
+abbrev pub is_about : ℕ → Certificate → Bool
+is_about number c = names c.placed.fact.form number
+
+-- a number has the velocity (u, v) now, at the place where it was: every live fact stays, and failure moments were made for those about the number
+pub record HasTurned (turning : ℕ) (u v : ℤ) (old new : World) : Type 0 where
+  pub motion : Course
+  pub turned : CanTurn turning u v old motion
+  pub state : new ≡ with_facts_of (record old { motions = slice_set old.motions turning (Some motion) }) new
+  pub whole : IsWhole new
+  pub stay : (c : Certificate) → Contains new.live c ↔ Contains old.live c
+  pub made : new.made ≡ min (old.made + count_by (is_about turning) old.live) (2 ^ 64 - 1)
 
 -- the moment is that of the next block, which isn't after the limit, and nothing else changed but the facts
 pub record HasPassed (limit : Moment) (b : Block) (old new : World) : Type 0 where

@@ -5,12 +5,29 @@
 //! repairs all structures there together, and answers what failed. A contract sees a world as its motions, its moment
 //! and its live facts (`specs/Worlds`). `Upkeep` is written for any kind of structure; what all kinds meet is said once,
 //! in `specs/Structures`.
+//!
+//! Who uses a world names nothing of the crates below it but from here.
 #![tactic(auto)]
 
+pub use approach::first_within;
+pub use counter::{Work, uncounted};
+pub use kin_cert::{Block, Failure};
+pub use kin_instant::next::next_root;
+pub use kin_instant::order::{compare, compare_moments};
+pub use kin_instant::ratio::ratio;
+pub use kin_instant::roots::Roots;
+pub use kin_instant::sign::sign_at;
+pub use kin_instant::solve;
+pub use kin_motion::{Fact, Form, Keep, Motion, Rect};
+pub use kin_num::{Instant, Moment, NoMemory, Phase, Poly, Shape, Sign, Steps};
+pub use kin_turn::turned::TurnError;
+pub use std::sync::ledger::Ledger;
 pub use world::World;
 
+pub mod approach;
 #[cfg(test)]
 mod asked;
+pub mod counter;
 mod failures;
 pub mod laws;
 mod places;

@@ -17,7 +17,7 @@ ghost use Rattle.kin_motion.specs.Numbers.{HasEntered};
 ghost use Rattle.kin_motion.specs.Sets.{ListsExactly};
 ghost use Rattle.kin_motion.specs.Scene.{Scene, IsReal, scene_at};
 ghost use Rattle.kin_world.specs.Kinds.{placed_facts, IsFor, IsAtRest, HasMembers, IsSettledIn};
-ghost use Rattle.kin_world.specs.Structures.{AreFailing, HoldBut, IsKept};
+ghost use Rattle.kin_world.specs.Structures.{AreFailing, AreLiveAfter, HoldBut, HoldFor, IsKept, marked};
 
 use kin_closest::KinClosest;
 use kin_hull::KinHull;
@@ -38,6 +38,13 @@ pub enum Structure {
     Hull(KinHull),
     Closest(KinClosest),
     Range(KinRange),
+}
+
+/// A number that has become live, or that isn't live any more.
+#[derive(Clone, Copy)]
+pub enum Mark {
+    Enters(u32),
+    Leaves(u32),
 }
 
 impl Structure {
@@ -90,8 +97,34 @@ impl Structure {
         }
     }
 
-    /// Takes a number in that has become live. No fact has failed. `out` gains what changed.
-    pub fn enter<O: Signs, L: Ledger>(
+    /// Takes a number in that has become live, or lets one go that isn't live any more. No fact has
+    /// failed, but for those that name a number that leaves. `out` gains what changed.
+    pub fn carry_out<O: Signs, L: Ledger>(
+        &mut self,
+        mark: Mark,
+        now: &O,
+        out: &mut Delta,
+        steps: &mut Steps<L>,
+    ) -> Result<(), NoMemory>
+        requires real { IsReal (O.scene now.now) }
+        requires rest { IsAtRest self.old }
+        requires room { (size : ℕ) × (keep : Kind) × IsFor size keep self.old × (marked mark < 2 ^ size) }
+        requires marked { (before : Scene) × HasMembers before.live self.old × IsSettledIn before self.old × AreLiveAfter mark before.live (O.scene now.now).live }
+        requires hold { HoldFor mark (placed_facts self.old) (O.scene now.now) }
+        ensures kind { OnOk result ((size : ℕ) (keep : Kind) → IsFor size keep self.old → IsFor size keep self.new) }
+        ensures rest { OnOk result (IsAtRest self.new) }
+        ensures members { OnOk result (HasMembers (O.scene now.now).live self.new) }
+        ensures settled { OnOk result (IsSettledIn (O.scene now.now) self.new) }
+        ensures delta { OnOk result (HasChanged (placed_facts self.old) (placed_facts self.new) out.old out.new) }
+    {
+        match mark {
+            Mark::Enters(no) => self.enter(no, now, out, steps),
+            Mark::Leaves(no) => self.leave(no, now, out, steps),
+        }
+    }
+
+    // Takes a number in that has become live. No fact has failed.
+    fn enter<O: Signs, L: Ledger>(
         &mut self,
         entering: u32,
         now: &O,
@@ -118,9 +151,8 @@ impl Structure {
         }
     }
 
-    /// Lets a number go that isn't live any more. Each fact that doesn't name it holds. `out` gains
-    /// what changed.
-    pub fn leave<O: Signs, L: Ledger>(
+    // Lets a number go that isn't live any more. Each fact that doesn't name it holds.
+    fn leave<O: Signs, L: Ledger>(
         &mut self,
         leaving: u32,
         now: &O,

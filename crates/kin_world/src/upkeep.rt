@@ -5,14 +5,15 @@ ghost use Rattle.kin_motion.specs.Journal.{Block as Listed, IsNextBlock};
 ghost use Rattle.kin_cert.specs.Taken.{IsLeastFailure};
 ghost use Rattle.kin_world.specs.Structures.{AreVacant};
 ghost use Rattle.kin_world.specs.Worlds.{AreKeepable, empty};
-ghost use Rattle.kin_world.specs.Upkeep.{stage_of, meaning, setting, HasSameFrame, IsSound, IsUnderRepair, IsTakenIn, IsLetGo, ListsWaiting, AreWaiting, IsGathered, GoesOn, HasTimedNew, HasRepaired, HasGoneOn, HasSettled};
+ghost use Rattle.kin_world.specs.Upkeep.{stage_of, meaning, setting, HasSameFrame, IsSound, IsUnderRepair, IsCarriedOut, ListsWaiting, AreWaiting, gathered, IsTurn, IsSooner, HasTimedNew, HasRepaired, HasGoneOn, HasSettled};
 
 use crate::failures::block_of;
-use crate::structure::Structure;
+use crate::structure::{Mark, Structure};
 use kin_cert::{Block, Now, Owned, Table};
 use kin_motion::{Delta, Keep, Motions, Placed};
 use kin_num::{Instant, Moment, NoMemory, Phase, Shape, Steps};
 use std::alloc::Global;
+use std::mem::replace;
 use std::sync::ledger::Ledger;
 
 /// What is kept, the structures in the same order and the table of their live facts; the motions,
@@ -29,6 +30,8 @@ pub struct Upkeep {
     delta: Delta,
     /// The failed facts of one structure; kept for the next one.
     failed: Vec<Placed>,
+    /// The facts that fail at one moment; kept for the next one.
+    given: Vec<Owned>,
 }
 
 impl Upkeep {
@@ -58,6 +61,7 @@ impl Upkeep {
             moment,
             delta: Delta::new(alloc),
             failed: Vec::new(alloc),
+            given: Vec::new(alloc),
         })
     }
 
@@ -79,23 +83,22 @@ impl Upkeep {
             .tell(k, &self.delta, &self.motions, &self.moment, steps)
     }
 
-    // Repairs each structure of which facts were given out. `taken` lists these in the journal's
-    // order.
+    // Repairs each structure of which facts were given out, which `taken` lists in any order.
     fn repair_each<L: Ledger>(
         &mut self,
         taken: &[Owned],
         steps: &mut Steps<L>,
     ) -> Result<(), NoMemory>
         requires repair { IsUnderRepair (stage_of self.old) }
-        requires waiting { AreWaiting self.old.table.live taken.now }
+        requires waiting { AreWaiting 0 self.old.table.live taken.now }
         ensures settled { OnOk result (HasSettled self.old.table (stage_of self.new)) }
         ensures frame { HasSameFrame (stage_of self.old) (stage_of self.new) }
     {
-        let mut rest = taken;
-        while let Some((first, _)) = rest.split_first() {
-            let k = first.structure;
-            rest = gather(&mut self.failed, k, rest)?;
+        let mut turn = next_structure(taken, 0);
+        while let Some(k) = turn {
+            gather(&mut self.failed, k, taken)?;
             self.repair(k, steps)?;
+            turn = next_structure(taken, k + 1);
         }
         Ok(())
     }
@@ -129,6 +132,7 @@ impl Upkeep {
     /// answers how many there were.
     pub fn pass_unlisted<L: Ledger>(
         &mut self,
+        alloc: Global,
         moment: &Moment,
         steps: &mut Steps<L>,
     ) -> Result<usize, NoMemory>
@@ -139,37 +143,41 @@ impl Upkeep {
         ensures frame { HasSameFrame (record (stage_of self.old) { moment = moment.now }) (stage_of self.new) }
     {
         self.moment = *moment;
-        let taken = self.table.take_failing(steps)?;
-        self.repair_each(&taken, steps)?;
-        Ok(count_of(&taken))
+        let mut given = replace(&mut self.given, Vec::new(alloc));
+        self.table.give_failing(moment, &mut given, steps)?;
+        self.repair_each(&given, steps)?;
+        let count = count_of(&given);
+        self.given = given;
+        Ok(count)
     }
 
-    /// Takes a number that has become live into each structure.
-    pub fn enter_each<L: Ledger>(
+    /// Lets each structure take in a number that has become live, or let go one that isn't live any
+    /// more.
+    pub fn carry_out_each<L: Ledger>(
         &mut self,
-        entering: u32,
+        mark: Mark,
         steps: &mut Steps<L>,
     ) -> Result<(), NoMemory>
-        requires entering { IsTakenIn entering 0 (stage_of self.old) }
+        requires marked { IsCarriedOut mark 0 (stage_of self.old) }
         ensures settled { OnOk result (HasSettled self.old.table (stage_of self.new)) }
         ensures frame { HasSameFrame (stage_of self.old) (stage_of self.new) }
     {
         for k in 0..self.structures.len() {
-            self.enter_one(k as u32, entering, steps)?;
+            self.carry_out_one(k as u32, mark, steps)?;
         }
         Ok(())
     }
 
-    // Takes the number into the structure `k`, after those below it.
-    fn enter_one<L: Ledger>(
+    // Lets the structure `k` carry the mark out, after those below it.
+    fn carry_out_one<L: Ledger>(
         &mut self,
         k: u32,
-        entering: u32,
+        mark: Mark,
         steps: &mut Steps<L>,
     ) -> Result<(), NoMemory>
         requires within { k < length self.old.structures.items }
-        requires entering { IsTakenIn entering k (stage_of self.old) }
-        ensures goes_on { OnOk result (HasGoneOn (IsTakenIn entering) k (stage_of self.old) (stage_of self.new)) }
+        requires marked { IsCarriedOut mark k (stage_of self.old) }
+        ensures goes_on { OnOk result (HasGoneOn (IsCarriedOut mark) k (stage_of self.old) (stage_of self.new)) }
         ensures frame { HasSameFrame (stage_of self.old) (stage_of self.new) }
     {
         let now = Now {
@@ -177,45 +185,7 @@ impl Upkeep {
             moment: &self.moment,
         };
         self.delta.clear();
-        self.structures[k as usize].enter(entering, &now, &mut self.delta, steps)?;
-        self.table
-            .tell(k, &self.delta, &self.motions, &self.moment, steps)
-    }
-
-    /// Lets a number that isn't live any more go from each structure.
-    pub fn leave_each<L: Ledger>(
-        &mut self,
-        leaving: u32,
-        steps: &mut Steps<L>,
-    ) -> Result<(), NoMemory>
-        requires leaving { IsLetGo leaving 0 (stage_of self.old) }
-        ensures settled { OnOk result (HasSettled self.old.table (stage_of self.new)) }
-        ensures frame { HasSameFrame (stage_of self.old) (stage_of self.new) }
-    {
-        for k in 0..self.structures.len() {
-            self.leave_one(k as u32, leaving, steps)?;
-        }
-        Ok(())
-    }
-
-    // Lets the number go from the structure `k`, after those below it.
-    fn leave_one<L: Ledger>(
-        &mut self,
-        k: u32,
-        leaving: u32,
-        steps: &mut Steps<L>,
-    ) -> Result<(), NoMemory>
-        requires within { k < length self.old.structures.items }
-        requires leaving { IsLetGo leaving k (stage_of self.old) }
-        ensures goes_on { OnOk result (HasGoneOn (IsLetGo leaving) k (stage_of self.old) (stage_of self.new)) }
-        ensures frame { HasSameFrame (stage_of self.old) (stage_of self.new) }
-    {
-        let now = Now {
-            motions: &self.motions,
-            moment: &self.moment,
-        };
-        self.delta.clear();
-        self.structures[k as usize].leave(leaving, &now, &mut self.delta, steps)?;
+        self.structures[k as usize].carry_out(mark, &now, &mut self.delta, steps)?;
         self.table
             .tell(k, &self.delta, &self.motions, &self.moment, steps)
     }
@@ -243,23 +213,47 @@ fn count_of(taken: &[Owned]) -> usize
     taken.len()
 }
 
-// Gathers the facts of the structure `k` that come first, and gives the rest.
-fn gather<'a>(failed: &mut Vec<Placed>, k: u32, taken: &'a [Owned]) -> Result<&'a [Owned], NoMemory>
-    ensures gathered { IfOk result (λ rest. IsGathered k taken.now rest.now failed.new.items) }
-    ensures ends { IfOk result (λ rest. ¬ (GoesOn k rest.now)) }
+// The least structure from `k` on that one of these facts is of.
+fn next_structure(taken: &[Owned], k: u32) -> Option<u32>
+    ensures { IsTurn k taken.now result }
+{
+    let mut turn = None;
+    let mut rest = taken;
+    while let Some((owned, tail)) = rest.split_first() {
+        turn = sooner(k, owned.structure, turn);
+        rest = tail;
+    }
+    turn
+}
+
+// The lesser one of two structures from `k` on.
+fn sooner(k: u32, s: u32, turn: Option<u32>) -> Option<u32>
+    ensures { IsSooner k s turn result }
+{
+    if s < k {
+        return turn;
+    }
+    let Some(j) = turn else {
+        return Some(s);
+    };
+    if s < j { Some(s) } else { turn }
+}
+
+// Gathers the facts of the structure `k`.
+fn gather(failed: &mut Vec<Placed>, k: u32, taken: &[Owned]) -> Result<(), NoMemory>
+    ensures { OnOk result (failed.new.items ≡ gathered k taken.now) }
 {
     failed.clear();
     let mut rest = taken;
     while let Some((owned, tail)) = rest.split_first() {
-        if owned.structure != k {
-            return Ok(rest);
+        if owned.structure == k {
+            let placed = Placed {
+                part: owned.part,
+                fact: owned.fact,
+            };
+            failed.push(placed).map_err(|_| NoMemory)?;
         }
-        let placed = Placed {
-            part: owned.part,
-            fact: owned.fact,
-        };
-        failed.push(placed).map_err(|_| NoMemory)?;
         rest = tail;
     }
-    Ok(rest)
+    Ok(())
 }

@@ -1,6 +1,6 @@
 //! The world: motions, structures and the table of live facts together.
 
-ghost use Rattle.std.specs.Prelude.{◌≡◌, ◌≤◌, ◌<◌, ◌^◌, ◌↔◌, ℕ, ℤ, true, false, Option, Some, None, slice_get, length, Contains, IsTrue, IsFalse, IfOk, OnOk, OnErr, IfSome, IsSome, IsNone, MatchOption};
+ghost use Rattle.std.specs.Prelude.{◌≡◌, ◌≤◌, ◌<◌, ◌^◌, ◌↔◌, ℕ, ℤ, true, false, Option, Some, None, slice_get, length, Contains, IsTrue, IsFalse, Err, IfOk, OnOk, OnErr, IfSome, IsSome, IsNone, MatchOption, unsigned_abs};
 ghost use Rattle.kin_algebra.specs.declared.sign.Sign.{Sign as Signum};
 ghost use Rattle.kin_num.specs.Grains.{moments_left};
 ghost use Rattle.kin_num.specs.Order.{IsEarlier};
@@ -9,21 +9,24 @@ ghost use Rattle.kin_motion.specs.declared.keep.Keep.TheVariants as keep;
 ghost use Rattle.kin_motion.specs.Boxes.{IsRectInRange, box_of};
 ghost use Rattle.kin_motion.specs.Chains.{IsHullCycle};
 ghost use Rattle.kin_motion.specs.ClosestPairs.{IsClosest};
-ghost use Rattle.kin_motion.specs.Course.{is_live, motion_of};
+ghost use Rattle.kin_motion.specs.Course.{Course, is_live, motion_of};
 ghost use Rattle.kin_motion.specs.Extremes.{IsExtremePoint};
 ghost use Rattle.kin_motion.specs.Journal.{Block as Listed, NothingFails};
 ghost use Rattle.kin_motion.specs.Orders.{IsOrder};
+ghost use Rattle.kin_motion.specs.Turning.{IsNotWhole, IsOutOfBounds};
+ghost use Rattle.kin_turn.specs.declared.turned.TurnError.TheVariants.{NotWhole as Broken, OutOfBounds as Outside};
 ghost use Rattle.kin_world.specs.Kinds.{IsAtRest};
 ghost use Rattle.kin_world.specs.Structures.{IsKept};
-ghost use Rattle.kin_world.specs.Worlds.{AreKeepable, IsNextMoment, IsWhole, HasInserted, HasRemoved, HasExchanged, HasStepped, failure_count, FailsWithin, certificate, empty, world_setting, scene_of};
+ghost use Rattle.kin_world.specs.Worlds.{AreKeepable, IsNextMoment, IsWhole, CanTurn, HasInserted, HasRemoved, HasReplaced, HasTurned, HasStepped, failure_count, FailsWithin, certificate, empty, world_setting, scene_of};
 
 use crate::places::place_of;
-use crate::structure::Structure;
+use crate::structure::{Mark, Structure};
 use crate::upkeep::Upkeep;
 use kin_cert::Block;
 use kin_instant::order::compare_moments;
 use kin_motion::{Form, Keep, Motion, Rect};
 use kin_num::{Moment, NoMemory, Sign, Steps};
+use kin_turn::turned::{TurnError, turned};
 use std::alloc::Global;
 use std::cmp::Ordering;
 use std::marker::Model;
@@ -111,7 +114,7 @@ impl World {
     {
         self.whole = false;
         self.upkeep.motions.set(no, m);
-        self.upkeep.enter_each(no, steps)?;
+        self.upkeep.carry_out_each(Mark::Enters(no), steps)?;
         self.whole = true;
         Ok(())
     }
@@ -127,7 +130,7 @@ impl World {
     {
         self.whole = false;
         self.upkeep.motions.clear(no);
-        self.upkeep.leave_each(no, steps)?;
+        self.upkeep.carry_out_each(Mark::Leaves(no), steps)?;
         self.whole = true;
         Ok(())
     }
@@ -142,12 +145,61 @@ impl World {
     ) -> Result<(), NoMemory>
         requires whole { IsTrue self.old.whole }
         requires live { IsTrue (is_live self.old.motions no) }
-        ensures replaced { OnOk result (HasExchanged no m self.old self.new) }
+        ensures replaced { OnOk result (HasReplaced no m self.old self.new) }
         ensures broken { OnErr result (self.new.whole ≡ false) }
         ensures keeps { OnErr result (self.new.keeps ≡ self.old.keeps) }
     {
         self.remove(no, steps)?;
         self.insert(no, m, steps)
+    }
+
+    /// The motion with the velocity `(u, v)` that a live number is at the same place by now. Each of the
+    /// two is in -4096..4096. Takes no memory.
+    ///
+    /// `NotWhole` comes exactly where the moment is just after an instant or a new constant part isn't
+    /// whole; `OutOfBounds` exactly where both are whole and one is outside -4096..4096.
+    pub fn turned(&self, no: u32, u: i32, v: i32) -> Result<Motion, TurnError>
+        requires whole { IsTrue self.now.whole }
+        requires live { IsTrue (is_live self.now.motions no) }
+        requires u { unsigned_abs u ≤ 4096 }
+        requires v { unsigned_abs v ≤ 4096 }
+        ensures turns { IfOk result (CanTurn no u v self.now) }
+        ensures not_whole { (had : Course) → motion_of self.now.motions no ≡ Some had → (result ≡ Err Broken) ↔ IsNotWhole self.now.moment u v had }
+        ensures outside { (had : Course) → motion_of self.now.motions no ≡ Some had → (result ≡ Err Outside) ↔ IsOutOfBounds self.now.moment u v had }
+    {
+        let Some(motion) = self.upkeep.motions.get(no) else {
+            unreachable!()
+        };
+        turned(&motion, &self.upkeep.moment, u, v)
+    }
+
+    /// Gives a live number another velocity at the place where it is, which `turned` has to allow. No
+    /// answer changes now and every live fact stays; those that name the number get their failure
+    /// moments anew. After want of memory the world isn't whole.
+    pub fn turn<L: Ledger>(
+        &mut self,
+        no: u32,
+        u: i32,
+        v: i32,
+        steps: &mut Steps<L>,
+    ) -> Result<(), NoMemory>
+        requires whole { IsTrue self.old.whole }
+        requires turnable { (motion : Course) × CanTurn no u v self.old motion }
+        ensures turned { OnOk result (HasTurned no u v self.old self.new) }
+        ensures broken { OnErr result (self.new.whole ≡ false) }
+        ensures keeps { OnErr result (self.new.keeps ≡ self.old.keeps) }
+    {
+        let Ok(motion) = self.turned(no, u, v) else {
+            unreachable!()
+        };
+        self.whole = false;
+        let upkeep = &mut self.upkeep;
+        upkeep.motions.set(no, motion);
+        upkeep
+            .table
+            .remake(no, &upkeep.motions, &upkeep.moment, steps)?;
+        self.whole = true;
+        Ok(())
     }
 
     /// Moves to the first moment, not after the limit, at which live facts fail, and repairs all
@@ -202,7 +254,7 @@ impl World {
             return Ok(None);
         };
         self.whole = false;
-        let count = self.upkeep.pass_unlisted(&moment, steps)?;
+        let count = self.upkeep.pass_unlisted(self.alloc, &moment, steps)?;
         self.whole = true;
         Ok(Some(count))
     }

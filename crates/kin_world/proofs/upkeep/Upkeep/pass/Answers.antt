@@ -24,7 +24,7 @@ repair_each-requires-clause-repair g c = taken_under_repair c.requires.sound c.t
 
 pub repair_each-requires-clause-waiting : goal.repair_each-requires-clause-waiting
 repair_each-requires-clause-waiting g c =
-    subst (λ (os : List Owned). AreWaiting c.take_failing.new.self.live os) (sym c.deref-2.ensures.value) (taken_waiting c.requires.sound c.take_failing.new.self c.in_ok-taken.ensures.taken)
+    subst (λ (os : List Owned). AreWaiting 0 c.take_failing.new.self.live os) (sym c.deref-2.ensures.value) (taken_waiting c.requires.sound c.take_failing.new.self c.in_ok-taken.ensures.taken)
 
 pub returns-clause-next : goal.returns-clause-next
 returns-clause-next g c =

@@ -1,33 +1,46 @@
 use Rattle.std.proofs.Common.{length, refl, sym, ap, subst, ◌∙◌, List}
 use Rattle.std.specs.Prelude.{map}
 use Rattle.std.proofs.lemmas.List.{length-map}
+use Rattle.std.proofs.lemmas.List.Sorted.{Contains-permutation, IsPermutation-sym, length_permutation}
 use Rattle.kin_motion.specs.Journal.{Block, Failure, seen_in}
 use Rattle.kin_motion.specs.Scene.{scene_at}
 use Rattle.kin_cert.specs.declared.owned.Owned.{Owned}
 use Rattle.kin_cert.specs.Facts.{certificate_of}
 use Rattle.kin_world.specs.Upkeep.{AreWaiting}
-use Rattle.kin_world.proofs.TakeLaws.{taken_waiting, taken_under_repair, taken_block, made_since}
+use Rattle.kin_world.proofs.TakeLaws.{given_waiting, taken_under_repair, taken_block, made_since}
 use Rattle.kin_world.proofs.upkeep.Upkeep.pass_unlisted.Goals as goal
 
-pub take_failing-requires-clause-none_waits : goal.take_failing-requires-clause-none_waits
-take_failing-requires-clause-none_waits g c = c.requires.sound.none_waits
+pub give_failing-requires-clause-none_waits : goal.give_failing-requires-clause-none_waits
+give_failing-requires-clause-none_waits g c = c.requires.sound.none_waits
 
 pub repair_each-requires-clause-repair : goal.repair_each-requires-clause-repair
-repair_each-requires-clause-repair g c = taken_under_repair c.requires.sound c.take_failing.new.self c.in_ok-taken.ensures.taken c.args.moment.now c.requires.failing c.in_ok-taken.ensures.once c.take_failing.ensures.made
+repair_each-requires-clause-repair g c =
+    let out = c.in_ok-give_failing.ensures.given in
+    taken_under_repair c.requires.sound c.give_failing.new.self out.has_taken c.args.moment.now c.requires.failing c.in_ok-give_failing.ensures.once c.give_failing.ensures.made
 
 pub repair_each-requires-clause-waiting : goal.repair_each-requires-clause-waiting
 repair_each-requires-clause-waiting g c =
-    subst (λ (os : List Owned). AreWaiting c.take_failing.new.self.live os) (sym c.deref.ensures.value) (taken_waiting c.requires.sound c.take_failing.new.self c.in_ok-taken.ensures.taken)
+    let out = c.in_ok-give_failing.ensures.given in
+    let given = c.give_failing.new.given.items in
+    subst (λ (os : List Owned). AreWaiting 0 c.give_failing.new.self.live os) (sym c.deref.ensures.value)
+    (given_waiting c.requires.sound c.give_failing.new.self out.has_taken given out.once (λ o. (
+      (λ h. Contains-permutation given out.taken o out.reordered h),
+      (λ h. Contains-permutation out.taken given o (IsPermutation-sym given out.taken out.reordered) h),
+    )))
 
 pub returns-clause-next : goal.returns-clause-next
 returns-clause-next g c =
+    let out = c.in_ok-give_failing.ensures.given in
     let m = c.args.moment.now in
     let seen : Owned → Failure = λ o. seen_in (scene_at c.args.self.now.motions m) (certificate_of o) in
-    let taken = c.in_ok-taken.taken.items in
-    let b : Block = record { moment = m; failures = map seen taken } in
-    (b, taken_block c.requires.sound c.take_failing.new.self c.in_ok-taken.ensures.taken m c.requires.failing b refl, refl, length-map taken seen ∙ ap length (sym c.deref-2.ensures.value) ∙ sym c.count_of.ensures)
+    let b : Block = record { moment = m; failures = map seen out.taken } in (
+      b,
+      taken_block c.requires.sound c.give_failing.new.self out.has_taken m c.requires.failing b refl,
+      refl,
+      length-map out.taken seen ∙ length_permutation c.give_failing.new.given.items out.taken out.reordered ∙ ap length (sym c.deref-2.ensures.value) ∙ sym c.count_of-count.ensures,
+    )
 
 pub returns-clause-settled : goal.returns-clause-settled
 returns-clause-settled g c =
     let done = c.in_ok-repair_each.ensures.settled in
-    record { sound = done.sound; made = made_since c.requires.sound c.take_failing.new.self c.in_ok-taken.ensures.taken c.repair_each.new.self.table c.take_failing.ensures.made done.made }
+    record { sound = done.sound; made = made_since c.requires.sound c.give_failing.new.self c.in_ok-give_failing.ensures.given.has_taken c.repair_each.new.self.table c.give_failing.ensures.made done.made }

@@ -1,9 +1,9 @@
 use Rattle.std.proofs.Common.{length}
-use Rattle.kin_world.specs.Upkeep.{IsRepairing, stage_of}
+use Rattle.kin_world.specs.Upkeep.{IsAtTurn, stage_of, turns_left}
 use Rattle.kin_world.proofs.upkeep.Upkeep.repair_each.Given as goal
 
-abbrev pub invariant-loop-first : goal.invariant-loop-first
-invariant-loop-first g l = IsRepairing (stage_of l.fn.self) (stage_of l.self) l.rest
+abbrev pub invariant-loop-turn : goal.invariant-loop-turn
+invariant-loop-turn g l = IsAtTurn (stage_of l.fn.self) (stage_of l.self) l.taken l.turn
 
-abbrev pub decreases-loop-first : goal.decreases-loop-first
-decreases-loop-first g l = length l.rest
+abbrev pub decreases-loop-turn : goal.decreases-loop-turn
+decreases-loop-turn g l = turns_left (length l.self.structures.items) l.turn

@@ -2,7 +2,7 @@ use Rattle.std.proofs.Common.{◌≡◌, ap, ◌∙◌, subst, ◌<◌, true}
 use Rattle.kin_motion.specs.Course.{is_live}
 use Rattle.kin_world.specs.Upkeep.{IsSound, meaning, stage_of}
 use Rattle.kin_world.specs.Worlds.{World, HasRemoved}
-use Rattle.kin_world.proofs.LeaveLaws.{live_within, may_remove}
+use Rattle.kin_world.proofs.MarkLaws.{live_within, may_remove}
 use Rattle.kin_world.proofs.SoundLaws.{sound_inside, seen_inside, has_removed}
 use Rattle.kin_world.proofs.world.World.remove.Goals as goal
 
@@ -11,16 +11,16 @@ clear-requires g c =
     let live = ap (λ (v : World). is_live v.motions c.args.no) c.self.view_is ∙ c.requires.live in
     record { room = live_within c.self.inside.upkeep.motions c.args.no live }
 
-pub leave_each-requires : goal.leave_each-requires
-leave_each-requires g c =
+pub carry_out_each-requires : goal.carry_out_each-requires
+carry_out_each-requires g c =
     let s = stage_of c.self.inside.upkeep in
     let sound : IsSound (stage_of c.self.inside.upkeep) = sound_inside c.self.inside c.args.self.now c.self.view_is c.self.invariant c.requires.whole in
     let live : is_live s.motions c.args.no ≡ true = ap (λ (v : World). is_live v.motions c.args.no) c.self.view_is ∙ c.requires.live in
     let low = subst (λ n. c.args.no < n) sound.in_order.fit.room (live_within s.motions c.args.no live) in
-    record { leaving = may_remove sound c.args.no c.clear.new.self live low c.clear.ensures }
+    record { marked = (s.motions, may_remove sound c.args.no c.clear.new.self live low c.clear.ensures) }
 
 pub returns-clause-removed : goal.returns-clause-removed
 returns-clause-removed g c =
     let s = stage_of c.self.inside.upkeep in
-    subst (λ (v : World). HasRemoved c.args.no v (meaning (stage_of c.leave_each.new.self) true)) (seen_inside c.self.inside c.args.self.now c.self.view_is c.self.invariant c.requires.whole)
-    (has_removed (record s { motions = c.clear.new.self }) c.in_ok-leave_each.ensures.settled c.leave_each.ensures.frame s.motions c.args.no c.clear.ensures)
+    subst (λ (v : World). HasRemoved c.args.no v (meaning (stage_of c.carry_out_each.new.self) true)) (seen_inside c.self.inside c.args.self.now c.self.view_is c.self.invariant c.requires.whole)
+    (has_removed (record s { motions = c.clear.new.self }) c.in_ok-carry_out_each.ensures.settled c.carry_out_each.ensures.frame s.motions c.args.no c.clear.ensures)

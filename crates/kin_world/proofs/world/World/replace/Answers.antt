@@ -1,5 +1,5 @@
 use Rattle.kin_basics.proofs.Results.{from_two}
-use Rattle.kin_world.proofs.LeaveLaws.{may_return}
+use Rattle.kin_world.proofs.MarkLaws.{may_return}
 use Rattle.kin_world.proofs.world.World.replace.Goals as goal
 
 pub insert-requires : goal.insert-requires

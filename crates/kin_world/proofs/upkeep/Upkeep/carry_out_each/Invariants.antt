@@ -1,10 +1,10 @@
 use Rattle.std.proofs.Common.{◌≡◌, length}
-use Rattle.kin_world.specs.Upkeep.{IsLetGo, HasComeTo, HasSameFrame, stage_of}
-use Rattle.kin_world.proofs.upkeep.Upkeep.leave_each.Given as goal
+use Rattle.kin_world.specs.Upkeep.{IsCarriedOut, HasComeTo, HasSameFrame, stage_of}
+use Rattle.kin_world.proofs.upkeep.Upkeep.carry_out_each.Given as goal
 
 abbrev pub invariant-loop-k : goal.invariant-loop-k
 invariant-loop-k g l = record {
-  leaving : IsLetGo l.leaving l.k (stage_of l.self);
+  marked : IsCarriedOut l.mark l.k (stage_of l.self);
   come : HasComeTo l.k l.initial.self.table l.self.table;
   frame : HasSameFrame (stage_of l.initial.self) (stage_of l.self);
   all : l.k-end ≡ length l.self.structures.items;

@@ -1,0 +1,167 @@
+-- A number turns: what is seen now is as before, so every structure stays settled, and the facts that don't name it fail as before.
+use Rattle.std.proofs.Common.{◌≡◌, ◌⊎◌, inl, inr, refl, sym, ap, ap₂, ◌∙◌, subst, arith, ℕ, ◌+◌, ◌-◌, ◌^◌, ◌<◌, true, false, cond, List, [], ◌∷◌, length, slice_set}
+use Rattle.std.specs.Prelude.{Bool, Result, Ok, Err, IfOk, Option, Some, ℤ, min, count_by, Contains, ◌↔◌, IsTrue, IsFalse}
+use Rattle.std.proofs.lemmas.List.{length-set}
+use Rattle.std.proofs.lemmas.List.Sums.{sum_by-cons}
+use Rattle.std.proofs.lemmas.Option.{same_Some}
+use Rattle.kin_num.specs.declared.instant.Moment.{Moment}
+use Rattle.kin_num.specs.declared.instant.Phase.TheVariants.{At}
+use Rattle.kin_num.specs.Canonical.{IsCanonical}
+use Rattle.kin_motion.specs.Course.{Course, IsSlow, AreSlow, is_live, live_of, motion_of}
+use Rattle.kin_motion.specs.Forms.{IsAskable}
+use Rattle.kin_motion.specs.Live.{Certificate}
+use Rattle.kin_motion.specs.Scene.{Scene, Holds, scene_at}
+use Rattle.kin_motion.specs.Turning.{TurnsTo, IsNotWhole, IsOutOfBounds, just_at}
+use Rattle.kin_motion.proofs.SetLaws.{contains_map, contains_mapped}
+use Rattle.kin_motion.proofs.TurningLaws.{turn_keeps_scene, one_turn}
+use Rattle.kin_cert.specs.Facts.{LiveFact, Facts, NoneAlike}
+use Rattle.kin_cert.specs.Remade.{HasRemade, IsRemade, names_number}
+use Rattle.kin_cert.specs.Told.{HasFactsOf, IsTimed, certificates_of}
+use Rattle.kin_cert.proofs.NextLaws.{timed_holds}
+use Rattle.kin_turn.specs.declared.turned.TurnError.{TurnError}
+use Rattle.kin_turn.specs.declared.turned.TurnError.TheVariants.{NotWhole, OutOfBounds}
+use Rattle.kin_world.specs.declared.structure.Structure.{Structure}
+use Rattle.kin_world.specs.Kinds.{placed_facts}
+use Rattle.kin_world.specs.Structures.{IsSettledFor}
+use Rattle.kin_world.specs.Upkeep.{Stage, IsSound, IsInOrder, meaning, sight}
+use Rattle.kin_world.specs.Worlds.{World, CanTurn, HasTurned, is_about, with_facts_of}
+use Rattle.kin_world.proofs.InOrder.{timed, timely_from_timed}
+use Rattle.kin_world.proofs.MarkLaws.{motion_there}
+use Rattle.kin_world.proofs.SoundLaws.{live_askable, whole}
+use Rattle.kin_world.proofs.Unnamed.{timed_with}
+
+-- what is so at the moment and of the motion inside is so as they are seen
+pub seen_so : (P : Moment → Course → Type 0) (inner seen : World) (n : ℕ) (motion : Course) → inner ≡ seen → motion_of inner.motions n ≡ Some motion → P inner.moment motion
+    → (had : Course) → motion_of seen.motions n ≡ Some had → P seen.moment had
+seen_so P inner seen n motion is there so had shown =
+    let same : motion ≡ had = same_Some _ _ (sym there ∙ ap (λ (w : World). motion_of w.motions n) is ∙ shown) in
+    subst (λ (c : Course). P seen.moment c) same (subst (λ (w : World). P w.moment motion) is so)
+
+-- what is so of two numbers as they were handed on is so of them
+pub handed_on : (P : ℤ → ℤ → Type 0) (u v u' v' : ℤ) → u' ≡ u → v' ≡ v → P u' v' → P u v
+handed_on P u v u' v' e f so = subst (λ x. P x v) e (subst (λ y. P u' y) f so)
+
+-- a motion that a live number turns to may be taken up
+pub can_turn : {E : Type 0} (w : World) (n : ℕ) (u v : ℤ) → is_live w.motions n ≡ true → (r : Result Course E)
+    → ((had : Course) → motion_of w.motions n ≡ Some had → IfOk r (λ new. (w.moment.phase ≡ At) × TurnsTo w.moment.at u v had new × IsSlow new))
+    → IfOk r (CanTurn n u v w)
+can_turn {E} w n u v live (Err e) turns = tt
+can_turn {E} w n u v live (Ok new) turns =
+    let had = motion_there (motion_of w.motions n) live in
+    let t = turns had.0 had.1 in
+    record { before = had.0; had = had.1; at = t.0; turns = t.1; slow = t.2 }
+
+-- where a number may turn nothing speaks against it
+pub no_cause : (w : World) (n : ℕ) (u v : ℤ) (motion : Course) → CanTurn n u v w motion → IsCanonical w.moment.at → (r : Result Course TurnError)
+    → ((had : Course) → motion_of w.motions n ≡ Some had → (r ≡ Err NotWhole) ↔ IsNotWhole w.moment u v had)
+    → ((had : Course) → motion_of w.motions n ≡ Some had → (r ≡ Err OutOfBounds) ↔ IsOutOfBounds w.moment u v had)
+    → (e : TurnError) → r ≡ Err e → ⊥
+no_cause w n u v motion can canonical r not_whole outside NotWhole is = at ((not_whole can.before can.had).0 is)
+  where
+    at : IsNotWhole w.moment u v can.before → ⊥
+    at (inl after) = let clash = sym can.at ∙ after in absurd cc
+    at (inr none) = none motion can.turns
+no_cause w n u v motion can canonical r not_whole outside OutOfBounds is =
+    let far = (outside can.before can.had).0 is in
+    far.1.2 (subst IsSlow (one_turn w.moment.at u v can.before motion far.1.0 canonical can.turns far.1.1) can.slow)
+
+-- the phase is `At`, so it is the instant itself
+at_instant : (m : Moment) → m.phase ≡ At → just_at m.at ≡ m
+at_instant m at = ap (λ p. record { at = m.at; phase = p }) (sym at)
+
+-- as many certificates are about a number as live facts name it
+same_count : (n : ℕ) (live : List LiveFact) → count_by (names_number n) live ≡ count_by (is_about n) (certificates_of live)
+same_count n [] = refl
+same_count n (l ∷ ls) =
+    sum_by-cons (λ (x : LiveFact). cond (names_number n x) 1 0) l ls
+    ∙ ap (λ k. cond (names_number n l) 1 0 + k) (same_count n ls)
+    ∙ sym (sum_by-cons (λ (c : Certificate). cond (is_about n c) 1 0) l.certificate (certificates_of ls))
+
+module _ {s : Stage} (sound : IsSound s) (n : ℕ) (u v : ℤ) (motion : Course) (can : CanTurn n u v (meaning s true) motion) (motions : List (Option Course)) (written : motions ≡ slice_set s.motions n (Some motion)) where
+  -- what is seen now is as before
+  pub same_sight : scene_at motions s.moment ≡ sight s
+  same_sight =
+      ap (λ (ms : List (Option Course)). scene_at ms s.moment) written
+      ∙ subst (λ m. scene_at (slice_set s.motions n (Some motion)) m ≡ scene_at s.motions m) (at_instant s.moment can.at)
+      (turn_keeps_scene s.motions n u v can.before motion s.moment.at sound.in_order.canonical can.had can.turns)
+
+  -- so each live fact may still be asked for, and holds
+  pub askable_still : (l : LiveFact) → Contains s.table.live l → IsTrue (names_number n l) → IsAskable (live_of motions) l.certificate.placed.fact.form
+  askable_still l there named = subst (λ (live : List ℕ). IsAskable live l.certificate.placed.fact.form) (sym (ap (λ (x : Scene). x.live) same_sight)) (live_askable sound l there)
+
+  pub holds_still : (l : LiveFact) → Contains s.table.live l → IsTrue (names_number n l) → Holds (scene_at motions s.moment) l.certificate.placed.fact
+  holds_still l there named =
+      subst (λ (x : Scene). Holds x l.certificate.placed.fact) (sym same_sight)
+      (timed_holds (scene_at s.motions) s.moment sound.in_order.canonical l (timed sound.in_order sound.none_waits l there))
+
+  module _ {table : Facts} (remade : HasRemade n (scene_at motions) s.moment s.table table) (once : NoneAlike table.live) (slow : AreSlow motions) where
+    -- each certificate was live
+    was : (l : LiveFact) → Contains table.live l → (k : LiveFact) × Contains s.table.live k × (k.certificate ≡ l.certificate)
+    was l there = at (remade.only l there)
+      where
+        at : (Contains s.table.live l × IsFalse (names_number n l)) ⊎ ((k : LiveFact) × Contains s.table.live k × IsTrue (names_number n k) × IsRemade (scene_at motions) s.moment k l) → (k : LiveFact) × Contains s.table.live k × (k.certificate ≡ l.certificate)
+        at (inl old) = (l, old.0, refl)
+        at (inr anew) = (anew.0, anew.1, sym anew.3.certificate)
+
+    -- and each stays so
+    stays : (l : LiveFact) → Contains s.table.live l → (k : LiveFact) × Contains table.live k × (k.certificate ≡ l.certificate)
+    stays l there = at (names_number n l) refl
+      where
+        at : (b : Bool) → names_number n l ≡ b → (k : LiveFact) × Contains table.live k × (k.certificate ≡ l.certificate)
+        at false e = (l, remade.kept l there e, refl)
+        at true e = let k = remade.remade l there e in (k.0, k.1, k.2.certificate)
+
+    -- each has its first failure
+    timed_now : (l : LiveFact) → Contains table.live l → IsTimed (scene_at motions) s.moment l
+    timed_now l there = at (remade.only l there)
+      where
+        at : (Contains s.table.live l × IsFalse (names_number n l)) ⊎ ((k : LiveFact) × Contains s.table.live k × IsTrue (names_number n k) × IsRemade (scene_at motions) s.moment k l) → IsTimed (scene_at motions) s.moment l
+        at (inl old) = subst (λ (ms : List (Option Course)). IsTimed (scene_at ms) s.moment l) (sym written) (timed_with s.motions n (Some motion) s.moment l old.1 (timed sound.in_order sound.none_waits l old.0))
+        at (inr anew) = record { waits_not = anew.3.waits_not; fails = anew.3.fails }
+
+    -- a structure's facts are tabled as they were
+    tabled : (j : ℕ) (st : Structure) → HasFactsOf s.table.live j (placed_facts st) → HasFactsOf table.live j (placed_facts st)
+    tabled j st h p = (
+      λ there. let l = (h p).0 there in let k = stays l.0 l.1 in (k.0, k.1, k.2 ∙ l.2),
+      λ l. let k = was l.0 l.1 in (h p).1 (k.0, k.1, k.2 ∙ l.2),
+    )
+
+    pub sound_turned : IsSound (record s { motions = motions; table = table })
+    sound_turned = record {
+      in_order = record {
+        fit = record { low = o.fit.low; high = o.fit.high; keepable = o.fit.keepable; room = ap length written ∙ length-set s.motions n (Some motion) ∙ o.fit.room; slow = slow };
+        canonical = o.canonical;
+        counted = omega (arith, remade.made);
+        count = o.count;
+        each = λ j keep st kept there.
+            let place = o.each j keep st kept there in
+            record { fine = subst (λ (x : Scene). IsSettledFor s.size keep x st) (sym same_sight) place.fine; tabled = tabled j st place.tabled };
+        once = once;
+        owned = λ l there. let k = was l there in subst (λ (c : Certificate). c.structure < length s.structures) k.2 (o.owned k.0 k.1);
+        timely = λ l there. timely_from_timed (scene_at motions) s.moment l (timed_now l there);
+      };
+      none_waits = λ l there. (timed_now l there).waits_not;
+    }
+      where
+        o : IsInOrder (λ j keep st. IsSettledFor s.size keep (sight s) st) s
+        o = sound.in_order
+
+    -- every live fact stays
+    stay : (c : Certificate) → Contains (certificates_of table.live) c ↔ Contains (certificates_of s.table.live) c
+    stay c = (through table.live s.table.live was, through s.table.live table.live stays)
+      where
+        through : (from to : List LiveFact) → ((l : LiveFact) → Contains from l → (k : LiveFact) × Contains to k × (k.certificate ≡ l.certificate)) → Contains (certificates_of from) c → Contains (certificates_of to) c
+        through from to each there =
+            let l = contains_mapped (λ (x : LiveFact). x.certificate) from c there in
+            let k = each l.0 l.1 in
+            subst (λ (x : Certificate). Contains (certificates_of to) x) (k.2 ∙ sym l.2) (contains_map (λ (x : LiveFact). x.certificate) to k.0 k.1)
+
+    pub has_turned : HasTurned n u v (meaning s true) (meaning (record s { motions = motions; table = table }) true)
+    has_turned = record {
+      motion = motion;
+      turned = can;
+      state = ap (λ (ms : List (Option Course)). with_facts_of (record (meaning s true) { motions = ms }) (meaning (record s { motions = motions; table = table }) true)) written;
+      whole = whole sound_turned;
+      stay = stay;
+      made = subst (λ k. table.made ≡ min (s.table.made + k) (2 ^ 64 - 1)) (same_count n s.table.live) remade.made;
+    }

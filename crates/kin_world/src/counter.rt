@@ -1,0 +1,44 @@
+//! A counter of steps for who counts none.
+
+ghost use Rattle.std.specs.Prelude.{◌≡◌, ◌<◌};
+
+use kin_num::Steps;
+use std::marker::Brand;
+use std::sync::ledger::{Blank, Ledger};
+
+/// What is done with a counter that it is handed.
+pub trait Work {
+    /// What comes of it.
+    type Outcome;
+
+    /// When it may be done.
+    ghost can_run: { Self → Type 0 } = { λ _. Unit {0} };
+
+    /// What is known of what comes of it.
+    ghost run_gives: { Self → Self.Outcome → Type 0 } = { λ _ _. Unit {0} };
+
+    /// Does it. The counter takes no memory and no time.
+    fn run<L: Ledger>(self, steps: &mut Steps<L>) -> Self::Outcome
+        requires { can_run self }
+        ensures { run_gives self result };
+}
+
+/// Does the work with a counter that nobody reads.
+pub fn uncounted<W: Work>(work: W) -> W::Outcome
+    requires { W.can_run work }
+    ensures { W.run_gives work result }
+{
+    run_with::<W, Brand>(work, Blank::new(1))
+}
+
+// Opens the counter.
+fn run_with<W: Work, L: Ledger>(work: W, blank: Blank) -> W::Outcome
+    requires name { blank.name ≡ L.name }
+    requires parts { blank.parts ≡ L.parts }
+    requires some { 0 < L.parts }
+    requires can { W.can_run work }
+    ensures { W.run_gives work result }
+{
+    let mut steps = Steps::<L>::open(blank);
+    work.run(&mut steps)
+}
