@@ -12,6 +12,7 @@ pub mod FirstBadLaws
 pub mod Theorems
 pub mod EachGiven
 pub mod WordRanges
+pub mod Changes
 pub mod ScriptRanges
 pub mod PrintedNumbers
 pub mod TextsTell

@@ -22,7 +22,7 @@ use Rattle.kin_motion.proofs.MotionScenes.{real_at}
 use Rattle.kin_motion.proofs.OneLaws.{one_extreme, one_closest, one_hull_cycle}
 use Rattle.kin_motion.proofs.Proved.{order_is_one, order_proved, extreme_proved, cycle_proved}
 use Rattle.kin_script.specs.declared.command.Command.{Command}
-use Rattle.kin_script.specs.declared.command.Command.TheVariants.{Insert, AtRatio, AtRoot, Next, Order, Extreme, Hull, Closest, Live, Inside}
+use Rattle.kin_script.specs.declared.command.Command.TheVariants.{Insert, Remove, Replace, Turn, AtRatio, AtRoot, Next, Order, Extreme, Hull, Closest, Live, Inside}
 use Rattle.kin_script.specs.Deeds.{asks, deed_of}
 use Rattle.kin_script.specs.Questions.{keep_of, IsKeepInRange, order_of, extreme_of, box_of, question_of, IsQuestionInRange, IsKept, IsProvided, IsOrderLine, IsExtremeLine, IsLiveLine, IsReplyLine}
 use Rattle.kin_script.specs.Lines.{Word}
@@ -112,26 +112,46 @@ question_range name ws =
 -- a question in its range is a command in its range
 pub question_in_range : (size : ℕ) (c : Command) → IsQuestionInRange c → IsCommandInRange size c
 question_in_range size (Insert number m) h = absurd h
+question_in_range size (Remove number) h = absurd h
+question_in_range size (Replace number m) h = absurd h
+question_in_range size (Turn number u v) h = absurd h
 question_in_range size (AtRatio n d) h = absurd h
 question_in_range size (AtRoot a b c upper) h = absurd h
 question_in_range size Next h = absurd h
 question_in_range size question h = h
 
 -- what neither changes points nor moves time asks
-pub asks_otherwise : (c : Command) → ((number : ℕ) (m : Course) → c ≡ Insert number m → ⊥) → ((n d : ℤ) → c ≡ AtRatio n d → ⊥) → ((x y z : ℤ) (upper : Bool) → c ≡ AtRoot x y z upper → ⊥) → (c ≡ Next → ⊥) → deed_of c ≡ asks c
-asks_otherwise (Insert number m) a b d e = absurd (a number m refl)
-asks_otherwise (AtRatio n d) a b e f = absurd (b n d refl)
-asks_otherwise (AtRoot x y z upper) a b d e = absurd (d x y z upper refl)
-asks_otherwise Next a b d e = absurd (e refl)
-asks_otherwise question a b d e = refl
+pub asks_otherwise : (c : Command) → ((number : ℕ) (m : Course) → c ≡ Insert number m → ⊥) → ((number : ℕ) → c ≡ Remove number → ⊥) → ((number : ℕ) (m : Course) → c ≡ Replace number m → ⊥) → ((number : ℕ) (u v : ℤ) → c ≡ Turn number u v → ⊥)
+    → ((n d : ℤ) → c ≡ AtRatio n d → ⊥) → ((x y z : ℤ) (upper : Bool) → c ≡ AtRoot x y z upper → ⊥) → (c ≡ Next → ⊥) → deed_of c ≡ asks c
+asks_otherwise (Insert number m) a b d e f g h = absurd (a number m refl)
+asks_otherwise (Remove number) a b d e f g h = absurd (b number refl)
+asks_otherwise (Replace number m) a b d e f g h = absurd (d number m refl)
+asks_otherwise (Turn number u v) a b d e f g h = absurd (e number u v refl)
+asks_otherwise (AtRatio n m) a b d e f g h = absurd (f n m refl)
+asks_otherwise (AtRoot x y z upper) a b d e f g h = absurd (g x y z upper refl)
+asks_otherwise Next a b d e f g h = absurd (h refl)
+asks_otherwise (Order k) a b d e f g h = refl
+asks_otherwise (Extreme k) a b d e f g h = refl
+asks_otherwise Hull a b d e f g h = refl
+asks_otherwise Closest a b d e f g h = refl
+asks_otherwise (Inside r) a b d e f g h = refl
+asks_otherwise Live a b d e f g h = refl
 
 -- what a command does is in range
 pub deed_in_range : (size : ℕ) (c : Command) → IsCommandInRange size c → IsDeedInRange (deed_of c)
 deed_in_range size (Insert number m) range = range.1
+deed_in_range size (Remove number) range = tt
+deed_in_range size (Replace number m) range = range.1
+deed_in_range size (Turn number u v) range = range.1
 deed_in_range size (AtRatio n d) range = inl (n, d, range, refl, refl)
 deed_in_range size (AtRoot a b c upper) range = inr range
 deed_in_range size Next range = tt
-deed_in_range size question range = range
+deed_in_range size (Order k) range = range
+deed_in_range size (Extreme k) range = range
+deed_in_range size Hull range = range
+deed_in_range size Closest range = range
+deed_in_range size (Inside r) range = range
+deed_in_range size Live range = range
 
 -- ---- lines
 module _ (s : State) (canonical : IsCanonical s.moment.at) where

@@ -1,5 +1,5 @@
 -- Every number of a script is in its range.
-use Rattle.std.proofs.Common.{ℕ, ◌<◌, ◌≤◌, ◌-◌, ◌^◌, Bool, List, [], ◌∷◌, sym, subst, pos, unsigned_abs, pow_pos, arith}
+use Rattle.std.proofs.Common.{ℕ, ◌≤◌, Bool, List, [], ◌∷◌, sym, subst, pos, unsigned_abs, arith}
 use Rattle.std.specs.Prelude.{codes, All, ◌==◌}
 use Rattle.std.specs.List.{AllZip}
 use Rattle.std.specs.Str.{bytes_eq}
@@ -14,26 +14,17 @@ use Rattle.kin_script.specs.Lines.{Word}
 use Rattle.kin_script.specs.Left.{Numbered}
 use Rattle.kin_script.specs.Words.{side_at}
 use Rattle.kin_script.specs.Questions.{IsKeepInRange}
-use Rattle.kin_script.specs.Commands.{insert_of, quadratic_at, root_of, at_of, command_of, size_of, journal_of, header_line_of}
+use Rattle.kin_script.specs.Commands.{quadratic_at, root_of, at_of, command_of, size_of, journal_of, header_line_of}
 use Rattle.kin_script.specs.Grammar.{IsScript}
 use Rattle.kin_script.specs.Ranges.{IsRootInRange, IsCommandInRange, IsWithin}
 use Rattle.kin_script.specs.Written.{SaysHeaderLine, SaysCommand, keeps_of, worded_lines, IsWritten}
 use Rattle.kin_script.proofs.EachGiven.{Each, each_none, each_one, each_way, each_unless, each_last, each_map, each_then}
+use Rattle.kin_script.proofs.Changes.{insert_range, remove_range, replace_range, turn_range}
 use Rattle.kin_script.proofs.Questions.{keep_range, question_range, question_in_range}
 use Rattle.kin_script.proofs.Theorems.{scripts_are_written}
-use Rattle.kin_script.proofs.WordRanges.{IsRatio, ratio_range, natural_at_range, integer_at_range, some, motion_range}
+use Rattle.kin_script.proofs.WordRanges.{IsRatio, ratio_range, natural_at_range, integer_at_range, some}
 
 -- ---- commands
-insert_range : (size : ℕ) (ws : List Word) → Each (IsCommandInRange size) (insert_of size ws)
-unfolding insert_of
-insert_range size ws =
-    each_then _ _ _ _ (natural_at_range 0 (2 ^ size - 1) ws) (λ n h.
-    each_then _ _ _ _ (motion_range n.1) (λ m k.
-    each_last _ _ m.1 (below n.0 h.1, k)))
-  where
-    below : (n : ℕ) → n ≤ 2 ^ size - 1 → n < 2 ^ size
-    below n h = let some : 0 < 2 ^ size = pow_pos size in omega (arith, h, some)
-
 quadratic_range : (ws : List Word) → Each (λ q. IsRootInRange q.0.0 q.0.1 q.0.2) (quadratic_at ws)
 unfolding quadratic_at
 quadratic_range ws =
@@ -69,9 +60,12 @@ unfolding command_of
 command_range size [] = each_none _
 command_range size (name ∷ ws) =
     each_way _ _ _ _ (insert_range size ws)
+    (each_way _ _ _ _ (remove_range size ws)
+    (each_way _ _ _ _ (replace_range size ws)
+    (each_way _ _ _ _ (turn_range size ws)
     (each_way _ _ _ _ (at_range size ws)
     (each_way _ _ _ _ (each_last _ Next ws tt)
-    (λ c e. question_in_range size c (question_range name ws c e))))
+    (λ c e. question_in_range size c (question_range name ws c e)))))))
 
 -- ---- the header
 size_range : (ws : List Word) → Each (λ k. (1 ≤ k) × (k ≤ 12)) (size_of ws)

@@ -1,21 +1,15 @@
 -- What the words of a line say.
-use Rattle.std.specs.Prelude.{ℕ, ◌-◌, ◌^◌, ℤ, pos, Bool, true, false, List, [], ◌∷◌, Option, Some, None, option_map, codes, if◌then◌else◌, ◌==◌, unsigned_abs}
+use Rattle.std.specs.Prelude.{ℕ, ℤ, pos, Bool, true, false, List, [], ◌∷◌, Option, Some, None, option_map, codes, if◌then◌else◌, ◌==◌, unsigned_abs}
 use Rattle.std.specs.Str.{bytes_eq}
 use Rattle.kin_script.specs.declared.command.Command.{Command}
-use Rattle.kin_script.specs.declared.command.Command.TheVariants.{Insert, AtRatio, AtRoot, Next}
+use Rattle.kin_script.specs.declared.command.Command.TheVariants.{AtRatio, AtRoot, Next}
 use Rattle.kin_script.specs.declared.line.HeaderLine.{HeaderLine}
 use Rattle.kin_script.specs.declared.line.HeaderLine.TheVariants as header_line
+use Rattle.kin_script.specs.Changes.{insert_of, remove_of, replace_of, turn_of}
 use Rattle.kin_script.specs.Questions.{keep_of, question_of}
 use Rattle.kin_script.specs.Lines.{Word}
 use Rattle.kin_script.specs.Numbers.{◌>>=◌, ratio_of}
-use Rattle.kin_script.specs.Words.{natural_at, integer_at, motion_at, side_at, last}
-
--- insert N X Y U V
-unfoldable pub insert_of : ℕ → List Word → Option Command
-insert_of size ws = do
-  number ← natural_at 0 (2 ^ size - 1) ws
-  motion ← motion_at number.1
-  last (Insert number.0 motion.0) motion.1
+use Rattle.kin_script.specs.Words.{natural_at, integer_at, side_at, last}
 
 -- the coefficients A B C, with A not 0, and the words behind them
 unfoldable pub quadratic_at : List Word → Option ((ℤ × ℤ × ℤ) × List Word)
@@ -44,6 +38,9 @@ unfoldable pub command_of : ℕ → List Word → Option Command
 command_of size [] = None
 command_of size (name ∷ ws) =
     if bytes_eq name (codes "insert") then insert_of size ws
+    else if bytes_eq name (codes "remove") then remove_of size ws
+    else if bytes_eq name (codes "replace") then replace_of size ws
+    else if bytes_eq name (codes "turn") then turn_of size ws
     else if bytes_eq name (codes "at") then at_of ws
     else if bytes_eq name (codes "next") then last Next ws
     else question_of name ws

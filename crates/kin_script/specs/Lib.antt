@@ -4,6 +4,7 @@ pub mod Numbers
 pub mod Words
 pub mod States
 pub mod Questions
+pub mod Changes
 pub mod Commands
 pub mod Grammar
 pub mod Ranges

@@ -9,14 +9,17 @@ use Rattle.kin_num.specs.declared.instant.Phase.TheVariants.{At, After}
 use Rattle.kin_num.specs.declared.instant.Moment.{Moment}
 use Rattle.kin_num.specs.Canonical.{IsCanonical}
 use Rattle.kin_script.specs.declared.refusal.Refusal.{Refusal}
-use Rattle.kin_script.specs.declared.refusal.Refusal.TheVariants.{Taken, NotKept, NoRoot, Past}
+use Rattle.kin_script.specs.declared.refusal.Refusal.TheVariants.{NotKept, Taken, Absent, NoRoot, Past, NotWhole, OutOfBounds}
 
 -- the name of a refusal
 abbrev pub name_of : Refusal → List ℕ
-name_of Taken = codes "Taken"
 name_of NotKept = codes "NotKept"
+name_of Taken = codes "Taken"
+name_of Absent = codes "Absent"
 name_of NoRoot = codes "NoRoot"
 name_of Past = codes "Past"
+name_of NotWhole = codes "NotWhole"
+name_of OutOfBounds = codes "OutOfBounds"
 
 -- a fraction, as 7/3, or as 5 for 5/1
 abbrev pub ratio_text : ℤ → ℤ → List ℕ

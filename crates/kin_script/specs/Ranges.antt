@@ -5,9 +5,10 @@ use Rattle.kin_num.specs.Instants.{line}
 use Rattle.kin_motion.specs.Course.{IsSlow}
 use Rattle.kin_motion.specs.Keeps.{are_few}
 use Rattle.kin_script.specs.declared.command.Command.{Command}
-use Rattle.kin_script.specs.declared.command.Command.TheVariants.{Insert, AtRatio, AtRoot, Next}
+use Rattle.kin_script.specs.declared.command.Command.TheVariants.{Insert, Remove, Replace, Turn, AtRatio, AtRoot, Next}
 use Rattle.kin_script.specs.declared.script.Script.{Script}
-use Rattle.kin_script.specs.Deeds.{Deed, puts, goes_to, goes_on, asks}
+use Rattle.kin_script.specs.Changes.{IsSlowVelocity, IsChangeInRange}
+use Rattle.kin_script.specs.Deeds.{Deed, changes, goes_to, goes_on, asks}
 use Rattle.kin_script.specs.Questions.{IsKeepInRange, IsQuestionInRange}
 
 -- the numbers of a fraction as a script writes it, in lowest terms or not
@@ -27,6 +28,9 @@ pub record IsRootInRange (a b c : ℤ) : Type 0 where
 -- the numbers of a command, where the points have numbers below 2^size
 abbrev pub IsCommandInRange : ℕ → Command → Type 0
 IsCommandInRange size (Insert number motion) = (number < 2 ^ size) × IsSlow motion
+IsCommandInRange size (Remove number) = number < 2 ^ size
+IsCommandInRange size (Replace number motion) = (number < 2 ^ size) × IsSlow motion
+IsCommandInRange size (Turn number u v) = (number < 2 ^ size) × IsSlowVelocity u v
 IsCommandInRange size (AtRatio n d) = IsRatioInRange n d
 IsCommandInRange size (AtRoot a b c upper) = IsRootInRange a b c
 IsCommandInRange size Next = Unit {0}
@@ -38,7 +42,7 @@ IsAskedFor upper p = ((n : ℤ) × (d : ℤ) × IsRatioInRange n d × (p ≡ lin
 
 -- the numbers of what a command does
 abbrev pub IsDeedInRange : Deed → Type 0
-IsDeedInRange (puts number motion) = IsSlow motion
+IsDeedInRange (changes number change) = IsChangeInRange change
 IsDeedInRange (goes_to upper p) = IsAskedFor upper p
 IsDeedInRange goes_on = Unit {0}
 IsDeedInRange (asks question) = IsQuestionInRange question

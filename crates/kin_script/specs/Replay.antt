@@ -1,17 +1,18 @@
 -- The replay of a script: the motions and the moment after each command, and why a command is refused.
-use Rattle.std.specs.Prelude.{◌≡◌, ◌⊎◌, pos, ◌<ℤ◌, Bool, true, false, Some, IsTrue, slice_set}
+use Rattle.std.specs.Prelude.{◌≡◌, ◌⊎◌, ℕ, pos, ◌<ℤ◌, Bool, true, false, Option, slice_set}
 use Rattle.kin_algebra.specs.declared.sign.Sign.TheVariants.{Zero}
 use Rattle.kin_num.specs.declared.instant.Shape.{Shape}
 use Rattle.kin_num.specs.Quadratic.{Quadratic}
 use Rattle.kin_num.specs.Canonical.{IsCanonical, discriminant}
 use Rattle.kin_num.specs.Instants.{sign_at_instant}
 use Rattle.kin_num.specs.Order.{IsLess, IsEarlier}
-use Rattle.kin_motion.specs.Course.{is_live}
+use Rattle.kin_motion.specs.Course.{Course, motion_of}
 use Rattle.kin_motion.specs.Journal.{Block, IsNextBlock, NothingFails}
-use Rattle.kin_script.specs.Deeds.{Deed, puts, goes_to, goes_on, asks}
+use Rattle.kin_script.specs.Changes.{Change, IsRefusedChange, ChangesTo}
+use Rattle.kin_script.specs.Deeds.{Deed, changes, goes_to, goes_on, asks}
 use Rattle.kin_script.specs.Questions.{IsProvided}
 use Rattle.kin_script.specs.declared.refusal.Refusal.{Refusal}
-use Rattle.kin_script.specs.declared.refusal.Refusal.TheVariants.{Taken, NotKept, NoRoot, Past}
+use Rattle.kin_script.specs.declared.refusal.Refusal.TheVariants.{NotKept, NoRoot, Past}
 use Rattle.kin_script.specs.States.{State, at, state_setting}
 
 -- the polynomial is 0 at the instant
@@ -32,9 +33,9 @@ HasNoRoot p = discriminant p.a p.b p.c <ℤ pos 0
 abbrev pub IsPast : State → Bool → Quadratic → Type 0
 IsPast s upper p = (w : Shape) × IsNamedRoot upper p w × IsEarlier (at w) s.moment
 
--- why a deed is refused: a live number is put, there is no such root, its moment is past, or what is asked for is not kept
+-- why a deed is refused: a number can't be changed so, there is no such root, its moment is past, or what is asked for is not kept
 abbrev pub IsRefused : State → Deed → Refusal → Type 0
-IsRefused s (puts number m) r = (r ≡ Taken) × IsTrue (is_live s.motions number)
+IsRefused s (changes number change) r = IsRefusedChange s.moment (motion_of s.motions number) change r
 IsRefused s (goes_to upper p) r = ((r ≡ NoRoot) × HasNoRoot p) ⊎ ((r ≡ Past) × IsPast s upper p)
 IsRefused s goes_on r = ⊥
 IsRefused s (asks q) r = (r ≡ NotKept) × ¬ (IsProvided s q)
@@ -48,9 +49,13 @@ abbrev pub LeadsToNext : State → State → Type 0
 LeadsToNext s t = ((b : Block) × IsNextBlock (state_setting s) s.moment b × (t ≡ record s { moment = b.moment }))
     ⊎ (NothingFails (state_setting s) s.moment × (t ≡ s))
 
+-- the number has the motion that it changes to, or none, and all others have theirs
+abbrev pub LeadsToChanged : State → ℕ → Change → State → Type 0
+LeadsToChanged s number change t = (next : Option Course) × ChangesTo s.moment (motion_of s.motions number) change next × (t ≡ record s { motions = slice_set s.motions number next })
+
 -- the state after a deed that is not refused
 abbrev pub LeadsTo : State → Deed → State → Type 0
-LeadsTo s (puts number m) t = t ≡ record s { motions = slice_set s.motions number (Some m) }
+LeadsTo s (changes number change) t = LeadsToChanged s number change t
 LeadsTo s (goes_to upper p) t = (w : Shape) × IsNamedRoot upper p w × (t ≡ record s { moment = at w })
 LeadsTo s goes_on t = LeadsToNext s t
 LeadsTo s (asks q) t = t ≡ s

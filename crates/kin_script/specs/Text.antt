@@ -5,7 +5,7 @@ use Rattle.kin_num.specs.declared.instant.Shape.{Shape}
 use Rattle.kin_motion.specs.Journal.{Block, IsNextBlock, IsJournal, NothingFails}
 use Rattle.kin_script.specs.declared.command.Command.{Command}
 use Rattle.kin_script.specs.declared.refusal.Refusal.{Refusal}
-use Rattle.kin_script.specs.Deeds.{Deed, puts, goes_to, goes_on, asks, deed_of}
+use Rattle.kin_script.specs.Deeds.{Deed, changes, goes_to, goes_on, asks, deed_of}
 use Rattle.kin_script.specs.Questions.{IsReplyLine}
 use Rattle.kin_script.specs.Printed.{name_of}
 use Rattle.kin_script.specs.PrintedJournal.{block_lines, journal_lines, now_line, none_line}
@@ -32,7 +32,7 @@ IsNextText s text = ((b : Block) × IsNextBlock (state_setting s) s.moment b × 
 
 -- what a deed that is not refused prints
 abbrev pub Prints : State → Deed → List ℕ → Type 0
-Prints s (puts number m) text = text ≡ []
+Prints s (changes number change) text = text ≡ []
 Prints s (goes_to upper p) text = (w : Shape) × IsNamedRoot upper p w × IsPassedText s.journal s w text
 Prints s goes_on text = IsNextText s text
 Prints s (asks q) text = IsReplyLine s q text

@@ -1,5 +1,5 @@
 -- What is read from the front of the words of a line.
-use Rattle.std.specs.Prelude.{ℕ, ◌+◌, ℤ, unsigned_abs, Bool, true, false, ◌==◌, List, [], ◌∷◌, Option, Some, None, codes, if◌then◌else◌}
+use Rattle.std.specs.Prelude.{ℕ, ◌+◌, ◌-◌, ◌^◌, ℤ, unsigned_abs, Bool, true, false, ◌==◌, List, [], ◌∷◌, Option, Some, None, codes, if◌then◌else◌}
 use Rattle.std.specs.Str.{bytes_eq}
 use Rattle.kin_motion.specs.Course.{Course}
 use Rattle.kin_script.specs.Lines.{Word, is_nil}
@@ -18,6 +18,10 @@ integer_at far (w ∷ ws) = integer_of far w >>= λ z. Some (z, ws)
 abbrev pub last : {A : Type 0} → A → List Word → Option A
 last x ws = if is_nil ws then Some x else None
 
+-- the number of a point, which the size bounds, and the words behind it
+unfoldable pub number_at : ℕ → List Word → Option (ℕ × List Word)
+number_at size ws = natural_at 0 (2 ^ size - 1) ws
+
 -- four numbers as a motion, and the words behind them
 unfoldable pub motion_at : List Word → Option (Course × List Word)
 motion_at ws = do
@@ -26,6 +30,13 @@ motion_at ws = do
   u ← integer_at 4096 y.1
   v ← integer_at 4096 u.1
   Some (record { x = x.0; y = y.0; u = u.0; v = v.0 }, v.1)
+
+-- two numbers as a velocity, and the words behind them
+unfoldable pub velocity_at : List Word → Option ((ℤ × ℤ) × List Word)
+velocity_at ws = do
+  u ← integer_at 4096 ws
+  v ← integer_at 4096 u.1
+  Some ((u.0, v.0), v.1)
 
 -- lo or hi, and the words behind it: whether the greater root is meant
 unfoldable pub side_at : List Word → Option (Bool × List Word)

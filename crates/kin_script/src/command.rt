@@ -7,6 +7,12 @@ use kin_motion::{Motion, Rect};
 pub enum Command {
     /// A point of this number starts, with this motion.
     Insert { no: u32, m: Motion },
+    /// The point of this number leaves.
+    Remove { no: u32 },
+    /// The point of this number starts anew, with this motion.
+    Replace { no: u32, m: Motion },
+    /// The point of this number goes on from where it is, with this velocity.
+    Turn { no: u32, u: i32, v: i32 },
     /// Time goes to `n/d`, as it is written, in lowest terms or not.
     AtRatio { n: i64, d: i64 },
     /// Time goes to the greater (`upper`) or the lesser root of `a*t^2 + b*t + c`, as it is written.

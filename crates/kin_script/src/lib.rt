@@ -8,6 +8,7 @@
 
 pub use command::Command;
 pub use generated::generate;
+pub use number::numeral;
 pub use read::ReadError;
 pub use refusal::Refusal;
 pub use script::{Commands, Keeps, Script};
@@ -21,4 +22,6 @@ mod number;
 pub mod read;
 pub mod refusal;
 pub mod script;
+#[cfg(test)]
+mod tests;
 mod words;

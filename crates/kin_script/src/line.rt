@@ -2,7 +2,8 @@
 
 ghost use Rattle.std.specs.Prelude.{◌≡◌, ◌≤◌, IfSome, option_map};
 ghost use Rattle.kin_script.specs.declared.command.Command.TheVariants.{AtRoot};
-ghost use Rattle.kin_script.specs.Commands.{insert_of, quadratic_at, root_of, at_of, command_of, size_of, journal_of, header_line_of};
+ghost use Rattle.kin_script.specs.Changes.{insert_of, remove_of, replace_of, turn_of};
+ghost use Rattle.kin_script.specs.Commands.{quadratic_at, root_of, at_of, command_of, size_of, journal_of, header_line_of};
 ghost use Rattle.kin_script.specs.Questions.{keep_of, order_of, extreme_of, box_of, question_of};
 ghost use Rattle.kin_script.specs.Words.{direction_at};
 
@@ -18,15 +19,50 @@ pub enum HeaderLine {
 }
 
 /// What follows the word `insert`: a number and its motion.
-#[tactic(auto, unfolding(crate::specs::Commands::insert_of))]
+#[tactic(auto, unfolding(crate::specs::Changes::insert_of))]
 fn insert(size: u32, words: &mut Words<'_>) -> Option<Command>
     requires low { 1 ≤ size }
     requires high { size ≤ 12 }
     ensures { result ≡ insert_of size words.old }
 {
-    let no = words.natural(0, (1 << size) - 1)?;
+    let no = words.number(size)?;
     let m = words.motion()?;
     words.last(Command::Insert { no, m })
+}
+
+/// What follows the word `remove`: a number.
+#[tactic(auto, unfolding(crate::specs::Changes::remove_of))]
+fn remove(size: u32, words: &mut Words<'_>) -> Option<Command>
+    requires low { 1 ≤ size }
+    requires high { size ≤ 12 }
+    ensures { result ≡ remove_of size words.old }
+{
+    let no = words.number(size)?;
+    words.last(Command::Remove { no })
+}
+
+/// What follows the word `replace`: a number and its new motion.
+#[tactic(auto, unfolding(crate::specs::Changes::replace_of))]
+fn replace(size: u32, words: &mut Words<'_>) -> Option<Command>
+    requires low { 1 ≤ size }
+    requires high { size ≤ 12 }
+    ensures { result ≡ replace_of size words.old }
+{
+    let no = words.number(size)?;
+    let m = words.motion()?;
+    words.last(Command::Replace { no, m })
+}
+
+/// What follows the word `turn`: a number and its new velocity.
+#[tactic(auto, unfolding(crate::specs::Changes::turn_of))]
+fn turn(size: u32, words: &mut Words<'_>) -> Option<Command>
+    requires low { 1 ≤ size }
+    requires high { size ≤ 12 }
+    ensures { result ≡ turn_of size words.old }
+{
+    let no = words.number(size)?;
+    let (u, v) = words.velocity()?;
+    words.last(Command::Turn { no, u, v })
 }
 
 /// Three coefficients, of which the first is not 0.
@@ -144,6 +180,12 @@ pub fn command_of(size: u32, mut words: Words<'_>) -> Option<Command>
     let name = words.next()?;
     if name == b"insert".as_slice() {
         insert(size, &mut words)
+    } else if name == b"remove".as_slice() {
+        remove(size, &mut words)
+    } else if name == b"replace".as_slice() {
+        replace(size, &mut words)
+    } else if name == b"turn".as_slice() {
+        turn(size, &mut words)
     } else if name == b"at".as_slice() {
         at(&mut words)
     } else if name == b"next".as_slice() {

@@ -9,7 +9,7 @@ use crate::words::place;
 const RATIO_LIMIT: u32 = i32::MAX as u32;
 
 /// The number that one or more digits write, where it is at most this.
-fn numeral(word: &[u8], most: u32) -> Option<u32>
+pub fn numeral(word: &[u8], most: u32) -> Option<u32>
     ensures value { result ≡ up_to most (numeral_of word.now) }
     ensures small { IfSome result (λ n. n ≤ most) }
 {

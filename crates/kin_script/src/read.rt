@@ -264,7 +264,7 @@ mod tests {
 
     #[test]
     fn ranges_end_where_they_should(rt: HostRuntime) -> Result<(), Fail> {
-        let table: [(&[u8], u32); 89] = [
+        let table: [(&[u8], u32); 86] = [
             (b"", 1),
             (b"\n", 2),
             (b"# only words in a comment\n\n", 3),
@@ -351,9 +351,6 @@ mod tests {
             (b"size 1\nlive", 0),
             (b"size 1\nlive 0", 2),
             (b"size 1\nextreme 32", 2),
-            (b"size 1\nremove 0", 2),
-            (b"size 1\nreplace 0 0 0 0 0", 2),
-            (b"size 1\nturn 0 0 0", 2),
         ];
         for (bytes, line) in table {
             assert_eq!(rt; first_outside(rt.alloc(), bytes)?, line, "at {line}");

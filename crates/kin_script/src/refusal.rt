@@ -6,14 +6,21 @@ ghost use Rattle.kin_script.specs.Printed.{name_of};
 /// The cause for which a run ends at a command.
 #[derive(Clone, Copy, Debug, PartialEq, Eq)]
 pub enum Refusal {
-    /// A point of this number is there already.
-    Taken,
     /// No such structure is kept.
     NotKept,
+    /// A point of this number is there already.
+    Taken,
+    /// No point of this number is there.
+    Absent,
     /// The quadratic has no real root.
     NoRoot,
     /// The asked moment is before now.
     Past,
+    /// No motion with whole numbers and the asked velocity is at the point's place, or the moment
+    /// is just after an instant.
+    NotWhole,
+    /// There is one, but one of its numbers isn't in -4096..4096.
+    OutOfBounds,
 }
 
 impl Refusal {
@@ -22,10 +29,13 @@ impl Refusal {
         ensures { result.now ≡ name_of self }
     {
         match self {
-            Refusal::Taken => "Taken",
             Refusal::NotKept => "NotKept",
+            Refusal::Taken => "Taken",
+            Refusal::Absent => "Absent",
             Refusal::NoRoot => "NoRoot",
             Refusal::Past => "Past",
+            Refusal::NotWhole => "NotWhole",
+            Refusal::OutOfBounds => "OutOfBounds",
         }
     }
 }

@@ -3,7 +3,7 @@
 ghost use Rattle.std.specs.Prelude.{◌≡◌, ◌<◌, ◌≤◌, ◌^◌, ◌∷◌, [], length, position, slice_index, false, ◌==◌, MatchOption, IfSome, option_map, unsigned_abs};
 ghost use Rattle.kin_motion.specs.Course.{IsSlow};
 ghost use Rattle.kin_script.specs.Lines.{is_blank, pieces_of, words_of, is_nil};
-ghost use Rattle.kin_script.specs.Words.{natural_at, integer_at, side_at, motion_at, last};
+ghost use Rattle.kin_script.specs.Words.{natural_at, number_at, integer_at, side_at, motion_at, velocity_at, last};
 
 use crate::number;
 use kin_motion::Motion;
@@ -75,6 +75,16 @@ impl<'a> Words<'a> {
         number::natural(self.next()?, low, high)
     }
 
+    /// The next word as the number of a point.
+    #[tactic(auto, unfolding(crate::specs::Words::number_at))]
+    pub fn number(&mut self, size: u32) -> Option<u32>
+        requires low { 1 ≤ size }
+        requires high { size ≤ 12 }
+        ensures { option_map (λ n. (n, self.new)) result ≡ number_at size self.old }
+    {
+        self.natural(0, (1 << size) - 1)
+    }
+
     /// The next word as a number at most `far` from 0.
     #[tactic(auto, unfolding(crate::specs::Words::integer_at))]
     pub fn integer(&mut self, far: u32) -> Option<i32>
@@ -111,6 +121,16 @@ impl<'a> Words<'a> {
         let u = self.integer(4096)?;
         let v = self.integer(4096)?;
         Some(Motion::new(x, y, u, v))
+    }
+
+    /// The next two words as a velocity.
+    #[tactic(auto, unfolding(crate::specs::Words::velocity_at))]
+    pub fn velocity(&mut self) -> Option<(i32, i32)>
+        ensures { option_map (λ w. (w, self.new)) result ≡ velocity_at self.old }
+    {
+        let u = self.integer(4096)?;
+        let v = self.integer(4096)?;
+        Some((u, v))
     }
 }
 

@@ -1,0 +1,95 @@
+-- The table of the proofs of what changes the points: numbers are in range, and a change has one cause of refusal or one outcome at most.
+use Rattle.std.proofs.Common.{◌≡◌, inl, inr, ℕ, ◌<◌, ◌≤◌, ◌-◌, ◌^◌, true, false, ℤ, List, Option, Some, sym, ap, ◌∙◌, subst, pow_pos, arith}
+use Rattle.std.specs.Prelude.{is_some, IsFalse}
+use Rattle.std.proofs.lemmas.Option.{same_Some}
+use Rattle.kin_num.specs.declared.instant.Moment.{Moment}
+use Rattle.kin_num.specs.declared.instant.Phase.TheVariants.{At, After}
+use Rattle.kin_num.specs.Canonical.{IsCanonical}
+use Rattle.kin_motion.specs.Course.{Course}
+use Rattle.kin_motion.specs.Turning.{IsNotWhole, IsOutOfBounds}
+use Rattle.kin_motion.proofs.TurningLaws.{one_turn}
+use Rattle.kin_script.specs.declared.refusal.Refusal.{Refusal}
+use Rattle.kin_script.specs.Changes.{Change, enters, leaves, restarts, turns, insert_of, remove_of, replace_of, turn_of, IsSlowVelocity, IsRefusedTurn, IsRefusedChange, IsTurned, ChangesTo}
+use Rattle.kin_script.specs.Lines.{Word}
+use Rattle.kin_script.specs.Ranges.{IsCommandInRange}
+use Rattle.kin_script.specs.Words.{number_at, velocity_at}
+use Rattle.kin_script.proofs.EachGiven.{Each, each_one, each_last, each_then}
+use Rattle.kin_script.proofs.WordRanges.{natural_at_range, integer_at_range, motion_range}
+
+-- ---- its numbers
+number_range : (size : ℕ) (ws : List Word) → Each (λ n. n.0 < 2 ^ size) (number_at size ws)
+unfolding number_at
+number_range size ws n e = below n.0 (natural_at_range 0 (2 ^ size - 1) ws n e).1
+  where
+    below : (n : ℕ) → n ≤ 2 ^ size - 1 → n < 2 ^ size
+    below n h = let some : 0 < 2 ^ size = pow_pos size in omega (arith, h, some)
+
+velocity_range : (ws : List Word) → Each (λ w. IsSlowVelocity w.0.0 w.0.1) (velocity_at ws)
+unfolding velocity_at
+velocity_range ws =
+    each_then _ _ _ _ (integer_at_range 4096 ws) (λ u hu.
+    each_then _ _ _ _ (integer_at_range 4096 u.1) (λ v hv.
+    each_one _ _ (record { u_small = hu; v_small = hv })))
+
+pub insert_range : (size : ℕ) (ws : List Word) → Each (IsCommandInRange size) (insert_of size ws)
+unfolding insert_of
+insert_range size ws =
+    each_then _ _ _ _ (number_range size ws) (λ n h.
+    each_then _ _ _ _ (motion_range n.1) (λ m k.
+    each_last _ _ m.1 (h, k)))
+
+pub remove_range : (size : ℕ) (ws : List Word) → Each (IsCommandInRange size) (remove_of size ws)
+unfolding remove_of
+remove_range size ws = each_then _ _ _ _ (number_range size ws) (λ n h. each_last _ _ n.1 h)
+
+pub replace_range : (size : ℕ) (ws : List Word) → Each (IsCommandInRange size) (replace_of size ws)
+unfolding replace_of
+replace_range size ws =
+    each_then _ _ _ _ (number_range size ws) (λ n h.
+    each_then _ _ _ _ (motion_range n.1) (λ m k.
+    each_last _ _ m.1 (h, k)))
+
+pub turn_range : (size : ℕ) (ws : List Word) → Each (IsCommandInRange size) (turn_of size ws)
+unfolding turn_of
+turn_range size ws =
+    each_then _ _ _ _ (number_range size ws) (λ n h.
+    each_then _ _ _ _ (velocity_range n.1) (λ w k.
+    each_last _ _ w.1 (h, k)))
+
+-- ---- one cause
+not_both : (m : Moment) (u v : ℤ) (old : Course) → IsNotWhole m u v old → IsOutOfBounds m u v old → ⊥
+not_both m u v old (inl after) out = absurd (let clash : At ≡ After = sym out.0 ∙ after in cc)
+not_both m u v old (inr none) out = none out.1.0 out.1.1
+
+one_refused_turn : (m : Moment) (u v : ℤ) (old : Course) (r q : Refusal) → IsRefusedTurn m u v old r → IsRefusedTurn m u v old q → r ≡ q
+one_refused_turn m u v old r q (inl a) (inl b) = a.0 ∙ sym b.0
+one_refused_turn m u v old r q (inl a) (inr b) = absurd (not_both m u v old a.1 b.1)
+one_refused_turn m u v old r q (inr a) (inl b) = absurd (not_both m u v old b.1 a.1)
+one_refused_turn m u v old r q (inr a) (inr b) = a.0 ∙ sym b.0
+
+live_not_absent : (now : Option Course) (old : Course) → now ≡ Some old → IsFalse (is_some now) → ⊥
+live_not_absent now old is absent = let clash : true ≡ false = ap is_some (sym is) ∙ absent in cc
+
+pub one_refused_change : (m : Moment) (now : Option Course) (c : Change) (r q : Refusal) → IsRefusedChange m now c r → IsRefusedChange m now c q → r ≡ q
+one_refused_change m now (enters motion) r q x y = x.0 ∙ sym y.0
+one_refused_change m now leaves r q x y = x.0 ∙ sym y.0
+one_refused_change m now (restarts motion) r q x y = x.0 ∙ sym y.0
+one_refused_change m now (turns u v) r q (inl x) (inl y) = x.0 ∙ sym y.0
+one_refused_change m now (turns u v) r q (inl x) (inr y) = absurd (live_not_absent now y.0 y.1 x.1)
+one_refused_change m now (turns u v) r q (inr x) (inl y) = absurd (live_not_absent now x.0 x.1 y.1)
+one_refused_change m now (turns u v) r q (inr x) (inr y) =
+    let same = same_Some x.0 y.0 (sym x.1 ∙ y.1) in
+    one_refused_turn m u v y.0 r q (subst (λ (old : Course). IsRefusedTurn m u v old r) same x.2) y.2
+
+-- ---- one outcome
+turned_once : (m : Moment) (u v : ℤ) (now a b : Option Course) → IsCanonical m.at → IsTurned m u v now a → IsTurned m u v now b → a ≡ b
+turned_once m u v now a b canonical s t =
+    let same = same_Some s.old t.old (sym s.was ∙ t.was) in
+    let new = one_turn m.at u v t.old s.new t.new canonical (rw same at s.same_place) t.same_place in
+    s.is ∙ ap (λ (c : Course). Some c) new ∙ sym t.is
+
+pub one_change : (m : Moment) (now : Option Course) (c : Change) (a b : Option Course) → IsCanonical m.at → ChangesTo m now c a → ChangesTo m now c b → a ≡ b
+one_change m now (enters motion) a b canonical x y = x ∙ sym y
+one_change m now leaves a b canonical x y = x ∙ sym y
+one_change m now (restarts motion) a b canonical x y = x ∙ sym y
+one_change m now (turns u v) a b canonical x y = turned_once m u v now a b canonical x y
