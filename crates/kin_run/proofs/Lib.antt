@@ -11,5 +11,12 @@ pub mod Replying
 pub mod Playing
 pub mod OneText
 pub mod AskedInstants
+pub mod ChangeExistence
+pub mod Changing
 pub mod StepExistence
 pub mod TextExistence
+pub mod Tallying
+pub mod Counting
+pub mod InTurn
+pub mod Generated
+pub mod DemoExistence

@@ -1,5 +1,5 @@
 -- One turn of the loop that passes the failures up to an instant.
-use Rattle.std.proofs.Common.{◌≡◌, ℕ, Bool, List, [], ◌∷◌, ◌++◌, Option, Some, None, is_some, refl, sym, ap, ◌∙◌, subst, true, false}
+use Rattle.std.proofs.Common.{◌≡◌, ℕ, Bool, List, [], ◌∷◌, ◌++◌, Option, Some, None, refl, sym, ap, ◌∙◌, subst, true, false}
 use Rattle.std.proofs.lemmas.List.{append-nil}
 use Rattle.kin_io.specs.Ends.{AppendsFront}
 use Rattle.kin_num.specs.declared.instant.Moment.{Moment}
@@ -95,9 +95,9 @@ module _ {journal : Bool} {start : World} {w : Shape} {now : World} {p q : Print
       record { text = on.printed.text; gained = on.printed.gained; is = subst (IsPassedText journal S w) (sym a.2) (is_text journal S w a.0 whole) }
 
   -- a step that lists nothing and held some failures
-  pub quiet_turn : journal ≡ false → (new : World) (count : Option ℕ) → is_some count ≡ true → (block : Option Block) × HasStepped (at w) block now new × (count ≡ failure_count block)
+  pub quiet_turn : journal ≡ false → (new : World) (count : Option ℕ) (failures : ℕ) → count ≡ Some failures → (block : Option Block) × HasStepped (at w) block now new × (count ≡ failure_count block)
       → IsOnTheWay journal start w new p q × IsWhole new
-  quiet_turn off new count some (None, h, e) = let both : true ≡ false = sym some ∙ ap is_some e in absurd cc
-  quiet_turn off new count some (Some block, h, e) =
+  quiet_turn off new count failures some (None, h, e) = let both : Some failures ≡ None = sym some ∙ e in absurd cc
+  quiet_turn off new count failures some (Some block, h, e) =
       let put : q.gathered ≡ q.gathered ++ printed_if journal block = sym (append-nil q.gathered) ∙ ap (λ (b : Bool). q.gathered ++ printed_if b block) (sym off) in
       (goes_on h q.gathered put (gains_nothing q), h.whole)

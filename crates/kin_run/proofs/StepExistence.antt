@@ -1,27 +1,29 @@
 -- Every deed in its range is refused, or prints a text and leads to a state that is as sound.
-use Rattle.std.proofs.Common.{◌≡◌, ◌⊎◌, inl, inr, ℕ, Bool, true, false, List, [], Some, refl, sym, ◌∙◌, length-set}
+use Rattle.std.proofs.Common.{◌≡◌, ◌⊎◌, inl, inr, ℕ, Bool, true, false, List, [], Option, Some, None, refl, ◌∙◌, length-set}
 use Rattle.std.specs.Prelude.{slice_set}
 use Rattle.kin_num.specs.declared.instant.Shape.{Shape}
 use Rattle.kin_num.specs.Canonical.{IsCanonical}
 use Rattle.kin_num.specs.Order.{IsEarlier}
-use Rattle.kin_motion.specs.Course.{Course, IsSlow, is_live}
+use Rattle.kin_motion.specs.Course.{Course, AreSlow, motion_of}
 use Rattle.kin_motion.specs.Journal.{Block, IsNextBlock, NothingFails}
-use Rattle.kin_motion.proofs.MotionLaws.{slow-set}
+use Rattle.kin_motion.proofs.MotionLaws.{slow-set, slow-clear}
 use Rattle.kin_motion.proofs.MotionScenes.{live_fits}
 use Rattle.kin_cert.specs.Laws.{IsProper}
 use Rattle.kin_cert.proofs.JournalExistence.{earlier_or_not, next_blocks_exist, journals_exist}
 use Rattle.kin_script.specs.declared.refusal.Refusal.{Refusal}
-use Rattle.kin_script.specs.declared.refusal.Refusal.TheVariants.{Taken, NotKept, NoRoot, Past}
+use Rattle.kin_script.specs.declared.refusal.Refusal.TheVariants.{NotKept, NoRoot, Past}
 use Rattle.kin_script.specs.PrintedJournal.{journal_lines}
 use Rattle.kin_script.specs.Ranges.{IsDeedInRange}
 use Rattle.kin_num.specs.Quadratic.{Quadratic}
 use Rattle.kin_script.specs.declared.command.Command.{Command}
-use Rattle.kin_script.specs.Deeds.{Deed, puts, goes_to, goes_on, asks}
+use Rattle.kin_script.specs.Changes.{Change}
+use Rattle.kin_script.specs.Deeds.{Deed, changes, goes_to, goes_on, asks}
 use Rattle.kin_script.specs.Replay.{IsNamedRoot, HasNoRoot, IsRefused, IsAllowed, LeadsTo}
 use Rattle.kin_script.specs.States.{State, at, state_setting}
 use Rattle.kin_script.specs.Text.{IsPassedText, Prints}
 use Rattle.kin_script.proofs.Questions.{HasLine, has_line}
 use Rattle.kin_run.proofs.AskedInstants.{root_asked}
+use Rattle.kin_run.proofs.ChangeExistence.{IsSlowIfSome, IsDecided, change_decided}
 use Rattle.kin_run.proofs.Commands.{goes_allowed}
 use Rattle.kin_run.proofs.NamedRoots.{named_canonical}
 
@@ -46,27 +48,28 @@ Ends s d = ((r : Refusal) × IsRefused s d r) ⊎ Steps s d
 
 module _ (s : State) (sound : IsSound s) where
   -- ---- motions
-  puts_ends : (number : ℕ) (m : Course) → IsSlow m → Ends s (puts number m)
-  puts_ends number m slow = by_live (is_live s.motions number) refl
-    where
-      by_live : (b : Bool) → is_live s.motions number ≡ b → Ends s (puts number m)
-      by_live true e = inl (Taken, (refl, e))
-      by_live false e = inr (record {
-        text = [];
-        next = record s { motions = slice_set s.motions number (Some m) };
-        allowed = λ r h. absurd (let clash : false ≡ true = sym e ∙ h.1 in cc);
-        prints = refl;
-        leads = refl;
-        sound = record {
-          proper = record {
-            slow = slow-set s.motions number m sound.proper.slow slow;
-            slots = length-set s.motions number (Some m) ∙ sound.proper.slots;
-            small = sound.proper.small;
-          };
-          canonical = sound.canonical;
-        };
-        size = refl;
-      })
+  slow_after : (number : ℕ) (next : Option Course) → IsSlowIfSome next → AreSlow (slice_set s.motions number next)
+  slow_after number (Some c) slow = slow-set s.motions number c sound.proper.slow (slow c refl)
+  slow_after number None slow = slow-clear s.motions number sound.proper.slow
+
+  changes_end : (number : ℕ) (c : Change) → IsDecided s.moment (motion_of s.motions number) c → Ends s (changes number c)
+  changes_end number c (inl refused) = inl refused
+  changes_end number c (inr out) = inr (record {
+    text = [];
+    next = record s { motions = slice_set s.motions number out.next };
+    allowed = out.allowed;
+    prints = refl;
+    leads = (out.next, out.changes, refl);
+    sound = record {
+      proper = record {
+        slow = slow_after number out.next out.slow;
+        slots = length-set s.motions number out.next ∙ sound.proper.slots;
+        small = sound.proper.small;
+      };
+      canonical = sound.canonical;
+    };
+    size = refl;
+  })
 
   -- ---- instants
   passed_text : (journal : Bool) (w : Shape) → IsCanonical w → ¬ (IsEarlier (at w) s.moment) → (text : List ℕ) × IsPassedText journal s w text
@@ -115,7 +118,7 @@ module _ (s : State) (sound : IsSound s) where
 
   -- ---- one row for each deed
   pub deed_ends : (d : Deed) → IsDeedInRange d → Ends s d
-  deed_ends (puts number m) range = puts_ends number m range
+  deed_ends (changes number c) range = changes_end number c (change_decided s.moment sound.canonical (motion_of s.motions number) c range)
   deed_ends (goes_to upper p) range = goes_ends upper p (root_asked upper p range)
   deed_ends goes_on range = goes_on_ends (next_blocks_exist s.motions s.size s.keeps s.moment sound.proper sound.canonical)
   deed_ends (asks q) range = reply_ends q (has_line s sound.canonical (live_fits s.size s.motions s.moment sound.proper.slots) q)

@@ -25,7 +25,7 @@ use Rattle.kin_run.proofs.StepExistence.{IsSound, Ends, deed_ends}
 abbrev HasText : State → List Line → Type 0
 HasText s cs = (text : List ℕ) × (ending : Ending) × Text s cs text ending
 
-text_exists : (cs : List Line) (s : State) → IsSound s → All (λ c. IsCommandInRange s.size c.1) cs → HasText s cs
+pub text_exists : (cs : List Line) (s : State) → IsSound s → All (λ c. IsCommandInRange s.size c.1) cs → HasText s cs
 text_exists [] s sound range = ([], None, (refl, refl))
 text_exists (c ∷ cs) s sound range = by_end (deed_ends s sound (deed_of c.1) (deed_in_range s.size c.1 (All-head (λ d. IsCommandInRange s.size d.1) c cs range))) (text_exists cs)
   where
@@ -44,7 +44,7 @@ none_moves zero i = refl
 none_moves (suc n) zero = refl
 none_moves (suc n) (suc i) = none_moves n i
 
-start_sound : (s : Script) → IsWithin s → IsSound (start s.size s.keeps s.journal)
+pub start_sound : (s : Script) → IsWithin s → IsSound (start s.size s.keeps s.journal)
 start_sound s within = record {
   proper = record {
     slow = record { each = λ i c e. absurd (let none = none_moves (2 ^ s.size) i in cc) };

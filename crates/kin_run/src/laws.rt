@@ -1,5 +1,6 @@
 //! The laws of the text.
 
+ghost use Rattle.kin_run.specs.Demo.{DemoTextsExist, OneDemoText};
 ghost use Rattle.kin_run.specs.Headline.{OneAnswer, TextsExist};
 
 /// An input has one text, and one status with it.
@@ -11,4 +12,14 @@ pub fn one_answer()
 /// one that exists.
 pub fn texts_exist()
     ensures { TextsExist }
+{}
+
+/// Each seed has a text with each count of 1..1024.
+pub fn demo_texts_exist()
+    ensures { DemoTextsExist }
+{}
+
+/// A seed and a count have no two texts.
+pub fn one_demo_text()
+    ensures { OneDemoText }
 {}

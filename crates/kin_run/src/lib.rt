@@ -9,6 +9,8 @@
 pub use kin_script::refusal::Refusal;
 
 mod asked;
+mod change;
+mod demo;
 mod kept;
 pub mod laws;
 mod next;
@@ -18,9 +20,11 @@ mod play;
 mod reply;
 pub mod run;
 pub mod status;
+mod tally;
 #[cfg(test)]
 mod tests;
 mod text;
+pub mod words;
 #[cfg(test)]
 mod worked;
 mod write;

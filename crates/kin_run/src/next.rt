@@ -6,10 +6,13 @@ ghost use Rattle.kin_script.specs.PrintedJournal.{now_line};
 ghost use Rattle.kin_script.specs.Replay.{LeadsToNext};
 ghost use Rattle.kin_script.specs.Text.{IsNextText};
 ghost use Rattle.kin_world.specs.Worlds.{IsWhole};
+ghost use Rattle.kin_run.specs.Passed.{IsNextIfAny};
 ghost use Rattle.kin_run.specs.Performed.{PutsLine};
 ghost use Rattle.kin_run.specs.States.{state_of, printed_if};
+ghost use Rattle.kin_run.specs.Tallies.{HasTallied};
 
-use crate::pass::put_if_on;
+use crate::pass::{count_of, put_if_on};
+use crate::tally::Tally;
 use kin_cert::Block;
 use kin_num::{Moment, NoMemory, Steps};
 use kin_print::{put_bytes, put_moment};
@@ -36,23 +39,28 @@ fn put_passed(out: &mut Vec<u8>, journal: bool, block: &Block) -> Result<(), NoM
 }
 
 /// Moves to the next failures, and appends them where the journal is on, and then the line with
-/// their moment. Where nothing ever fails, appends the word `none`.
+/// their moment. Where nothing ever fails, appends the word `none`. What was passed is counted.
 pub fn put_next<L: Ledger>(
     world: &mut World,
     journal: bool,
     out: &mut Vec<u8>,
     steps: &mut Steps<L>,
+    tally: &mut Tally,
 ) -> Result<(), NoMemory>
     requires whole { IsWhole world.old }
     ensures line { PutsLine (IsNextText (state_of journal world.old)) result out.old.items out.new.items }
     ensures leads { OnOk result (LeadsToNext (state_of journal world.old) (state_of journal world.new)) }
+    ensures tallied { OnOk result (HasTallied (IsNextIfAny (state_of journal world.old)) tally.old tally.new) }
     ensures whole { OnOk result (IsWhole world.new) }
 {
     let Some(moment) = world.next() else {
         return put_bytes(out, b"none\n");
     };
     match world.step(&moment, steps)? {
-        Some(block) => put_passed(out, journal, &block),
+        Some(block) => {
+            tally.count(count_of(&block));
+            put_passed(out, journal, &block)
+        }
         None => unreachable!(),
     }
 }

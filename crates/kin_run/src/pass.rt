@@ -1,19 +1,22 @@
 //! The failures on the way to an instant, each block written before the next is computed.
 
-ghost use Rattle.std.specs.Prelude.{◌≡◌, ◌≤◌, ◌++◌, OnOk, OnErr, IsErrOf};
+ghost use Rattle.std.specs.Prelude.{◌≡◌, ◌≤◌, ◌++◌, length, OnOk, OnErr, IsErrOf};
 ghost use Rattle.kin_io.specs.Causes.{Rose};
 ghost use Rattle.kin_num.specs.Canonical.{IsCanonical};
 ghost use Rattle.kin_num.specs.Order.{IsEarlier};
 ghost use Rattle.kin_script.specs.Printed.{PutsFront};
 ghost use Rattle.kin_script.specs.PrintedJournal.{block_lines};
-ghost use Rattle.kin_script.specs.States.{at};
+ghost use Rattle.kin_motion.specs.Journal.{IsJournal};
+ghost use Rattle.kin_script.specs.States.{at, state_setting};
 ghost use Rattle.kin_script.specs.Text.{IsPassedText};
 ghost use Rattle.kin_world.specs.Worlds.{IsWhole};
 ghost use Rattle.kin_run.specs.declared.write.Stop.TheVariants.{Fault as FaultOf};
 ghost use Rattle.kin_run.specs.Performed.{Puts};
 ghost use Rattle.kin_run.specs.States.{state_of, printed_if};
+ghost use Rattle.kin_run.specs.Tallies.{HasTallied};
 ghost use Rattle.kin_run.specs.Written.{printer};
 
+use crate::tally::Tally;
 use crate::write::{Stop, flush_if_due};
 use kin_cert::Block;
 use kin_io::sink::Sink;
@@ -21,6 +24,13 @@ use kin_num::{Instant, Moment, NoMemory, Phase, Steps};
 use kin_print::put_failure;
 use kin_world::world::World;
 use std::sync::ledger::Ledger;
+
+/// How many failures a block has.
+pub fn count_of(block: &Block) -> usize
+    ensures { result ≡ length block.now.failures }
+{
+    block.failures.len()
+}
 
 /// Appends the lines of a block.
 fn put_block(out: &mut Vec<u8>, block: &Block) -> Result<(), NoMemory>
@@ -45,7 +55,7 @@ pub fn put_if_on(out: &mut Vec<u8>, journal: bool, block: &Block) -> Result<(), 
 }
 
 /// Passes all failures up to the asked instant, which isn't before now. Where the journal is on,
-/// the sink is given each block before the next is computed; else no block is listed.
+/// the sink is given each block before the next is computed; else no block is listed. Each is counted.
 pub fn pass<K: Sink, L: Ledger>(
     world: &mut World,
     journal: bool,
@@ -53,12 +63,14 @@ pub fn pass<K: Sink, L: Ledger>(
     out: &mut Vec<u8>,
     sink: &mut K,
     steps: &mut Steps<L>,
+    tally: &mut Tally,
 ) -> Result<(), Stop>
     requires whole { IsWhole world.old }
     requires canonical { IsCanonical asked }
     requires later { ¬ (IsEarlier (at asked) world.old.moment) }
     ensures text { Puts (IsPassedText journal (state_of journal world.old) asked) result (printer (K.held sink.old) out.old.items) (printer (K.held sink.new) out.new.items) }
     ensures moved { OnOk result (state_of journal world.new ≡ record (state_of journal world.old) { moment = at asked }) }
+    ensures tallied { OnOk result (HasTallied (IsJournal (state_setting (state_of journal world.old)) world.old.moment (at asked)) tally.old tally.new) }
     ensures whole { OnOk result (IsWhole world.new) }
     ensures later { K.faults sink.old ≤ K.faults sink.new }
     ensures cause { IsErrOf result FaultOf → Rose (K.faults sink.old) (K.faults sink.new) }
@@ -68,10 +80,13 @@ pub fn pass<K: Sink, L: Ledger>(
         phase: Phase::At,
     };
     if !journal {
-        while world.pass(&limit, steps)?.is_some() {}
+        while let Some(failures) = world.pass(&limit, steps)? {
+            tally.count(failures);
+        }
         return Ok(());
     }
     while let Some(block) = world.step(&limit, steps)? {
+        tally.count(count_of(&block));
         put_if_on(out, journal, &block)?;
         flush_if_due(journal, out, sink)?;
     }

@@ -1,27 +1,32 @@
 //! One command: its refusals first, then what it does.
 
-ghost use Rattle.std.specs.Prelude.{◌≡◌, ◌≢◌, ◌≤◌, ◌<◌, ◌^◌, Bool, OnOk, IfErr, IsErrOf};
+ghost use Rattle.std.specs.Prelude.{◌≡◌, ◌≢◌, ◌≤◌, Bool, OnOk, IsErrOf};
 ghost use Rattle.kin_io.specs.Causes.{Rose};
 ghost use Rattle.kin_num.specs.Canonical.{IsCanonical};
 ghost use Rattle.kin_num.specs.Quadratic.{Quadratic};
-ghost use Rattle.kin_script.specs.Deeds.{deed_of, puts, goes_to};
+ghost use Rattle.kin_script.specs.Deeds.{deed_of, goes_to};
 ghost use Rattle.kin_script.specs.Ranges.{IsCommandInRange};
+ghost use Rattle.kin_motion.specs.Journal.{IsJournal};
 ghost use Rattle.kin_script.specs.Replay.{IsNamedRoot};
+ghost use Rattle.kin_script.specs.States.{at, state_setting};
 ghost use Rattle.kin_world.specs.Worlds.{IsWhole};
 ghost use Rattle.kin_run.specs.declared.perform.Halt.TheVariants.{Broken as BrokenOff};
 ghost use Rattle.kin_run.specs.declared.write.Stop.TheVariants.{Fault as FaultOf, NoMemory as WantOfMemory};
+ghost use Rattle.kin_run.specs.Passed.{Passes};
 ghost use Rattle.kin_run.specs.Performed.{Performs, OnRefused};
 ghost use Rattle.kin_run.specs.States.{state_of};
-ghost use Rattle.kin_run.specs.Written.{Printer, printer};
+ghost use Rattle.kin_run.specs.Tallies.{HasTallied};
+ghost use Rattle.kin_run.specs.Written.{printer};
 
 use crate::asked::{is_before, named_root};
+use crate::change::{insert, remove, replace, turn};
 use crate::next::put_next;
 use crate::pass::pass;
 use crate::reply::put_reply_to;
+use crate::tally::Tally;
 use crate::write::Stop;
 use kin_instant::ratio::ratio;
 use kin_io::sink::Sink;
-use kin_motion::Motion;
 use kin_num::{Instant, NoMemory, Steps};
 use kin_script::command::Command;
 use kin_script::refusal::Refusal;
@@ -51,27 +56,6 @@ impl From<Stop> for Halt {
     }
 }
 
-/// Gives a number that is not live its motion.
-fn insert<L: Ledger>(
-    world: &mut World,
-    no: u32,
-    m: Motion,
-    steps: &mut Steps<L>,
-) -> Result<(), Halt>
-    requires whole { IsWhole world.old }
-    requires room { no < 2 ^ world.old.size }
-    ensures performs { (journal : Bool) (p : Printer) → Performs (state_of journal world.old) (puts no m) result p p (state_of journal world.new) }
-    ensures refused { OnRefused result (world.new ≡ world.old) }
-    ensures whole { OnOk result (IsWhole world.new) }
-    ensures no_fault { IfErr result (λ halt. halt ≢ BrokenOff FaultOf) }
-{
-    if !world.can_insert(no) {
-        return Err(Halt::Refused(Refusal::Taken));
-    }
-    world.insert(no, m, steps)?;
-    Ok(())
-}
-
 /// Moves to the asked instant, which is not before now.
 fn move_to<K: Sink, L: Ledger>(
     world: &mut World,
@@ -80,10 +64,12 @@ fn move_to<K: Sink, L: Ledger>(
     out: &mut Vec<u8>,
     sink: &mut K,
     steps: &mut Steps<L>,
+    tally: &mut Tally,
 ) -> Result<(), Halt>
     requires whole { IsWhole world.old }
     requires canonical { IsCanonical asked }
     ensures performs { (upper : Bool) (p : Quadratic) → IsNamedRoot upper p asked → Performs (state_of journal world.old) (goes_to upper p) result (printer (K.held sink.old) out.old.items) (printer (K.held sink.new) out.new.items) (state_of journal world.new) }
+    ensures tallied { OnOk result (HasTallied (IsJournal (state_setting (state_of journal world.old)) world.old.moment (at asked)) tally.old tally.new) }
     ensures refused { OnRefused result (world.new ≡ world.old) }
     ensures whole { OnOk result (IsWhole world.new) }
     ensures later { K.faults sink.old ≤ K.faults sink.new }
@@ -92,11 +78,12 @@ fn move_to<K: Sink, L: Ledger>(
     if is_before(&asked, world.now()) {
         return Err(Halt::Refused(Refusal::Past));
     }
-    pass(world, journal, asked, out, sink, steps)?;
+    pass(world, journal, asked, out, sink, steps, tally)?;
     Ok(())
 }
 
-/// Carries out a command, and appends what it prints. A refused one leaves the world as it was.
+/// Carries out a command, appends what it prints, and counts the blocks that it passes. A refused one leaves
+/// the world as it was.
 pub fn perform<K: Sink, L: Ledger>(
     world: &mut World,
     journal: bool,
@@ -104,10 +91,12 @@ pub fn perform<K: Sink, L: Ledger>(
     out: &mut Vec<u8>,
     sink: &mut K,
     steps: &mut Steps<L>,
+    tally: &mut Tally,
 ) -> Result<(), Halt>
     requires whole { IsWhole world.old }
     requires range { IsCommandInRange world.old.size command.now }
     ensures performs { Performs (state_of journal world.old) (deed_of command.now) result (printer (K.held sink.old) out.old.items) (printer (K.held sink.new) out.new.items) (state_of journal world.new) }
+    ensures tallied { OnOk result (HasTallied (Passes (state_of journal world.old) (deed_of command.now)) tally.old tally.new) }
     ensures refused { OnRefused result (world.new ≡ world.old) }
     ensures whole { OnOk result (IsWhole world.new) }
     ensures later { K.faults sink.old ≤ K.faults sink.new }
@@ -115,12 +104,15 @@ pub fn perform<K: Sink, L: Ledger>(
 {
     match *command {
         Command::Insert { no, m } => insert(world, no, m, steps),
-        Command::AtRatio { n, d } => move_to(world, journal, ratio(n, d), out, sink, steps),
+        Command::Remove { no } => remove(world, no, steps),
+        Command::Replace { no, m } => replace(world, no, m, steps),
+        Command::Turn { no, u, v } => turn(world, no, u, v, steps),
+        Command::AtRatio { n, d } => move_to(world, journal, ratio(n, d), out, sink, steps, tally),
         Command::AtRoot { a, b, c, upper } => match named_root(a, b, c, upper) {
-            Some(asked) => move_to(world, journal, asked, out, sink, steps),
+            Some(asked) => move_to(world, journal, asked, out, sink, steps, tally),
             None => Err(Halt::Refused(Refusal::NoRoot)),
         },
-        Command::Next => Ok(put_next(world, journal, out, steps)?),
+        Command::Next => Ok(put_next(world, journal, out, steps, tally)?),
         _ => put_reply_to(world, command, out),
     }
 }

@@ -1,26 +1,31 @@
 //! The commands of a script in turn, and the bytes that they print.
 
-ghost use Rattle.std.specs.Prelude.{◌≡◌, ◌≤◌, [], All, IfOk, OnErr, IsErrOf};
+ghost use Rattle.std.specs.Prelude.{◌≡◌, ◌≤◌, ◌<◌, [], None, All, IfOk, OnErr, IsErrOf};
 ghost use Rattle.kin_io.specs.Causes.{Rose};
 ghost use Rattle.kin_io.specs.Ends.{AppendsFront};
-ghost use Rattle.kin_script.specs.Ranges.{IsCommandInRange};
+ghost use Rattle.kin_script.specs.Ranges.{IsCommandInRange, IsInRange};
 ghost use Rattle.kin_script.specs.Text.{Text};
 ghost use Rattle.kin_world.specs.Worlds.{IsWhole};
 ghost use Rattle.kin_run.specs.declared.write.Stop.TheVariants.{Fault as FaultOf, NoMemory as WantOfMemory};
+ghost use Rattle.kin_run.specs.Demo.{start_of};
+ghost use Rattle.kin_run.specs.Passed.{PassesInTurn};
 ghost use Rattle.kin_run.specs.Performed.{IsCutOfText, PutsAll};
 ghost use Rattle.kin_run.specs.States.{state_of};
+ghost use Rattle.kin_run.specs.Tallies.{HasTallied};
 ghost use Rattle.kin_run.specs.Written.{Wrote, printer};
 
 use crate::perform::{Halt, perform};
+use crate::tally::Tally;
 use crate::text::put_refused;
 use crate::write::{Stop, flush, flush_if_due};
 use kin_io::sink::Sink;
 use kin_num::Steps;
 use kin_script::command::Command;
 use kin_script::refusal::Refusal;
+use kin_script::script::Script;
 use kin_world::world::World;
 use std::alloc::Global;
-use std::sync::ledger::Ledger;
+use std::sync::ledger::{Blank, Ledger};
 
 /// Writes what was gathered before memory ran out, as far as that goes. After a failed write
 /// nothing more is written.
@@ -42,25 +47,26 @@ fn prints_block(journal: bool, command: &Command) -> bool {
 /// Carries out commands in turn, up to the first that is refused, whose line is the last. What they
 /// print is gathered, and written once it is much.
 fn perform_each<K: Sink, L: Ledger>(
-    alloc: Global,
     world: &mut World,
     journal: bool,
     lines: &[(u32, Command)],
     out: &mut Vec<u8>,
     sink: &mut K,
     steps: &mut Steps<L>,
+    tally: &mut Tally,
 ) -> Result<Option<(u32, Refusal)>, Stop>
     requires whole { IsWhole world.old }
     requires ranges { All (λ line. IsCommandInRange world.old.size line.1) lines.now }
+    ensures tallied { IfOk result (λ ending. ending ≡ None → HasTallied (PassesInTurn (state_of journal world.old) lines.now) tally.old tally.new) }
     ensures text { PutsAll (state_of journal world.old) lines.now result (printer (K.held sink.old) out.old.items) (printer (K.held sink.new) out.new.items) }
     ensures later { K.faults sink.old ≤ K.faults sink.new }
     ensures cause { IsErrOf result FaultOf → Rose (K.faults sink.old) (K.faults sink.new) }
 {
     for (line, command) in lines {
-        match perform(world, journal, command, out, sink, steps) {
+        match perform(world, journal, command, out, sink, steps, tally) {
             Ok(()) => flush_if_due(prints_block(journal, command), out, sink)?,
             Err(Halt::Refused(refusal)) => {
-                put_refused(alloc, out, *line, refusal)?;
+                put_refused(out, *line, refusal)?;
                 return Ok(Some((*line, refusal)));
             }
             Err(Halt::Broken(stop)) => return Err(stop),
@@ -69,8 +75,8 @@ fn perform_each<K: Sink, L: Ledger>(
     Ok(None)
 }
 
-/// Carries out commands in turn, up to the first that is refused, and writes what they print.
-/// Answers the line and the refusal of that one.
+/// Carries out commands in turn, up to the first that is refused, writes what they print, and counts the
+/// blocks that they pass where none is. Answers the line and the refusal of that one.
 pub fn play<K: Sink, L: Ledger>(
     alloc: Global,
     world: &mut World,
@@ -78,16 +84,18 @@ pub fn play<K: Sink, L: Ledger>(
     lines: &[(u32, Command)],
     sink: &mut K,
     steps: &mut Steps<L>,
+    tally: &mut Tally,
 ) -> Result<Option<(u32, Refusal)>, Stop>
     requires whole { IsWhole world.old }
     requires ranges { All (λ line. IsCommandInRange world.old.size line.1) lines.now }
+    ensures tallied { IfOk result (λ ending. ending ≡ None → HasTallied (PassesInTurn (state_of journal world.old) lines.now) tally.old tally.new) }
     ensures ok { IfOk result (λ ending. Wrote (K.held sink.old) (K.held sink.new) (λ text. Text (state_of journal world.old) lines.now text ending)) }
     ensures cut { OnErr result (Wrote (K.held sink.old) (K.held sink.new) (IsCutOfText (state_of journal world.old) lines.now)) }
     ensures later { K.faults sink.old ≤ K.faults sink.new }
     ensures cause { IsErrOf result FaultOf → Rose (K.faults sink.old) (K.faults sink.new) }
 {
     let mut out = Vec::new(alloc);
-    match perform_each(alloc, world, journal, lines, &mut out, sink, steps) {
+    match perform_each(world, journal, lines, &mut out, sink, steps, tally) {
         Ok(ending) => {
             flush(&mut out, sink)?;
             Ok(ending)
@@ -97,4 +105,36 @@ pub fn play<K: Sink, L: Ledger>(
             Err(stop)
         }
     }
+}
+
+/// Plays a script from its start, and counts the blocks that it passes. The steps that its world counts are
+/// in no contract here.
+pub fn play_script<K: Sink, L: Ledger>(
+    alloc: Global,
+    script: &Script,
+    sink: &mut K,
+    blank: Blank,
+    tally: &mut Tally,
+) -> Result<Option<(u32, Refusal)>, Stop>
+    requires name { blank.name ≡ L.name }
+    requires parts { blank.parts ≡ L.parts }
+    requires some { 0 < L.parts }
+    requires ranges { IsInRange script.now }
+    ensures ok { IfOk result (λ ending. Wrote (K.held sink.old) (K.held sink.new) (λ text. Text (start_of script.now) script.now.lines text ending)) }
+    ensures tallied { IfOk result (λ ending. ending ≡ None → HasTallied (PassesInTurn (start_of script.now) script.now.lines) tally.old tally.new) }
+    ensures cut { OnErr result (Wrote (K.held sink.old) (K.held sink.new) (IsCutOfText (start_of script.now) script.now.lines)) }
+    ensures later { K.faults sink.old ≤ K.faults sink.new }
+    ensures cause { IsErrOf result FaultOf → Rose (K.faults sink.old) (K.faults sink.new) }
+{
+    let mut steps = Steps::<L>::open(blank);
+    let mut world = World::new(alloc, script.size, script.keeps.as_slice())?;
+    play(
+        alloc,
+        &mut world,
+        script.journal,
+        script.lines.as_slice(),
+        sink,
+        &mut steps,
+        tally,
+    )
 }

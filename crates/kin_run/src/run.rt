@@ -1,26 +1,26 @@
 //! The top call.
 
-ghost use Rattle.std.specs.Prelude.{◌≡◌, ◌≤◌, ◌<◌, ◌^◌, ◌↔◌, ◌⊎◌, ℕ, List, Option, length, false, true, Ok, Err, Some, None};
+ghost use Rattle.std.specs.Prelude.{◌≡◌, ◌≤◌, ◌<◌, ◌^◌, ◌↔◌, ◌⊎◌, ℕ, List, length, true, Ok, Err, Some, None};
 ghost use Rattle.kin_io.specs.Causes.{Rose};
-ghost use Rattle.kin_script.specs.declared.script.Script.{Script as ScriptOf};
 ghost use Rattle.kin_script.specs.Grammar.{script_of};
 ghost use Rattle.kin_script.specs.Ranges.{IsInRange};
 ghost use Rattle.kin_script.specs.declared.refusal.Refusal.{Refusal};
-ghost use Rattle.kin_run.specs.declared.status.Status.{Status as Answer};
-ghost use Rattle.kin_run.specs.Headline.{Writes, Answers, IsAnswer, IsTextOf, IsBrokenOff, status_of_stop};
-ghost use Rattle.kin_run.specs.Words.{is_written_form};
+ghost use Rattle.kin_run.specs.Demo.{WritesDemo};
+ghost use Rattle.kin_run.specs.Headline.{Writes, Answers, IsTextOf, IsBrokenOff};
+ghost use Rattle.kin_run.specs.Words.{asked_of};
 ghost use Rattle.kin_run.specs.Written.{Wrote};
 
-use crate::play::play;
-use crate::status::{Side, Status};
+use crate::demo::run_demo;
+use crate::play::play_script;
+use crate::status::{Side, Status, status_of};
+use crate::tally::Tally;
 use crate::text::bad_text;
-use crate::write::{Stop, flush};
+use crate::words::{Asked, parse};
+use crate::write::flush;
 use kin_io::sink::Sink;
 use kin_io::source::{Source, Untaken, read_all};
-use kin_num::Steps;
 use kin_script::read::{ReadError, read};
 use kin_script::script::Script;
-use kin_world::world::World;
 use std::alloc::Global;
 use std::marker::Brand;
 use std::sync::ledger::{Blank, Ledger};
@@ -28,61 +28,24 @@ use std::sync::ledger::{Blank, Ledger};
 /// The most bytes of a script.
 const LIMIT: u32 = 1 << 20;
 
-/// The status of a run that was broken off.
-fn status_of(stop: Stop) -> Status
-    ensures { result ≡ status_of_stop stop }
-{
-    match stop {
-        Stop::Fault => Status::Fault(Side::Write),
-        Stop::NoMemory => Status::NoMemory,
-    }
-}
-
-/// Whether the words are a written form.
-fn is_form(words: &[String]) -> bool
-    ensures { result ≡ is_written_form words.now }
-{
-    match words {
-        [word] => word.as_str() == "run",
-        _ => false,
-    }
-}
-
-/// Runs the commands of a script. The steps that its world counts are in no contract here.
+/// Runs the commands of a script.
 fn run_script<K: Sink, L: Ledger>(
     alloc: Global,
     input: &[u8],
-    script: Script,
+    script: &Script,
     sink: &mut K,
     blank: Blank,
 ) -> Status
     requires name { blank.name ≡ L.name }
     requires parts { blank.parts ≡ L.parts }
     requires some { 0 < L.parts }
-    requires ranges { IsInRange script }
-    requires reads { script_of input.now ≡ Ok script }
+    requires ranges { IsInRange script.now }
+    requires reads { script_of input.now ≡ Ok script.now }
     ensures writes { Wrote (K.held sink.old) (K.held sink.new) (Writes input.now result) }
     ensures later { K.faults sink.old ≤ K.faults sink.new }
     ensures cause { result ≡ Status.Fault Side.Write → Rose (K.faults sink.old) (K.faults sink.new) }
 {
-    let Script {
-        size,
-        keeps,
-        journal,
-        lines,
-    } = script;
-    let mut steps = Steps::<L>::open(blank);
-    let Ok(mut world) = World::new(alloc, size, keeps.as_slice()) else {
-        return Status::NoMemory;
-    };
-    match play(
-        alloc,
-        &mut world,
-        journal,
-        lines.as_slice(),
-        sink,
-        &mut steps,
-    ) {
+    match play_script::<K, L>(alloc, script, sink, blank, &mut Tally::new()) {
         Ok(None) => Status::Done,
         Ok(Some((line, refusal))) => Status::Command(line, refusal),
         Err(stop) => status_of(stop),
@@ -113,7 +76,7 @@ fn run_bytes<K: Sink>(alloc: Global, input: &[u8], sink: &mut K) -> Status
     ensures cause { result ≡ Status.Fault Side.Write → Rose (K.faults sink.old) (K.faults sink.new) }
 {
     match read(alloc, input) {
-        Ok(script) => run_script::<K, Brand>(alloc, input, script, sink, Blank::new(1)),
+        Ok(script) => run_script::<K, Brand>(alloc, input, &script, sink, Blank::new(1)),
         Err(ReadError::BadLine(line)) => refuse_script(alloc, input, line, sink),
         Err(ReadError::NoMemory) => Status::NoMemory,
     }
@@ -133,7 +96,7 @@ fn run_input<S: Source, K: Sink>(alloc: Global, source: &mut S, sink: &mut K) ->
     }
 }
 
-/// Reads the words, takes the whole input, holds it against the grammar and runs its commands up
+/// With the word `run`: takes the whole input, holds it against the grammar and runs its commands up
 /// to the first that is refused. Nothing is written before the whole input is known to be in the
 /// grammar or not; then the bytes are written in pieces of some 64 KiB, each command's text behind
 /// that of the one before. With the journal on, each block is written before the next is computed.
@@ -144,34 +107,40 @@ pub fn run<S: Source, K: Sink>(
     sink: &mut K,
 ) -> Status
     // The words alone decide whether there is a run.
-    ensures words { (result ≡ Status.Words) ↔ (is_written_form words.now ≡ false) }
+    ensures words { (result ≡ Status.Words) ↔ (asked_of words.now ≡ None) }
     ensures untouched { result ≡ Status.Words → (source.new ≡ source.old) × (sink.new ≡ sink.old) }
 
     // The headline: the bytes written are the text of the bytes taken, by the status.
-    ensures headline { is_written_form words.now ≡ true →
+    ensures headline { asked_of words.now ≡ Some Asked.Run →
         Answers (S.left source.old) (S.left source.new) (S.ended source.new) (K.held sink.old) (K.held sink.new) result }
 
     // A known input has its own status: of the end, of the first refused line, or of the first
     // refused command. Only a run that is broken off has another.
-    ensures done { is_written_form words.now ≡ true → (input text : List ℕ) →
+    ensures done { asked_of words.now ≡ Some Asked.Run → (input text : List ℕ) →
         S.left source.old ≡ Some input → length input ≤ 2 ^ 20 → IsTextOf input text None →
         (result ≡ Status.Done) ⊎ IsBrokenOff result }
-    ensures command { is_written_form words.now ≡ true → (input text : List ℕ) (line : ℕ) (refusal : Refusal) →
+    ensures command { asked_of words.now ≡ Some Asked.Run → (input text : List ℕ) (line : ℕ) (refusal : Refusal) →
         S.left source.old ≡ Some input → length input ≤ 2 ^ 20 → IsTextOf input text (Some (line, refusal)) →
         (result ≡ Status.Command line refusal) ⊎ IsBrokenOff result }
-    ensures script { is_written_form words.now ≡ true → (input : List ℕ) (line : ℕ) →
+    ensures script { asked_of words.now ≡ Some Asked.Run → (input : List ℕ) (line : ℕ) →
         S.left source.old ≡ Some input → length input ≤ 2 ^ 20 → script_of input ≡ Err line →
         (result ≡ Status.Script line) ⊎ IsBrokenOff result }
-    ensures too_long { is_written_form words.now ≡ true → (input : List ℕ) →
+    ensures too_long { asked_of words.now ≡ Some Asked.Run → (input : List ℕ) →
         S.left source.old ≡ Some input → 2 ^ 20 < length input →
         (result ≡ Status.TooLong) ⊎ IsBrokenOff result }
+
+    // A generated run writes its own text, or is broken off at a front of it. It asks nothing of the source.
+    ensures demo { (seed count : ℕ) → asked_of words.now ≡ Some (Asked.Demo seed count) →
+        Wrote (K.held sink.old) (K.held sink.new) (WritesDemo seed count result) }
+    ensures no_input { (seed count : ℕ) → asked_of words.now ≡ Some (Asked.Demo seed count) → source.new ≡ source.old }
 
     // A fault comes only from the outside.
     ensures read_fault { result ≡ Status.Fault Side.Read → Rose (S.faults source.old) (S.faults source.new) }
     ensures write_fault { result ≡ Status.Fault Side.Write → Rose (K.faults sink.old) (K.faults sink.new) }
 {
-    if !is_form(words) {
-        return Status::Words;
+    match parse(words) {
+        Some(Asked::Run) => run_input(alloc, source, sink),
+        Some(Asked::Demo { seed, count }) => run_demo(alloc, seed, count, sink),
+        None => Status::Words,
     }
-    run_input(alloc, source, sink)
 }

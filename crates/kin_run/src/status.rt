@@ -1,5 +1,9 @@
 //! How a run ends.
 
+ghost use Rattle.std.specs.Prelude.{◌≡◌};
+ghost use Rattle.kin_run.specs.Headline.{status_of_stop};
+
+use crate::write::Stop;
 use kin_script::refusal::Refusal;
 
 /// The side on which a call failed.
@@ -26,4 +30,14 @@ pub enum Status {
     Words,
     /// There was no memory.
     NoMemory,
+}
+
+/// The status of a run that was broken off.
+pub fn status_of(stop: Stop) -> Status
+    ensures { result ≡ status_of_stop stop }
+{
+    match stop {
+        Stop::Fault => Status::Fault(Side::Write),
+        Stop::NoMemory => Status::NoMemory,
+    }
 }

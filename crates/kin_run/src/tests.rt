@@ -4,7 +4,7 @@ ghost use Rattle.std.specs.Prelude.{◌<◌};
 
 use crate::run::run;
 use crate::status::{Side, Status};
-use crate::worked::{CLOSE, HULLS};
+use crate::worked::{CARRIAGEWAYS, CARRIAGEWAYS_TEXT, CHANGES, CLOSE, HULLS};
 use kin_io::memory::{MemSink, MemSource};
 use kin_io::source::read_all;
 use kin_script::refusal::Refusal;
@@ -234,6 +234,30 @@ fn gives_the_texts_of_hulls(rt: HostRuntime) -> Result<(), Fail> {
         assert!(rt; found == status, "status of {script}");
         assert!(rt; sink.held() == text.as_bytes(), "text of {script}");
     }
+    Ok(())
+}
+
+#[test]
+fn gives_the_texts_of_points_that_turn_and_leave(rt: HostRuntime) -> Result<(), Fail> {
+    let words = word(&rt)?;
+    for (script, text, status) in CHANGES {
+        let mut source = source_of(rt.alloc(), script, 64, Vec::new(rt.alloc()))?;
+        let mut sink = MemSink::new(rt.alloc(), 100, Vec::new(rt.alloc()))?;
+        let found = run(rt.alloc(), &words, &mut source, &mut sink);
+        assert!(rt; found == status, "status of {script}");
+        assert!(rt; sink.held() == text.as_bytes(), "text of {script}");
+    }
+    Ok(())
+}
+
+#[test]
+fn gives_the_text_of_two_carriageways(rt: HostRuntime) -> Result<(), Fail> {
+    let words = word(&rt)?;
+    let mut source = source_of(rt.alloc(), CARRIAGEWAYS, 64, Vec::new(rt.alloc()))?;
+    let mut sink = MemSink::new(rt.alloc(), 400, Vec::new(rt.alloc()))?;
+    let found = run(rt.alloc(), &words, &mut source, &mut sink);
+    assert!(rt; found == Status::Done);
+    assert!(rt; sink.held() == CARRIAGEWAYS_TEXT.as_bytes());
     Ok(())
 }
 

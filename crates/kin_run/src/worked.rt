@@ -99,10 +99,10 @@ pub const HULLS: [(&str, &str, Status); 11] = [
         "0 1 2 3\n0 1\n",
         Status::Done,
     ),
-    // One structure of each kind: nothing, and then one point.
+    // One structure of each kind: nothing, one point, and nothing again.
     (
-        "size 3\nkeep order 1 0\nkeep extreme 0 1\nkeep hull\nkeep closest\nkeep range\norder 0\nextreme 1\nhull\nclosest\nbox -9 9 -9 9\nlive\nnext\ninsert 5 1 2 0 0\norder 0\nextreme 1\nhull\nclosest\nbox -9 9 -9 9\nlive\n",
-        "none\nnone\nnone\nnone\nnone\n0\nnone\n5\n5\n5\nnone\n5\n0\n",
+        "size 3\nkeep order 1 0\nkeep extreme 0 1\nkeep hull\nkeep closest\nkeep range\norder 0\nextreme 1\nhull\nclosest\nbox -9 9 -9 9\nlive\nnext\ninsert 5 1 2 0 0\norder 0\nextreme 1\nhull\nclosest\nbox -9 9 -9 9\nlive\nremove 5\nhull\n",
+        "none\nnone\nnone\nnone\nnone\n0\nnone\n5\n5\n5\nnone\n5\n0\nnone\n",
         Status::Done,
     ),
     // A point comes out of the hull.
@@ -118,3 +118,48 @@ pub const HULLS: [(&str, &str, Status); 11] = [
         Status::Command(3, Refusal::NotKept),
     ),
 ];
+
+/// Points that turn, and numbers that aren't there.
+pub const CHANGES: [(&str, &str, Status); 6] = [
+    // A point turns where it is; at 11/4 its place at time 0 would not be whole.
+    (
+        "size 1\nkeep order 1 0\ninsert 0 0 0 2 0\ninsert 1 10 0 0 0\nat 1/2\nlive\nturn 0 4 0\nlive\norder 0\nnext\nturn 0 5 0\n",
+        "1\n1\n0 1\nnow 11/4\nrefused 11 NotWhole\n",
+        Status::Command(11, Refusal::NotWhole),
+    ),
+    // Its place at time 0 would be too far out.
+    (
+        "size 1\ninsert 0 4096 0 1 0\nat 1\nturn 0 0 0\n",
+        "refused 4 OutOfBounds\n",
+        Status::Command(4, Refusal::OutOfBounds),
+    ),
+    // Just after an instant no point turns, not even to the velocity that it has.
+    (
+        "size 1\nkeep order 1 0\ninsert 0 0 0 1 0\ninsert 1 10 0 -1 0\nnext\norder 0\nnext\norder 0\nturn 0 1 0\n",
+        "now 5\n0 1\nnow 5+\n1 0\nrefused 9 NotWhole\n",
+        Status::Command(9, Refusal::NotWhole),
+    ),
+    // Nobody is there to leave, to start anew or to turn.
+    (
+        "size 1\nremove 1\n",
+        "refused 2 Absent\n",
+        Status::Command(2, Refusal::Absent),
+    ),
+    (
+        "size 1\ninsert 1 0 0 0 0\nreplace 0 1 2 3 4\n",
+        "refused 3 Absent\n",
+        Status::Command(3, Refusal::Absent),
+    ),
+    (
+        "size 1\ninsert 1 0 0 0 0\nremove 1\nturn 1 0 0\n",
+        "refused 4 Absent\n",
+        Status::Command(4, Refusal::Absent),
+    ),
+];
+
+/// Forty points on two carriageways: the even ones go to the right, the odd ones come towards them.
+pub const CARRIAGEWAYS: &str =
+    "size 6\nkeep order 1 0\nkeep extreme 0 1\nkeep hull\nkeep closest\nkeep range\njournal off\ninsert 0 0 0 2 0\ninsert 1 20 10 -1 0\ninsert 2 40 0 2 0\ninsert 3 60 10 -1 0\ninsert 4 80 0 2 0\ninsert 5 100 10 -1 0\ninsert 6 120 0 2 0\ninsert 7 140 10 -1 0\ninsert 8 160 0 2 0\ninsert 9 180 10 -1 0\ninsert 10 200 0 2 0\ninsert 11 220 10 -1 0\ninsert 12 240 0 2 0\ninsert 13 260 10 -1 0\ninsert 14 280 0 2 0\ninsert 15 300 10 -1 0\ninsert 16 320 0 2 0\ninsert 17 340 10 -1 0\ninsert 18 360 0 2 0\ninsert 19 380 10 -1 0\ninsert 20 400 0 2 0\ninsert 21 420 10 -1 0\ninsert 22 440 0 2 0\ninsert 23 460 10 -1 0\ninsert 24 480 0 2 0\ninsert 25 500 10 -1 0\ninsert 26 520 0 2 0\ninsert 27 540 10 -1 0\ninsert 28 560 0 2 0\ninsert 29 580 10 -1 0\ninsert 30 600 0 2 0\ninsert 31 620 10 -1 0\ninsert 32 640 0 2 0\ninsert 33 660 10 -1 0\ninsert 34 680 0 2 0\ninsert 35 700 10 -1 0\ninsert 36 720 0 2 0\ninsert 37 740 10 -1 0\ninsert 38 760 0 2 0\ninsert 39 780 10 -1 0\nclosest\nat 20/3\norder 0\nclosest\nat 10\norder 0\nextreme 1\nhull\nclosest\nturn 0 0 0\nremove 39\nat 15\nhull\nclosest\nbox 0 100 0 5\nbox 0 100 0 10\nreplace 0 1000 0 0 0\nhull\nat root 1 0 -300 hi\nhull\nextreme 1\n";
+
+pub const CARRIAGEWAYS_TEXT: &str =
+    "0 1\n0 1 2 3 4 5 6 7 8 9 10 11 12 13 14 15 16 17 18 19 20 21 22 23 24 25 26 27 28 29 30 31 32 33 34 35 36 37 38 39\n0 1\n1 0 3 2 5 4 7 6 9 8 11 10 13 12 15 14 17 16 19 18 21 20 23 22 25 24 27 26 29 28 31 30 33 32 35 34 37 36 39 38\n1\n1 0 38 39\n0 1\n1 0 38 37\n0 1\n0 2\n0 1 2 3 5\n1 2 0 37\n1 2 0 37\n1\n";

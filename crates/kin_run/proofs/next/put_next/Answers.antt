@@ -6,7 +6,9 @@ use Rattle.kin_script.specs.PrintedJournal.{none_line, now_line}
 use Rattle.kin_script.specs.Text.{IsNextText}
 use Rattle.kin_print.proofs.Fronts.{nothing}
 use Rattle.kin_world.specs.Worlds.{HasMoved, HasPassed}
+use Rattle.kin_run.specs.Passed.{IsNextIfAny}
 use Rattle.kin_run.specs.States.{state_of, printed_if}
+use Rattle.kin_run.proofs.Tallying.{none_tallied, one_tallied}
 use Rattle.kin_run.proofs.Blocks.{one_next, not_back, not_reached}
 use Rattle.kin_run.proofs.Fronts.{front_nil}
 use Rattle.kin_run.proofs.Performing.{puts_known}
@@ -52,3 +54,14 @@ returns-clause-leads g c =
     let b = c.in-Some-2.block in
     let h : HasPassed c.in-Some.moment b c.args.world.now c.step.new.self = rw c.in-Some-2.is at c.in_ok-block.ensures.stepped in
     on_ok c.put_passed.result (inl (b, h.next, ap (state_of c.args.journal) h.state))
+
+pub returns-in_default-clause-tallied : goal.returns-in_default-clause-tallied
+returns-in_default-clause-tallied g c =
+    on_ok c.put_bytes.result (none_tallied (IsNextIfAny (state_of c.args.journal c.args.world.now)) c.args.tally.now (inr (c.in_default.ensures.none.0 refl, refl)))
+
+pub returns-clause-tallied : goal.returns-clause-tallied
+returns-clause-tallied g c =
+    let b = c.in-Some-2.block in
+    let h : HasPassed c.in-Some.moment b c.args.world.now c.step.new.self = rw c.in-Some-2.is at c.in_ok-block.ensures.stepped in
+    on_ok c.put_passed.result
+    (one_tallied (IsNextIfAny (state_of c.args.journal c.args.world.now)) b c.count_of.result c.args.tally.now c.count.new.self c.count_of.ensures (inl (b, h.next, refl)) c.count.ensures)

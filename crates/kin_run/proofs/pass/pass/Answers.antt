@@ -3,12 +3,15 @@ use Rattle.std.proofs.lemmas.Result.{err_from_is_err_and}
 use Rattle.kin_script.specs.States.{at}
 use Rattle.kin_world.specs.Worlds.{HasPassed, HasMoved}
 use Rattle.kin_run.specs.Written.{printer}
+use Rattle.kin_run.specs.States.{state_of}
+use Rattle.kin_run.proofs.Counting.{none_counted, counts_on, counts_quietly, counted_all, counted_quietly}
 use Rattle.kin_run.proofs.OnTheWay.{sets_out, breaks_here, breaks_within, faults_behind, goes_on, quiet_turn, arrives}
 use Rattle.kin_run.proofs.pass.pass.Goals as goal
 
 pub loop-block-init : goal.loop-block-init
 loop-block-init g c = record {
   on = sets_out c.args.journal c.args.world.now c.args.asked (printer (g.K.Sink.held c.args.sink.now) c.args.out.now.items) c.requires.later;
+  counted = none_counted (state_of c.args.journal c.args.world.now) c.args.asked c.args.tally.now;
   whole = c.requires.whole;
   later = omega arith;
 }
@@ -23,23 +26,24 @@ pub returns-in_err-put_if_on-clause-text : goal.returns-in_err-put_if_on-clause-
 returns-in_err-put_if_on-clause-text g c =
     let e = err_from_is_err_and c.from_residual-in_err-put_if_on.result c.from_residual-in_err-put_if_on.ensures.1 in
     let h = c.loop-block.invariant in
-    let passed : HasPassed (at c.args.asked) c.in-Some.block c.loop-block.world c.step.new.self = rw c.in-Some.is at c.in_ok-block.ensures.stepped in
+    let passed : HasPassed (at c.args.asked) c.in-Some-2.block c.loop-block.world c.step.new.self = rw c.in-Some-2.is at c.in_ok-block.ensures.stepped in
     rw (e.1, e.2) (breaks_within h.on c.requires.canonical h.whole.canonical passed c.put_if_on.new.out.items c.in_err-put_if_on.ensures.err)
 
 pub returns-in_err-flush_if_due-clause-text : goal.returns-in_err-flush_if_due-clause-text
 returns-in_err-flush_if_due-clause-text g c =
     let e = err_from_is_err_and c.from_residual-in_err-flush_if_due.result c.from_residual-in_err-flush_if_due.ensures.1 in
     let h = c.loop-block.invariant in
-    let passed : HasPassed (at c.args.asked) c.in-Some.block c.loop-block.world c.step.new.self = rw c.in-Some.is at c.in_ok-block.ensures.stepped in
+    let passed : HasPassed (at c.args.asked) c.in-Some-2.block c.loop-block.world c.step.new.self = rw c.in-Some-2.is at c.in_ok-block.ensures.stepped in
     rw (e.1, e.2)
     (faults_behind h.on c.requires.canonical h.whole.canonical passed c.put_if_on.new.out.items (printer (g.K.Sink.held c.flush_if_due.new.sink) c.flush_if_due.new.out.items) c.in_ok-put_if_on.ensures.ok c.in_err-flush_if_due.ensures.front)
 
 pub loop-block-preserved : goal.loop-block-preserved
 loop-block-preserved g c =
     let h = c.loop-block.invariant in
-    let passed : HasPassed (at c.args.asked) c.in-Some.block c.loop-block.world c.step.new.self = rw c.in-Some.is at c.in_ok-block.ensures.stepped in
+    let passed : HasPassed (at c.args.asked) c.in-Some-2.block c.loop-block.world c.step.new.self = rw c.in-Some-2.is at c.in_ok-block.ensures.stepped in
     record {
       on = goes_on h.on c.requires.canonical h.whole.canonical passed c.put_if_on.new.out.items c.in_ok-put_if_on.ensures.ok c.in_ok-flush_if_due.ensures.gained;
+      counted = counts_on h.on c.requires.canonical h.whole.canonical c.count_of.result passed h.counted c.count_of.ensures c.count-in-Some-2.ensures;
       whole = passed.whole;
       later = omega (arith, h.later, c.flush_if_due.ensures.cause.later);
     }
@@ -47,23 +51,39 @@ loop-block-preserved g c =
 pub returns-clause-text : goal.returns-clause-text
 returns-clause-text g c =
     let h = c.loop-block.invariant in
-    let moved : HasMoved (at c.args.asked) c.loop-block.world c.step.new.self = rw c.in_default.is at c.in_ok-block.ensures.stepped in
+    let moved : HasMoved (at c.args.asked) c.loop-block.world c.step.new.self = rw c.in_default-2.is at c.in_ok-block.ensures.stepped in
     arrives h.on c.requires.canonical h.whole.canonical moved
 
-pub loop-init : goal.loop-init
-loop-init g c = record {
+pub loop-failures-init : goal.loop-failures-init
+loop-failures-init g c = record {
   on = sets_out c.args.journal c.args.world.now c.args.asked (printer (g.K.Sink.held c.args.sink.now) c.args.out.now.items) c.requires.later;
+  counted = none_counted (state_of c.args.journal c.args.world.now) c.args.asked c.args.tally.now;
   whole = c.requires.whole;
 }
 
-pub returns-in_err-pass-clause-text : goal.returns-in_err-pass-clause-text
-returns-in_err-pass-clause-text g c =
+pub returns-in_err-failures-clause-text : goal.returns-in_err-failures-clause-text
+returns-in_err-failures-clause-text g c =
     let e = err_from_is_err_and c.from_residual.result c.from_residual.ensures.1 in
-    let h = c.loop.invariant in
+    let h = c.loop-failures.invariant in
     rw (e.1, e.2) (breaks_here h.on c.requires.canonical h.whole.canonical)
 
-pub loop-preserved : goal.loop-preserved
-loop-preserved g c =
-    let h = c.loop.invariant in
-    let t = quiet_turn h.on c.requires.canonical h.whole.canonical c.if-not-journal.true c.pass.new.self c.in_ok-pass.field-0 (sym c.if-is_some.ensures) c.in_ok-pass.ensures.stepped in
-    record { on = t.0; whole = t.1 }
+pub loop-failures-preserved : goal.loop-failures-preserved
+loop-failures-preserved g c =
+    let h = c.loop-failures.invariant in
+    let t = quiet_turn h.on c.requires.canonical h.whole.canonical c.if-not-journal.true c.pass.new.self c.in_ok-failures.field-0 c.in-Some.failures c.in-Some.is c.in_ok-failures.ensures.stepped in
+    record {
+      on = t.0;
+      counted = counts_quietly h.on c.requires.canonical h.whole.canonical c.in_ok-failures.field-0 c.in-Some.failures c.in-Some.is c.in_ok-failures.ensures.stepped h.counted c.count.ensures;
+      whole = t.1;
+    }
+
+pub returns-clause-tallied : goal.returns-clause-tallied
+returns-clause-tallied g c =
+    let h = c.loop-block.invariant in
+    let moved : HasMoved (at c.args.asked) c.loop-block.world c.step.new.self = rw c.in_default-2.is at c.in_ok-block.ensures.stepped in
+    counted_all h.on c.requires.canonical h.whole.canonical moved h.counted
+
+pub returns-then-not-journal-clause-tallied : goal.returns-then-not-journal-clause-tallied
+returns-then-not-journal-clause-tallied g c =
+    let h = c.loop-failures.invariant in
+    counted_quietly h.on c.requires.canonical h.whole.canonical c.in_ok-failures.field-0 c.in_default.is c.in_ok-failures.ensures.stepped h.counted

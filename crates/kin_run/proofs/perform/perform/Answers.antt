@@ -1,15 +1,20 @@
-use Rattle.std.proofs.Common.{◌≡◌, sym, subst, true, arith, to_z, of_z, w64}
+use Rattle.std.proofs.Common.{◌≡◌, refl, [], sym, subst, true, arith, to_z, of_z, w32, w64}
 use Rattle.std.specs.Prelude.{pos, ◌<ℤ◌}
 use Rattle.std.proofs.lemmas.Int.{ints, to_z-of_z}
-use Rattle.std.proofs.lemmas.Result.{err_from_is_err_and}
+use Rattle.std.proofs.lemmas.Result.{err_from_is_err_and, on_ok_weaker}
 use Rattle.kin_num.specs.Instants.{line}
+use Rattle.kin_script.specs.Changes.{IsSlowVelocity}
 use Rattle.kin_script.specs.Deeds.{Deed}
 use Rattle.kin_script.specs.Ranges.{IsRatioInRange}
 use Rattle.kin_script.specs.Replay.{IsNamedRoot}
 use Rattle.kin_script.proofs.Questions.{asks_otherwise}
+use Rattle.kin_run.specs.Passed.{Passes}
 use Rattle.kin_run.specs.Performed.{Performs}
 use Rattle.kin_run.specs.States.{state_of}
+use Rattle.kin_run.specs.Tallies.{HasTallied}
 use Rattle.kin_run.specs.Written.{printer}
+use Rattle.kin_basics.proofs.Results.{on_ok}
+use Rattle.kin_run.proofs.Tallying.{none_tallied, tallied_is}
 use Rattle.kin_run.proofs.Performing.{went_on, going_broke, replied}
 use Rattle.kin_run.proofs.NamedRoots.{ratio_named}
 use Rattle.kin_run.proofs.perform.perform.Goals as goal
@@ -24,6 +29,15 @@ returns-in-AtRatio-clause-performs g c =
     let positive : pos 0 <ℤ d = omega (arith, ints, range.d_low) in
     let asked : IsNamedRoot true (line n d) c.ratio.result = ratio_named n d c.ratio.result positive (rw (n_is, d_is) at c.ratio.ensures.value) c.ratio.ensures.canonical in
     rw c.in-AtRatio.is (c.move_to.ensures.performs true (line n d) asked)
+
+pub returns-in-Turn-clause-performs : goal.returns-in-Turn-clause-performs
+returns-in-Turn-clause-performs g c =
+    let u = c.in-Turn.u in
+    let v = c.in-Turn.v in
+    let range : IsSlowVelocity u v = (rw c.in-Turn.is at c.requires.range).1 in
+    let u_is : to_z w32 (of_z w32 u) ≡ u = grind (arith, to_z-of_z, range.u_small) in
+    let v_is : to_z w32 (of_z w32 v) ≡ v = grind (arith, to_z-of_z, range.v_small) in
+    rw c.in-Turn.is (rw (u_is, v_is) at c.turn.ensures.performs c.args.journal (printer (g.K.Sink.held c.args.sink.now) c.args.out.now.items))
 
 pub returns-in_err-put_next-in-Next-clause-performs : goal.returns-in_err-put_next-in-Next-clause-performs
 returns-in_err-put_next-in-Next-clause-performs g c =
@@ -40,6 +54,42 @@ returns-in_default-clause-performs g c =
     let q = c.args.command.now in
     let s = state_of c.args.journal c.args.world.now in
     let held = g.K.Sink.held c.args.sink.now in
-    let asked = asks_otherwise q d.not-Insert d.not-AtRatio d.not-AtRoot d.not-Next in
+    let asked = asks_otherwise q d.not-Insert d.not-Remove d.not-Replace d.not-Turn d.not-AtRatio d.not-AtRoot d.not-Next in
     subst (λ (x : Deed). Performs s x c.put_reply_to.result (printer held c.args.out.now.items) (printer held c.put_reply_to.new.out.items) s) (sym asked)
     (replied s q c.put_reply_to.result held c.args.out.now.items c.put_reply_to.new.out.items (c.put_reply_to.ensures.line c.args.journal))
+
+-- ---- the blocks that are passed
+
+pub returns-in-Insert-clause-tallied : goal.returns-in-Insert-clause-tallied
+returns-in-Insert-clause-tallied g c = on_ok c.insert.result (rw c.in-Insert.is (none_tallied (λ bs. bs ≡ []) c.args.tally.now refl))
+
+pub returns-in-Remove-clause-tallied : goal.returns-in-Remove-clause-tallied
+returns-in-Remove-clause-tallied g c = on_ok c.remove.result (rw c.in-Remove.is (none_tallied (λ bs. bs ≡ []) c.args.tally.now refl))
+
+pub returns-in-Replace-clause-tallied : goal.returns-in-Replace-clause-tallied
+returns-in-Replace-clause-tallied g c = on_ok c.replace.result (rw c.in-Replace.is (none_tallied (λ bs. bs ≡ []) c.args.tally.now refl))
+
+pub returns-in-Turn-clause-tallied : goal.returns-in-Turn-clause-tallied
+returns-in-Turn-clause-tallied g c = on_ok c.turn.result (rw c.in-Turn.is (none_tallied (λ bs. bs ≡ []) c.args.tally.now refl))
+
+pub returns-in-AtRatio-clause-tallied : goal.returns-in-AtRatio-clause-tallied
+returns-in-AtRatio-clause-tallied g c =
+    let n = c.in-AtRatio.n in
+    let d = c.in-AtRatio.d in
+    let range : IsRatioInRange n d = rw c.in-AtRatio.is at c.requires.range in
+    let n_is : to_z w64 (of_z w64 n) ≡ n = grind (arith, to_z-of_z, range.n_small) in
+    let d_is : to_z w64 (of_z w64 d) ≡ d = grind (arith, to_z-of_z, range.d_small) in
+    let positive : pos 0 <ℤ d = omega (arith, ints, range.d_low) in
+    let asked : IsNamedRoot true (line n d) c.ratio.result = ratio_named n d c.ratio.result positive (rw (n_is, d_is) at c.ratio.ensures.value) c.ratio.ensures.canonical in
+    on_ok_weaker c.move_to.result (λ x. rw c.in-AtRatio.is (tallied_is x (λ bs is. (c.ratio.result, asked, is)))) c.move_to.ensures.tallied
+
+pub returns-in_ok-put_next-in-Next-clause-tallied : goal.returns-in_ok-put_next-in-Next-clause-tallied
+returns-in_ok-put_next-in-Next-clause-tallied g c = rw c.in-Next.is c.in_ok-put_next-in-Next.ensures.tallied
+
+pub returns-in_default-clause-tallied : goal.returns-in_default-clause-tallied
+returns-in_default-clause-tallied g c =
+    let d = c.in_default in
+    let q = c.args.command.now in
+    let s = state_of c.args.journal c.args.world.now in
+    let asked = asks_otherwise q d.not-Insert d.not-Remove d.not-Replace d.not-Turn d.not-AtRatio d.not-AtRoot d.not-Next in
+    on_ok c.put_reply_to.result (subst (λ (x : Deed). HasTallied (Passes s x) c.args.tally.now c.args.tally.now) (sym asked) (none_tallied (λ bs. bs ≡ []) c.args.tally.now refl))

@@ -1,0 +1,34 @@
+-- What came of a change of the points, from what the world did.
+use Rattle.std.proofs.Common.{◌≡◌, ℕ, Bool, List, [], Option, Some, None, refl, ap, ◌∙◌, set-set}
+use Rattle.std.specs.Prelude.{ℤ, slice_set}
+use Rattle.kin_motion.specs.Course.{Course, motion_of}
+use Rattle.kin_world.specs.Worlds.{World, HasReplaced, HasTurned}
+use Rattle.kin_script.specs.Changes.{Change, ChangesTo}
+use Rattle.kin_script.specs.Deeds.{changes}
+use Rattle.kin_script.specs.Replay.{IsAllowed}
+use Rattle.kin_script.specs.States.{State}
+use Rattle.kin_script.specs.Text.{Step, Prints}
+use Rattle.kin_run.specs.declared.write.Stop.TheVariants.{NoMemory}
+use Rattle.kin_run.specs.Performed.{IsFrontOfEach, BreaksOff}
+use Rattle.kin_run.specs.States.{state_of}
+use Rattle.kin_run.specs.Written.{Printer, GainsSome}
+use Rattle.kin_run.proofs.Fronts.{front_nil}
+use Rattle.kin_run.proofs.Gathering.{gains_nothing}
+
+module _ (s : State) (number : ℕ) (c : Change) (p : Printer) (allowed : IsAllowed s (changes number c)) where
+  pub changed : (next : Option Course) (t : State) → ChangesTo s.moment (motion_of s.motions number) c next → t ≡ record s { motions = slice_set s.motions number next } → GainsSome (λ text. Step s (changes number c) text t) p p
+  changed next t to e = record { text = []; gained = gains_nothing p; is = record { allowed = allowed; prints = refl; leads = (next, to, e) } }
+
+  pub changing_broke : IsAllowed s (changes number c) × BreaksOff (IsFrontOfEach (Prints s (changes number c))) NoMemory p p
+  changing_broke = (allowed, record { text = []; gained = gains_nothing p; is = λ text is. front_nil text })
+
+-- what the replay sees of a replacement
+pub replaced : (journal : Bool) (n : ℕ) (m : Course) (old new : World) → HasReplaced n m old new → state_of journal new ≡ record (state_of journal old) { motions = slice_set old.motions n (Some m) }
+replaced journal n m old new e =
+    ap (state_of journal) e.inserted.state
+    ∙ ap (λ (w : World). record (state_of journal w) { motions = slice_set w.motions n (Some m) }) e.removed.state
+    ∙ ap (λ (ms : List (Option Course)). record (state_of journal old) { motions = ms }) (set-set old.motions n None (Some m))
+
+-- and of a turn
+pub turned : (journal : Bool) (n : ℕ) (u v : ℤ) (old new : World) → (t : HasTurned n u v old new) → state_of journal new ≡ record (state_of journal old) { motions = slice_set old.motions n (Some t.motion) }
+turned journal n u v old new t = ap (state_of journal) t.state

@@ -1,0 +1,4 @@
+use Rattle.kin_run.proofs.demo.run_demo.Given as goal
+
+abbrev pub ghosts-run_generated : goal.ghosts-run_generated
+ghosts-run_generated g a = record { name = a.blank.name; parts = a.blank.parts }

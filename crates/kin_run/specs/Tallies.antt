@@ -1,0 +1,23 @@
+-- How passed blocks are counted.
+use Rattle.std.specs.Prelude.{◌≡◌, ℕ, ◌+◌, ◌-◌, ◌^◌, min, List, ◌++◌, fold, length, codes}
+use Rattle.std.specs.Fmt.{decimal}
+use Rattle.kin_motion.specs.Journal.{Block}
+use Rattle.kin_run.specs.declared.tally.Tally.{Tally}
+
+-- one more block, with so many failures; both counts stop at 2^64 - 1
+abbrev pub one_more : ℕ → Tally → Tally
+one_more failures t = record { moments = min (t.moments + 1) (2 ^ 64 - 1); failures = min (t.failures + failures) (2 ^ 64 - 1) }
+
+-- these blocks were counted in turn
+abbrev pub tallied : Tally → List Block → Tally
+tallied t bs = fold (λ u b. one_more (length b.failures) u) t bs
+
+-- such blocks were passed and counted
+pub record HasTallied (IsPassed : List Block → Type 0) (old new : Tally) : Type 0 where
+  pub blocks : List Block
+  pub passed : IsPassed blocks
+  pub counted : new ≡ tallied old blocks
+
+-- both counts, as a line
+abbrev pub tally_line : Tally → List ℕ
+tally_line t = codes "demo " ++ decimal t.moments ++ codes " " ++ decimal t.failures ++ codes "\n"

@@ -1,0 +1,104 @@
+//! Commands that change the points: the refusals first, then the world's call.
+
+ghost use Rattle.std.specs.Prelude.{◌≡◌, ◌≢◌, ◌≤◌, ◌<◌, ◌^◌, Bool, OnOk, IfErr, unsigned_abs};
+ghost use Rattle.kin_script.specs.Changes.{enters, leaves, restarts, turns};
+ghost use Rattle.kin_script.specs.Deeds.{changes};
+ghost use Rattle.kin_world.specs.Worlds.{IsWhole};
+ghost use Rattle.kin_run.specs.declared.perform.Halt.TheVariants.{Broken as BrokenOff};
+ghost use Rattle.kin_run.specs.declared.write.Stop.TheVariants.{Fault as FaultOf};
+ghost use Rattle.kin_run.specs.Performed.{Performs, OnRefused};
+ghost use Rattle.kin_run.specs.States.{state_of};
+ghost use Rattle.kin_run.specs.Written.{Printer};
+
+use crate::perform::Halt;
+use kin_motion::Motion;
+use kin_num::Steps;
+use kin_script::refusal::Refusal;
+use kin_turn::turned::TurnError;
+use kin_world::world::World;
+use std::sync::ledger::Ledger;
+
+/// Gives a number that is not live its motion.
+pub fn insert<L: Ledger>(
+    world: &mut World,
+    no: u32,
+    m: Motion,
+    steps: &mut Steps<L>,
+) -> Result<(), Halt>
+    requires whole { IsWhole world.old }
+    requires room { no < 2 ^ world.old.size }
+    ensures performs { (journal : Bool) (p : Printer) → Performs (state_of journal world.old) (changes no (enters m)) result p p (state_of journal world.new) }
+    ensures refused { OnRefused result (world.new ≡ world.old) }
+    ensures whole { OnOk result (IsWhole world.new) }
+    ensures no_fault { IfErr result (λ halt. halt ≢ BrokenOff FaultOf) }
+{
+    if !world.can_insert(no) {
+        return Err(Halt::Refused(Refusal::Taken));
+    }
+    world.insert(no, m, steps)?;
+    Ok(())
+}
+
+/// Takes the motion of a live number away.
+pub fn remove<L: Ledger>(world: &mut World, no: u32, steps: &mut Steps<L>) -> Result<(), Halt>
+    requires whole { IsWhole world.old }
+    ensures performs { (journal : Bool) (p : Printer) → Performs (state_of journal world.old) (changes no leaves) result p p (state_of journal world.new) }
+    ensures refused { OnRefused result (world.new ≡ world.old) }
+    ensures whole { OnOk result (IsWhole world.new) }
+    ensures no_fault { IfErr result (λ halt. halt ≢ BrokenOff FaultOf) }
+{
+    if world.motion(no).is_none() {
+        return Err(Halt::Refused(Refusal::Absent));
+    }
+    world.remove(no, steps)?;
+    Ok(())
+}
+
+/// Gives a live number another motion, at another place.
+pub fn replace<L: Ledger>(
+    world: &mut World,
+    no: u32,
+    m: Motion,
+    steps: &mut Steps<L>,
+) -> Result<(), Halt>
+    requires whole { IsWhole world.old }
+    ensures performs { (journal : Bool) (p : Printer) → Performs (state_of journal world.old) (changes no (restarts m)) result p p (state_of journal world.new) }
+    ensures refused { OnRefused result (world.new ≡ world.old) }
+    ensures whole { OnOk result (IsWhole world.new) }
+    ensures no_fault { IfErr result (λ halt. halt ≢ BrokenOff FaultOf) }
+{
+    let Some(_) = world.motion(no) else {
+        return Err(Halt::Refused(Refusal::Absent));
+    };
+    world.replace(no, m, steps)?;
+    Ok(())
+}
+
+/// Gives a live number another velocity, where it is.
+pub fn turn<L: Ledger>(
+    world: &mut World,
+    no: u32,
+    u: i32,
+    v: i32,
+    steps: &mut Steps<L>,
+) -> Result<(), Halt>
+    requires whole { IsWhole world.old }
+    requires u_small { unsigned_abs u ≤ 4096 }
+    requires v_small { unsigned_abs v ≤ 4096 }
+    ensures performs { (journal : Bool) (p : Printer) → Performs (state_of journal world.old) (changes no (turns u v)) result p p (state_of journal world.new) }
+    ensures refused { OnRefused result (world.new ≡ world.old) }
+    ensures whole { OnOk result (IsWhole world.new) }
+    ensures no_fault { IfErr result (λ halt. halt ≢ BrokenOff FaultOf) }
+{
+    let Some(_) = world.motion(no) else {
+        return Err(Halt::Refused(Refusal::Absent));
+    };
+    match world.turned(no, u, v) {
+        Ok(_) => {
+            world.turn(no, u, v, steps)?;
+            Ok(())
+        }
+        Err(TurnError::NotWhole) => Err(Halt::Refused(Refusal::NotWhole)),
+        Err(TurnError::OutOfBounds) => Err(Halt::Refused(Refusal::OutOfBounds)),
+    }
+}

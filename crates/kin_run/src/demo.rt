@@ -1,0 +1,74 @@
+//! The run of a generated script.
+
+ghost use Rattle.std.specs.Prelude.{◌≡◌, ◌≤◌, ◌<◌, ◌^◌, OnOk, OnErr, IsErrOf};
+ghost use Rattle.std.specs.Io.KnownBytes.{Appends};
+ghost use Rattle.kin_io.specs.Causes.{Rose};
+ghost use Rattle.kin_io.specs.Ends.{AppendsFront};
+ghost use Rattle.kin_run.specs.declared.write.Stop.TheVariants.{Fault as FaultOf};
+ghost use Rattle.kin_run.specs.Demo.{WritesDemo};
+ghost use Rattle.kin_run.specs.Tallies.{tally_line};
+ghost use Rattle.kin_run.specs.Written.{Wrote};
+
+use crate::play::play_script;
+use crate::status::{Side, Status, status_of};
+use crate::tally::Tally;
+use crate::text::demo_text;
+use crate::write::{Stop, flush};
+use kin_io::sink::Sink;
+use kin_script::generate;
+use std::alloc::Global;
+use std::marker::Brand;
+use std::sync::ledger::{Blank, Ledger};
+
+/// Writes how much a run has passed.
+fn write_tally<K: Sink>(alloc: Global, tally: &Tally, sink: &mut K) -> Result<(), Stop>
+    ensures ok { OnOk result (Appends (K.held sink.old) (K.held sink.new) (tally_line tally.now)) }
+    ensures err { OnErr result (AppendsFront (K.held sink.old) (K.held sink.new) (tally_line tally.now)) }
+    ensures later { K.faults sink.old ≤ K.faults sink.new }
+    ensures cause { IsErrOf result FaultOf → Rose (K.faults sink.old) (K.faults sink.new) }
+{
+    let mut out = demo_text(alloc, tally)?;
+    flush(&mut out, sink)?;
+    Ok(())
+}
+
+/// Runs a generated script, and writes how much that passed. None of its commands is refused.
+fn run_generated<K: Sink, L: Ledger>(
+    alloc: Global,
+    seed: u32,
+    count: u32,
+    sink: &mut K,
+    blank: Blank,
+) -> Status
+    requires name { blank.name ≡ L.name }
+    requires parts { blank.parts ≡ L.parts }
+    requires some { 0 < L.parts }
+    requires low { 1 ≤ count }
+    requires high { count ≤ 2 ^ 10 }
+    ensures writes { Wrote (K.held sink.old) (K.held sink.new) (WritesDemo seed count result) }
+    ensures later { K.faults sink.old ≤ K.faults sink.new }
+    ensures cause { result ≡ Status.Fault Side.Write → Rose (K.faults sink.old) (K.faults sink.new) }
+{
+    let Ok(script) = generate(alloc, seed, count) else {
+        return Status::NoMemory;
+    };
+    let mut tally = Tally::new();
+    match play_script::<K, L>(alloc, &script, sink, blank, &mut tally) {
+        Ok(None) => match write_tally(alloc, &tally, sink) {
+            Ok(()) => Status::Done,
+            Err(stop) => status_of(stop),
+        },
+        Ok(Some(_)) => unreachable!(),
+        Err(stop) => status_of(stop),
+    }
+}
+
+/// Runs a generated script, with a counter of its own. The source isn't touched.
+pub fn run_demo<K: Sink>(alloc: Global, seed: u32, count: u32, sink: &mut K) -> Status
+    requires low { 1 ≤ count }
+    requires high { count ≤ 2 ^ 10 }
+    ensures writes { Wrote (K.held sink.old) (K.held sink.new) (WritesDemo seed count result) }
+    ensures cause { result ≡ Status.Fault Side.Write → Rose (K.faults sink.old) (K.faults sink.new) }
+{
+    run_generated::<K, Brand>(alloc, seed, count, sink, Blank::new(1))
+}
