@@ -14,5 +14,4 @@ pub mod Existence
 pub mod NextExistence
 pub mod KeyOrder
 pub mod Spans
-pub mod HeronRoots
 pub mod LineRoots

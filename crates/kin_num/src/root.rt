@@ -1,19 +1,48 @@
 //! Whole square roots.
 
+ghost use Rattle.std.specs.Prelude.{◌+◌, ◌*◌, ◌<◌, ◌≤◌, ◌^◌};
 ghost use Rattle.kin_num.specs.Roots.{IsWholeRoot};
 
-/// The greatest whole number whose square is at most `x`, a binary digit at each of at most 33 calls.
+/// The greatest whole number whose square is at most `x`. Takes about six divisions.
 pub fn isqrt(x: u64) -> u64
     ensures { IsWholeRoot x result }
 {
     if x == 0 {
         return 0;
     }
-    let root = 2 * isqrt(x / 4);
-    if (root + 1) * (root + 1) <= x {
-        root + 1
+    heron(x, guess_above(x))
+}
+
+/// The whole root of `x`, from a guess that isn't below it, by Heron's method: each further guess is at most about half as
+/// great, and near the root it has about twice as many right digits.
+fn heron(x: u64, guess: u64) -> u64
+    requires some { 0 < x }
+    requires guess_some { 0 < guess }
+    requires guess_fits { guess ≤ 2 ^ 32 }
+    requires not_below { x < (guess + 1) * (guess + 1) }
+    ensures { IsWholeRoot x result }
+{
+    let better = (guess + x / guess) / 2;
+    if better < guess {
+        heron(x, better)
     } else {
-        root
+        guess
+    }
+}
+
+/// A power of 2 that isn't below the root of `x`.
+fn guess_above(x: u64) -> u64
+    ensures some { 0 < result }
+    ensures fits { result ≤ 2 ^ 32 }
+    ensures not_below { x < (result + 1) * (result + 1) }
+{
+    match x {
+        0..=0xFFFF => 1 << 8,
+        0x1_0000..=0xFF_FFFF => 1 << 12,
+        0x100_0000..=0xFFFF_FFFF => 1 << 16,
+        0x1_0000_0000..=0xFF_FFFF_FFFF => 1 << 20,
+        0x100_0000_0000..=0xFFFF_FFFF_FFFF => 1 << 24,
+        _ => 1 << 32,
     }
 }
 
@@ -29,6 +58,21 @@ mod tests {
         assert_eq!(rt; isqrt(u64::MAX), top);
         assert_eq!(rt; isqrt(top * top), top);
         assert_eq!(rt; isqrt(top * top - 1), top - 1);
+        Ok(())
+    }
+
+    #[test]
+    fn roots_around_each_power(rt: HostRuntime) -> Result<(), Fail> {
+        assert_eq!(rt; isqrt(1), 1);
+        assert_eq!(rt; isqrt(3), 1);
+        assert_eq!(rt; isqrt(0xFFFF), 0xFF);
+        assert_eq!(rt; isqrt(0x1_0000), 0x100);
+        assert_eq!(rt; isqrt(0xFF_FFFF), 0xFFF);
+        assert_eq!(rt; isqrt(0x100_0000), 0x1000);
+        assert_eq!(rt; isqrt(0xFFFF_FFFF), 0xFFFF);
+        assert_eq!(rt; isqrt(0x1_0000_0000), 0x1_0000);
+        assert_eq!(rt; isqrt(0xFFFF_FFFF_FFFF), 0xFF_FFFF);
+        assert_eq!(rt; isqrt(0x1_0000_0000_0000), 0x100_0000);
         Ok(())
     }
 }

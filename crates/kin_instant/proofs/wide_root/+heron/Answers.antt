@@ -1,5 +1,5 @@
 use Rattle.std.proofs.Common.{◌+◌, ◌*◌, ◌/◌, ◌<◌, refl, arith}
-use Rattle.kin_instant.proofs.HeronRoots.{not_below, some_left}
+use Rattle.kin_num.proofs.HeronRoots.{not_below, some_left}
 use Rattle.kin_instant.proofs.wide_root.+heron.Goals as goal
 
 pub heron-requires : goal.heron-requires
