@@ -17,7 +17,8 @@ use std::sync::ledger::Ledger;
 /// every later moment. `p` is the polynomial of its form, and the fact holds now.
 ///
 /// A sign + or - fails at the next root. A sign 0 fails just after the present instant, since no
-/// polynomial but 0 has the sign 0 there.
+/// polynomial but 0 has the sign 0 there. It is made in line, but for the roots of curves.
+#[inline(always)]
 pub fn first_fail<L: Ledger>(
     fact: &Fact,
     p: &Poly,
@@ -43,6 +44,7 @@ pub fn first_fail<L: Ledger>(
 }
 
 // The least root later than now of a polynomial with this sign, which isn't 0.
+#[inline(always)]
 fn root_from(p: &Poly, now: &Moment, sign: Sign) -> Option<Instant>
     requires sign { sign_at p.now now.now ≡ sign }
     requires some { sign ≢ Zero }
@@ -59,6 +61,7 @@ fn root_from(p: &Poly, now: &Moment, sign: Sign) -> Option<Instant>
 
 // The root of a line later than now, where the line has this sign, which isn't 0. It comes to 0 exactly where its slope has
 // the other sign.
+#[inline(always)]
 fn line_root_from(p: &Poly, now: &Moment, sign: Sign) -> Option<Instant>
     requires flat { p.now.a ≡ pos 0 }
     requires sign { sign_at p.now now.now ≡ sign }
@@ -86,6 +89,7 @@ fn line_root_from(p: &Poly, now: &Moment, sign: Sign) -> Option<Instant>
 }
 
 // When a polynomial leaves the sign 0.
+#[inline(always)]
 fn left_zero(p: &Poly, now: &Moment) -> Option<Moment>
     requires { sign_at p.now now.now ≡ Sign.Zero }
     ensures { (f : Known) → f.sign ≡ Sign.Zero → IsFirstFailure (seen_by p.now) now.now f result }

@@ -69,13 +69,22 @@ impl Names {
 
     /// Notes the form of an id's fact, or that there is none. After want of memory all is as if nobody
     /// had asked.
+    #[inline(always)]
     pub(crate) fn note(&mut self, id: usize, form: Option<Form>) -> Result<(), NoMemory>
         ensures { AreKept self.old self.new id (numbers_in form) }
     {
-        // Nothing is moved while nobody has asked.
+        // While nobody has asked not even a call is made.
         if self.pointers.is_none() {
             return Ok(());
         }
+        self.note_asked(id, form)
+    }
+
+    // The same, where somebody may have asked.
+    #[inline(never)]
+    fn note_asked(&mut self, id: usize, form: Option<Form>) -> Result<(), NoMemory>
+        ensures { AreKept self.old self.new id (numbers_in form) }
+    {
         let Some(mut pointers) = self.pointers.take() else {
             return Ok(());
         };

@@ -46,6 +46,7 @@ pub fn next_root(p: &Poly, w: &Instant) -> Option<Instant>
 ///
 /// A line whose slope has its sign moves away from 0; any other line with a slope comes to its root. So a line takes
 /// no comparison, and its root is made only where it is still to come.
+#[inline(never)]
 pub fn next_root_from(p: &Poly, m: &Moment, sign: Sign) -> Option<Instant>
     requires sign { sign_at p.now m.now ≡ sign }
     requires some { sign ≢ Zero }

@@ -193,7 +193,9 @@ fn earliest_below<L: Ledger>(
     }
 }
 
-// Whether the moment of one ticket is earlier than that of the other one.
+// Whether the moment of one ticket is earlier than that of the other one. It is made in line, since most pairs of keys
+// differ.
+#[inline(always)]
 fn is_earlier<L: Ledger>(x: &Ticket, y: &Ticket, moments: &[Moment], steps: &mut Steps<L>) -> bool
     requires left { IsStamped moments.now x.now }
     requires right { IsStamped moments.now y.now }
@@ -207,7 +209,8 @@ fn is_earlier<L: Ledger>(x: &Ticket, y: &Ticket, moments: &[Moment], steps: &mut
     }
 }
 
-// Whether a moment is earlier than another one.
+// Whether a moment is earlier than another one, out of the way of keys that tell.
+#[inline(never)]
 fn is_earlier_moment<L: Ledger>(x: &Moment, y: &Moment, steps: &mut Steps<L>) -> bool
     ensures earlier { IsTrue result ↔ IsEarlier x.now y.now }
     ensures count { steps.new ≡ steps.old + 1 }
