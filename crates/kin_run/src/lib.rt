@@ -11,7 +11,6 @@ pub use kin_script::refusal::Refusal;
 mod asked;
 mod change;
 mod demo;
-mod kept;
 pub mod laws;
 mod next;
 mod pass;

@@ -10,7 +10,6 @@ ghost use Rattle.kin_run.specs.declared.write.Stop.TheVariants.{Fault as FaultOf
 ghost use Rattle.kin_run.specs.Performed.{RepliesTo, Replies};
 ghost use Rattle.kin_run.specs.States.{state_of, seen_of};
 
-use crate::kept::is_kept;
 use crate::perform::Halt;
 use kin_motion::{Keep, Rect};
 use kin_print::{Reply, put_reply};
@@ -45,7 +44,7 @@ fn hull(world: &World) -> Result<Reply, Halt>
     requires { IsWhole world.now }
     ensures { RepliesTo (seen_of world.now) asked.Hull result }
 {
-    if !is_kept(world, &Keep::Hull) {
+    if !world.keeps(&Keep::Hull) {
         return Err(Halt::Refused(Refusal::NotKept));
     }
     Ok(Reply::List(world.hull()?))
@@ -56,7 +55,7 @@ fn closest(world: &World) -> Result<Reply, Halt>
     requires { IsWhole world.now }
     ensures { RepliesTo (seen_of world.now) asked.Closest result }
 {
-    if !is_kept(world, &Keep::Closest) {
+    if !world.keeps(&Keep::Closest) {
         return Err(Halt::Refused(Refusal::NotKept));
     }
     Ok(Reply::Pair(world.closest()))
@@ -68,7 +67,7 @@ fn inside(world: &World, rect: &Rect) -> Result<Reply, Halt>
     requires rect { IsRectInRange rect.now }
     ensures { RepliesTo (seen_of world.now) (asked.Inside rect.now) result }
 {
-    if !is_kept(world, &Keep::Range) {
+    if !world.keeps(&Keep::Range) {
         return Err(Halt::Refused(Refusal::NotKept));
     }
     Ok(Reply::List(world.inside(rect)?))

@@ -1,8 +1,21 @@
 //! Where a keep stands among others.
 
-ghost use Rattle.std.specs.Prelude.{◌≡◌, ◌≤◌, ◌↔◌, ℕ, Some, IsTrue, length, slice_get};
+ghost use Rattle.std.specs.Prelude.{◌≡◌, ◌≢◌, ◌≤◌, ◌↔◌, ℕ, Some, IsTrue, IfSome, IfNone, length, slice_get};
 
 use kin_motion::Keep;
+
+/// The first place of a keep, if it stands among these.
+pub(crate) fn find(keep: &Keep, keeps: &[Keep]) -> Option<usize>
+    ensures some { IfSome result (λ k. slice_get keeps.now k ≡ Some keep.now) }
+    ensures none { IfNone result ((k : ℕ) → slice_get keeps.now k ≢ Some keep.now) }
+{
+    for k in 0..keeps.len() {
+        if is_same(&keeps[k], keep) {
+            return Some(k);
+        }
+    }
+    None
+}
 
 /// The first place of a keep that stands among these.
 pub(crate) fn place_of(keep: &Keep, keeps: &[Keep]) -> u32
@@ -10,12 +23,10 @@ pub(crate) fn place_of(keep: &Keep, keeps: &[Keep]) -> u32
     requires kept { (k : ℕ) × (slice_get keeps.now k ≡ Some keep.now) }
     ensures { slice_get keeps.now result ≡ Some keep.now }
 {
-    for k in 0..keeps.len() {
-        if is_same(&keeps[k], keep) {
-            return k as u32;
-        }
+    match find(keep, keeps) {
+        Some(k) => k as u32,
+        None => unreachable!(),
     }
-    unreachable!()
 }
 
 fn is_same(keep: &Keep, other: &Keep) -> bool

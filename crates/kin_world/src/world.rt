@@ -19,7 +19,7 @@ ghost use Rattle.kin_world.specs.Kinds.{IsAtRest};
 ghost use Rattle.kin_world.specs.Structures.{IsKept};
 ghost use Rattle.kin_world.specs.Worlds.{AreKeepable, IsNextMoment, IsWhole, CanTurn, HasInserted, HasRemoved, HasReplaced, HasTurned, HasStepped, failure_count, FailsWithin, certificate, empty, world_setting, scene_of};
 
-use crate::places::place_of;
+use crate::places::{find, place_of};
 use crate::structure::{Mark, Structure};
 use crate::upkeep::Upkeep;
 use kin_cert::Block;
@@ -299,6 +299,16 @@ impl World {
         ensures { result ≡ slice_get self.now.keeps s }
     {
         self.upkeep.keeps.get(s as usize).copied()
+    }
+
+    /// Whether this is kept, along the same direction if it has one.
+    pub fn keeps(&self, keep: &Keep) -> bool
+        ensures { IsTrue result ↔ ((k : ℕ) × (slice_get self.now.keeps k ≡ Some keep.now)) }
+    {
+        match find(keep, &self.upkeep.keeps) {
+            Some(_) => true,
+            None => false,
+        }
     }
 
     /// The sign of an owner's live fact of this form, or `None` exactly where there is none.

@@ -1,6 +1,6 @@
 use Rattle.std.proofs.Common.{◌≡◌, ◌≤◌, ℕ}
 use Rattle.std.specs.Prelude.{Some, slice_get}
-use Rattle.kin_world.proofs.places.place_of.Given as goal
+use Rattle.kin_world.proofs.places.find.Given as goal
 
 -- the keep hasn't been passed
 abbrev pub invariant-loop-k : goal.invariant-loop-k
