@@ -36,5 +36,7 @@ mod scripts;
 mod structure;
 #[cfg(test)]
 mod tests;
+#[cfg(test)]
+mod turning;
 mod upkeep;
 pub mod world;

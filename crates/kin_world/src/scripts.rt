@@ -2,6 +2,7 @@
 
 use kin_motion::{Keep, Rect};
 use kin_num::{Phase, Sign};
+use kin_turn::turned::TurnError;
 
 /// A whole second and the phase.
 pub type Time = (i64, Phase);
@@ -22,6 +23,8 @@ pub enum Call {
     Remove(u32),
     /// A live number gets another x, y, u and v.
     Replace(u32, [i32; 4]),
+    /// A live number turns to this velocity, or doesn't for this reason.
+    Turns(u32, (i32, i32), Option<TurnError>),
     /// A step towards the first time stops at the second, where these facts have failed.
     Stops(Time, Time, &'static [Lost]),
     /// The same without a list: so many facts have failed.
@@ -48,22 +51,22 @@ pub enum Call {
 /// The size, what is kept, and the calls.
 pub type Script = (u32, &'static [Keep], &'static [Call]);
 
-const ORDER_EAST: Keep = Keep::Order { dx: 1, dy: 0 };
+pub const ORDER_EAST: Keep = Keep::Order { dx: 1, dy: 0 };
 
 const ORDER_NORTH: Keep = Keep::Order { dx: 0, dy: 1 };
 
-const EXTREME_EAST: Keep = Keep::Extreme { dx: 1, dy: 0 };
+pub const EXTREME_EAST: Keep = Keep::Extreme { dx: 1, dy: 0 };
 
 const EXTREME_NORTH: Keep = Keep::Extreme { dx: 0, dy: 1 };
 
-const EAST: Along = ((1, 0), (0, 1));
+pub const EAST: Along = ((1, 0), (0, 1));
 
 const WEST: Along = ((1, 0), (1, 0));
 
 const NORTH: Along = ((0, 1), (0, 1));
 
 /// Two points that were apart meet.
-const MEET: (Sign, Sign) = (Sign::Plus, Sign::Zero);
+pub const MEET: (Sign, Sign) = (Sign::Plus, Sign::Zero);
 /// Two points that had met are the other way round.
 const PART: (Sign, Sign) = (Sign::Zero, Sign::Minus);
 

@@ -6,6 +6,7 @@ ghost use Rattle.kin_world.specs.Worlds.{AreKeepable};
 
 use crate::asked::ASKED;
 use crate::scripts::{Along, Call, Lost, SCRIPTS, Script, Time};
+use crate::turning::{TURNING, turns};
 use crate::world::World;
 use kin_cert::Failure;
 use kin_instant::order::compare_moments;
@@ -299,6 +300,7 @@ fn follows<L: Ledger>(
         Call::Insert(no, m) => enters(world, no, m, steps),
         Call::Remove(no) => leaves(world, no, steps),
         Call::Replace(no, m) => is_replaced(world, no, m, steps),
+        Call::Turns(no, speed, refused) => turns(world, no, speed, refused, steps),
         Call::Stops(limit, time, lost) => match moment(limit) {
             Some(limit) => stops(world, &limit, time, lost, steps),
             None => Ok(false),
@@ -371,6 +373,13 @@ fn scripts_have_their_answers(rt: HostRuntime) -> Result<(), Fail> {
 #[test]
 fn pairs_and_rectangles_are_answered(rt: HostRuntime) -> Result<(), Fail> {
     let wrong = first_wrong_script(rt.alloc(), &ASKED)?;
+    assert!(rt; wrong == None, "script and call {wrong:?}");
+    Ok(())
+}
+
+#[test]
+fn turns_have_their_answers(rt: HostRuntime) -> Result<(), Fail> {
+    let wrong = first_wrong_script(rt.alloc(), &TURNING)?;
     assert!(rt; wrong == None, "script and call {wrong:?}");
     Ok(())
 }
