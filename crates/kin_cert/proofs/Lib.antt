@@ -24,3 +24,5 @@ pub mod ToldLaws
 pub mod NextLaws
 pub mod Schedules
 pub mod LineFailures
+pub mod Costs
+pub mod QueueSizes

@@ -1,11 +1,11 @@
 -- What changes of slots do to the index of a roll.
-use Rattle.std.proofs.Common.{◌≡◌, ◌≢◌, refl, sym, ap, subst, ◌∙◌, arith, List, [], ◌∷◌, length, get_or, ℕ, zero, suc, ◌+◌, ◌*◌, ◌<◌, ◌≤◌, Option, Some, None, inl, inr}
+use Rattle.std.proofs.Common.{◌≡◌, refl, sym, ap, ◌∙◌, arith, List, [], ◌∷◌, length, get_or, ℕ, zero, suc, ◌+◌, ◌*◌, ◌≤◌, Option, Some, None, inl, inr}
 use Rattle.std.proofs.lemmas.Option.{same_Some, none-some}
 use Rattle.std.proofs.lemmas.Bool.{cases_eq, cases_lt}
 use Rattle.kin_pointers.specs.Pointing.{Pointing}
 use Rattle.kin_cert.specs.declared.entry.Entry.{Entry}
 use Rattle.kin_cert.specs.Layout.{entry_at, HasSlot}
-use Rattle.kin_cert.specs.Names.{target_of, slot_number, numbers_in, numbers_at, form_in, owned_in, IsIndex, IsIndexUpTo, AreNamed, HasNumbers, AreKept, HaveSameFacts}
+use Rattle.kin_cert.specs.Names.{target_of, slot_number, numbers_in, numbers_at, owned_in, IsIndex, IsIndexUpTo, AreNamed, HasNumbers, AreKept, HaveSameFacts}
 
 -- the fact of one id changes, and its slots follow
 pub renamed : (p q : Option Pointing) (slots after : List (Option Entry)) (id : ℕ) (ns : List ℕ) (o : Option Entry) → AreNamed p slots → HasSlot slots after id o → AreKept p q id ns → ns ≡ numbers_at o → AreNamed q after

@@ -1,20 +1,18 @@
 -- The facts whose slots point at a number are those that name it, and remaking them remakes exactly these.
-use Rattle.std.proofs.Common.{◌≡◌, ◌≢◌, refl, sym, ap, subst, ◌∙◌, arith, List, [], ◌∷◌, length, get_or, set, ℕ, zero, suc, ◌+◌, ◌*◌, ◌-◌, ◌/◌, ◌<◌, ◌^◌, min, Bool, true, false, cond, Option, Some, None, count_by, ◌⊎◌, inl, inr}
+use Rattle.std.proofs.Common.{◌≡◌, ◌≢◌, refl, sym, ap, subst, ◌∙◌, arith, List, [], ◌∷◌, length, get_or, set, ℕ, zero, suc, ◌+◌, ◌*◌, ◌-◌, ◌/◌, ◌^◌, min, Bool, true, false, cond, Option, Some, None, count_by, ◌⊎◌, inl, inr}
 use Rattle.std.specs.Prelude.{slice_get}
 use Rattle.std.proofs.lemmas.Option.{same_Some, none-some}
-use Rattle.std.proofs.lemmas.Bool.{cases_eq}
-use Rattle.std.proofs.lemmas.List.{get_or-set_same, get_or-set_other}
 use Rattle.std.proofs.lemmas.List.Sums.{sum_by-cons}
 use Rattle.std.specs.List.{Contains}
 use Rattle.kin_basics.proofs.Members.{contains_none, contains_head, contains_tail, contains_cases}
 use Rattle.kin_num.specs.declared.instant.Moment.{Moment}
-use Rattle.kin_motion.specs.Forms.{numbers_of, names, IsAskable}
+use Rattle.kin_motion.specs.Forms.{names, IsAskable}
 use Rattle.kin_motion.specs.Scene.{Scene, Holds}
-use Rattle.kin_motion.specs.Sets.{AreDistinct, ListsExactly}
+use Rattle.kin_motion.specs.Sets.{AreDistinct}
 use Rattle.kin_motion.proofs.SetLaws.{distinct_head, distinct_tail}
-use Rattle.kin_pointers.specs.Pointing.{Pointing, PointsAt, AreSlotsOf}
+use Rattle.kin_pointers.specs.Pointing.{Pointing, AreSlotsOf}
 use Rattle.kin_cert.specs.declared.entry.Entry.{Entry}
-use Rattle.kin_cert.specs.Facts.{LiveFact, Facts}
+use Rattle.kin_cert.specs.Facts.{LiveFact}
 use Rattle.kin_cert.specs.Failures.{IsFirstFailure}
 use Rattle.kin_cert.specs.Layout.{entry_at, live_fact, live_in, fresh, timed, HasSlot}
 use Rattle.kin_cert.specs.Names.{target_of, slot_number, numbers_at, owned_in, IsIndex, AreNamed, ListsSlotsOf, MayRenew, IsRenewed, AreRenewed}

@@ -1,5 +1,5 @@
 -- Failure moments made anew, one by one.
-use Rattle.std.proofs.Common.{◌≡◌, ◌≢◌, refl, sym, ap, subst, ◌∙◌, arith, List, [], ◌∷◌, ◌++◌, length, set, ℕ, ◌+◌, ◌/◌, Option, Some, None, ◌⊎◌, inl, inr}
+use Rattle.std.proofs.Common.{◌≡◌, ◌≢◌, refl, sym, ap, subst, ◌∙◌, List, [], ◌∷◌, ◌++◌, length, ℕ, ◌/◌, Option, Some, None, ◌⊎◌, inl, inr}
 use Rattle.std.proofs.lemmas.Option.{same_Some, none-some}
 use Rattle.std.proofs.lemmas.Bool.{cases_eq}
 use Rattle.std.proofs.lemmas.List.Elements.{Contains-append_left, Contains-append_right, Contains-append_cases}
@@ -17,7 +17,7 @@ use Rattle.kin_cert.specs.Failures.{IsFirstFailure}
 use Rattle.kin_cert.specs.Layout.{entry_at, live_in, fresh, timed, HasSlot, IsTable, IsTimed}
 use Rattle.kin_cert.specs.Names.{owned_in, HaveSameFacts, IsFreed, IsRenewed, HasRenewed, AreRenewed}
 use Rattle.kin_cert.proofs.Slots.{live-set-count}
-use Rattle.kin_cert.proofs.Tables.{has-slot, unqueued-table, timed-slot, timed-table}
+use Rattle.kin_cert.proofs.Tables.{has-slot, unqueued-table, timed-slot}
 
 -- an entry whose fact is known
 pub of-fact : (x : Option Entry) (o : Owned) → owned_in x ≡ Some o → (e : Entry) × (x ≡ Some e) × (e.owned ≡ o)
@@ -36,6 +36,9 @@ module _ (old mid : List (Option Entry)) (id : ℕ) (owned : Owned) (seat : Seat
   freed-table moments fewer table less =
       unqueued-table old mid moments fewer id (Some (fresh owned)) table freed-slot refl (less ∙ ap (λ (s : Seat). map.remove moments s.id) freed.seat_is)
 
+  pub freed-count : length (live_in mid) ≡ length (live_in old)
+  freed-count = ap (λ (xs : List (Option Entry)). length (live_in xs)) freed.slots ∙ live-set-count old id freed.entry (fresh freed.entry.owned) freed.there
+
   -- and comes back with its first failure
   module _ (scene : Moment → Scene) (now : Moment) (new : List (Option Entry)) (moments later : FinMap nat_cmp Moment) (table : IsTable mid moments) (timed_so : IsTimed scene now owned id mid moments new later) where
     slot : HasSlot mid new id (Some (timed (fresh owned) timed_so.fails))
@@ -53,7 +56,7 @@ module _ (old mid : List (Option Entry)) (id : ℕ) (owned : Owned) (seat : Seat
       others = λ j n. slot.others j n ∙ freed-slot.others j n;
       count =
           ap (λ (xs : List (Option Entry)). length (live_in xs)) timed_so.slots_are ∙ live-set-count mid id (fresh owned) (timed (fresh owned) timed_so.fails) freed-slot.changed
-          ∙ ap (λ (xs : List (Option Entry)). length (live_in xs)) freed.slots ∙ live-set-count old id freed.entry (fresh freed.entry.owned) freed.there;
+          ∙ freed-count;
     }
 
 -- one more

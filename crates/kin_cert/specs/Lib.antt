@@ -12,3 +12,4 @@ pub mod Told
 pub mod Remade
 pub mod Schedules
 pub mod Names
+pub mod Cost

@@ -1,5 +1,5 @@
 -- How an index from numbers to the facts that name them lies in memory: four slots for each id, which point at numbers. No public clause cites this module.
-use Rattle.std.specs.Prelude.{◌≡◌, ◌≢◌, ℕ, ◌+◌, ◌*◌, ◌/◌, ◌<◌, ◌≤◌, cond, List, [], ◌∷◌, ◌++◌, Option, Some, None, Contains, slice_index_or, slice_set, length, is_some, ⊤}
+use Rattle.std.specs.Prelude.{◌≡◌, ◌≢◌, ℕ, ◌+◌, ◌*◌, ◌/◌, ◌<◌, ◌≤◌, cond, List, [], ◌∷◌, Option, Some, None, Contains, slice_index_or, slice_set, length, is_some, ⊤}
 use Rattle.std.specs.Ordering.{nat_cmp}
 use Rattle.std.specs.FinMap.{FinMap}
 use Rattle.kin_num.specs.declared.instant.Moment.{Moment}

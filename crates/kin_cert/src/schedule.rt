@@ -1,10 +1,11 @@
 //! When the live facts fail.
 
 ghost use Rattle.std.specs.Prelude.{◌≡◌, ◌≢◌, ◌⊎◌, ◌↔◌, ℕ, [], slice_get, Contains, None, Some, IsSome, IsTrue, IsFalse, IfSome, IfNone, MatchOption, OnOk, OnErr};
-ghost use Rattle.std.specs.FinMap.{get, insert, remove, empty};
+ghost use Rattle.std.specs.FinMap.{get, insert, remove, empty, len};
 ghost use Rattle.kin_num.specs.declared.instant.Moment.{Moment as Time};
 ghost use Rattle.kin_num.specs.Order.{IsEarlier};
 ghost use Rattle.kin_queue.specs.Agenda.{IsLeast};
+ghost use Rattle.kin_queue.specs.Cost.{TakesSteps};
 
 use kin_instant::order::compare;
 use kin_instant::ratio::ratio;
@@ -69,6 +70,7 @@ impl Schedule {
         requires absent { get self.old id ≡ None }
         ensures ok { OnOk result (self.new ≡ insert self.old id at.now) }
         ensures err { OnErr result (self.new ≡ self.old) }
+        ensures cost { TakesSteps (len self.old) steps.old steps.new }
     {
         at.at.recall_canonical();
         if !may_join(&self.soon, &self.soon_at, at) {
@@ -84,7 +86,8 @@ impl Schedule {
     /// Takes an id out, which is there.
     pub(crate) fn remove<L: Ledger>(&mut self, id: usize, steps: &mut Steps<L>)
         requires present { IsSome (get self.old id) }
-        ensures { self.new ≡ remove self.old id }
+        ensures rest { self.new ≡ remove self.old id }
+        ensures cost { TakesSteps (len self.old) steps.old steps.new }
     {
         if self.queue.has(id) {
             self.queue.remove(id, steps);
@@ -127,6 +130,8 @@ impl Schedule {
         ensures rest { IfSome result (λ id. self.new ≡ remove self.old id) }
         ensures none { IfNone result ((id : ℕ) → ¬ (get self.old id ≡ Some moment.now)) }
         ensures unchanged { IfNone result (self.new ≡ self.old) }
+        ensures cost { TakesSteps (len self.old) steps.old steps.new }
+        ensures idle { IfNone result (steps.new ≡ steps.old) }
     {
         moment.at.recall_canonical();
         if have_moment(&self.soon, &self.soon_at, moment) {

@@ -32,4 +32,5 @@ returns-in_default g c =
       ok = on_timed c.args.motions.now c.args.now.now c.args.owned.now c.args.id c.args.roll.now c.time_by-in_default.new.roll c.args.schedule.now c.time_by-in_default.new.schedule c.poly_of-p.result p_is c.time_by-in_default.result c.time_by-in_default.ensures.ok;
       roll = c.time_by-in_default.ensures.roll;
       schedule = c.time_by-in_default.ensures.schedule;
+      cost = c.time_by-in_default.ensures.cost;
     }

@@ -1,6 +1,7 @@
-use Rattle.std.proofs.Common.{Some, None, refl, sym}
+use Rattle.std.proofs.Common.{Some, None, refl, sym, arith}
 use Rattle.kin_cert.specs.Layout.{fresh}
 use Rattle.kin_cert.proofs.Tables.{same-slot}
+use Rattle.kin_cert.proofs.Costs.{one_call}
 use Rattle.kin_cert.proofs.timing.time_by.Goals as goal
 
 pub returns-in_default : goal.returns-in_default
@@ -14,6 +15,7 @@ returns-in_default g c =
       };
       roll = tt;
       schedule = tt;
+      cost = λ r e. omega (arith, c.in_default.ensures.count);
     }
 
 pub returns-clause-ok : goal.returns-clause-ok
@@ -24,3 +26,6 @@ returns-clause-ok g c =
       slots_are = c.set_failure.ensures (fresh c.args.owned.now) c.requires.fresh;
       moments_are = c.in_ok-insert.ensures.ok;
     }
+
+pub returns-clause-cost : goal.returns-clause-cost
+returns-clause-cost g c = λ r e. let one = one_call _ _ _ c.insert.ensures.cost r e in omega (arith, one, c.in-Some.ensures.count)

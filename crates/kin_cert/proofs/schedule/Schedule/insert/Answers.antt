@@ -5,6 +5,8 @@ use Rattle.kin_basics.proofs.Results.{from_two}
 use Rattle.kin_queue.specs.Agenda.{Agenda}
 use Rattle.kin_cert.specs.Schedules.{with_each, AreBeside}
 use Rattle.kin_cert.proofs.Schedules.{Moments, not_mapped, mapped_beside, mapped_is, pushed_beside, pushed_is, at_either}
+use Rattle.kin_cert.proofs.Costs.{takes_more, none_taken}
+use Rattle.kin_cert.proofs.QueueSizes.{fewer_than}
 use Rattle.kin_cert.proofs.schedule.Schedule.insert.Goals as goal
 
 pub insert-requires : goal.insert-requires
@@ -56,3 +58,9 @@ returns-clause-ok g c =
     let ok : is_ok c.push.result ≡ true = grind arith in
     let items : c.push.new.self.items ≡ c.self.inside.soon.items ++ c.args.id ∷ [] = rw ok at c.push.ensures.items in
     ap (with_each m w) items ∙ pushed_is m w ids c.self.invariant c.args.id free ∙ ap (λ (x : Moments). insert x c.args.id c.args.at.now) (sym same ∙ c.self.view_is)
+
+pub returns-then-not-may_join-clause-cost : goal.returns-then-not-may_join-clause-cost
+returns-then-not-may_join-clause-cost g c = takes_more _ _ _ _ (fewer_than c.self.inside.queue.moments c.self.inside.soon_at c.self.inside.soon.items _ c.self.view_is) c.insert.ensures.cost
+
+pub returns-clause-cost : goal.returns-clause-cost
+returns-clause-cost g c = none_taken _ _

@@ -4,14 +4,16 @@ use Rattle.std.specs.List.{Contains}
 use Rattle.std.proofs.lemmas.Option.{slice_get_within}
 use Rattle.kin_cert.specs.Schedules.{with_each, AreBeside}
 use Rattle.kin_cert.proofs.Schedules.{Moments, unmapped_beside, unmapped_is, removed_beside, removed_is, where_it_is}
+use Rattle.kin_cert.proofs.Costs.{takes_more, none_taken}
+use Rattle.kin_cert.proofs.QueueSizes.{fewer_than}
 use Rattle.kin_cert.proofs.schedule.Schedule.remove.Goals as goal
 
 pub invariant_of-self : goal.invariant_of-self
 invariant_of-self g c =
     subst (λ (x : Moments). AreBeside x c.self.inside.soon.items) (sym c.remove.ensures.moments) (unmapped_beside c.self.inside.queue.moments c.self.inside.soon_at c.self.inside.soon.items c.self.invariant c.args.id (sym c.if-has.ensures))
 
-pub returns-then-has : goal.returns-then-has
-returns-then-has g c =
+pub returns-then-has-clause-rest : goal.returns-then-has-clause-rest
+returns-then-has-clause-rest g c =
     ap (λ (x : Moments). with_each x c.self.inside.soon_at c.self.inside.soon.items) c.remove.ensures.moments
     ∙ unmapped_is c.self.inside.queue.moments c.self.inside.soon_at c.self.inside.soon.items c.self.invariant c.args.id (sym c.if-has.ensures)
     ∙ ap (λ (x : Moments). remove x c.args.id) c.self.view_is
@@ -35,9 +37,15 @@ invariant_of-self-2 g c =
     subst (λ (xs : List ℕ). AreBeside c.self.inside.queue.moments xs) (sym c.remove-2.ensures.items)
     (removed_beside c.self.inside.queue.moments c.self.inside.soon_at c.self.inside.soon.items c.in-Some.place c.args.id c.self.invariant there)
 
-pub returns : goal.returns
-returns g c =
+pub returns-clause-rest : goal.returns-clause-rest
+returns-clause-rest g c =
     let there : slice_get c.self.inside.soon.items c.in-Some.place ≡ Some c.args.id = subst (λ (xs : List ℕ). slice_get xs c.in-Some.place ≡ Some c.args.id) c.deref.ensures.value c.in-Some.ensures.some in
     ap (with_each c.self.inside.queue.moments c.self.inside.soon_at) c.remove-2.ensures.items
     ∙ removed_is c.self.inside.queue.moments c.self.inside.soon_at c.self.inside.soon.items c.in-Some.place c.args.id c.self.invariant there
     ∙ ap (λ (x : Moments). remove x c.args.id) c.self.view_is
+
+pub returns-then-has-clause-cost : goal.returns-then-has-clause-cost
+returns-then-has-clause-cost g c = takes_more _ _ _ _ (fewer_than c.self.inside.queue.moments c.self.inside.soon_at c.self.inside.soon.items _ c.self.view_is) c.remove.ensures.cost
+
+pub returns-clause-cost : goal.returns-clause-cost
+returns-clause-cost g c = none_taken _ _

@@ -9,6 +9,8 @@ use Rattle.kin_num.proofs.MomentOrder.{earlier_total}
 use Rattle.kin_queue.specs.Agenda.{IsNext, without}
 use Rattle.kin_cert.specs.Schedules.{with_each, AreBeside}
 use Rattle.kin_cert.proofs.Schedules.{Moments, has_each, only_mapped, popped_beside, popped_is, unmapped_beside, unmapped_is}
+use Rattle.kin_cert.proofs.Costs.{takes_more, none_taken}
+use Rattle.kin_cert.proofs.QueueSizes.{fewer_than}
 use Rattle.kin_cert.proofs.schedule.Schedule.take_at.Goals as goal
 
 -- what is in the list: the ids, and the one that is taken at the end
@@ -67,6 +69,8 @@ returns-then-not-is_same g c =
             ]
           ];
       unchanged = refl;
+      cost = none_taken _ _;
+      idle = refl;
     }
 
 pub invariant_of-self-2 : goal.invariant_of-self-2
@@ -96,3 +100,12 @@ returns-clause-rest g c =
     ap (λ (x : Moments). with_each x c.self.inside.soon_at c.self.inside.soon.items) fewer
     ∙ unmapped_is m c.self.inside.soon_at c.self.inside.soon.items c.self.invariant next.0 (subst (λ (o : Option Moment). IsSome o) (sym first.there) refl)
     ∙ ap (λ (x : Moments). remove x c.in-Some-first.next.0) c.self.view_is
+
+pub returns-then-have_moment-clause-cost : goal.returns-then-have_moment-clause-cost
+returns-then-have_moment-clause-cost g c = none_taken _ _
+
+pub returns-in_default-first-clause-cost : goal.returns-in_default-first-clause-cost
+returns-in_default-first-clause-cost g c = none_taken _ _
+
+pub returns-clause-cost : goal.returns-clause-cost
+returns-clause-cost g c = takes_more _ _ _ _ (fewer_than c.self.inside.queue.moments c.self.inside.soon_at c.self.inside.soon.items _ c.self.view_is) c.pop-2.ensures.cost

@@ -24,7 +24,7 @@ invariant_of-self g c =
     let slot : HasSlot c.self.inside.roll c.take_out-seat.new.self c.take_out-seat.result.id None =
     subst (λ (xs : List (Option Entry)). HasSlot c.self.inside.roll xs c.take_out-seat.result.id None) (sym c.take_out-seat.ensures.slots) (has-slot c.self.inside.roll c.take_out-seat.result.id k.entry None k.there) in
     record {
-      table = unqueued-table c.self.inside.roll c.take_out-seat.new.self c.self.inside.schedule c.unqueue.new.schedule c.take_out-seat.result.id None c.self.invariant.table slot refl c.unqueue.ensures;
+      table = unqueued-table c.self.inside.roll c.take_out-seat.new.self c.self.inside.schedule c.unqueue.new.schedule c.take_out-seat.result.id None c.self.invariant.table slot refl c.unqueue.ensures.rest;
       named = renamed c.self.inside.names c.note.new.self c.self.inside.roll c.take_out-seat.new.self c.take_out-seat.result.id [] None c.self.invariant.named slot c.note.ensures refl;
     }
 

@@ -13,6 +13,8 @@ use Rattle.kin_cert.proofs.Slots.{live-there, live-set-count, live-set-due}
 use Rattle.kin_cert.proofs.Tables.{table-once, has-slot, unqueued-table}
 use Rattle.kin_cert.proofs.Naming.{still-named, same-facts}
 use Rattle.kin_cert.proofs.Dues.{queued-slot, due-queued, given-due, has-given}
+use Rattle.kin_cert.proofs.Costs.{takes_more, one_call}
+use Rattle.kin_cert.proofs.QueueSizes.{few-queued-of}
 use Rattle.kin_cert.proofs.table.Table.give.Goals as goal
 
 -- no id is due before the moment
@@ -85,3 +87,13 @@ returns-clause-fewer g c =
 
 pub returns-clause-once : goal.returns-clause-once
 returns-clause-once g c = subst (λ (t : Facts). NoneAlike t.live) c.self.view_is (table-once c.self.inside.roll c.len.ensures.once)
+
+pub returns-clause-cost : goal.returns-clause-cost
+returns-clause-cost g c =
+    let live : live_in c.self.inside.roll ≡ c.args.self.now.live = ap (λ (t : Facts). t.live) c.self.view_is in
+    one_call _ _ _ (takes_more _ _ _ _ (few-queued-of c.self.inside.roll c.self.inside.schedule c.args.self.now.live c.self.invariant.table live) c.take_at.ensures.cost)
+
+pub returns-in_default-clause-cost : goal.returns-in_default-clause-cost
+returns-in_default-clause-cost g c =
+    let live : live_in c.self.inside.roll ≡ c.args.self.now.live = ap (λ (t : Facts). t.live) c.self.view_is in
+    one_call _ _ _ (takes_more _ _ _ _ (few-queued-of c.self.inside.roll c.self.inside.schedule c.args.self.now.live c.self.invariant.table live) c.take_at.ensures.cost)

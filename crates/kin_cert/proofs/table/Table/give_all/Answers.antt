@@ -1,7 +1,9 @@
-use Rattle.std.proofs.Common.{◌≡◌, ◌∙◌, ◌++◌, ◌∷◌, [], true, List, refl, sym, subst, arith}
+use Rattle.std.proofs.Common.{◌≡◌, ◌∙◌, ◌++◌, ◌∷◌, [], ℕ, ◌+◌, ◌*◌, true, List, length, length-append, refl, sym, ap, subst, arith}
 use Rattle.std.specs.Result.{is_ok}
 use Rattle.kin_cert.specs.declared.owned.Owned.{Owned}
+use Rattle.kin_cert.specs.Cost.{AreFewComparisons}
 use Rattle.kin_cert.specs.Layout.{IsGivenUpTo}
+use Rattle.kin_cert.proofs.Costs.{one_more}
 use Rattle.kin_cert.proofs.Giving.{given-none, given-more}
 use Rattle.kin_cert.proofs.table.Table.give_all.Goals as goal
 
@@ -11,6 +13,7 @@ loop-owned-init g c =
       given = given-none c.args.moment.now c.args.self.now.live c.args.taken.now.items c.requires.empty c.requires.none_waits c.requires.due;
       count = refl;
       made = refl;
+      cost = λ r e. omega arith;
     }
 
 pub loop-owned-preserved : goal.loop-owned-preserved
@@ -23,4 +26,14 @@ loop-owned-preserved g c =
           (given-more c.args.moment.now c.args.self.now.live c.loop-owned.self.live c.give.new.self.live c.loop-owned.taken.items c.in-Some.owned given.0 c.loop-owned.invariant.given c.give.ensures.once given.1 given.2);
       count = c.give.ensures.count ∙ c.loop-owned.invariant.count;
       made = c.give.ensures.made ∙ c.loop-owned.invariant.made;
+      cost =
+          let more : length c.push.new.self.items ≡ length c.loop-owned.taken.items + 1 = ap length items ∙ length-append c.loop-owned.taken.items (c.in-Some.owned ∷ []) in
+          subst (λ (n : ℕ). AreFewComparisons (length c.args.self.now.live) (λ r. n * r) c.args.steps.now c.give.new.steps) (sym more)
+          (one_more (length c.args.self.now.live) (length c.loop-owned.taken.items) _ _ _ (λ r. r) c.loop-owned.invariant.cost
+          (subst (λ (n : ℕ). AreFewComparisons n (λ r. r) c.loop-owned.steps c.give.new.steps) c.loop-owned.invariant.count c.give.ensures.cost));
     }
+
+pub returns-clause-cost : goal.returns-clause-cost
+returns-clause-cost g c = λ r e.
+    let before = c.loop-owned.invariant.cost r e in
+    omega (arith, before, c.in_default.ensures.idle)

@@ -1,9 +1,7 @@
-use Rattle.std.proofs.Common.{rules}
-use Rattle.std.specs.Prelude.{OnOk, IfOk}
-use Rattle.kin_cert.specs.Taken.{HasGivenOut}
 use Rattle.kin_cert.proofs.Dues.{least-due}
 use Rattle.kin_cert.proofs.Taking.{has-given_out}
 use Rattle.kin_basics.proofs.Results.{from_two}
+use Rattle.kin_cert.proofs.Costs.{few_given}
 use Rattle.kin_cert.proofs.table.Table.give_failing.Goals as goal
 
 pub give_all-requires-clause-due : goal.give_all-requires-clause-due
@@ -14,3 +12,6 @@ returns-clause-given g c =
     from_two c.give_all.result
     (λ given all. has-given_out c.args.moment.now c.args.self.now.live c.give_all.new.self.live c.give_all.new.taken.items c.requires.failing given all c.give_all.ensures.count)
     c.give_all.ensures.given c.give_all.ensures.all
+
+pub returns-clause-cost : goal.returns-clause-cost
+returns-clause-cost g c = from_two c.give_all.result (λ few again. few_given _ _ _ _ few) c.give_all.ensures.cost c.give_all.ensures.cost

@@ -3,7 +3,7 @@ use Rattle.kin_motion.specs.Scene.{scene_at}
 use Rattle.kin_cert.specs.declared.entry.Entry.{Entry}
 use Rattle.kin_cert.specs.declared.owned.Owned.{Owned}
 use Rattle.kin_cert.specs.Facts.{Facts}
-use Rattle.kin_cert.specs.Layout.{live_in, owned_rank, fresh, timed, queued_at, IsTable, IsTakenOver, IsTimed, HasReplaced}
+use Rattle.kin_cert.specs.Layout.{live_in, owned_rank, fresh, timed, queued_at, IsTakenOver, IsTimed, HasReplaced}
 use Rattle.kin_cert.specs.Names.{numbers_at, IsListed}
 use Rattle.kin_cert.proofs.Schedules.{Moments}
 use Rattle.kin_cert.proofs.Naming.{renamed, still-named, same-facts}
@@ -15,7 +15,7 @@ pub time-requires-clause-absent : goal.time-requires-clause-absent
 time-requires-clause-absent g c =
     let k = c.in-Some.ensures.taken in
     let slot = taken-slot c.self.inside.roll c.take_over.new.self (owned_rank c.owned_by-old.result) c.owned_by-new.result c.in-Some.seat k in
-    unqueued-table c.self.inside.roll c.take_over.new.self c.self.inside.schedule c.unqueue.new.schedule c.in-Some.seat.id (Some (fresh c.owned_by-new.result)) c.self.invariant.table slot refl c.unqueue.ensures c.in-Some.seat.id
+    unqueued-table c.self.inside.roll c.take_over.new.self c.self.inside.schedule c.unqueue.new.schedule c.in-Some.seat.id (Some (fresh c.owned_by-new.result)) c.self.invariant.table slot refl c.unqueue.ensures.rest c.in-Some.seat.id
     ∙ ap queued_at slot.changed
 
 pub invariant_of-self-in_err-note : goal.invariant_of-self-in_err-note
@@ -23,7 +23,7 @@ invariant_of-self-in_err-note g c =
     let o = c.owned_by-new.result in
     let id = c.in-Some.seat.id in
     let slot = taken-slot c.self.inside.roll c.take_over.new.self (owned_rank c.owned_by-old.result) o c.in-Some.seat c.in-Some.ensures.taken in
-    let table = unqueued-table c.self.inside.roll c.take_over.new.self c.self.inside.schedule c.unqueue.new.schedule id (Some (fresh o)) c.self.invariant.table slot refl c.unqueue.ensures in
+    let table = unqueued-table c.self.inside.roll c.take_over.new.self c.self.inside.schedule c.unqueue.new.schedule id (Some (fresh o)) c.self.invariant.table slot refl c.unqueue.ensures.rest in
     let named = renamed c.self.inside.names c.note.new.self c.self.inside.roll c.take_over.new.self id (numbers_at (Some (fresh o))) (Some (fresh o)) c.self.invariant.named slot c.note.ensures refl in
     record { table = table; named = named }
 
@@ -32,7 +32,7 @@ invariant_of-self-in_err-time g c =
     let o = c.owned_by-new.result in
     let id = c.in-Some.seat.id in
     let slot = taken-slot c.self.inside.roll c.take_over.new.self (owned_rank c.owned_by-old.result) o c.in-Some.seat c.in-Some.ensures.taken in
-    let table = unqueued-table c.self.inside.roll c.take_over.new.self c.self.inside.schedule c.unqueue.new.schedule id (Some (fresh o)) c.self.invariant.table slot refl c.unqueue.ensures in
+    let table = unqueued-table c.self.inside.roll c.take_over.new.self c.self.inside.schedule c.unqueue.new.schedule id (Some (fresh o)) c.self.invariant.table slot refl c.unqueue.ensures.rest in
     let named = renamed c.self.inside.names c.note.new.self c.self.inside.roll c.take_over.new.self id (numbers_at (Some (fresh o))) (Some (fresh o)) c.self.invariant.named slot c.note.ensures refl in
     subst (λ (m : Moments). IsListed c.time.new.roll m c.note.new.self) (sym c.in_err-time.ensures.schedule)
     (subst (λ (slots : List (Option Entry)). IsListed slots c.unqueue.new.schedule c.note.new.self) (sym c.in_err-time.ensures.roll) (record { table = table; named = named }))
@@ -42,7 +42,7 @@ invariant_of-self-2 g c =
     let o = c.owned_by-new.result in
     let id = c.in-Some.seat.id in
     let slot = taken-slot c.self.inside.roll c.take_over.new.self (owned_rank c.owned_by-old.result) o c.in-Some.seat c.in-Some.ensures.taken in
-    let table = unqueued-table c.self.inside.roll c.take_over.new.self c.self.inside.schedule c.unqueue.new.schedule id (Some (fresh o)) c.self.invariant.table slot refl c.unqueue.ensures in
+    let table = unqueued-table c.self.inside.roll c.take_over.new.self c.self.inside.schedule c.unqueue.new.schedule id (Some (fresh o)) c.self.invariant.table slot refl c.unqueue.ensures.rest in
     let named = renamed c.self.inside.names c.note.new.self c.self.inside.roll c.take_over.new.self id (numbers_at (Some (fresh o))) (Some (fresh o)) c.self.invariant.named slot c.note.ensures refl in
     let scene = scene_at c.args.motions.now in
     let t = c.in_ok-time.ensures.ok in
