@@ -26,3 +26,5 @@ pub mod Schedules
 pub mod LineFailures
 pub mod Costs
 pub mod QueueSizes
+pub mod Ungiven
+pub mod Paying

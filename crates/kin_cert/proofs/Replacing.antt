@@ -100,7 +100,7 @@ module _ (s : ℕ) (scene : Moment → Scene) (now : Moment) (d b : Placed) (ds 
       absurd (omega (arith, e))
 
   -- no later dropped fact has the owner and form of the born one
-  apart-born : (q : Placed) → Contains ds q → IsOf s q did.fact → ⊥
+  pub apart-born : (q : Placed) → Contains ds q → IsOf s q did.fact → ⊥
   apart-born q (j, lt, is) of =
       let at = is-at s b did.fact did.is_born.is in
       let of' : IsOf s (get_or ds j d) did.fact = subst (λ (x : Placed). IsOf s x did.fact) (sym is ∙ get_or_default ds j q d lt) of in

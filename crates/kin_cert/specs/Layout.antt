@@ -1,5 +1,5 @@
 -- How a table lies in memory: a roll of entries by id, and a queue of ids. No public clause cites this module.
-use Rattle.std.specs.Prelude.{◌≡◌, ℕ, Bool, true, false, cond, not, ℤ, List, [], ◌∷◌, Option, Some, None, Contains, ◌↔◌, ◌⊎◌, count_by, IsTrue, ◌≢◌, length, slice_index_or, slice_set, is_some}
+use Rattle.std.specs.Prelude.{◌≡◌, ℕ, Bool, true, false, cond, not, ℤ, List, [], ◌∷◌, Option, Some, None, Contains, ◌↔◌, ◌⊎◌, count_by, IsTrue, ◌≢◌, length, slice_index_or, slice_set, is_some, ◌+◌, ◌≤◌}
 use Rattle.std.specs.List.{AllPairs}
 use Rattle.std.specs.Ordering.{nat_cmp, int_eq}
 use Rattle.std.specs.FinMap as map
@@ -17,6 +17,7 @@ use Rattle.kin_cert.specs.declared.table.Pending.{Pending}
 use Rattle.kin_motion.specs.Deltas.{Change}
 use Rattle.kin_cert.specs.Failures.{IsFirstFailure}
 use Rattle.kin_cert.specs.Applied.{IsBorn, IsOf, HasApplied}
+use Rattle.kin_cert.specs.Cost.{IsEnough}
 use Rattle.kin_cert.specs.Place.{place_of}
 use Rattle.kin_cert.specs.Rank.{padded_rank}
 
@@ -162,3 +163,7 @@ pub record IsGivenUpTo (m : Moment) (old new : List LiveFact) (taken : List Owne
   pub stays : (l : LiveFact) → Contains old l → (k : LiveFact) × Contains new k × (k.certificate ≡ l.certificate) × (k.fails ≡ l.fails)
   pub only : (k : LiveFact) → Contains new k → (l : LiveFact) × Contains old l × (k.certificate ≡ l.certificate) × (k.fails ≡ l.fails)
   pub least : (l : LiveFact) (n : Moment) → Contains new l → IsDueAt l n → ¬ (IsEarlier n m)
+
+-- what was counted, and what is left to do, cost no more than all that there was to do
+abbrev pub IsPaid : ℕ → (ℕ → ℕ) → (ℕ → ℕ) → ℕ → ℕ → Type 0
+IsPaid n all left old new = (r : ℕ) → IsEnough n r → new + left r ≤ old + all r

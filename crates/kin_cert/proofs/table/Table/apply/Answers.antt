@@ -1,11 +1,13 @@
-use Rattle.std.proofs.Common.{◌≡◌, ◌∙◌, List, ap₂, sym, subst, refl}
+use Rattle.std.proofs.Common.{◌≡◌, ◌+◌, ◌∙◌, List, length, ap, ap₂, sym, subst, refl, arith}
 use Rattle.kin_motion.specs.declared.fact.Placed.{Placed}
 use Rattle.kin_motion.specs.Deltas.{Change}
 use Rattle.kin_motion.specs.Scene.{scene_at}
+use Rattle.kin_cert.specs.Cost.{AreFewComparisons, change_cost}
 use Rattle.kin_cert.specs.Facts.{Facts}
 use Rattle.kin_cert.specs.Applied.{HasApplied}
 use Rattle.kin_cert.specs.Layout.{change_of}
 use Rattle.kin_cert.proofs.Changes.{applied}
+use Rattle.kin_cert.proofs.Paying.{all-paid}
 use Rattle.kin_cert.proofs.table.Table.apply.Goals as goal
 
 pub bear_each-requires-clause-free : goal.bear_each-requires-clause-free
@@ -24,3 +26,17 @@ returns-clause-applied g c =
     let whole : HasApplied c.args.structure c.args.delta.now scene c.args.now.now c.args.self.now.live c.bear_each.new.self.live =
     subst (λ (x : Change). HasApplied c.args.structure x scene c.args.now.now c.args.self.now.live c.bear_each.new.self.live) change_is (c.in_ok-rest.ensures.did c.bear_each.new.self.live left) in
     subst (λ (t : Facts). HasApplied c.args.structure c.args.delta.now scene c.args.now.now c.args.self.now.live t.live) (sym c.self.view_is) whole
+
+pub returns-clause-cost : goal.returns-clause-cost
+returns-clause-cost g c =
+    let rest = c.in_ok-rest.rest in
+    let change_is : record { dropped = c.deref.result.now; born = c.deref-2.result.now } ≡ c.args.delta.now =
+    ap₂ (λ (ds bs : List Placed). record { dropped = ds; born = bs }) c.deref.ensures.value c.deref-2.ensures.value ∙ c.delta.view_is in
+    let whole = (returns-clause-applied g c).count in
+    let dropped = c.drop_each.ensures.count in
+    let born = c.in_ok-bear_each.ensures.count in
+    let same = c.in_ok-rest.ensures.count in
+    let viewed = ap (λ (t : Facts). length t.live) c.self.view_is in
+    subst (λ (x : Change). AreFewComparisons (length c.args.self.now.live + length c.args.delta.now.born) (change_cost c.args.structure x c.args.self.now.live) c.args.steps.now c.bear_each.new.steps) change_is
+    (all-paid c.args.structure (record { dropped = c.deref.result.now; born = c.deref-2.result.now }) (change_of rest) c.args.self.now.live c.replace_each.new.self.live (length c.drop_each.new.self.live + length rest.born.now) (length c.args.delta.now.born) _ _ _ _ same
+    (omega (arith, whole, dropped, born, same, viewed)) c.in_ok-rest.ensures.cost c.drop_each.ensures.cost c.in_ok-bear_each.ensures.cost)

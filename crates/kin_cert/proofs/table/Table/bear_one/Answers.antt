@@ -11,6 +11,8 @@ use Rattle.kin_cert.proofs.Naming.{renamed, still-named, same-facts}
 use Rattle.kin_cert.proofs.Slots.{live-count}
 use Rattle.kin_cert.proofs.Tables.{not-found, put-table, timed-slot, timed-table}
 use Rattle.kin_cert.proofs.Replacing.{held, has-born, born-count}
+use Rattle.kin_cert.proofs.Costs.{in_queue}
+use Rattle.kin_cert.proofs.QueueSizes.{few-queued-of}
 use Rattle.kin_cert.proofs.table.Table.bear_one.Goals as goal
 
 pub put_in-requires : goal.put_in-requires
@@ -75,3 +77,7 @@ returns-clause-count g c =
     let more : length (live_in c.put_in.new.self) ≡ length (live_in c.self.inside.roll) + 1 = omega (arith, live-count c.put_in.new.self, live-count c.self.inside.roll, c.in_ok-id.ensures.count) in
     born-count s scene c.args.now.now p c.self.inside.roll c.put_in.new.self c.time.new.roll c.in_ok-id.id c.self.inside.schedule c.time.new.schedule slot.changed timed_so more
     ∙ ap (λ (t : Facts). length t.live + 1) c.self.view_is
+
+pub returns-clause-cost : goal.returns-clause-cost
+returns-clause-cost g c =
+    in_queue _ _ _ _ _ (few-queued-of c.self.inside.roll c.self.inside.schedule c.args.self.now.live c.self.invariant.table (ap (λ (t : Facts). t.live) c.self.view_is)) c.in_ok-time.ensures.cost

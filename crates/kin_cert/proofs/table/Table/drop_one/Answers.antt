@@ -1,6 +1,7 @@
-use Rattle.std.proofs.Common.{◌≡◌, List, [], length, Option, None, refl, subst, sym, ap, ◌↔◌, arith}
+use Rattle.std.proofs.Common.{◌≡◌, true, List, [], length, Option, None, refl, subst, sym, ap, ◌↔◌, arith}
 use Rattle.std.specs.List.{Contains}
 use Rattle.kin_cert.specs.declared.entry.Entry.{Entry}
+use Rattle.kin_cert.specs.Cost.{is_ungiven}
 use Rattle.kin_cert.specs.Facts.{Facts}
 use Rattle.kin_cert.specs.Applied.{IsOf}
 use Rattle.kin_cert.specs.Layout.{live_in, HasSlot}
@@ -8,6 +9,9 @@ use Rattle.kin_cert.proofs.Changes.{is-at}
 use Rattle.kin_cert.proofs.Slots.{live-from, live-count}
 use Rattle.kin_cert.proofs.Naming.{renamed}
 use Rattle.kin_cert.proofs.Tables.{at-rank, rank-of-live, has-slot, unqueued-table, dropped-rest}
+use Rattle.kin_cert.proofs.Costs.{in_queue}
+use Rattle.kin_cert.proofs.QueueSizes.{few-queued-of}
+use Rattle.kin_cert.proofs.Ungiven.{cost_if, queued-ungiven}
 use Rattle.kin_cert.proofs.table.Table.drop_one.Goals as goal
 
 pub take_out-seat-requires : goal.take_out-seat-requires
@@ -41,3 +45,13 @@ pub returns-clause-count : goal.returns-clause-count
 returns-clause-count g c =
     let old : length (live_in c.self.inside.roll) ≡ length c.args.self.now.live = ap (λ (t : Facts). length t.live) c.self.view_is in
     omega (arith, live-count c.take_out-seat.new.self, live-count c.self.inside.roll, old, c.take_out-seat.ensures.count)
+
+pub returns-clause-cost : goal.returns-clause-cost
+returns-clause-cost g c = λ r e.
+    let seat = c.take_out-seat.result in
+    let queued : seat.is_queued ≡ true → is_ungiven c.args.structure c.args.self.now.live c.args.placed ≡ true = λ q.
+    subst (λ (t : Facts). is_ungiven c.args.structure t.live c.args.placed ≡ true) c.self.view_is (queued-ungiven c.args.structure c.args.placed c.self.inside.roll seat c.take_out-seat.ensures.seat q) in
+    let few = few-queued-of c.self.inside.roll c.self.inside.schedule c.args.self.now.live c.self.invariant.table (ap (λ (t : Facts). t.live) c.self.view_is) in
+    let part = in_queue _ _ _ _ _ few c.unqueue.ensures.cost r e in
+    let less = cost_if _ _ r queued in
+    omega (arith, part, less)

@@ -1,7 +1,8 @@
-use Rattle.std.proofs.Common.{List, Option, Some, refl, sym, ap, subst, ◌∙◌}
+use Rattle.std.proofs.Common.{◌≡◌, true, List, length, Option, Some, refl, sym, ap, subst, ◌∙◌, arith}
 use Rattle.kin_motion.specs.Scene.{scene_at}
 use Rattle.kin_cert.specs.declared.entry.Entry.{Entry}
 use Rattle.kin_cert.specs.declared.owned.Owned.{Owned}
+use Rattle.kin_cert.specs.Cost.{is_ungiven}
 use Rattle.kin_cert.specs.Facts.{Facts}
 use Rattle.kin_cert.specs.Layout.{live_in, owned_rank, fresh, timed, queued_at, IsTakenOver, IsTimed, HasReplaced}
 use Rattle.kin_cert.specs.Names.{numbers_at, IsListed}
@@ -9,6 +10,10 @@ use Rattle.kin_cert.proofs.Schedules.{Moments}
 use Rattle.kin_cert.proofs.Naming.{renamed, still-named, same-facts}
 use Rattle.kin_cert.proofs.Tables.{unqueued-table, timed-slot, timed-table}
 use Rattle.kin_cert.proofs.Replacing.{held, taken-slot, has-replaced}
+use Rattle.kin_cert.proofs.Slots.{live-set-count}
+use Rattle.kin_cert.proofs.Costs.{gone_and_back}
+use Rattle.kin_cert.proofs.QueueSizes.{few-queued, few-queued-of}
+use Rattle.kin_cert.proofs.Ungiven.{cost_if, queued-ungiven}
 use Rattle.kin_cert.proofs.table.Table.replace.Goals as goal
 
 pub time-requires-clause-absent : goal.time-requires-clause-absent
@@ -63,3 +68,21 @@ returns-clause-yes g c = λ yes.
     subst (λ (t : Facts). HasReplaced c.args.structure (scene_at c.args.motions.now) c.args.now.now c.args.dropped.now c.args.born t.live (live_in c.time.new.roll)) c.self.view_is
     (has-replaced c.args.structure (scene_at c.args.motions.now) c.args.now.now c.args.born c.self.inside.roll c.take_over.new.self c.time.new.roll c.in-Some.seat.id c.unqueue.new.schedule c.time.new.schedule slot.changed timed_so
     c.args.dropped.now c.in-Some.seat refl k)
+
+pub returns-clause-cost : goal.returns-clause-cost
+returns-clause-cost g c = λ yes r e.
+    let s = c.args.structure in
+    let seat = c.in-Some.seat in
+    let k : IsTakenOver c.self.inside.roll (owned_rank (held c.args.structure c.args.dropped.now)) c.owned_by-new.result c.in-Some.seat c.take_over.new.self =
+    subst (λ (o : Owned). IsTakenOver c.self.inside.roll (owned_rank o) c.owned_by-new.result c.in-Some.seat c.take_over.new.self) c.owned_by-old.ensures c.in-Some.ensures.taken in
+    let queued : seat.is_queued ≡ true → is_ungiven c.args.structure c.args.self.now.live c.args.dropped.now ≡ true = λ q.
+    subst (λ (t : Facts). is_ungiven c.args.structure t.live c.args.dropped.now ≡ true) c.self.view_is (queued-ungiven s c.args.dropped.now c.self.inside.roll seat k.seat_of q) in
+    let slot = taken-slot c.self.inside.roll c.take_over.new.self (owned_rank (held s c.args.dropped.now)) c.owned_by-new.result seat k in
+    let table = unqueued-table c.self.inside.roll c.take_over.new.self c.self.inside.schedule c.unqueue.new.schedule seat.id (Some (fresh c.owned_by-new.result)) c.self.invariant.table slot refl c.unqueue.ensures.rest in
+    let live : live_in c.self.inside.roll ≡ c.args.self.now.live = ap (λ (t : Facts). t.live) c.self.view_is in
+    let same : length (live_in c.take_over.new.self) ≡ length c.args.self.now.live =
+    ap (λ (xs : List (Option Entry)). length (live_in xs)) k.slots ∙ live-set-count c.self.inside.roll seat.id k.seat_of.entry (fresh c.owned_by-new.result) k.seat_of.there ∙ ap length live in
+    let left = few-queued c.take_over.new.self c.unqueue.new.schedule table in
+    let both = gone_and_back (length c.args.self.now.live) _ _ _ _ _ seat.is_queued (few-queued-of c.self.inside.roll c.self.inside.schedule c.args.self.now.live c.self.invariant.table live) (omega (arith, left, same)) c.unqueue.ensures.cost c.in_ok-time.ensures.cost r e in
+    let less = cost_if _ _ r queued in
+    omega (arith, both, less)
