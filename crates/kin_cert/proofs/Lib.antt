@@ -28,3 +28,4 @@ pub mod Costs
 pub mod QueueSizes
 pub mod Ungiven
 pub mod Paying
+pub mod Trials

@@ -8,7 +8,7 @@ use Rattle.kin_motion.specs.Deltas.{Change}
 use Rattle.kin_motion.specs.Scene.{Scene}
 use Rattle.kin_cert.specs.Facts.{LiveFact}
 use Rattle.kin_cert.specs.Applied.{IsOf, MayApply}
-use Rattle.kin_cert.specs.Cost.{AreFewComparisons, is_ungiven, ungiven, change_cost}
+use Rattle.kin_cert.specs.Cost.{TakesAtMost, is_ungiven, ungiven, change_cost}
 use Rattle.kin_cert.specs.Layout.{HasReplaced, IsPaid}
 use Rattle.kin_cert.proofs.Costs.{enough}
 use Rattle.kin_cert.proofs.Replacing.{apart-born}
@@ -20,7 +20,7 @@ share true r = omega arith
 share false r = omega arith
 
 -- where what is queued is so only if it wasn't given
-pub at_most_ungiven : (a b : Bool) (live more old new : ℕ) → (a ≡ true → b ≡ true) → AreFewComparisons live (λ r. cond a r 0 + more * (r + 1)) old new → AreFewComparisons live (λ r. cond b r 0 + more * (r + 1)) old new
+pub at_most_ungiven : (a b : Bool) (live more old new : ℕ) → (a ≡ true → b ≡ true) → TakesAtMost live (λ r. cond a r 0 + more * (r + 1)) old new → TakesAtMost live (λ r. cond b r 0 + more * (r + 1)) old new
 at_most_ungiven a b live more old new h few r e =
     let part = few r e in
     let less = cost_if a b r h in
@@ -28,9 +28,9 @@ at_most_ungiven a b live more old new h few r e =
 
 -- one more fact is dropped
 pub one-dropped : (s : ℕ) (old cur : List LiveFact) (ps : List Placed) (i : ℕ) (d : Placed) (before mid after : ℕ) → i < length ps → ((l : LiveFact) → Contains cur l → Contains old l) → length cur ≤ length old
-    → AreFewComparisons (length old) (λ r. ungiven s old (take i ps) * r) before mid
-    → AreFewComparisons (length cur) (λ r. cond (is_ungiven s cur (get_or ps i d)) r 0) mid after
-    → AreFewComparisons (length old) (λ r. ungiven s old (take (i + 1) ps) * r) before after
+    → TakesAtMost (length old) (λ r. ungiven s old (take i ps) * r) before mid
+    → TakesAtMost (length cur) (λ r. cond (is_ungiven s cur (get_or ps i d)) r 0) mid after
+    → TakesAtMost (length old) (λ r. ungiven s old (take (i + 1) ps) * r) before after
 one-dropped s old cur ps i d before mid after lt was le first one r e =
     let so_far = first r e in
     let more = one r (enough (length cur) (length old) r le e) in
@@ -49,7 +49,7 @@ module _ (s : ℕ) (scene : Moment → Scene) (now : Moment) (d b : Placed) (ds 
   ])
 
   pub rest-paid : (n : ℕ) (all : ℕ → ℕ) (before at after : ℕ) → length old ≡ n → IsPaid n all (change_cost s (record { dropped = d ∷ ds; born = b ∷ bs }) old) before at
-      → AreFewComparisons (length old) (λ r. cond (is_ungiven s old d) r 0 + (r + 1)) at after → IsPaid n all (change_cost s (record { dropped = ds; born = bs }) mid) before after
+      → TakesAtMost (length old) (λ r. cond (is_ungiven s old d) r 0 + (r + 1)) at after → IsPaid n all (change_cost s (record { dropped = ds; born = bs }) mid) before after
   rest-paid n all before at after same paid one r e =
       let so_far = paid r e in
       let pair = one r (enough (length old) n r (omega (arith, same)) e) in
@@ -61,9 +61,9 @@ module _ (s : ℕ) (scene : Moment → Scene) (now : Moment) (d b : Placed) (ds 
 -- what is replaced, what is only dropped and what is only born
 pub all-paid : (s : ℕ) (all rest : Change) (old cur : List LiveFact) (mid more before replaced dropped after : ℕ) → length cur ≡ length old → mid ≤ length old + more
     → IsPaid (length old) (change_cost s all old) (change_cost s rest cur) before replaced
-    → AreFewComparisons (length cur) (λ r. ungiven s cur rest.dropped * r) replaced dropped
-    → AreFewComparisons mid (λ r. length rest.born * (r + 1)) dropped after
-    → AreFewComparisons (length old + more) (change_cost s all old) before after
+    → TakesAtMost (length cur) (λ r. ungiven s cur rest.dropped * r) replaced dropped
+    → TakesAtMost mid (λ r. length rest.born * (r + 1)) dropped after
+    → TakesAtMost (length old + more) (change_cost s all old) before after
 all-paid s all rest old cur mid more before replaced dropped after same le paid drops bears r e =
     let first = paid r (enough (length old) (length old + more) r (omega arith) e) in
     let second = drops r (enough (length cur) (length old + more) r (omega (arith, same)) e) in

@@ -13,8 +13,8 @@ abbrev pub IsEnough : ℕ → ℕ → Type 0
 IsEnough n r = (c : ℕ) → 2 ^ c ≤ (n + 1) * (n + 1) → c ≤ r
 
 -- the count rose at most by this cost, told by an r that is enough for n facts
-abbrev pub AreFewComparisons : ℕ → (ℕ → ℕ) → ℕ → ℕ → Type 0
-AreFewComparisons n cost old new = (r : ℕ) → IsEnough n r → new ≤ old + cost r
+abbrev pub TakesAtMost : ℕ → (ℕ → ℕ) → ℕ → ℕ → Type 0
+TakesAtMost n cost old new = (r : ℕ) → IsEnough n r → new ≤ old + cost r
 
 -- whether the live fact has the rank of this one, and so its owner and form
 abbrev pub is_of : ℕ → Placed → LiveFact → Bool

@@ -1,5 +1,5 @@
 -- What holds of first failures. Each is promised by a function of the module `laws`.
-use Rattle.std.specs.Prelude.{◌≡◌, ◌⊎◌, ℕ, ◌^◌, List, length, Option, All, Contains}
+use Rattle.std.specs.Prelude.{◌≡◌, ◌⊎◌, ℕ, ◌+◌, ◌*◌, ◌^◌, ◌≤◌, List, length, Option, All, Contains}
 use Rattle.kin_algebra.specs.declared.sign.Sign.TheVariants.{Zero}
 use Rattle.kin_num.specs.declared.instant.Moment.{Moment}
 use Rattle.kin_num.specs.declared.instant.Shape.{Shape}
@@ -16,6 +16,7 @@ use Rattle.kin_motion.specs.Scene.{scene_at}
 use Rattle.kin_motion.specs.Live.{IsSmallKeep}
 use Rattle.kin_motion.specs.Moments.{HoldsAt, FailsFirst}
 use Rattle.kin_motion.specs.Journal.{setting_of, Failure, Block, IsNextBlock, NothingFails, IsJournal}
+use Rattle.kin_cert.specs.Cost.{IsEnough}
 use Rattle.kin_cert.specs.Failures.{IsFirstFailure}
 
 -- the instant is a root of a polynomial that isn't 0 everywhere
@@ -58,3 +59,7 @@ abbrev pub JournalsExist : Type 0
 JournalsExist =
     (ms : List (Option Course)) (size : ℕ) (keeps : List Keep) (now last : Moment) → IsProper ms size keeps → IsCanonical now.at → IsCanonical last.at
     → ¬ (IsEarlier last now) → (bs : List Block) × IsJournal (setting_of ms size keeps) now last bs
+
+-- for each number of facts there is a greatest r with 2^r ≤ (n + 1)^2, and it is enough
+abbrev pub MostComparisonsExist : Type 0
+MostComparisonsExist = (n : ℕ) → (r : ℕ) × (2 ^ r ≤ (n + 1) * (n + 1)) × IsEnough n r

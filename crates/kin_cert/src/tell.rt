@@ -3,7 +3,7 @@
 ghost use Rattle.std.specs.Prelude.{◌≡◌, ◌+◌, ◌-◌, ◌^◌, length, min, OnOk};
 ghost use Rattle.kin_motion.specs.Scene.{scene_at, IsReal};
 ghost use Rattle.kin_cert.specs.Told.{MayTell, IsTold};
-ghost use Rattle.kin_cert.specs.Cost.{AreFewComparisons, change_cost};
+ghost use Rattle.kin_cert.specs.Cost.{TakesAtMost, change_cost};
 
 use crate::table::Table;
 use kin_motion::{Delta, Motions};
@@ -24,7 +24,7 @@ impl Table {
         requires { MayTell k delta.now (scene_at motions.now now.now) self.old.live }
         ensures told { OnOk result (IsTold k delta.now (scene_at motions.now) now.now self.old.live self.new.live) }
         ensures made { OnOk result (self.new.made ≡ min (self.old.made + length delta.now.born) (2 ^ 64 - 1)) }
-        ensures cost { OnOk result (AreFewComparisons (length self.old.live + length delta.now.born) (change_cost k delta.now self.old.live) steps.old steps.new) }
+        ensures cost { OnOk result (TakesAtMost (length self.old.live + length delta.now.born) (change_cost k delta.now self.old.live) steps.old steps.new) }
     {
         self.apply(k, delta, motions, now, steps)
     }

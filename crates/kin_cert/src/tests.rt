@@ -20,6 +20,8 @@ use std::marker::Brand;
 use std::sync::ledger::{Blank, Ledger};
 use std::test::Fail;
 
+mod remaking;
+
 fn moment(second: i64, phase: Phase) -> Option<Moment> {
     if second.unsigned_abs() < 1 << 31 {
         Some(Moment {

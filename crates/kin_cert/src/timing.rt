@@ -8,7 +8,7 @@ ghost use Rattle.kin_motion.specs.Forms.{IsAskable};
 ghost use Rattle.kin_motion.specs.Scene.{scene_at, Holds};
 ghost use Rattle.kin_cert.specs.Failures.{seen_by};
 ghost use Rattle.kin_cert.specs.Layout.{entry_at, fresh, live_in, IsTable, IsTimed};
-ghost use Rattle.kin_cert.specs.Cost.{AreFewComparisons};
+ghost use Rattle.kin_cert.specs.Cost.{TakesAtMost};
 ghost use Rattle.kin_cert.specs.Names.{HaveSameFacts, MayRenew, HasRenewed, AreRenewed};
 
 use crate::entry::Seat;
@@ -39,7 +39,7 @@ pub(crate) fn time<L: Ledger>(
     ensures ok { OnOk result (IsTimed (scene_at motions.now) now.now owned.now id roll.old schedule.old roll.new schedule.new) }
     ensures roll { OnErr result (roll.new ≡ roll.old) }
     ensures schedule { OnErr result (schedule.new ≡ schedule.old) }
-    ensures cost { OnOk result (AreFewComparisons (map.len schedule.old) (λ r. r + 1) steps.old steps.new) }
+    ensures cost { OnOk result (TakesAtMost (map.len schedule.old) (λ r. r + 1) steps.old steps.new) }
 {
     match owned.fact.form {
         Form::Line { dx, dy, off, i, j } => {
@@ -70,7 +70,7 @@ fn time_by<L: Ledger>(
     ensures ok { OnOk result (IsTimed (seen_by p.now) now.now owned.now id roll.old schedule.old roll.new schedule.new) }
     ensures roll { OnErr result (roll.new ≡ roll.old) }
     ensures schedule { OnErr result (schedule.new ≡ schedule.old) }
-    ensures cost { OnOk result (AreFewComparisons (map.len schedule.old) (λ r. r + 1) steps.old steps.new) }
+    ensures cost { OnOk result (TakesAtMost (map.len schedule.old) (λ r. r + 1) steps.old steps.new) }
 {
     let Some(at) = first_fail(&owned.fact, p, now, steps) else {
         return Ok(());
@@ -85,7 +85,7 @@ fn time_by<L: Ledger>(
 pub(crate) fn unqueue<L: Ledger>(schedule: &mut Schedule, seat: Seat, steps: &mut Steps<L>)
     requires { is_some (map.get schedule.old seat.id) ≡ seat.is_queued }
     ensures rest { schedule.new ≡ map.remove schedule.old seat.id }
-    ensures cost { AreFewComparisons (map.len schedule.old) (λ r. cond seat.is_queued r 0) steps.old steps.new }
+    ensures cost { TakesAtMost (map.len schedule.old) (λ r. cond seat.is_queued r 0) steps.old steps.new }
 {
     if seat.is_queued {
         schedule.remove(seat.id, steps);
@@ -106,7 +106,7 @@ pub(crate) fn time_each<L: Ledger>(
     ensures renewed { OnOk result (AreRenewed (scene_at motions.now) now.now slots.now roll.old roll.new) }
     ensures table { IsTable roll.new schedule.new }
     ensures facts { HaveSameFacts roll.old roll.new }
-    ensures cost { OnOk result (AreFewComparisons (length (live_in roll.old)) (λ r. length slots.now * (2 * r + 1)) steps.old steps.new) }
+    ensures cost { OnOk result (TakesAtMost (length (live_in roll.old)) (λ r. length slots.now * (2 * r + 1)) steps.old steps.new) }
 {
     for slot in slots {
         time_anew(roll, schedule, (*slot / 4) as usize, motions, now, steps)?;
@@ -128,7 +128,7 @@ fn time_anew<L: Ledger>(
     ensures renewed { OnOk result (HasRenewed (scene_at motions.now) now.now roll.old id roll.new) }
     ensures table { IsTable roll.new schedule.new }
     ensures facts { HaveSameFacts roll.old roll.new }
-    ensures cost { OnOk result (AreFewComparisons (length (live_in roll.old)) (λ r. 2 * r + 1) steps.old steps.new) }
+    ensures cost { OnOk result (TakesAtMost (length (live_in roll.old)) (λ r. 2 * r + 1) steps.old steps.new) }
 {
     let (owned, seat) = roll.free(id);
     unqueue(schedule, seat, steps);

@@ -1,4 +1,4 @@
-use Rattle.std.proofs.Common.{◌≡◌, ◌<◌, ℕ, false, subst, inl, inr, arith, List, [], Contains, ◌⊎◌}
+use Rattle.std.proofs.Common.{◌≡◌, ◌<◌, ℕ, subst, inl, inr, arith, List, [], Contains}
 use Rattle.kin_basics.proofs.Results.{from_two}
 use Rattle.kin_num.specs.declared.instant.Moment.{Moment}
 use Rattle.kin_motion.specs.Deltas.{Change}

@@ -1,7 +1,7 @@
 use Rattle.std.proofs.Common.{◌≡◌, ℕ, ◌+◌, ◌*◌, List, length, take, subst, sym, ◌∙◌, arith}
 use Rattle.std.proofs.lemmas.List.{take_more}
 use Rattle.kin_motion.specs.Scene.{scene_at}
-use Rattle.kin_cert.specs.Cost.{AreFewComparisons}
+use Rattle.kin_cert.specs.Cost.{TakesAtMost}
 use Rattle.kin_cert.specs.Layout.{live_in}
 use Rattle.kin_cert.specs.Names.{AreRenewed}
 use Rattle.kin_cert.proofs.Costs.{one_more}
@@ -17,10 +17,10 @@ loop-slot-preserved g c =
           (more-renewed scene c.args.now.now (take c.loop-slot.slot-index c.args.slots.now) _ c.args.roll.now c.loop-slot.roll c.time_anew.new.roll c.loop-slot.invariant.renewed c.in_ok-time_anew.ensures.renewed c.time_anew.ensures.facts);
       facts = λ id. c.time_anew.ensures.facts id ∙ c.loop-slot.invariant.facts id;
       cost = one_more (length (live_in c.args.roll.now)) c.loop-slot.slot-index _ _ _ (λ r. 2 * r + 1) c.loop-slot.invariant.cost
-          (subst (λ (n : ℕ). AreFewComparisons n (λ r. 2 * r + 1) c.loop-slot.steps c.time_anew.new.steps) c.loop-slot.invariant.renewed.count c.in_ok-time_anew.ensures.cost);
+          (subst (λ (n : ℕ). TakesAtMost n (λ r. 2 * r + 1) c.loop-slot.steps c.time_anew.new.steps) c.loop-slot.invariant.renewed.count c.in_ok-time_anew.ensures.cost);
     }
 
 pub returns-clause-cost : goal.returns-clause-cost
 returns-clause-cost g c =
     let all : c.loop-slot.slot-index ≡ length c.args.slots.now = omega arith in
-    subst (λ (n : ℕ). AreFewComparisons (length (live_in c.args.roll.now)) (λ r. n * (2 * r + 1)) c.args.steps.now c.loop-slot.steps) all c.loop-slot.invariant.cost
+    subst (λ (n : ℕ). TakesAtMost (length (live_in c.args.roll.now)) (λ r. n * (2 * r + 1)) c.args.steps.now c.loop-slot.steps) all c.loop-slot.invariant.cost

@@ -2,7 +2,7 @@ use Rattle.std.proofs.Common.{◌≡◌, ◌+◌, ◌∙◌, List, length, ap, a
 use Rattle.kin_motion.specs.declared.fact.Placed.{Placed}
 use Rattle.kin_motion.specs.Deltas.{Change}
 use Rattle.kin_motion.specs.Scene.{scene_at}
-use Rattle.kin_cert.specs.Cost.{AreFewComparisons, change_cost}
+use Rattle.kin_cert.specs.Cost.{TakesAtMost, change_cost}
 use Rattle.kin_cert.specs.Facts.{Facts}
 use Rattle.kin_cert.specs.Applied.{HasApplied}
 use Rattle.kin_cert.specs.Layout.{change_of}
@@ -37,6 +37,6 @@ returns-clause-cost g c =
     let born = c.in_ok-bear_each.ensures.count in
     let same = c.in_ok-rest.ensures.count in
     let viewed = ap (λ (t : Facts). length t.live) c.self.view_is in
-    subst (λ (x : Change). AreFewComparisons (length c.args.self.now.live + length c.args.delta.now.born) (change_cost c.args.structure x c.args.self.now.live) c.args.steps.now c.bear_each.new.steps) change_is
+    subst (λ (x : Change). TakesAtMost (length c.args.self.now.live + length c.args.delta.now.born) (change_cost c.args.structure x c.args.self.now.live) c.args.steps.now c.bear_each.new.steps) change_is
     (all-paid c.args.structure (record { dropped = c.deref.result.now; born = c.deref-2.result.now }) (change_of rest) c.args.self.now.live c.replace_each.new.self.live (length c.drop_each.new.self.live + length rest.born.now) (length c.args.delta.now.born) _ _ _ _ same
     (omega (arith, whole, dropped, born, same, viewed)) c.in_ok-rest.ensures.cost c.drop_each.ensures.cost c.in_ok-bear_each.ensures.cost)

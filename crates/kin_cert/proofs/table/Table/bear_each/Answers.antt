@@ -1,5 +1,5 @@
 use Rattle.std.proofs.Common.{◌≡◌, ◌∙◌, ℕ, ◌+◌, ◌*◌, length, refl, subst, arith}
-use Rattle.kin_cert.specs.Cost.{AreFewComparisons}
+use Rattle.kin_cert.specs.Cost.{TakesAtMost}
 use Rattle.kin_cert.proofs.Costs.{one_more, in_queue}
 use Rattle.kin_motion.specs.Scene.{scene_at}
 use Rattle.kin_cert.specs.Facts.{Facts, NoneAlike}
@@ -46,4 +46,4 @@ returns-clause-once g c = subst (λ (t : Facts). NoneAlike t.live) c.self.view_i
 pub returns-clause-cost : goal.returns-clause-cost
 returns-clause-cost g c =
     let all : c.loop-placed.placed-index ≡ length c.args.born.now = omega arith in
-    subst (λ (n : ℕ). AreFewComparisons (length c.args.self.now.live + length c.args.born.now) (λ r. n * (r + 1)) c.args.steps.now c.loop-placed.steps) all c.loop-placed.invariant.cost
+    subst (λ (n : ℕ). TakesAtMost (length c.args.self.now.live + length c.args.born.now) (λ r. n * (r + 1)) c.args.steps.now c.loop-placed.steps) all c.loop-placed.invariant.cost

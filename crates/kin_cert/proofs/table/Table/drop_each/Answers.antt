@@ -1,7 +1,7 @@
 use Rattle.std.proofs.Common.{◌∙◌, ◌*◌, List, length, subst, arith}
 use Rattle.std.proofs.lemmas.List.{take_all}
 use Rattle.kin_motion.specs.declared.fact.Placed.{Placed}
-use Rattle.kin_cert.specs.Cost.{AreFewComparisons, ungiven}
+use Rattle.kin_cert.specs.Cost.{TakesAtMost, ungiven}
 use Rattle.kin_cert.specs.Facts.{Facts, NoneAlike}
 use Rattle.kin_cert.proofs.Tables.{table-once}
 use Rattle.kin_cert.proofs.Changes.{dropped-live, dropped-more, dropped-all}
@@ -29,5 +29,5 @@ returns-clause-rest g c =
 
 pub returns-clause-cost : goal.returns-clause-cost
 returns-clause-cost g c =
-    subst (λ (ps : List Placed). AreFewComparisons (length c.args.self.now.live) (λ r. ungiven c.args.structure c.args.self.now.live ps * r) c.args.steps.now c.loop-placed.steps)
+    subst (λ (ps : List Placed). TakesAtMost (length c.args.self.now.live) (λ r. ungiven c.args.structure c.args.self.now.live ps * r) c.args.steps.now c.loop-placed.steps)
     (take_all c.loop-placed.placed-index c.args.dropped.now c.loop-placed-test.false) c.loop-placed.invariant.cost

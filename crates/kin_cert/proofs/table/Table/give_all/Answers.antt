@@ -1,7 +1,7 @@
 use Rattle.std.proofs.Common.{◌≡◌, ◌∙◌, ◌++◌, ◌∷◌, [], ℕ, ◌+◌, ◌*◌, true, List, length, length-append, refl, sym, ap, subst, arith}
 use Rattle.std.specs.Result.{is_ok}
 use Rattle.kin_cert.specs.declared.owned.Owned.{Owned}
-use Rattle.kin_cert.specs.Cost.{AreFewComparisons}
+use Rattle.kin_cert.specs.Cost.{TakesAtMost}
 use Rattle.kin_cert.specs.Layout.{IsGivenUpTo}
 use Rattle.kin_cert.proofs.Costs.{one_more}
 use Rattle.kin_cert.proofs.Giving.{given-none, given-more}
@@ -28,9 +28,9 @@ loop-owned-preserved g c =
       made = c.give.ensures.made ∙ c.loop-owned.invariant.made;
       cost =
           let more : length c.push.new.self.items ≡ length c.loop-owned.taken.items + 1 = ap length items ∙ length-append c.loop-owned.taken.items (c.in-Some.owned ∷ []) in
-          subst (λ (n : ℕ). AreFewComparisons (length c.args.self.now.live) (λ r. n * r) c.args.steps.now c.give.new.steps) (sym more)
+          subst (λ (n : ℕ). TakesAtMost (length c.args.self.now.live) (λ r. n * r) c.args.steps.now c.give.new.steps) (sym more)
           (one_more (length c.args.self.now.live) (length c.loop-owned.taken.items) _ _ _ (λ r. r) c.loop-owned.invariant.cost
-          (subst (λ (n : ℕ). AreFewComparisons n (λ r. r) c.loop-owned.steps c.give.new.steps) c.loop-owned.invariant.count c.give.ensures.cost));
+          (subst (λ (n : ℕ). TakesAtMost n (λ r. r) c.loop-owned.steps c.give.new.steps) c.loop-owned.invariant.count c.give.ensures.cost));
     }
 
 pub returns-clause-cost : goal.returns-clause-cost

@@ -1,5 +1,5 @@
 use Rattle.std.proofs.Common.{◌≡◌, ◌*◌, length}
-use Rattle.kin_cert.specs.Cost.{AreFewComparisons}
+use Rattle.kin_cert.specs.Cost.{TakesAtMost}
 use Rattle.kin_cert.specs.Layout.{IsGivenUpTo, due_count}
 use Rattle.kin_cert.proofs.table.Table.give_all.Given as goal
 
@@ -8,7 +8,7 @@ invariant-loop-owned g l = record {
   given : IsGivenUpTo l.moment l.fn.self.live l.self.live l.taken.items;
   count : length l.self.live ≡ length l.fn.self.live;
   made : l.self.made ≡ l.fn.self.made;
-  cost : AreFewComparisons (length l.fn.self.live) (λ r. length l.taken.items * r) l.fn.steps l.steps;
+  cost : TakesAtMost (length l.fn.self.live) (λ r. length l.taken.items * r) l.fn.steps l.steps;
 }
 
 abbrev pub decreases-loop-owned : goal.decreases-loop-owned

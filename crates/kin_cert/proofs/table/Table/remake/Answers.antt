@@ -2,7 +2,7 @@ use Rattle.std.proofs.Common.{ℕ, ◌+◌, ◌*◌, length, count_by, subst}
 use Rattle.std.specs.List.{Contains}
 use Rattle.kin_motion.specs.Course.{live_of}
 use Rattle.kin_motion.specs.Scene.{scene_at}
-use Rattle.kin_cert.specs.Cost.{AreFewComparisons}
+use Rattle.kin_cert.specs.Cost.{TakesAtMost}
 use Rattle.kin_cert.specs.Facts.{Facts}
 use Rattle.kin_cert.specs.Layout.{live_in}
 use Rattle.kin_cert.specs.Remade.{names_number, HasRemade}
@@ -36,5 +36,5 @@ pub returns-clause-cost : goal.returns-clause-cost
 returns-clause-cost g c =
     let roll = c.self.inside.roll in
     let count = marks-count c.args.number c.slots_of-slots.result.now roll (marks-of c.gather.new.self roll c.args.number c.slots_of-slots.result.now c.gather.ensures.named c.slots_of-slots.ensures) in
-    subst (λ (t : Facts). AreFewComparisons (length t.live) (λ r. count_by (names_number c.args.number) t.live * (2 * r + 1)) c.args.steps.now c.time_each.new.steps) c.self.view_is
-    (subst (λ (n : ℕ). AreFewComparisons (length (live_in c.self.inside.roll)) (λ r. n * (2 * r + 1)) c.args.steps.now c.time_each.new.steps) count c.in_ok-time_each.ensures.cost)
+    subst (λ (t : Facts). TakesAtMost (length t.live) (λ r. count_by (names_number c.args.number) t.live * (2 * r + 1)) c.args.steps.now c.time_each.new.steps) c.self.view_is
+    (subst (λ (n : ℕ). TakesAtMost (length (live_in c.self.inside.roll)) (λ r. n * (2 * r + 1)) c.args.steps.now c.time_each.new.steps) count c.in_ok-time_each.ensures.cost)

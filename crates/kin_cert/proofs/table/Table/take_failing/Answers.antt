@@ -1,6 +1,6 @@
 use Rattle.std.proofs.Common.{◌≡◌, ℕ, ◌+◌, ◌*◌, length, sym, subst}
 use Rattle.std.proofs.lemmas.List.Sorted.{length_permutation}
-use Rattle.kin_cert.specs.Cost.{AreFewComparisons}
+use Rattle.kin_cert.specs.Cost.{TakesAtMost}
 use Rattle.kin_cert.proofs.Costs.{few_given}
 use Rattle.kin_cert.proofs.Dues.{due-least}
 use Rattle.kin_cert.proofs.Taking.{has-taken}
@@ -21,4 +21,4 @@ returns-clause-taken g c =
 pub returns-clause-cost : goal.returns-clause-cost
 returns-clause-cost g c =
     let same : length c.give_all.new.taken.items ≡ length c.put_in_order.new.taken.items = sym (length_permutation c.give_all.new.taken.items c.put_in_order.new.taken.items c.put_in_order.ensures.same) in
-    subst (λ (n : ℕ). AreFewComparisons (length c.args.self.now.live) (λ r. n * (r + 1) + 1) c.args.steps.now c.give_all.new.steps) same (few_given _ _ _ _ c.in_ok-give_all.ensures.cost)
+    subst (λ (n : ℕ). TakesAtMost (length c.args.self.now.live) (λ r. n * (r + 1) + 1) c.args.steps.now c.give_all.new.steps) same (few_given _ _ _ _ c.in_ok-give_all.ensures.cost)
