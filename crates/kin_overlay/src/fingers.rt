@@ -6,8 +6,9 @@ ghost use Rattle.kin_motion.specs.Scene.{IsReal, x_sign};
 ghost use Rattle.kin_motion.specs.declared.form.Form.TheVariants.{Turn};
 ghost use Rattle.kin_motion.specs.Forms.{IsAskable};
 ghost use Rattle.kin_motion.specs.Merges.{Half.{A, B}, other_current, breakpoints_of, slope_form};
-ghost use Rattle.kin_overlay.specs.Fingers.{chain_of, passed, IsChosen, IsPick, next_of, end_at, IsMerged, AreLive, AreLess, IsBreakpointOf};
-ghost use Rattle.kin_overlay.specs.Lists.{front};
+ghost use Rattle.kin_overlay.specs.Descents.{Descends};
+ghost use Rattle.kin_overlay.specs.Fingers.{chain_of, passed, IsChosen, IsPick, next_of, end_at, IsMerged, AreLive, AreLess};
+ghost use Rattle.kin_overlay.specs.Lists.{first_of, front};
 ghost use Rattle.kin_overlay.specs.Seen.{half_of, seen};
 ghost use Rattle.kin_overlay.specs.Standings.{StandIn};
 
@@ -31,11 +32,13 @@ struct Pick {
     rival: Option<Next>,
 }
 
-/// The sign of the slope form of two breakpoints. It isn't asked where it is remembered at this place
-/// and stands.
+/// The sign of the slope form of the first breakpoints of two chains. It isn't asked where what is
+/// remembered from this place on tells it and stands.
 fn slope_sign<O: Signs, L: Ledger>(
-    a: Breakpoint,
-    b: Breakpoint,
+    e: Breakpoint,
+    f: Breakpoint,
+    a: &[u32],
+    b: &[u32],
     standing: &Standing,
     place: usize,
     now: &O,
@@ -43,17 +46,22 @@ fn slope_sign<O: Signs, L: Ledger>(
 ) -> Sign
     requires real { IsReal (O.scene now.now) }
     requires standing { StandIn (O.scene now.now) standing.now }
-    requires a_live { IsBreakpointOf (O.scene now.now).live a }
-    requires b_live { IsBreakpointOf (O.scene now.now).live b }
-    ensures { result ≡ (O.scene now.now).sign (slope_form (seen a) (seen b)) }
+    requires a_first { first_of (breakpoints_of A a.now) ≡ Some (seen e) }
+    requires b_first { first_of (breakpoints_of B b.now) ≡ Some (seen f) }
+    requires a_live { AreLive (O.scene now.now).live a.now }
+    requires b_live { AreLive (O.scene now.now).live b.now }
+    requires a_falls { Descends (O.scene now.now) a.now }
+    requires b_falls { Descends (O.scene now.now) b.now }
+    ensures { result ≡ (O.scene now.now).sign (slope_form (seen e) (seen f)) }
 {
-    if let Some(sign) = standing.slope(place, a, b) {
+    let found = standing.find_next(place);
+    if let Some(sign) = standing.slope(found, found - place, a, f) {
         return sign;
     }
-    if let Some(sign) = standing.slope(place, b, a) {
+    if let Some(sign) = standing.slope(found, found - place, b, e) {
         return sign.opposite();
     }
-    now.sign(&a.slope(b), steps)
+    now.sign(&e.slope(f), steps)
 }
 
 /// The sign of a turn. It isn't asked where it is remembered at this place and stands.
@@ -75,10 +83,12 @@ fn turn_sign<O: Signs, L: Ledger>(
     }
 }
 
-/// Of a breakpoint of A and one of B, the one that comes first in the list.
+/// Of the first breakpoints of A and B, the one that comes first in the list.
 fn choose<O: Signs, L: Ledger>(
-    a: Breakpoint,
-    b: Breakpoint,
+    e: Breakpoint,
+    f: Breakpoint,
+    a: &[u32],
+    b: &[u32],
     standing: &Standing,
     place: usize,
     now: &O,
@@ -86,24 +96,28 @@ fn choose<O: Signs, L: Ledger>(
 ) -> Pick
     requires real { IsReal (O.scene now.now) }
     requires standing { StandIn (O.scene now.now) standing.now }
-    requires a_half { (seen a).half ≡ A }
-    requires b_half { (seen b).half ≡ B }
-    requires a_live { IsBreakpointOf (O.scene now.now).live a }
-    requires b_live { IsBreakpointOf (O.scene now.now).live b }
-    ensures { IsChosen (O.scene now.now) (seen a) (seen b) result }
+    requires a_half { (seen e).half ≡ A }
+    requires b_half { (seen f).half ≡ B }
+    requires a_first { first_of (breakpoints_of A a.now) ≡ Some (seen e) }
+    requires b_first { first_of (breakpoints_of B b.now) ≡ Some (seen f) }
+    requires a_live { AreLive (O.scene now.now).live a.now }
+    requires b_live { AreLive (O.scene now.now).live b.now }
+    requires a_falls { Descends (O.scene now.now) a.now }
+    requires b_falls { Descends (O.scene now.now) b.now }
+    ensures { IsChosen (O.scene now.now) (seen e) (seen f) result }
 {
-    let slope = slope_sign(a, b, standing, place, now, steps);
+    let slope = slope_sign(e, f, a, b, standing, place, now, steps);
     match slope {
         Sign::Minus => Pick {
-            at: b,
+            at: f,
             rival: Some(Next {
-                at: a,
+                at: e,
                 slope: Sign::Plus,
             }),
         },
         Sign::Zero | Sign::Plus => Pick {
-            at: a,
-            rival: Some(Next { at: b, slope }),
+            at: e,
+            rival: Some(Next { at: f, slope }),
         },
     }
 }
@@ -122,10 +136,12 @@ fn pick_next<O: Signs, L: Ledger>(
     requires standing { StandIn (O.scene now.now) standing.now }
     requires a_live { AreLive (O.scene now.now).live a.now }
     requires b_live { AreLive (O.scene now.now).live b.now }
+    requires a_falls { Descends (O.scene now.now) a.now }
+    requires b_falls { Descends (O.scene now.now) b.now }
     ensures { IsPick (O.scene now.now) a.now b.now result }
 {
     match (Breakpoint::first(Half::A, a), Breakpoint::first(Half::B, b)) {
-        (Some(e), Some(f)) => Some(choose(e, f, standing, place, now, steps)),
+        (Some(e), Some(f)) => Some(choose(e, f, a, b, standing, place, now, steps)),
         (Some(e), None) => Some(Pick { at: e, rival: None }),
         (None, Some(f)) => Some(Pick { at: f, rival: None }),
         (None, None) => None,
@@ -228,6 +244,8 @@ impl BreakpointList {
         requires b_some { 0 < length b.now }
         requires a_live { AreLive (O.scene now.now).live a.now }
         requires b_live { AreLive (O.scene now.now).live b.now }
+        requires a_falls { Descends (O.scene now.now) a.now }
+        requires b_falls { Descends (O.scene now.now) b.now }
         requires a_once { IsOnce a.now }
         requires b_once { IsOnce b.now }
         requires less { AreLess a.now b.now }
