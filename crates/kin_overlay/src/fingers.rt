@@ -124,6 +124,7 @@ fn choose<O: Signs, L: Ledger>(
 
 /// The first of the breakpoints of both chains, if there is one. It is expected at this place of what
 /// is remembered.
+#[inline(always)]
 fn pick_next<O: Signs, L: Ledger>(
     a: &[u32],
     b: &[u32],

@@ -109,6 +109,7 @@ impl BreakpointList {
     }
 
     /// Whether the fact is remembered. The search begins at this place.
+    #[inline(always)]
     pub fn has(&self, fact: Fact, place: usize) -> bool
         ensures { IsTrue result ↔ Contains (facts_of self.now) fact }
     {

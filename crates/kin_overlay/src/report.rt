@@ -12,6 +12,7 @@ use kin_num::memory::NoMemory;
 
 /// Tells a fact, if there is one that the other list doesn't have. It is looked for at this place
 /// first.
+#[inline(always)]
 fn tell(
     fact: Option<Fact>,
     other: &BreakpointList,

@@ -43,6 +43,7 @@ fn has_failed(failed: &[Placed], fact: Fact) -> bool
 
 impl Standing<'_> {
     /// Whether a fact is known neither to have failed nor to name a number that has left.
+    #[inline(always)]
     fn is_unfailed(&self, fact: Fact) -> bool
         ensures { IsTrue result → IsUnfailed self.now.failed.now self.now.gone.now fact }
     {

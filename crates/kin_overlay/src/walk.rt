@@ -78,6 +78,7 @@ fn ends_in(chain: &[u32], no: u32) -> bool
 }
 
 /// Puts a point, if there is one, at the end of the chain, unless it is there already.
+#[inline(always)]
 fn give(point: Option<u32>, chain: &mut Vec<u32>) -> Result<(), AllocError>
     ensures { OnOk result (chain.new.items ≡ chain.old.items ++ changes_of (last_item chain.old.items) (option_to_list point)) }
 {
@@ -125,8 +126,21 @@ impl Cell {
         }
     }
 
-    /// Puts the points that are above in the cell at the end of the chain.
+    /// Puts the points that are above in the cell at the end of the chain. In most cells one half is
+    /// above all along.
+    #[inline(always)]
     fn give(&self, chain: &mut Vec<u32>) -> Result<(), AllocError>
+        ensures { OnOk result (chain.new.items ≡ chain.old.items ++ changes_of (last_item chain.old.items) (given_by (seen_cell self.now))) }
+    {
+        match (self.left, self.right) {
+            (Sign::Plus, Sign::Plus) => give(Some(self.a), chain),
+            (Sign::Minus, Sign::Minus) => give(Some(self.b), chain),
+            _ => self.give_each(chain),
+        }
+    }
+
+    /// The same by what is above at each end and along the cell.
+    fn give_each(&self, chain: &mut Vec<u32>) -> Result<(), AllocError>
         ensures { OnOk result (chain.new.items ≡ chain.old.items ++ changes_of (last_item chain.old.items) (given_by (seen_cell self.now))) }
     {
         give(self.above(self.left), chain)?;

@@ -2,7 +2,7 @@ use Rattle.std.proofs.Common.{◌≡◌, sym, ap, ◌∙◌, ◌++◌, List, ℕ
 use Rattle.kin_motion.specs.Cells.{above_of, changes_of}
 use Rattle.kin_overlay.specs.Walks.{last_item, shared_by}
 use Rattle.kin_overlay.proofs.WalkLaws.{given-more}
-use Rattle.kin_overlay.proofs.walk.Cell.give.Goals as goal
+use Rattle.kin_overlay.proofs.walk.Cell.give_each.Goals as goal
 
 pub returns : goal.returns
 returns c =
