@@ -8,7 +8,7 @@ ghost use Rattle.kin_env.specs.Trees.{IsEnvelopeAtRest, IsReadyEnvelope, IsSettl
 ghost use Rattle.kin_hull.specs.Sides.{is_of, outward, inward, items_of};
 
 use crate::side::Side;
-use crate::sorting::{Failed, pass_on};
+use crate::sorting::{Failed, put_outward};
 use kin_env::EnvTree;
 use kin_motion::fact::{Delta, Placed};
 use kin_motion::kinetic::Kinetic;
@@ -18,12 +18,10 @@ use kin_num::steps::Steps;
 use std::alloc::Global;
 use std::sync::ledger::Ledger;
 
-/// The failed facts of both trees, and what one of them reports. The memory is kept from settle to
-/// settle.
+/// The failed facts of both trees.
 #[derive(Drop)]
 pub(crate) struct Mail {
     failed: Failed,
-    delta: Delta,
 }
 
 impl Mail {
@@ -31,7 +29,6 @@ impl Mail {
     pub(crate) fn new(alloc: Global) -> Mail {
         Mail {
             failed: Failed::new(alloc),
-            delta: Delta::new(alloc),
         }
     }
 
@@ -43,7 +40,7 @@ impl Mail {
         self.failed.sort(facts)
     }
 
-    /// Settles one of the trees in its scene, and passes on what it reports.
+    /// Settles one of the trees in its scene, and lets what it reports stand as in the hull.
     pub(crate) fn settle<O: Signs, L: Ledger>(
         &mut self,
         side: Side,
@@ -63,8 +60,10 @@ impl Mail {
         ensures same { OnOk result (tree.new ≡ record tree.old { chains = tree.new.chains; facts = tree.new.facts }) }
         ensures others { self.new.failed ≡ self.old.failed }
     {
-        self.delta.clear();
-        tree.settle(now, self.failed.of(side), &mut self.delta, steps)?;
-        pass_on(side, &self.delta, out)
+        let (dropped, born) = (out.dropped.len(), out.born.len());
+        tree.settle(now, self.failed.of(side), out, steps)?;
+        put_outward(side, &mut out.dropped, dropped);
+        put_outward(side, &mut out.born, born);
+        Ok(())
     }
 }

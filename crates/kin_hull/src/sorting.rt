@@ -1,11 +1,11 @@
-//! The failed facts of each tree, and what both trees report.
+//! The failed facts of each tree, and the facts that a tree reports.
 
-ghost use Rattle.std.specs.Prelude.{◌≡◌, ◌<◌, ◌≤◌, ◌^◌, [], ◌∷◌, ◌++◌, cond, map, filter, Contains, OnOk};
+ghost use Rattle.std.specs.Prelude.{◌≡◌, ◌<◌, ◌≤◌, ◌^◌, [], ◌∷◌, ◌++◌, cond, map, filter, take, drop, Contains, OnOk};
 ghost use Rattle.kin_motion.specs.declared.fact.Placed.{Placed as Put};
 ghost use Rattle.kin_hull.specs.Sides.{is_of, outward, inward, items_of};
 
 use crate::side::Side;
-use kin_motion::fact::{Delta, Placed};
+use kin_motion::fact::Placed;
 use kin_num::memory::NoMemory;
 use std::alloc::Global;
 
@@ -64,34 +64,12 @@ impl Failed {
     }
 }
 
-/// Reports facts that a tree has dropped.
-fn pass_dropped(side: Side, facts: &[Placed], out: &mut Delta) -> Result<(), NoMemory>
-    requires { (p : Put) → Contains facts.now p → p.part < 2 ^ 16 }
-    ensures { OnOk result (out.new ≡ record { dropped = out.old.dropped ++ map (outward side) facts.now; born = out.old.born }) }
+/// Puts the facts of a tree that stand in a list from this place on as they stand in the hull.
+pub(crate) fn put_outward(side: Side, facts: &mut Vec<Placed>, from: usize)
+    requires low { (p : Put) → Contains (drop from facts.old.items) p → p.part < 2 ^ 16 }
+    ensures { facts.new.items ≡ take from facts.old.items ++ map (outward side) (drop from facts.old.items) }
 {
-    for placed in facts {
-        out.report_dropped(side.outward(*placed))?;
+    for place in from..facts.len() {
+        facts[place] = side.outward(facts[place]);
     }
-    Ok(())
-}
-
-/// Reports facts that were born in a tree.
-fn pass_born(side: Side, facts: &[Placed], out: &mut Delta) -> Result<(), NoMemory>
-    requires { (p : Put) → Contains facts.now p → p.part < 2 ^ 16 }
-    ensures { OnOk result (out.new ≡ record { dropped = out.old.dropped; born = out.old.born ++ map (outward side) facts.now }) }
-{
-    for placed in facts {
-        out.report_born(side.outward(*placed))?;
-    }
-    Ok(())
-}
-
-/// Reports what a tree reports.
-pub(crate) fn pass_on(side: Side, delta: &Delta, out: &mut Delta) -> Result<(), NoMemory>
-    requires dropped { (p : Put) → Contains delta.now.dropped p → p.part < 2 ^ 16 }
-    requires born { (p : Put) → Contains delta.now.born p → p.part < 2 ^ 16 }
-    ensures { OnOk result (out.new ≡ record { dropped = out.old.dropped ++ map (outward side) delta.now.dropped; born = out.old.born ++ map (outward side) delta.now.born }) }
-{
-    pass_dropped(side, &delta.dropped, out)?;
-    pass_born(side, &delta.born, out)
 }

@@ -84,6 +84,7 @@ fn turn_sign<O: Signs, L: Ledger>(
 }
 
 /// Of the first breakpoints of A and B, the one that comes first in the list.
+#[inline(always)]
 fn choose<O: Signs, L: Ledger>(
     e: Breakpoint,
     f: Breakpoint,

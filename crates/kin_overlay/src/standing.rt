@@ -47,6 +47,9 @@ impl Standing<'_> {
     fn is_unfailed(&self, fact: Fact) -> bool
         ensures { IsTrue result → IsUnfailed self.now.failed.now self.now.gone.now fact }
     {
+        if self.failed.is_empty() && self.gone.is_empty() {
+            return true;
+        }
         if self.failed.len() > FEW {
             return false;
         }
@@ -133,6 +136,7 @@ impl Standing<'_> {
     /// told where the record at this place is of the chain's breakpoint that stands so many behind the
     /// first, with the other one next, and stands. The slopes of a chain fall, so what a later one
     /// isn't less steep than, the first is steeper than.
+    #[inline(always)]
     pub fn slope(
         &self,
         place: usize,
