@@ -15,7 +15,7 @@ use Rattle.kin_overlay.specs.Lists.{first_of, front, behind}
 use Rattle.kin_overlay.specs.Seen.{seen}
 use Rattle.kin_overlay.specs.Remembered.{place_of, breakpoints, left_points}
 use Rattle.kin_overlay.specs.Descents.{Descends}
-use Rattle.kin_overlay.specs.Fingers.{chain_of, IsBefore, IsChosen, IsRival, IsFirstOfBoth, IsPick, next_of, seen_next, next_for, IsRest, AreLive, AreLess, IsBreakpointOf}
+use Rattle.kin_overlay.specs.Fingers.{chain_of, IsBefore, IsChosen, IsRival, IsFirstOfBoth, IsPick, next_with, next_of, seen_next, next_for, IsRest, AreLive, AreLess, IsBreakpointOf}
 
 -- ---- the first breakpoint of a chain
 pub first-none : (es : List Breakpoint) → first_of es ≡ None → es ≡ []
@@ -38,34 +38,30 @@ first-live live h xs e known q =
 
 -- ---- what is picked
 first-from : (s : Scene) (a b : List ℕ) (h : Half) (e : Breakpoint) (p : Pick) → e.half ≡ h → seen p.at ≡ e → first_of (breakpoints_of h (chain_of h a b)) ≡ Some e
-    → IsRival s e (breakpoints_of (other h) (chain_of (other h) a b)) p.rival → IsFirstOfBoth s a b p
+    → IsRival s e (breakpoints_of (other h) (chain_of (other h) a b)) p.slope → IsFirstOfBoth s a b p
 first-from s a b h e p q same own rival =
     let half : (seen p.at).half ≡ h = ap (λ (f : Breakpoint). f.half) same ∙ q in
     record {
       own = subst (λ (g : Half). first_of (breakpoints_of g (chain_of g a b)) ≡ Some (seen p.at)) (sym half) (own ∙ ap (λ (f : Breakpoint). Some f) (sym same));
-      rival = subst (λ (g : Half). IsRival s (seen p.at) (breakpoints_of (other g) (chain_of (other g) a b)) p.rival) (sym half)
-          (subst (λ (f : Breakpoint). IsRival s f (breakpoints_of (other h) (chain_of (other h) a b)) p.rival) (sym same) rival);
+      rival = subst (λ (g : Half). IsRival s (seen p.at) (breakpoints_of (other g) (chain_of (other g) a b)) p.slope) (sym half)
+          (subst (λ (f : Breakpoint). IsRival s f (breakpoints_of (other h) (chain_of (other h) a b)) p.slope) (sym same) rival);
     }
 
 before-first : (s : Scene) (a b : List ℕ) (h : Half) (e f : Breakpoint) (p : Pick) → e.half ≡ h → first_of (breakpoints_of h (chain_of h a b)) ≡ Some e
     → first_of (breakpoints_of (other h) (chain_of (other h) a b)) ≡ Some f → IsBefore s e f p → IsFirstOfBoth s a b p
 before-first s a b h e f p q own their w =
     first-from s a b h e p q w.at own
-    (subst (λ (o : Option Next). IsRival s e (breakpoints_of (other h) (chain_of (other h) a b)) o) (sym w.found) (
-      their ∙ ap (λ (g : Breakpoint). Some g) (sym w.other),
-      w.slope ∙ ap (λ (g : Breakpoint). s.sign (slope_form e g)) (sym w.other),
-      ap (λ (g : Breakpoint). is_placed_before s e g) w.other ∙ w.before,
-    ))
+    (subst (λ (o : Option Sign). IsRival s e (breakpoints_of (other h) (chain_of (other h) a b)) o) (sym w.slope) (f, their, refl, w.before))
 
 pub chosen-first : (s : Scene) (a b : List ℕ) (e f : Breakpoint) (p : Pick) → first_of (breakpoints_of A a) ≡ Some e → first_of (breakpoints_of B b) ≡ Some f → IsChosen s e f p → IsFirstOfBoth s a b p
 chosen-first s a b e f p own their (inl w) = before-first s a b A e f p (first-shape A a e own).2 own their w
 chosen-first s a b e f p own their (inr w) = before-first s a b B f e p (first-shape B b f their).2 their own w
 
-pub only-a : (s : Scene) (a b : List ℕ) (e : Pair) → first_of (breakpoints_of A a) ≡ Some (seen e) → first_of (breakpoints_of B b) ≡ None → IsFirstOfBoth s a b (record { at = e; rival = None })
-only-a s a b e own none = first-from s a b A (seen e) (record { at = e; rival = None }) (first-shape A a (seen e) own).2 refl own (first-none (breakpoints_of B b) none)
+pub only-a : (s : Scene) (a b : List ℕ) (e : Pair) → first_of (breakpoints_of A a) ≡ Some (seen e) → first_of (breakpoints_of B b) ≡ None → IsFirstOfBoth s a b (record { at = e; slope = None })
+only-a s a b e own none = first-from s a b A (seen e) (record { at = e; slope = None }) (first-shape A a (seen e) own).2 refl own (first-none (breakpoints_of B b) none)
 
-pub only-b : (s : Scene) (a b : List ℕ) (f : Pair) → first_of (breakpoints_of A a) ≡ None → first_of (breakpoints_of B b) ≡ Some (seen f) → IsFirstOfBoth s a b (record { at = f; rival = None })
-only-b s a b f none own = first-from s a b B (seen f) (record { at = f; rival = None }) (first-shape B b (seen f) own).2 refl own (first-none (breakpoints_of A a) none)
+pub only-b : (s : Scene) (a b : List ℕ) (f : Pair) → first_of (breakpoints_of A a) ≡ None → first_of (breakpoints_of B b) ≡ Some (seen f) → IsFirstOfBoth s a b (record { at = f; slope = None })
+only-b s a b f none own = first-from s a b B (seen f) (record { at = f; slope = None }) (first-shape B b (seen f) own).2 refl own (first-none (breakpoints_of A a) none)
 
 -- ---- the link to the next one
 either_way : (g h : Half) → is_of g h ≡ is_of h g
@@ -79,7 +75,7 @@ pub record IsLinked (s : Scene) (e : Breakpoint) (p : Pick) (next : Option Pick)
   pub in_place : (f : Breakpoint) → option_map (λ (q : Pick). seen q.at) next ≡ Some f → is_in_place s e f ≡ true
 
 -- what comes next is of the same half, or it is the rival
-pub link : (s : Scene) (p : Pick) (fs : List Breakpoint) → IsRival s (seen p.at) fs p.rival → (next : Option Pick)
+pub link : (s : Scene) (p : Pick) (fs : List Breakpoint) → IsRival s (seen p.at) fs p.slope → (next : Option Pick)
     → ((q : Pick) → next ≡ Some q → is_of (seen p.at).half (seen q.at).half ≡ false → first_of fs ≡ Some (seen q.at)) → IsLinked s (seen p.at) p next
 link s p fs rival None own = record { noted = refl; in_place = λ f q. absurd cc }
 link s p fs rival (Some q) own = at (is_of (seen p.at).half (seen q.at).half) refl
@@ -90,23 +86,23 @@ link s p fs rival (Some q) own = at (is_of (seen p.at).half (seen q.at).half) re
     g : Breakpoint
     g = seen q.at
 
-    by-rival : is_of e.half g.half ≡ false → (o : Option Next) → p.rival ≡ o → IsRival s e fs o → (option_map seen_next p.rival ≡ Some (g, s.sign (slope_form e g))) × (is_placed_before s e g ≡ true)
+    by-rival : is_of e.half g.half ≡ false → (o : Option Sign) → p.slope ≡ o → IsRival s e fs o → (option_map seen_next (next_with q.at p.slope) ≡ Some (g, s.sign (slope_form e g))) × (is_placed_before s e g ≡ true)
     by-rival apart None is none = absurd (let clash : None ≡ Some g = ap (λ (l : List Breakpoint). first_of l) (sym none) ∙ own q refl apart in cc)
-    by-rival apart (Some n) is (first, slope, before) =
-        let same : seen n.at ≡ g = (let both : Some (seen n.at) ≡ Some g = sym first ∙ own q refl apart in cc) in (
-          ap (λ (o : Option Next). option_map seen_next o) is ∙ ap₂ (λ (f : Breakpoint) (t : Sign). Some (f, t)) same (slope ∙ ap (λ (f : Breakpoint). s.sign (slope_form e f)) same),
-          ap (λ (f : Breakpoint). is_placed_before s e f) (sym same) ∙ before,
+    by-rival apart (Some t) is (f, first, slope, before) =
+        let same : f ≡ g = (let both : Some f ≡ Some g = sym first ∙ own q refl apart in cc) in (
+          ap (λ (o : Option Sign). option_map seen_next (next_with q.at o)) is ∙ ap (λ (u : Sign). Some (g, u)) (slope ∙ ap (λ (x : Breakpoint). s.sign (slope_form e x)) same),
+          ap (λ (x : Breakpoint). is_placed_before s e x) (sym same) ∙ before,
         )
 
     at : (b : Bool) → is_of e.half g.half ≡ b → IsLinked s e p (Some q)
     at true same = record {
-      noted = ap (λ (b : Bool). option_map seen_next (cond b None p.rival)) (either_way g.half e.half ∙ same) ∙ sym (ap (λ (b : Bool). cond b None (Some (g, s.sign (slope_form e g)))) same);
+      noted = ap (λ (b : Bool). option_map seen_next (cond b None (next_with q.at p.slope))) (either_way g.half e.half ∙ same) ∙ sym (ap (λ (b : Bool). cond b None (Some (g, s.sign (slope_form e g)))) same);
       in_place = λ f w. let is : g ≡ f = cc in ap (λ (x : Breakpoint). is_in_place s e x) (sym is) ∙ ap (λ (b : Bool). b || is_placed_before s e g) same;
     }
     at false apart =
-        let r = by-rival apart p.rival refl rival in
+        let r = by-rival apart p.slope refl rival in
         record {
-          noted = ap (λ (b : Bool). option_map seen_next (cond b None p.rival)) (either_way g.half e.half ∙ apart) ∙ r.0 ∙ sym (ap (λ (b : Bool). cond b None (Some (g, s.sign (slope_form e g)))) apart);
+          noted = ap (λ (b : Bool). option_map seen_next (cond b None (next_with q.at p.slope))) (either_way g.half e.half ∙ apart) ∙ r.0 ∙ sym (ap (λ (b : Bool). cond b None (Some (g, s.sign (slope_form e g)))) apart);
           in_place = λ f w. let is : g ≡ f = cc in ap (λ (x : Breakpoint). is_in_place s e x) (sym is) ∙ ap₂ (λ (b c : Bool). b || c) apart r.1;
         }
 

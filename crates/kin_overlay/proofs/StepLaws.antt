@@ -23,9 +23,9 @@ use Rattle.kin_algebra.specs.declared.sign.Sign.{Sign}
 use Rattle.kin_motion.proofs.Members.{in_head, in_tail, not_in_tail}
 
 -- a step along A
-module _ (s : Scene) (a b : List ℕ) (start : Option Pick) (i j : ℕ) (t bs : List ℕ) (rival : Option Next) (rs : List Record) (next : Option Pick) (k : ℕ) (turn : Sign) where
+module _ (s : Scene) (a b : List ℕ) (start : Option Pick) (i j : ℕ) (t bs : List ℕ) (rival : Option Sign) (rs : List Record) (next : Option Pick) (k : ℕ) (turn : Sign) where
   abbrev p : Pick
-  p = record { at = record { half = SideA; left = i; right = j }; rival = rival }
+  p = record { at = record { half = SideA; left = i; right = j }; slope = rival }
 
   abbrev r : Record
   r = record { at = record { half = SideA; left = i; right = j }; across = k; turn = turn; next = next_of p next }
@@ -74,9 +74,9 @@ module _ (s : Scene) (a b : List ℕ) (start : Option Pick) (i j : ℕ) (t bs : 
       at x (inr e) = (ap (λ (n : ℕ). is_in n (j ∷ t)) e ∙ u.a_once.0, ap (λ (n : ℕ). is_in n bs) e ∙ none-less i (j ∷ t) bs u.less)
 
 -- a step along B
-module _ (s : Scene) (a b : List ℕ) (start : Option Pick) (i j : ℕ) (t as' : List ℕ) (rival : Option Next) (rs : List Record) (next : Option Pick) (k : ℕ) (turn : Sign) where
+module _ (s : Scene) (a b : List ℕ) (start : Option Pick) (i j : ℕ) (t as' : List ℕ) (rival : Option Sign) (rs : List Record) (next : Option Pick) (k : ℕ) (turn : Sign) where
   abbrev p' : Pick
-  p' = record { at = record { half = SideB; left = i; right = j }; rival = rival }
+  p' = record { at = record { half = SideB; left = i; right = j }; slope = rival }
 
   abbrev r' : Record
   r' = record { at = record { half = SideB; left = i; right = j }; across = k; turn = turn; next = next_of p' next }
@@ -125,15 +125,15 @@ module _ (s : Scene) (a b : List ℕ) (start : Option Pick) (i j : ℕ) (t as' :
       at x (inr e) = (ap (λ (n : ℕ). is_in n as') e ∙ none-greater i as' (j ∷ t) u.less, ap (λ (n : ℕ). is_in n (j ∷ t)) e ∙ u.b_once.0)
 
 -- a step along the half that was picked
-pub step : (s : Scene) (a b : List ℕ) (start : Option Pick) (first second first' second' : List ℕ) (half : Side) (i j : ℕ) (rival : Option Next) (rs : List Record) (next : Option Pick) (k : ℕ) (turn : Sign)
-    → IsUnderway s a b start first second (Some (record { at = record { half = half; left = i; right = j }; rival = rival })) rs
+pub step : (s : Scene) (a b : List ℕ) (start : Option Pick) (first second first' second' : List ℕ) (half : Side) (i j : ℕ) (rival : Option Sign) (rs : List Record) (next : Option Pick) (k : ℕ) (turn : Sign)
+    → IsUnderway s a b start first second (Some (record { at = record { half = half; left = i; right = j }; slope = rival })) rs
     → first' ≡ passed A (half_of half) first → second' ≡ passed B (half_of half) second → IsPick s first' second' next
-    → k ≡ other_current (half_of half) (front first) (front second) → turn ≡ s.sign (Turn i j k) → (link : Option Next) → link ≡ next_of (record { at = record { half = half; left = i; right = j }; rival = rival }) next
+    → k ≡ other_current (half_of half) (front first) (front second) → turn ≡ s.sign (Turn i j k) → (link : Option Next) → link ≡ next_of (record { at = record { half = half; left = i; right = j }; slope = rival }) next
     → IsUnderway s a b start first' second' next (rs ++ record { at = record { half = half; left = i; right = j }; across = k; turn = turn; next = link } ∷ [])
 step s a b start first second first' second' SideA i j rival rs next k turn u qa qb pick across asked link is =
     let shape = first-shape A first (record { half = A; left = i; right = j }) u.pick.own in
     let to : first' ≡ j ∷ shape.0 = qa ∙ ap behind shape.1 in
-    let p : Pick = record { at = record { half = SideA; left = i; right = j }; rival = rival } in
+    let p : Pick = record { at = record { half = SideA; left = i; right = j }; slope = rival } in
     let u' = subst (λ (l : List ℕ). IsUnderway s a b start l second (Some p) rs) shape.1 u in
     let pick' = subst (λ (l : List ℕ). IsPick s l second next) to (subst (λ (l : List ℕ). IsPick s first' l next) qb pick) in
     let done = step-a s a b start i j shape.0 second rival rs next k turn u' pick' across asked in
@@ -143,7 +143,7 @@ step s a b start first second first' second' SideA i j rival rs next k turn u qa
 step s a b start first second first' second' SideB i j rival rs next k turn u qa qb pick across asked link is =
     let shape = first-shape B second (record { half = B; left = i; right = j }) u.pick.own in
     let to : second' ≡ j ∷ shape.0 = qb ∙ ap behind shape.1 in
-    let p : Pick = record { at = record { half = SideB; left = i; right = j }; rival = rival } in
+    let p : Pick = record { at = record { half = SideB; left = i; right = j }; slope = rival } in
     let u' = subst (λ (l : List ℕ). IsUnderway s a b start first l (Some p) rs) shape.1 u in
     let pick' = subst (λ (l : List ℕ). IsPick s first l next) to (subst (λ (l : List ℕ). IsPick s l second' next) qa pick) in
     let done = step-b s a b start i j shape.0 first rival rs next k turn u' pick' across asked in
@@ -152,8 +152,8 @@ step s a b start first second first' second' SideB i j rival rs next k turn u qa
     (subst (λ (l : List ℕ). IsUnderway s a b start first l next (rs ++ record { at = record { half = SideB; left = i; right = j }; across = k; turn = turn; next = link } ∷ [])) (sym to) named)
 
 -- less is left behind a step
-pub shorter : (s : Scene) (a b : List ℕ) (start : Option Pick) (first second first' second' : List ℕ) (half : Side) (i j : ℕ) (rival : Option Next) (rs : List Record)
-    → IsUnderway s a b start first second (Some (record { at = record { half = half; left = i; right = j }; rival = rival })) rs
+pub shorter : (s : Scene) (a b : List ℕ) (start : Option Pick) (first second first' second' : List ℕ) (half : Side) (i j : ℕ) (rival : Option Sign) (rs : List Record)
+    → IsUnderway s a b start first second (Some (record { at = record { half = half; left = i; right = j }; slope = rival })) rs
     → first' ≡ passed A (half_of half) first → second' ≡ passed B (half_of half) second → length first' + length second' < length first + length second
 shorter s a b start first second first' second' SideA i j rival rs u qa qb =
     let shape = first-shape A first (record { half = A; left = i; right = j }) u.pick.own in
@@ -167,8 +167,8 @@ front_in [] l = absurd (omega arith)
 front_in (x ∷ xs) l = in_head x xs
 
 -- the turn of what is picked may be asked
-pub turn-askable : (s : Scene) (a b : List ℕ) (start : Option Pick) (first second : List ℕ) (half : Side) (i j : ℕ) (rival : Option Next) (rs : List Record) (k : ℕ)
-    → IsUnderway s a b start first second (Some (record { at = record { half = half; left = i; right = j }; rival = rival })) rs
+pub turn-askable : (s : Scene) (a b : List ℕ) (start : Option Pick) (first second : List ℕ) (half : Side) (i j : ℕ) (rival : Option Sign) (rs : List Record) (k : ℕ)
+    → IsUnderway s a b start first second (Some (record { at = record { half = half; left = i; right = j }; slope = rival })) rs
     → k ≡ other_current (half_of half) (front first) (front second) → IsAskable s.live (Turn i j k)
 turn-askable s a b start first second SideA i j rival rs k u across =
     let shape = first-shape A first (record { half = A; left = i; right = j }) u.pick.own in (

@@ -25,10 +25,10 @@ chain_of B a b = b
 abbrev pub passed : Half → Half → List ℕ → List ℕ
 passed h g xs = cond (is_of h g) (behind xs) xs
 
--- the first breakpoint that is left of the other half, with the sign of the slope form, by which e is placed before it
-abbrev pub IsRival : Scene → Breakpoint → List Breakpoint → Option Next → Type 0
+-- the sign of the slope form of e and the first breakpoint that is left of the other half, by which e is placed before it
+abbrev pub IsRival : Scene → Breakpoint → List Breakpoint → Option Sign → Type 0
 IsRival s e fs None = fs ≡ []
-IsRival s e fs (Some n) = (first_of fs ≡ Some (seen n.at)) × (n.slope ≡ s.sign (slope_form e (seen n.at))) × (is_placed_before s e (seen n.at) ≡ true)
+IsRival s e fs (Some t) = (f : Breakpoint) × (first_of fs ≡ Some f) × (t ≡ s.sign (slope_form e f)) × (is_placed_before s e f ≡ true)
 
 -- both points of a breakpoint are live
 abbrev pub IsBreakpointOf : List ℕ → Pair → Type 0
@@ -37,10 +37,7 @@ IsBreakpointOf live e = IsIn e.left live × IsIn e.right live
 -- e is picked, and f is its rival
 pub record IsBefore (s : Scene) (e f : Breakpoint) (p : Pick) : Type 0 where
   pub at : seen p.at ≡ e
-  pub rival : Next
-  pub found : p.rival ≡ Some rival
-  pub other : seen rival.at ≡ f
-  pub slope : rival.slope ≡ s.sign (slope_form e f)
+  pub slope : p.slope ≡ Some (s.sign (slope_form e f))
   pub before : is_placed_before s e f ≡ true
 
 -- of e and f that is picked which is placed before the other
@@ -50,17 +47,22 @@ IsChosen s e f p = IsBefore s e f p ⊎ IsBefore s f e p
 -- a breakpoint that comes first of those that are left of both chains
 pub record IsFirstOfBoth (s : Scene) (a b : List ℕ) (p : Pick) : Type 0 where
   pub own : first_of (breakpoints_of (seen p.at).half (chain_of (seen p.at).half a b)) ≡ Some (seen p.at)
-  pub rival : IsRival s (seen p.at) (breakpoints_of (other (seen p.at).half) (chain_of (other (seen p.at).half) a b)) p.rival
+  pub rival : IsRival s (seen p.at) (breakpoints_of (other (seen p.at).half) (chain_of (other (seen p.at).half) a b)) p.slope
 
 -- what comes first of what is left of both chains, if something is left
 abbrev pub IsPick : Scene → List ℕ → List ℕ → Option Pick → Type 0
 IsPick s a b None = (breakpoints_of A a ≡ []) × (breakpoints_of B b ≡ [])
 IsPick s a b (Some p) = IsFirstOfBoth s a b p
 
--- the rival, where it comes next
+-- a breakpoint as a next one, with the sign of the slope form
+abbrev pub next_with : Pair → Option Sign → Option Next
+next_with f None = None
+next_with f (Some t) = Some (record { at = f; slope = t })
+
+-- what is picked next, where it is of the other half
 abbrev pub next_of : Pick → Option Pick → Option Next
 next_of p None = None
-next_of p (Some q) = cond (is_of (seen q.at).half (seen p.at).half) None p.rival
+next_of p (Some q) = cond (is_of (seen q.at).half (seen p.at).half) None (next_with q.at p.slope)
 
 -- a next breakpoint as the definitions have it
 abbrev pub seen_next : Next → Breakpoint × Sign

@@ -28,8 +28,8 @@ use std::sync::ledger::Ledger;
 #[derive(Clone, Copy, Debug, PartialEq, Eq)]
 struct Pick {
     at: Breakpoint,
-    /// The first that is left of the other half, with the sign of the slope form of both.
-    rival: Option<Next>,
+    /// The sign of the slope form of it and the first that is left of the other half, if there is one.
+    slope: Option<Sign>,
 }
 
 /// The sign of the slope form of the first breakpoints of two chains. It isn't asked where what is
@@ -111,14 +111,11 @@ fn choose<O: Signs, L: Ledger>(
     match slope {
         Sign::Minus => Pick {
             at: f,
-            rival: Some(Next {
-                at: e,
-                slope: Sign::Plus,
-            }),
+            slope: Some(Sign::Plus),
         },
         Sign::Zero | Sign::Plus => Pick {
             at: e,
-            rival: Some(Next { at: f, slope }),
+            slope: Some(slope),
         },
     }
 }
@@ -144,26 +141,22 @@ fn pick_next<O: Signs, L: Ledger>(
 {
     match (Breakpoint::first(Half::A, a), Breakpoint::first(Half::B, b)) {
         (Some(e), Some(f)) => Some(choose(e, f, a, b, standing, place, now, steps)),
-        (Some(e), None) => Some(Pick { at: e, rival: None }),
-        (None, Some(f)) => Some(Pick { at: f, rival: None }),
+        (Some(e), None) => Some(Pick { at: e, slope: None }),
+        (None, Some(f)) => Some(Pick { at: f, slope: None }),
         (None, None) => None,
     }
 }
 
-/// The rival of a breakpoint, where it comes next.
+/// What comes next of a breakpoint, where it is of the other half.
 fn next_of(picked: Pick, next: Option<Pick>) -> Option<Next>
     ensures { result ≡ next_of picked next }
 {
-    match next {
-        Some(next) => {
-            if next.at.half.is(picked.at.half) {
-                None
-            } else {
-                picked.rival
-            }
-        }
-        None => None,
+    let next = next?;
+    if next.at.half.is(picked.at.half) {
+        return None;
     }
+    let slope = picked.slope?;
+    Some(Next { at: next.at, slope })
 }
 
 /// The current point of the half that a breakpoint isn't of.

@@ -1,4 +1,4 @@
-use Rattle.std.proofs.Common.{◌≡◌, refl, sym, ap, ◌∙◌, inr}
+use Rattle.std.proofs.Common.{◌≡◌, refl, sym, ap, ◌∙◌, inr, Some}
 use Rattle.kin_algebra.specs.declared.sign.Sign.TheVariants.{Plus}
 use Rattle.kin_algebra.specs.Signs.{opposite_of}
 use Rattle.kin_motion.specs.Merges.{slope_form, goes_first}
@@ -15,9 +15,6 @@ returns-in-Minus g c =
     (real_slope_laws s c.requires.real).opposite e.left e.right f.left f.right ∙ ap opposite_of (sym c.slope_sign-slope.ensures ∙ c.in-Minus.is) in
     inr (record {
       at = refl;
-      rival = record { at = e; slope = Plus };
-      found = refl;
-      other = refl;
-      slope = sym turned;
+      slope = ap Some (sym turned);
       before = ap (λ t. goes_first t (seen f).half (seen e).half) turned;
     })

@@ -1,11 +1,13 @@
 use Rattle.std.proofs.Common.{◌≡◌, refl, sym, ap₂, ◌∙◌, subst, arith, ℕ, List, [], ◌∷◌, get_or, Option, Some}
-use Rattle.kin_motion.specs.Merges.{Half.{B}}
+use Rattle.kin_motion.specs.Merges.{Half.{A, B}}
 use Rattle.kin_overlay.specs.declared.end.End.{End}
 use Rattle.kin_overlay.specs.declared.fingers.Pick.{Pick}
+use Rattle.kin_overlay.specs.Descents.{Descends}
 use Rattle.kin_overlay.specs.Remembered.{Remembered}
 use Rattle.kin_overlay.specs.Fingers.{AreLive, IsMerged, end_at}
 use Rattle.kin_overlay.specs.Seen.{half_of}
 use Rattle.kin_overlay.specs.Lists.{front}
+use Rattle.kin_overlay.proofs.DescentLaws.{passed-descends}
 use Rattle.kin_overlay.proofs.FingerLaws.{IsUnderway}
 use Rattle.kin_overlay.proofs.StepLaws.{step, shorter, turn-askable, passed-live, merged-one, merged-more}
 use Rattle.kin_overlay.proofs.list.BreakpointList.merge.Goals as goal
@@ -20,7 +22,7 @@ turn_sign-turn-requires-clause-askable g c =
     let s = g.O.Signs.scene c.args.now.now in
     let p = c.in-Some.picked in
     let u = subst (λ (o : Option Pick). IsUnderway s c.args.a.now c.args.b.now c.pick_next-next.result c.loop-next.first.now c.loop-next.second.now o c.loop-next.self.records) c.in-Some.is c.loop-next.invariant in
-    turn-askable s c.args.a.now c.args.b.now c.pick_next-next.result c.loop-next.first.now c.loop-next.second.now p.at.half p.at.left p.at.right p.rival c.loop-next.self.records c.across-across.result u c.across-across.ensures
+    turn-askable s c.args.a.now c.args.b.now c.pick_next-next.result c.loop-next.first.now c.loop-next.second.now p.at.half p.at.left p.at.right p.slope c.loop-next.self.records c.across-across.result u c.across-across.ensures
 
 pub pick_next-next-requires-in-Some-clause-b_live : goal.pick_next-next-requires-in-Some-clause-b_live
 pick_next-next-requires-in-Some-clause-b_live g c =
@@ -28,19 +30,29 @@ pick_next-next-requires-in-Some-clause-b_live g c =
     subst (AreLive s.live) (sym c.pass.ensures.b)
     (passed-live s c.args.a.now c.args.b.now c.pick_next-next.result c.loop-next.next c.loop-next.first.now c.loop-next.second.now (half_of c.in-Some.picked.at.half) B c.loop-next.self.records c.loop-next.invariant)
 
+pub pick_next-next-requires-in-Some-clause-a_falls : goal.pick_next-next-requires-in-Some-clause-a_falls
+pick_next-next-requires-in-Some-clause-a_falls g c =
+    let s = g.O.Signs.scene c.args.now.now in
+    subst (Descends s) (sym c.pass.ensures.a) (passed-descends s c.loop-next.first.now c.loop-next.second.now (half_of c.in-Some.picked.at.half) A c.loop-next.invariant.a_falls c.loop-next.invariant.b_falls)
+
+pub pick_next-next-requires-in-Some-clause-b_falls : goal.pick_next-next-requires-in-Some-clause-b_falls
+pick_next-next-requires-in-Some-clause-b_falls g c =
+    let s = g.O.Signs.scene c.args.now.now in
+    subst (Descends s) (sym c.pass.ensures.b) (passed-descends s c.loop-next.first.now c.loop-next.second.now (half_of c.in-Some.picked.at.half) B c.loop-next.invariant.a_falls c.loop-next.invariant.b_falls)
+
 pub loop-next-smaller : goal.loop-next-smaller
 loop-next-smaller g c =
     let s = g.O.Signs.scene c.args.now.now in
     let p = c.in-Some.picked in
     let u = subst (λ (o : Option Pick). IsUnderway s c.args.a.now c.args.b.now c.pick_next-next.result c.loop-next.first.now c.loop-next.second.now o c.loop-next.self.records) c.in-Some.is c.loop-next.invariant in
-    shorter s c.args.a.now c.args.b.now c.pick_next-next.result c.loop-next.first.now c.loop-next.second.now c.pass.result.0.now c.pass.result.1.now p.at.half p.at.left p.at.right p.rival c.loop-next.self.records u c.pass.ensures.a c.pass.ensures.b
+    shorter s c.args.a.now c.args.b.now c.pick_next-next.result c.loop-next.first.now c.loop-next.second.now c.pass.result.0.now c.pass.result.1.now p.at.half p.at.left p.at.right p.slope c.loop-next.self.records u c.pass.ensures.a c.pass.ensures.b
 
 pub loop-next-preserved : goal.loop-next-preserved
 loop-next-preserved g c =
     let s = g.O.Signs.scene c.args.now.now in
     let p = c.in-Some.picked in
     let u = subst (λ (o : Option Pick). IsUnderway s c.args.a.now c.args.b.now c.pick_next-next.result c.loop-next.first.now c.loop-next.second.now o c.loop-next.self.records) c.in-Some.is c.loop-next.invariant in
-    let done = step s c.args.a.now c.args.b.now c.pick_next-next.result c.loop-next.first.now c.loop-next.second.now c.pass.result.0.now c.pass.result.1.now p.at.half p.at.left p.at.right p.rival c.loop-next.self.records
+    let done = step s c.args.a.now c.args.b.now c.pick_next-next.result c.loop-next.first.now c.loop-next.second.now c.pass.result.0.now c.pass.result.1.now p.at.half p.at.left p.at.right p.slope c.loop-next.self.records
     c.pick_next-next-in-Some.result c.across-across.result c.turn_sign-turn.result u c.pass.ensures.a c.pass.ensures.b c.pick_next-next-in-Some.ensures c.across-across.ensures c.turn_sign-turn.ensures c.next_of.result c.next_of.ensures in
     subst (λ (m : Remembered). IsUnderway s c.args.a.now c.args.b.now c.pick_next-next.result c.pass.result.0.now c.pass.result.1.now c.pick_next-next-in-Some.result m.records) (sym c.in_ok-push.ensures.pushed) done
 
