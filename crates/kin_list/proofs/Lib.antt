@@ -16,5 +16,6 @@ pub mod ReportLaws
 pub mod SettleLaws
 pub mod BoundLaws
 pub mod WholeLaws
+pub mod StillLaws
 pub mod VacantLaws
 pub mod LeavingLaws

@@ -1,10 +1,10 @@
 //! The kinetic sorted list.
 
-ghost use Rattle.std.specs.Prelude.{◌≡◌, ◌<◌, ◌≤◌, ◌^◌, ◌↔◌, unsigned_abs, [], Some, true, false, length, slice_get, IfOk, OnOk, OnErr, IfSome, IsNone};
+ghost use Rattle.std.specs.Prelude.{◌≡◌, ◌<◌, ◌≤◌, ◌^◌, ◌↔◌, unsigned_abs, [], Some, true, false, length, slice_get, IsTrue, IfOk, OnOk, OnErr, IfSome, IsNone};
 ghost use Rattle.kin_motion.specs.Changes.{moved_pairs};
 ghost use Rattle.kin_motion.specs.Kinetics.{ListsFailing, HasChanged};
 ghost use Rattle.kin_motion.specs.Numbers.{is_in};
-ghost use Rattle.kin_motion.specs.Scene.{IsReal};
+ghost use Rattle.kin_motion.specs.Scene.{Scene, IsReal};
 ghost use Rattle.kin_list.specs.declared.mark.Mark.TheVariants.{Rest, Enters, Leaves, Broken};
 ghost use Rattle.kin_list.specs.Listing.{IsAtRest, IsReadyListing, IsSettledListing, AreFewTests, names_leaving, staying, lasting};
 ghost use Rattle.kin_list.specs.Rows.{exchanged};
@@ -95,6 +95,25 @@ impl KinList {
         ensures { self.new ≡ record self.old { mark = Leaves no } }
     {
         self.mark = Mark::Leaves(no);
+    }
+
+    /// Whether no mark stands.
+    pub fn is_at_rest(&self) -> bool
+        ensures { IsTrue result ↔ IsAtRest self.now }
+    {
+        match self.mark {
+            Mark::Rest => true,
+            Mark::Enters(_) | Mark::Leaves(_) | Mark::Broken => false,
+        }
+    }
+
+    /// Forgets the exchanges of the last `settle`. Where no mark stands and no fact has failed, a
+    /// `settle` would do nothing else.
+    pub fn stand_still(&mut self)
+        ensures same { self.new ≡ record self.old { swaps = [] } }
+        ensures settled { IsAtRest self.old → (s : Scene) → IsReal s → IsReadyListing self.old s → ListsFailing self.old.facts (names_leaving self.old.mark) s [] → IsSettledListing self.new s }
+    {
+        self.lineup.swaps.clear();
     }
 
     /// The places of the exchanges of the last `settle`, in their order.

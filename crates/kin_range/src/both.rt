@@ -1,6 +1,6 @@
 //! Both lists settle.
 
-ghost use Rattle.std.specs.Prelude.{◌≡◌, ◌∷◌, [], true, OnOk};
+ghost use Rattle.std.specs.Prelude.{◌≡◌, ◌∷◌, [], true, length, OnOk};
 ghost use Rattle.kin_motion.specs.Kinetics.{ListsFailing, HasChanged};
 ghost use Rattle.kin_motion.specs.Scene.{IsReal};
 ghost use Rattle.kin_list.specs.declared.mark.Mark.TheVariants.{Rest};
@@ -13,7 +13,8 @@ use kin_motion::fact::{Delta, Placed};
 use kin_motion::signs::Signs;
 use kin_num::memory::NoMemory;
 use kin_num::steps::Steps;
-use kin_wedge::part::{Mail, settle_list};
+use kin_wedge::mail::Mail;
+use kin_wedge::part::settle_list;
 use std::sync::ledger::Ledger;
 
 /// Settles the list along x and the list along y, each by the failed facts of its part.
@@ -29,6 +30,7 @@ pub(crate) fn settle_both<O: Signs, L: Ledger>(
     requires real { IsReal (O.scene now.now) }
     requires joined { AreJoined by_x.old by_y.old }
     requires ready { IsReadyListing by_x.old (O.scene now.now) }
+    requires told { length mail.old.boxes.items ≡ 2 }
     requires failing { ListsFailing (facts_from 0 (by_x.old ∷ by_y.old ∷ [])) (names_leaving by_x.old.mark) (O.scene now.now) failed.now }
     ensures joined { OnOk result (AreJoined by_x.new by_y.new) }
     ensures rest { OnOk result (by_x.new.mark ≡ Rest) }
@@ -36,7 +38,9 @@ pub(crate) fn settle_both<O: Signs, L: Ledger>(
     ensures delta { OnOk result (HasChanged (facts_from 0 (by_x.old ∷ by_y.old ∷ [])) (facts_from 0 (by_x.new ∷ by_y.new ∷ [])) out.old out.new) }
     ensures tests { OnOk result (AreFewTests (record { by_x = by_x.old; by_y = by_y.old; whole = true }) (record { by_x = by_x.new; by_y = by_y.new; whole = true }) out.old out.new steps.old steps.new) }
     ensures room { OnOk result (by_x.new.room ≡ by_x.old.room) }
+    ensures told { length mail.new.boxes.items ≡ 2 }
 {
-    settle_list(by_x, 0, mail, now, failed, out, steps)?;
-    settle_list(by_y, 1, mail, now, failed, out, steps)
+    mail.sort(failed)?;
+    settle_list(by_x, 0, mail.told(0), now, out, steps)?;
+    settle_list(by_y, 1, mail.told(1), now, out, steps)
 }

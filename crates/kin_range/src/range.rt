@@ -1,6 +1,6 @@
 //! The kinetic range.
 
-ghost use Rattle.std.specs.Prelude.{◌≡◌, ◌≤◌, ◌<◌, ◌^◌, true, false, IfOk, OnOk, OnErr};
+ghost use Rattle.std.specs.Prelude.{◌≡◌, ◌≤◌, ◌<◌, ◌^◌, true, false, length, IfOk, OnOk, OnErr};
 ghost use Rattle.kin_motion.specs.Boxes.{box_of, IsRectInRange};
 ghost use Rattle.kin_motion.specs.Kinetics.{ListsFailing, HasChanged};
 ghost use Rattle.kin_motion.specs.Numbers.{is_in};
@@ -18,7 +18,7 @@ use kin_motion::signs::Signs;
 use kin_motion::{Motions, Rect};
 use kin_num::steps::Steps;
 use kin_num::{Moment, NoMemory};
-use kin_wedge::part::Mail;
+use kin_wedge::mail::Mail;
 use std::alloc::Global;
 use std::marker::{Brand, Model};
 use std::sync::ledger::{Blank, Ledger};
@@ -34,6 +34,7 @@ pub struct KinRange {
     mail: Mail,
     /// False from the start of a call that may find no memory to its Ok end.
     whole: bool,
+    ghost told: { length mail.boxes.items ≡ 2 },
 }
 
 impl Model for KinRange {
@@ -58,7 +59,7 @@ impl KinRange {
             alloc,
             by_x: KinList::new(alloc, 1, 0, size)?,
             by_y: KinList::new(alloc, 0, 1, size)?,
-            mail: Mail::new(alloc),
+            mail: Mail::new(alloc, 2)?,
             whole: true,
         })
     }

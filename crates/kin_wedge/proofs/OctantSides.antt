@@ -8,9 +8,8 @@ use Rattle.kin_motion.specs.Orders.{is_before}
 use Rattle.kin_motion.specs.Octants.{Octant, octants, forward, is_in_octant}
 use Rattle.kin_motion.specs.Laws.{HasLineLaws}
 use Rattle.kin_motion.proofs.OctantLaws.{before_turned, sum_of}
-use Rattle.kin_wedge.specs.declared.sides.Sides.{Sides}
 use Rattle.kin_wedge.specs.Rows.{AreOrders}
-use Rattle.kin_wedge.specs.Sides.{octant_by, AreParted, AreSides}
+use Rattle.kin_wedge.specs.Sides.{AreParted}
 use Rattle.kin_wedge.proofs.Scenes.{as_read, in_octant}
 
 abbrev tree : Bool → Bool → Bool → Bool → ℕ

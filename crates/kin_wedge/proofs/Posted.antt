@@ -1,7 +1,9 @@
 -- The failed facts of a part are those that its list is told, and its report is that of its part.
-use Rattle.std.proofs.Common.{◌≡◌, refl, sym, ap, ◌∙◌, subst, arith, List, [], ◌∷◌, ◌++◌, ℕ, ◌+◌, Bool, true, false, cond, map, filter}
+use Rattle.std.proofs.Common.{◌≡◌, refl, sym, ap, ap₂, ◌∙◌, subst, arith, List, [], ◌∷◌, ◌++◌, ℕ, ◌+◌, Bool, true, false, cond, nat_eq, length, map, filter, take, drop}
 use Rattle.std.specs.Prelude.{Contains}
+use Rattle.std.proofs.lemmas.Bool.{eqb-true}
 use Rattle.std.proofs.lemmas.Bool.Decides.{nat_tests}
+use Rattle.std.proofs.lemmas.List.{take_at, drop_at}
 use Rattle.kin_basics.proofs.Members.{contains_head, contains_tail}
 use Rattle.kin_motion.specs.declared.fact.Placed.{Placed}
 use Rattle.kin_motion.specs.Deltas.{Change}
@@ -12,8 +14,10 @@ use Rattle.kin_motion.proofs.ClosestFactLaws.{part_of_order}
 use Rattle.kin_motion.proofs.PartLaws.{moved_facts_change, moved_facts_fail}
 use Rattle.kin_list.specs.declared.mark.Mark.{Mark}
 use Rattle.kin_list.specs.declared.mark.Mark.TheVariants.{Rest, Enters, Leaves, Broken}
-use Rattle.kin_list.specs.Listing.{Listing, IsSettledListing, names_leaving}
-use Rattle.kin_wedge.specs.Parts.{in_part, is_of_part, AreAtNought}
+use Rattle.kin_list.specs.Listing.{Listing, IsSettledListing, names_leaving, staying, lasting}
+use Rattle.kin_list.specs.Rows.{exchanged}
+use Rattle.kin_wedge.specs.Parts.{in_part, is_of_part, AreAtNought, IsResettled}
+use Rattle.kin_wedge.proofs.Parting.{gained_none}
 
 -- a fact that was moved to part 0 and back
 moved_back : (part : ℕ) (p : Placed) → p.part ≡ part → moved_by part (in_part 0 p) ≡ p
@@ -72,12 +76,41 @@ side part mine which before after moved_which nought g h e = record {
   exactly = h.exactly;
 }
 
-pub report_told : (part : ℕ) (old new : List Placed) (delta out mid out' : Change) → AreAtNought old → AreAtNought new → HasChanged old new (record { dropped = []; born = [] }) delta
-    → mid ≡ record { dropped = out.dropped ++ map (in_part part) delta.dropped; born = out.born } → out' ≡ record { dropped = mid.dropped; born = mid.born ++ map (in_part part) delta.born }
+-- what was gained is moved
+moved_gain : (part from : ℕ) (x y z : List Placed) (which : Placed → Type 0) → from ≡ length x → (g : HasGained x y which) → z ≡ take from y ++ map (in_part part) (drop from y) → z ≡ x ++ map (in_part part) g.more
+moved_gain part from x y z which n g e =
+    e ∙ ap (λ (k : ℕ). take k y ++ map (in_part part) (drop k y)) n
+    ∙ ap (λ (v : List Placed). take (length x) v ++ map (in_part part) (drop (length x) v)) g.joined
+    ∙ ap₂ (λ (u v : List Placed). u ++ map (in_part part) v) (take_at x g.more (length x) refl) (drop_at x g.more (length x) refl)
+
+pub report_moved : (part n m : ℕ) (old new : List Placed) (out mid out' : Change) → AreAtNought old → AreAtNought new → n ≡ length out.dropped → m ≡ length out.born → HasChanged old new out mid
+    → out'.dropped ≡ take n mid.dropped ++ map (in_part part) (drop n mid.dropped) → out'.born ≡ take m mid.born ++ map (in_part part) (drop m mid.born)
     → HasChanged (map (moved_by part) old) (map (moved_by part) new) out out'
-report_told part old new delta out mid out' o n h e f =
-    let m = moved_facts_change part old new (record { dropped = []; born = [] }) delta h in
+unfolding none
+report_moved part n m old new out mid out' old_nought new_nought dropped born h d b =
+    let fresh : HasChanged old new none (record { dropped = h.dropped.more; born = h.born.more }) = record {
+      dropped = record { more = h.dropped.more; joined = refl; exactly = h.dropped.exactly };
+      born = record { more = h.born.more; joined = refl; exactly = h.born.exactly };
+    } in
+    let moved = moved_facts_change part old new none (record { dropped = h.dropped.more; born = h.born.more }) fresh in
     record {
-      dropped = side part delta.dropped _ out.dropped out'.dropped _ (λ p w. o p w.0) h.dropped m.dropped (ap (λ (c : Change). c.dropped) f ∙ ap (λ (c : Change). c.dropped) e);
-      born = side part delta.born _ out.born out'.born _ (λ p w. n p w.0) h.born m.born (ap (λ (c : Change). c.born) f ∙ ap (λ (c : Change). c.born ++ map (in_part part) delta.born) e);
+      dropped = side part h.dropped.more _ out.dropped out'.dropped _ (λ p w. old_nought p w.0) fresh.dropped moved.dropped (moved_gain part n out.dropped mid.dropped out'.dropped _ dropped h.dropped d);
+      born = side part h.born.more _ out.born out'.born _ (λ p w. new_nought p w.0) fresh.born moved.born (moved_gain part m out.born mid.born out'.born _ born h.born b);
     }
+
+pub none_told : (facts : List Placed) → nat_eq (length facts) 0 ≡ true → facts ≡ []
+none_told [] e = refl
+none_told (p ∷ ps) e = absurd (let n : length (p ∷ ps) ≡ 0 = eqb-true (length (p ∷ ps)) 0 e in omega (arith, n))
+
+-- a list that stands still is settled as it stands
+pub stood_still : (s : Scene) (l m : Listing) → m ≡ record l { swaps = [] } → l.mark ≡ Rest → IsSettledListing m s → IsResettled s l m
+stood_still s l m e r settled = record {
+  rest = ap (λ (k : Listing). k.mark) e ∙ r;
+  settled = settled;
+  exchanges = subst (λ (k : Listing). exchanged k.swaps (staying l.mark l.items) ≡ lasting l.mark k.items) (sym e) (subst (λ (mark : Mark). staying mark l.items ≡ lasting mark l.items) (sym r) refl);
+  same = (ap (λ (k : Listing). k.dx) e, ap (λ (k : Listing). k.dy) e, ap (λ (k : Listing). k.room) e);
+}
+
+-- nothing has changed
+pub unchanged : (facts : List Placed) (out : Change) → HasChanged facts facts out out
+unchanged facts out = record { dropped = gained_none out.dropped _ (λ p h. h.1 h.0); born = gained_none out.born _ (λ p h. h.1 h.0) }

@@ -1,10 +1,11 @@
 -- What one list is told, and what it reports.
-use Rattle.std.proofs.Common.{◌≡◌, refl, sym, ap, ◌∙◌, List, [], ◌∷◌, ◌++◌, ℕ, ◌+◌, ◌<◌, ◌≤◌, Bool, true, false, cond, length, map, filter, drop, get_or, append_assoc}
-use Rattle.std.proofs.lemmas.List.{drop_more, drop_all, append-nil}
+use Rattle.std.proofs.Common.{◌≡◌, ◌≢◌, ◌⊎◌, inl, inr, refl, sym, ap, ap₂, ◌∙◌, arith, List, [], ◌∷◌, ◌++◌, ℕ, zero, suc, ◌+◌, ◌<◌, ◌≤◌, Bool, true, false, cond, length, map, filter, take, drop, set, get_or, append_assoc, add-one}
+use Rattle.std.proofs.lemmas.Bool.{cases_eq, cases_lt}
+use Rattle.std.proofs.lemmas.List.{drop_more, drop_all, take_all, append-nil, length-set}
 use Rattle.kin_motion.specs.declared.fact.Placed.{Placed}
-use Rattle.kin_wedge.specs.Parts.{in_part}
+use Rattle.kin_wedge.specs.Parts.{in_part, is_of_part, told_to}
 
--- one fact more is picked, or left out
+-- one fact more is told, or left out
 pub picked_more : (f : Placed → Placed) (test : Placed → Bool) (xs picked next whole : List Placed) (i : ℕ) (d : Placed) → i < length xs → picked ++ map f (filter test (drop i xs)) ≡ whole
     → next ≡ cond (test (get_or xs i d)) (picked ++ f (get_or xs i d) ∷ []) picked → next ++ map f (filter test (drop (i + 1) xs)) ≡ whole
 picked_more f test xs picked next whole i d l e n = at (test (get_or xs i d)) refl
@@ -27,19 +28,87 @@ picked_more f test xs picked next whole i d l e n = at (test (get_or xs i d)) re
 pub picked_all : (f : Placed → Placed) (test : Placed → Bool) (xs picked whole : List Placed) (i : ℕ) → length xs ≤ i → picked ++ map f (filter test (drop i xs)) ≡ whole → picked ≡ whole
 picked_all f test xs picked whole i l e = sym (ap (λ (v : List Placed). picked ++ map f (filter test v)) (drop_all i xs l) ∙ append-nil picked) ∙ e
 
--- so many facts are reported as those of a part, on one side of a report
-pub record AreReported (part : ℕ) (first others facts now others' : List Placed) (i : ℕ) : Type 0 where
-  pub side : now ++ map (in_part part) (drop i facts) ≡ first ++ map (in_part part) facts
-  pub other : others' ≡ others
+-- the first i boxes are empty
+pub record AreEmptied (first now : List (List Placed)) (i : ℕ) : Type 0 where
+  pub count : length now ≡ length first
+  pub empty : (part : ℕ) → part < i → told_to now part ≡ []
 
-pub reported_more : (part : ℕ) (first others facts now others' next others'' : List Placed) (i : ℕ) (d : Placed) → i < length facts → AreReported part first others facts now others' i
-    → next ≡ now ++ in_part part (get_or facts i d) ∷ [] → others'' ≡ others' → AreReported part first others facts next others'' (i + 1)
-reported_more part first others facts now others' next others'' i d l r n o = record {
-  side = ap (λ (v : List Placed). v ++ map (in_part part) (drop (i + 1) facts)) n
-      ∙ append_assoc {A = Placed} now (in_part part (get_or facts i d) ∷ []) (map (in_part part) (drop (i + 1) facts))
-      ∙ sym (ap (λ (v : List Placed). now ++ map (in_part part) v) (drop_more facts i d l)) ∙ r.side;
-  other = o ∙ r.other;
+told-set_same : (boxes : List (List Placed)) (i : ℕ) (facts : List Placed) → i < length boxes → told_to (set boxes i facts) i ≡ facts
+told-set_same [] i facts h = absurd (omega (arith, h))
+told-set_same (b ∷ bs) zero facts h = refl
+told-set_same (b ∷ bs) (suc i) facts h = told-set_same bs i facts (omega (arith, h))
+
+told-set_other : (boxes : List (List Placed)) (i part : ℕ) (facts : List Placed) → part ≢ i → told_to (set boxes i facts) part ≡ told_to boxes part
+told-set_other [] i part facts n = refl
+told-set_other (b ∷ bs) zero zero facts n = absurd (n refl)
+told-set_other (b ∷ bs) zero (suc part) facts n = refl
+told-set_other (b ∷ bs) (suc i) zero facts n = refl
+told-set_other (b ∷ bs) (suc i) (suc part) facts n = told-set_other bs i part facts (λ e. n (ap suc e))
+
+pub emptied_more : (first now : List (List Placed)) (i : ℕ) (facts : List Placed) → i < length now → AreEmptied first now i → facts ≡ [] → AreEmptied first (set now i facts) (i + 1)
+emptied_more first now i facts l a e = record {
+  count = length-set now i facts ∙ a.count;
+  empty = λ part h. at part (cases_eq part i) h;
 }
+  where
+    at : (part : ℕ) → (part ≡ i) ⊎ (part ≢ i) → part < i + 1 → told_to (set now i facts) part ≡ []
+    at part (inl s) h = ap (told_to (set now i facts)) s ∙ told-set_same now i facts l ∙ e
+    at part (inr n) h = told-set_other now i part facts n ∙ a.empty part (omega (arith, h, n))
 
-pub reported_all : (part : ℕ) (first others facts now others' : List Placed) (i : ℕ) → length facts ≤ i → AreReported part first others facts now others' i → (now ≡ first ++ map (in_part part) facts) × (others' ≡ others)
-reported_all part first others facts now others' i l r = (sym (ap (λ (v : List Placed). now ++ map (in_part part) v) (drop_all i facts l) ∙ append-nil now) ∙ r.side, r.other)
+told_past : (boxes : List (List Placed)) (part : ℕ) → length boxes ≤ part → told_to boxes part ≡ []
+told_past [] part h = refl
+told_past (b ∷ bs) zero h = absurd (omega (arith, h))
+told_past (b ∷ bs) (suc part) h = told_past bs part (omega (arith, h))
+
+pub emptied_all : (first now : List (List Placed)) (i part : ℕ) → length first ≤ i → AreEmptied first now i → told_to now part ≡ []
+emptied_all first now i part l a = at (cases_lt part i)
+  where
+    at : (part < i) ⊎ (i ≤ part) → told_to now part ≡ []
+    at (inl h) = a.empty part h
+    at (inr h) = let c = a.count in told_past now part (omega (arith, l, h, c))
+
+-- so many of the facts are sorted out among as many boxes
+pub record AreSorted (failed : List Placed) (first now : List (List Placed)) (i : ℕ) : Type 0 where
+  pub count : length now ≡ length first
+  pub told : (part : ℕ) → part < length first → told_to now part ++ map (in_part 0) (filter (is_of_part part) (drop i failed)) ≡ map (in_part 0) (filter (is_of_part part) failed)
+
+module _ (failed : List Placed) (first : List (List Placed)) where
+  pub sorted_none : (now : List (List Placed)) → length now ≡ length first → ((part : ℕ) → told_to now part ≡ []) → AreSorted failed first now 0
+  sorted_none now n e = record { count = n; told = λ part h. ap (λ (v : List Placed). v ++ map (in_part 0) (filter (is_of_part part) failed)) (e part) }
+
+  pub sorted_more : (now next : List (List Placed)) (i : ℕ) (d : Placed) → i < length failed → AreSorted failed first now i → length next ≡ length now
+      → ((part : ℕ) → part < length now → told_to next part ≡ cond (is_of_part part (get_or failed i d)) (told_to now part ++ in_part 0 (get_or failed i d) ∷ []) (told_to now part)) → AreSorted failed first next (i + 1)
+  sorted_more now next i d l a n t = record {
+    count = n ∙ a.count;
+    told = λ part h. picked_more (in_part 0) (is_of_part part) failed (told_to now part) (told_to next part) (map (in_part 0) (filter (is_of_part part) failed)) i d l (a.told part h) (t part (let c = a.count in omega (arith, h, c)));
+  }
+
+  pub sorted_all : (now : List (List Placed)) (i part : ℕ) → length failed ≤ i → AreSorted failed first now i → part < length first → told_to now part ≡ map (in_part 0) (filter (is_of_part part) failed)
+  sorted_all now i part l a h = picked_all (in_part 0) (is_of_part part) failed (told_to now part) (map (in_part 0) (filter (is_of_part part) failed)) i l (a.told part h)
+
+-- the facts up to a place are as they are wanted, and those from there on are still to be moved
+pub record AreMoved (part from : ℕ) (first now : List Placed) (k : ℕ) : Type 0 where
+  pub count : length now ≡ length first
+  pub rest : take k now ++ map (in_part part) (drop k now) ≡ take from first ++ map (in_part part) (drop from first)
+
+moved_here : (f : Placed → Placed) (xs : List Placed) (k : ℕ) (d : Placed) → k < length xs → take (suc k) (set xs k (f (get_or xs k d))) ++ map f (drop (suc k) (set xs k (f (get_or xs k d)))) ≡ take k xs ++ map f (drop k xs)
+moved_here f [] k d l = absurd (omega (arith, l))
+moved_here f (x ∷ xs) zero d l = refl
+moved_here f (x ∷ xs) (suc k) d l = ap (λ (v : List Placed). x ∷ v) (moved_here f xs k d (omega (arith, l)))
+
+module _ (part from : ℕ) (first : List Placed) where
+  pub moved_none : AreMoved part from first first from
+  moved_none = record { count = refl; rest = refl }
+
+  pub moved_more : (now : List Placed) (k : ℕ) (d fact : Placed) → k < length now → AreMoved part from first now k → fact ≡ in_part part (get_or now k d) → AreMoved part from first (set now k fact) (k + 1)
+  moved_more now k d fact l a e = record {
+    count = length-set now k fact ∙ a.count;
+    rest = ap (λ (x : Placed). take (k + 1) (set now k x) ++ map (in_part part) (drop (k + 1) (set now k x))) e
+        ∙ ap (λ (n : ℕ). take n (set now k (in_part part (get_or now k d))) ++ map (in_part part) (drop n (set now k (in_part part (get_or now k d))))) (add-one k)
+        ∙ moved_here (in_part part) now k d l ∙ a.rest;
+  }
+
+  pub moved_all : (now : List Placed) (k : ℕ) → length first ≤ k → AreMoved part from first now k → now ≡ take from first ++ map (in_part part) (drop from first)
+  moved_all now k l a =
+      let c = a.count in
+      sym (ap₂ (λ (u v : List Placed). u ++ map (in_part part) v) (take_all k now (omega (arith, l, c))) (drop_all k now (omega (arith, l, c))) ∙ append-nil now) ∙ a.rest

@@ -1,9 +1,8 @@
 -- Touches that are added.
-use Rattle.std.proofs.Common.{◌≡◌, ◌≢◌, ◌+◌, ◌*◌, ◌<◌, ◌≤◌, None, refl, sym, ap, ◌∙◌, subst, List, [], ◌∷◌, ◌++◌, ℕ, Some, Option, inl, inr, ◌⊎◌, arith}
+use Rattle.std.proofs.Common.{◌≡◌, ◌≢◌, ◌+◌, ◌*◌, ◌<◌, ◌≤◌, None, refl, sym, subst, List, [], ◌∷◌, ◌++◌, ℕ, Some, Option, inl, inr, ◌⊎◌, arith}
 use Rattle.std.specs.Prelude.{Contains, slice_get}
 use Rattle.std.proofs.lemmas.Bool.{cases_eq}
 use Rattle.std.proofs.lemmas.List.Elements.{Contains-append_left}
-use Rattle.std.proofs.lemmas.Option.{same_Some}
 use Rattle.kin_basics.proofs.Members.{contains_tail, contains_cases}
 use Rattle.kin_motion.specs.Octants.{Octant, octants}
 use Rattle.kin_wedge.specs.declared.touch.Touch.{Touch}

@@ -18,6 +18,7 @@ mod candidates;
 mod changed;
 pub mod hits;
 pub mod laws;
+pub mod mail;
 mod octant;
 mod offer;
 mod orders;

@@ -6,16 +6,19 @@ ghost use Rattle.kin_wedge.specs.Parts.{AreVacant, vacant_listing};
 ghost use Rattle.kin_wedge.specs.Rows.{row_of, stands_after, is_in_wedge, AreRows};
 ghost use Rattle.kin_wedge.specs.Seen.{octant_seen, reading_seen, rows_of, IsOfEight};
 
+use crate::mail::Mail;
 use crate::octant::{Octant, Reading, direction};
 use crate::push::push;
 use kin_list::KinList;
 use kin_num::memory::NoMemory;
 use std::alloc::Global;
 
-/// The eight kinetic lists, by part.
+/// The eight kinetic lists, by part, and what each is told.
 #[derive(Drop)]
 pub struct Orders {
     pub(crate) lists: Vec<KinList>,
+    pub(crate) mail: Mail,
+    ghost told: { length mail.boxes.items ≡ 8 },
 }
 
 /// The empty list of a part.
@@ -41,7 +44,8 @@ impl Orders {
             let list = new_list(alloc, part, size)?;
             push(&mut lists, list)?;
         }
-        Ok(Orders { lists })
+        let mail = Mail::new(alloc, 8)?;
+        Ok(Orders { lists, mail })
     }
 
     /// The list of a part.

@@ -1,106 +1,76 @@
-//! One of the eight lists settles.
+//! A list settles as one part of a structure.
 
-ghost use Rattle.std.specs.Prelude.{◌≡◌, [], ◌∷◌, ◌++◌, cond, filter, map, OnOk};
+ghost use Rattle.std.specs.Prelude.{◌≡◌, ◌≤◌, ◌++◌, length, drop, map, take, OnOk};
 ghost use Rattle.kin_motion.specs.Kinetics.{ListsFailing, HasChanged};
 ghost use Rattle.kin_motion.specs.Parts.{moved_by};
 ghost use Rattle.kin_motion.specs.Scene.{IsReal};
 ghost use Rattle.kin_list.specs.Listing.{IsReadyListing, AreFewTests, names_leaving};
-ghost use Rattle.kin_wedge.specs.Parts.{in_part, is_of_part, AreAtNought, IsResettled};
+ghost use Rattle.kin_wedge.specs.Parts.{in_part, AreAtNought, IsResettled};
 
-use crate::push::push;
 use kin_list::KinList;
 use kin_motion::fact::{Delta, Placed};
 use kin_motion::kinetic::Kinetic;
 use kin_motion::signs::Signs;
 use kin_num::memory::NoMemory;
 use kin_num::steps::Steps;
-use std::alloc::Global;
 use std::sync::ledger::Ledger;
 
-/// What one list is told and what it reports, in its own part 0.
-#[derive(Drop)]
-pub struct Mail {
-    failed: Vec<Placed>,
-    delta: Delta,
-}
-
-impl Mail {
-    pub fn new(alloc: Global) -> Mail {
-        Mail {
-            failed: Vec::new(alloc),
-            delta: Delta::new(alloc),
-        }
+/// Moves the facts from a place on to another part.
+fn move_from(facts: &mut Vec<Placed>, from: usize, part: u32)
+    ensures moved { facts.new.items ≡ take from facts.old.items ++ map (in_part part) (drop from facts.old.items) }
+    ensures count { length facts.new.items ≡ length facts.old.items }
+{
+    for k in from..facts.len() {
+        facts[k].part = part;
     }
 }
 
-/// A fact, moved to another part.
-fn moved(part: u32, placed: Placed) -> Placed
-    ensures { result ≡ in_part part placed }
-{
-    Placed {
-        part,
-        fact: placed.fact,
-    }
-}
-
-fn push_if(facts: &mut Vec<Placed>, fact: Placed, is_wanted: bool) -> Result<(), NoMemory>
-    ensures { OnOk result (facts.new.items ≡ cond is_wanted (facts.old.items ++ fact ∷ []) facts.old.items) }
-{
-    if is_wanted { push(facts, fact) } else { Ok(()) }
-}
-
-/// Picks the facts of a part, and moves them to part 0.
-fn pick(picked: &mut Vec<Placed>, part: u32, facts: &[Placed]) -> Result<(), NoMemory>
-    ensures { OnOk result (picked.new.items ≡ map (in_part 0) (filter (is_of_part part) facts.now)) }
-{
-    picked.clear();
-    for placed in facts {
-        push_if(picked, moved(0, *placed), placed.part == part)?;
-    }
-    Ok(())
-}
-
-/// Reports dropped facts of a list as those of a part.
-fn report_dropped(out: &mut Delta, part: u32, facts: &[Placed]) -> Result<(), NoMemory>
-    ensures { OnOk result (out.new ≡ record { dropped = out.old.dropped ++ map (in_part part) facts.now; born = out.old.born }) }
-{
-    for placed in facts {
-        out.report_dropped(moved(part, *placed))?;
-    }
-    Ok(())
-}
-
-/// Reports born facts of a list as those of a part.
-fn report_born(out: &mut Delta, part: u32, facts: &[Placed]) -> Result<(), NoMemory>
-    ensures { OnOk result (out.new ≡ record { dropped = out.old.dropped; born = out.old.born ++ map (in_part part) facts.now }) }
-{
-    for placed in facts {
-        out.report_born(moved(part, *placed))?;
-    }
-    Ok(())
-}
-
-/// Settles the list of a part by those of the failed facts that are in its part.
-pub fn settle_list<O: Signs, L: Ledger>(
+/// Settles the list of a part, and reports its facts as those of the part.
+fn repair<O: Signs, L: Ledger>(
     list: &mut KinList,
     part: u32,
-    mail: &mut Mail,
+    told: &[Placed],
     now: &O,
-    failed: &[Placed],
     out: &mut Delta,
     steps: &mut Steps<L>,
 ) -> Result<(), NoMemory>
     requires real { IsReal (O.scene now.now) }
     requires ready { IsReadyListing list.old (O.scene now.now) }
     requires nought { AreAtNought list.old.facts }
-    requires failing { ListsFailing (map (moved_by part) list.old.facts) (names_leaving list.old.mark) (O.scene now.now) (filter (is_of_part part) failed.now) }
+    requires failing { ListsFailing list.old.facts (names_leaving list.old.mark) (O.scene now.now) told.now }
     ensures resettled { OnOk result (IsResettled (O.scene now.now) list.old list.new) }
     ensures delta { OnOk result (HasChanged (map (moved_by part) list.old.facts) (map (moved_by part) list.new.facts) out.old out.new) }
     ensures tests { OnOk result (AreFewTests list.old.mark list.old.items list.new.items out.old out.new steps.old steps.new) }
 {
-    pick(&mut mail.failed, part, failed)?;
-    mail.delta.clear();
-    list.settle(now, &mail.failed, &mut mail.delta, steps)?;
-    report_dropped(out, part, &mail.delta.dropped)?;
-    report_born(out, part, &mail.delta.born)
+    let dropped = out.dropped.len();
+    let born = out.born.len();
+    list.settle(now, told, out, steps)?;
+    move_from(&mut out.dropped, dropped, part);
+    move_from(&mut out.born, born, part);
+    Ok(())
+}
+
+/// Settles the list of a part by the failed facts that it is told, in its own part 0. Where none is
+/// and no mark stands, the list isn't visited.
+pub fn settle_list<O: Signs, L: Ledger>(
+    list: &mut KinList,
+    part: u32,
+    told: &[Placed],
+    now: &O,
+    out: &mut Delta,
+    steps: &mut Steps<L>,
+) -> Result<(), NoMemory>
+    requires real { IsReal (O.scene now.now) }
+    requires ready { IsReadyListing list.old (O.scene now.now) }
+    requires nought { AreAtNought list.old.facts }
+    requires failing { ListsFailing list.old.facts (names_leaving list.old.mark) (O.scene now.now) told.now }
+    ensures resettled { OnOk result (IsResettled (O.scene now.now) list.old list.new) }
+    ensures delta { OnOk result (HasChanged (map (moved_by part) list.old.facts) (map (moved_by part) list.new.facts) out.old out.new) }
+    ensures tests { OnOk result (AreFewTests list.old.mark list.old.items list.new.items out.old out.new steps.old steps.new) }
+{
+    if told.is_empty() && list.is_at_rest() {
+        list.stand_still();
+        return Ok(());
+    }
+    repair(list, part, told, now, out, steps)
 }

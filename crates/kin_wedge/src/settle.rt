@@ -13,7 +13,7 @@ ghost use Rattle.kin_wedge.specs.Parts.{facts_from, AreAtNought, EachTo, IsMarke
 ghost use Rattle.kin_wedge.specs.Seen.{rows_of};
 
 use crate::orders::Orders;
-use crate::part::{Mail, settle_list};
+use crate::part::settle_list;
 use kin_motion::fact::{Delta, Placed};
 use kin_motion::signs::Signs;
 use kin_num::memory::NoMemory;
@@ -47,10 +47,9 @@ impl Orders {
         }
     }
 
-    /// Settles all lists. Each gets those of the failed facts that are in its part.
+    /// Settles all lists. Each is told those of the failed facts that are in its part.
     pub fn settle<O: Signs, L: Ledger>(
         &mut self,
-        mail: &mut Mail,
         now: &O,
         failed: &[Placed],
         out: &mut Delta,
@@ -65,9 +64,10 @@ impl Orders {
         ensures delta { OnOk result (HasChanged (facts_from 0 self.old.lists.items) (facts_from 0 self.new.lists.items) out.old out.new) }
         ensures tests { OnOk result ((mark : Marking) → ((part : ℕ) (l : Listing) → slice_get self.old.lists.items part ≡ Some l → l.mark ≡ mark) → AreFewBelow 8 mark (rows_of self.old.lists.items) (rows_of self.new.lists.items) out.old out.new steps.old steps.new) }
     {
+        self.mail.sort(failed)?;
         for part in 0..8 {
             let list = &mut self.lists[part as usize];
-            settle_list(list, part, mail, now, failed, out, steps)?;
+            settle_list(list, part, self.mail.told(part), now, out, steps)?;
         }
         Ok(())
     }

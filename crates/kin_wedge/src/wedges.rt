@@ -13,7 +13,6 @@ ghost use Rattle.kin_wedge.specs.Wedging.{members_of, candidate_told, IsReadyWed
 use crate::candidates::Candidates;
 use crate::hits::Hits;
 use crate::orders::Orders;
-use crate::part::Mail;
 use kin_list::Mark;
 use kin_motion::fact::{Delta, Placed};
 use kin_motion::kinetic::Kinetic;
@@ -31,7 +30,6 @@ pub struct Wedges {
     size: u32,
     orders: Orders,
     candidates: Candidates,
-    mail: Mail,
     mark: Mark,
 }
 
@@ -58,7 +56,6 @@ impl Wedges {
             size,
             orders: Orders::new(alloc, size)?,
             candidates: Candidates::new(alloc, size)?,
-            mail: Mail::new(alloc),
             mark: Mark::Rest,
         })
     }
@@ -154,7 +151,7 @@ impl Kinetic for Wedges {
     {
         let mark = self.mark;
         self.mark = Mark::Broken;
-        self.orders.settle(&mut self.mail, now, failed, out, steps)?;
+        self.orders.settle(now, failed, out, steps)?;
         self.candidates.follow(mark, &self.orders)?;
         self.mark = Mark::Rest;
         Ok(())

@@ -1,4 +1,4 @@
-use Rattle.std.proofs.Common.{◌≡◌, ap, sym, subst, refl, List, Option, ℕ, ◌*◌, ◌<◌, ◌≤◌, length, arith}
+use Rattle.std.proofs.Common.{ap, sym, subst, List, Option, ℕ, length, arith}
 use Rattle.kin_wedge.specs.Tables.{AreHits, candidates_of}
 use Rattle.kin_wedge.proofs.HitLists.{exact_hits, no_hits}
 use Rattle.kin_wedge.proofs.Mirrors.{candidates-length}

@@ -1,0 +1,124 @@
+//! What each list is told.
+
+ghost use Rattle.std.specs.Prelude.{◌≡◌, ℕ, ◌<◌, [], ◌∷◌, ◌++◌, cond, filter, map, length, IfOk, OnOk};
+ghost use Rattle.kin_wedge.specs.Parts.{in_part, is_of_part, told_to};
+
+use crate::push::push;
+use kin_motion::fact::Placed;
+use kin_num::memory::NoMemory;
+use std::alloc::Global;
+use std::marker::Model;
+
+/// The failed facts of one list, in its own part 0.
+#[derive(Drop)]
+pub struct Letters {
+    facts: Vec<Placed>,
+}
+
+impl Model for Letters {
+    ghost use Rattle.std.specs.Prelude.{List};
+    ghost use Rattle.kin_motion.specs.declared.fact.Placed.{Placed as Put};
+
+    ghost Value = { List Put };
+
+    ghost view = { λ l. l.facts.items };
+}
+
+impl Letters {
+    fn new(alloc: Global) -> Letters
+        ensures { result ≡ [] }
+    {
+        Letters {
+            facts: Vec::new(alloc),
+        }
+    }
+
+    fn clear(&mut self)
+        ensures { self.new ≡ [] }
+    {
+        self.facts.clear();
+    }
+
+    fn add(&mut self, fact: Placed) -> Result<(), NoMemory>
+        ensures { OnOk result (self.new ≡ self.old ++ fact ∷ []) }
+    {
+        push(&mut self.facts, fact)
+    }
+
+    fn facts(&self) -> &[Placed]
+        ensures { result.now ≡ self.now }
+    {
+        &self.facts
+    }
+}
+
+/// What each list of a structure is told. The memory is kept from settle to settle.
+#[derive(Drop)]
+pub struct Mail {
+    boxes: Vec<Letters>,
+}
+
+/// A fact, moved to part 0.
+fn own(placed: Placed) -> Placed
+    ensures { result ≡ in_part 0 placed }
+{
+    Placed {
+        part: 0,
+        fact: placed.fact,
+    }
+}
+
+impl Mail {
+    /// Nothing is told to so many lists.
+    pub fn new(alloc: Global, count: u32) -> Result<Mail, NoMemory>
+        ensures { IfOk result (λ m. length m.boxes.items ≡ count) }
+    {
+        let mut boxes = Vec::new(alloc);
+        for part in 0..count {
+            let _ = part;
+            push(&mut boxes, Letters::new(alloc))?;
+        }
+        Ok(Mail { boxes })
+    }
+
+    fn clear(&mut self)
+        ensures cleared { (part : ℕ) → told_to self.new.boxes.items part ≡ [] }
+        ensures count { length self.new.boxes.items ≡ length self.old.boxes.items }
+    {
+        for part in 0..self.boxes.len() {
+            self.boxes[part].clear();
+        }
+    }
+
+    /// Tells the list of its part of a fact, if there is one.
+    fn tell(&mut self, placed: Placed) -> Result<(), NoMemory>
+        ensures told { OnOk result ((part : ℕ) → part < length self.old.boxes.items → told_to self.new.boxes.items part ≡ cond (is_of_part part placed) (told_to self.old.boxes.items part ++ in_part 0 placed ∷ []) (told_to self.old.boxes.items part)) }
+        ensures count { length self.new.boxes.items ≡ length self.old.boxes.items }
+    {
+        let part = placed.part as usize;
+        if part >= self.boxes.len() {
+            return Ok(());
+        }
+        self.boxes[part].add(own(placed))
+    }
+
+    /// Sorts failed facts out: each list is told those of its part.
+    pub fn sort(&mut self, failed: &[Placed]) -> Result<(), NoMemory>
+        ensures told { OnOk result ((part : ℕ) → part < length self.old.boxes.items → told_to self.new.boxes.items part ≡ map (in_part 0) (filter (is_of_part part) failed.now)) }
+        ensures count { length self.new.boxes.items ≡ length self.old.boxes.items }
+    {
+        self.clear();
+        for placed in failed {
+            self.tell(*placed)?;
+        }
+        Ok(())
+    }
+
+    /// What the list of a part is told.
+    pub fn told(&self, part: u32) -> &[Placed]
+        requires { part < length self.now.boxes.items }
+        ensures { result.now ≡ told_to self.now.boxes.items part }
+    {
+        self.boxes[part as usize].facts()
+    }
+}
