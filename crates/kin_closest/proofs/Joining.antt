@@ -32,17 +32,6 @@ facts_low {K} t s settled small p c =
     let most : 2 ^ t.size ≤ 2 ^ 15 = pow_mono small in
     omega (arith, low, most)
 
--- what is gained by nothing is of this kind
-pub all_gained : (mine : List Placed) (which : Placed → Type 0) → HasGained [] mine which → (p : Placed) → Contains mine p → which p
-all_gained mine which h p c = (h.exactly.each p).0 (subst (λ (xs : List Placed). Contains xs p) h.joined c)
-
--- what a report that began empty tells
-pub told_dropped : (old new : List Placed) (none out : Change) → none ≡ record { dropped = []; born = [] } → HasChanged old new none out → (p : Placed) → Contains out.dropped p → Contains old p
-told_dropped old new none out e h p c = (all_gained out.dropped _ (subst (λ (d : Change). HasChanged old new d out) e h).dropped p c).0
-
-pub told_born : (old new : List Placed) (none out : Change) → none ≡ record { dropped = []; born = [] } → HasChanged old new none out → (p : Placed) → Contains out.born p → Contains new p
-told_born old new none out e h p c = (all_gained out.born _ (subst (λ (d : Change). HasChanged old new d out) e h).born p c).0
-
 -- where these are gained by nothing, they are gained by what was there
 gained_after : (before mine : List Placed) (which : Placed → Type 0) → HasGained [] mine which → HasGained before (before ++ mine) which
 gained_after before mine which h = record { more = h.more; joined = ap (λ (xs : List Placed). before ++ xs) h.joined; exactly = h.exactly }

@@ -11,7 +11,7 @@ ghost use Rattle.kin_closest.specs.DistanceKey.{pair_names};
 ghost use Rattle.kin_closest.specs.Sorting.{is_of_order, is_of_pair, taken_back};
 
 use crate::distance::Distance;
-use crate::sorting::{pass_on, sort_out};
+use crate::sorting::{move_from, sort_out};
 use kin_motion::fact::{Delta, Placed};
 use kin_motion::kinetic::Kinetic;
 use kin_motion::signs::Signs;
@@ -21,13 +21,11 @@ use kin_tourney::Tourney;
 use std::alloc::Global;
 use std::sync::ledger::Ledger;
 
-/// The failed facts of the orders and those of the tournament, and what the tournament reports, each of these in its own
-/// parts. The memory is kept from settle to settle.
+/// The failed facts of the orders, and those of the tournament in its own parts. The memory is kept from settle to settle.
 #[derive(Drop)]
 pub(crate) struct Mail {
     orders: Vec<Placed>,
     pairs: Vec<Placed>,
-    delta: Delta,
 }
 
 impl Mail {
@@ -35,7 +33,6 @@ impl Mail {
         Mail {
             orders: Vec::new(alloc),
             pairs: Vec::new(alloc),
-            delta: Delta::new(alloc),
         }
     }
 
@@ -54,7 +51,7 @@ impl Mail {
         &self.orders
     }
 
-    /// Settles the tournament, and passes on what it reports.
+    /// Settles the tournament, and reports its facts in their parts behind the orders.
     pub(crate) fn settle_pairs<O: Signs, L: Ledger>(
         &mut self,
         pairs: &mut Tourney<Distance>,
@@ -74,8 +71,11 @@ impl Mail {
         ensures room { OnOk result (length pairs.new.marked ≡ length pairs.old.marked) }
         ensures cost { OnOk result (steps.new ≤ steps.old + pairs.old.size * (mark_count pairs.old.marked + length self.old.pairs.items)) }
     {
-        self.delta.clear();
-        pairs.settle_told(now, &self.pairs, &mut self.delta, steps)?;
-        pass_on(&self.delta, out)
+        let dropped = out.dropped.len();
+        let born = out.born.len();
+        pairs.settle_told(now, &self.pairs, out, steps)?;
+        move_from(&mut out.dropped, dropped);
+        move_from(&mut out.born, born);
+        Ok(())
     }
 }

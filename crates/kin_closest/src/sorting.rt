@@ -1,11 +1,11 @@
 //! Which facts are of the orders, and which of the tournament of pairs.
 
-ghost use Rattle.std.specs.Prelude.{◌≡◌, ◌+◌, ◌<◌, ◌^◌, [], ◌∷◌, ◌++◌, cond, filter, map, Contains, OnOk};
+ghost use Rattle.std.specs.Prelude.{◌≡◌, ◌<◌, ◌^◌, [], ◌∷◌, ◌++◌, cond, drop, filter, map, take, Contains, OnOk};
 ghost use Rattle.kin_motion.specs.declared.fact.Placed.{Placed as Put};
 ghost use Rattle.kin_motion.specs.Parts.{moved_by};
 ghost use Rattle.kin_closest.specs.Sorting.{is_of_order, is_of_pair, taken_back};
 
-use kin_motion::fact::{Delta, Placed};
+use kin_motion::fact::Placed;
 use kin_num::memory::NoMemory;
 
 /// The orders have the parts 0 to 7, and the nodes of the tournament those behind.
@@ -46,45 +46,12 @@ pub(crate) fn sort_out(
     Ok(())
 }
 
-/// A fact of the tournament among those of the closest pair.
-fn moved(placed: Placed) -> Placed
-    requires { placed.part < 2 ^ 15 }
-    ensures { result ≡ moved_by 8 placed }
+/// Moves the facts from a place on, those of the tournament, to their parts behind the orders.
+pub(crate) fn move_from(facts: &mut Vec<Placed>, from: usize)
+    requires { (p : Put) → Contains (drop from facts.old.items) p → p.part < 2 ^ 15 }
+    ensures { facts.new.items ≡ take from facts.old.items ++ map (moved_by 8) (drop from facts.old.items) }
 {
-    Placed {
-        part: ORDERS + placed.part,
-        fact: placed.fact,
+    for k in from..facts.len() {
+        facts[k].part += ORDERS;
     }
-}
-
-/// Reports facts that the tournament has dropped.
-fn pass_dropped(facts: &[Placed], out: &mut Delta) -> Result<(), NoMemory>
-    requires { (p : Put) → Contains facts.now p → p.part < 2 ^ 15 }
-    ensures { OnOk result (out.new ≡ record { dropped = out.old.dropped ++ map (moved_by 8) facts.now; born = out.old.born }) }
-{
-    for placed in facts {
-        out.report_dropped(moved(*placed))?;
-    }
-    Ok(())
-}
-
-/// Reports facts that were born in the tournament.
-fn pass_born(facts: &[Placed], out: &mut Delta) -> Result<(), NoMemory>
-    requires { (p : Put) → Contains facts.now p → p.part < 2 ^ 15 }
-    ensures { OnOk result (out.new ≡ record { dropped = out.old.dropped; born = out.old.born ++ map (moved_by 8) facts.now }) }
-{
-    for placed in facts {
-        out.report_born(moved(*placed))?;
-    }
-    Ok(())
-}
-
-/// Reports what the tournament reports.
-pub(crate) fn pass_on(delta: &Delta, out: &mut Delta) -> Result<(), NoMemory>
-    requires dropped { (p : Put) → Contains delta.now.dropped p → p.part < 2 ^ 15 }
-    requires born { (p : Put) → Contains delta.now.born p → p.part < 2 ^ 15 }
-    ensures { OnOk result (out.new ≡ record { dropped = out.old.dropped ++ map (moved_by 8) delta.now.dropped; born = out.old.born ++ map (moved_by 8) delta.now.born }) }
-{
-    pass_dropped(&delta.dropped, out)?;
-    pass_born(&delta.born, out)
 }

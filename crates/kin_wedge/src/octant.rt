@@ -1,8 +1,8 @@
 //! The eight octants, by their orders.
 
 ghost use Rattle.std.specs.Prelude.{◌≡◌, ◌<◌, Some, slice_get, true, false};
-ghost use Rattle.kin_motion.specs.Octants.{octants, direction_of};
-ghost use Rattle.kin_wedge.specs.Seen.{octant_seen, IsOfEight};
+ghost use Rattle.kin_motion.specs.Octants.{Octant as Bounds, octants, direction_of};
+ghost use Rattle.kin_wedge.specs.Seen.{octant_seen, reading_seen, IsOfEight};
 
 /// An order as it is read, from the front or from the end.
 #[derive(Clone, Copy, Debug, PartialEq, Eq)]
@@ -63,6 +63,18 @@ pub fn orders_of(w: u32) -> Octant
         5 => octant_by(forward(1), back(2), back(5)),
         6 => octant_by(forward(2), back(3), back(6)),
         _ => octant_by(forward(3), back(0), back(7)),
+    }
+}
+
+/// The order that ranks the members of one of the octants 0 to 7.
+pub fn third_of(w: u32) -> Reading
+    requires { w < 8 }
+    ensures third { (o : Bounds) → slice_get octants w ≡ Some o → o.third ≡ reading_seen result }
+    ensures part { result.part < 8 }
+{
+    Reading {
+        part: w % 4 + 4,
+        from_end: w >= 4,
     }
 }
 

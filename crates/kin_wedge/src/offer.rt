@@ -3,10 +3,10 @@
 ghost use Rattle.std.specs.Prelude.{◌≡◌, ◌+◌, ◌*◌, ◌<◌, ◌^◌, Some, true, length, slice_get};
 ghost use Rattle.kin_motion.specs.Octants.{Octant as Bounds, octants};
 ghost use Rattle.kin_wedge.specs.Rows.{AreRows};
-ghost use Rattle.kin_wedge.specs.Seen.{octant_seen, rows_of, IsOfEight};
+ghost use Rattle.kin_wedge.specs.Seen.{rows_of};
 ghost use Rattle.kin_wedge.specs.Touched.{ComesFirst, HasPassedBy};
 
-use crate::octant::{Octant, orders_of};
+use crate::octant::{orders_of, third_of};
 use crate::orders::Orders;
 use crate::table::Table;
 
@@ -19,7 +19,7 @@ pub fn leads(orders: &Orders, table: &Table, apex: u32, w: u32, no: u32) -> bool
     ensures { (o : Bounds) → slice_get octants w ≡ Some o → ComesFirst (rows_of orders.now.lists.items) table.now o apex w no → result ≡ true }
 {
     match table.candidate(8 * apex + w) {
-        Some(best) => !orders.comes_after(orders_of(w).third, best, no),
+        Some(best) => !orders.comes_after(third_of(w), best, no),
         None => true,
     }
 }
@@ -33,12 +33,12 @@ fn is_ranked_by(w: u32, part: u32) -> bool
 }
 
 /// Whether a number is in an octant, and another doesn't stand before it there.
-fn is_not_behind(orders: &Orders, octant: Octant, apex: u32, of: u32, no: u32) -> bool
+fn is_not_behind(orders: &Orders, apex: u32, w: u32, of: u32, no: u32) -> bool
     requires rows { AreRows (rows_of orders.now.lists.items) }
-    requires parts { IsOfEight (octant_seen octant) }
-    ensures { HasPassedBy (rows_of orders.now.lists.items) (octant_seen octant) apex of no → result ≡ true }
+    requires octant { w < 8 }
+    ensures { (o : Bounds) → slice_get octants w ≡ Some o → HasPassedBy (rows_of orders.now.lists.items) o apex of no → result ≡ true }
 {
-    !orders.comes_after(octant.third, of, no) && orders.is_in_octant(octant, apex, no)
+    !orders.comes_after(third_of(w), of, no) && orders.is_in_octant(orders_of(w), apex, no)
 }
 
 /// Whether an order ranks an octant in which a number is now, and another doesn't stand before it there.
@@ -47,5 +47,5 @@ pub fn has_passed_by(orders: &Orders, part: u32, apex: u32, w: u32, of: u32, no:
     requires octant { w < 8 }
     ensures { (o : Bounds) → slice_get octants w ≡ Some o → o.third.part ≡ part → HasPassedBy (rows_of orders.now.lists.items) o apex of no → result ≡ true }
 {
-    is_ranked_by(w, part) && is_not_behind(orders, orders_of(w), apex, of, no)
+    is_ranked_by(w, part) && is_not_behind(orders, apex, w, of, no)
 }

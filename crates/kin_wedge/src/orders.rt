@@ -83,7 +83,8 @@ impl Orders {
         }
     }
 
-    /// Whether q is in an octant of p.
+    /// Whether q is in an octant of p. In line, so that a scan looks the places of p up once.
+    #[inline(always)]
     pub fn is_in_octant(&self, octant: Octant, p: u32, q: u32) -> bool
         requires rows { AreRows (rows_of self.now.lists.items) }
         requires parts { IsOfEight (octant_seen octant) }

@@ -1,24 +1,32 @@
-use Rattle.std.proofs.Common.{sym, ap, subst, ℕ, ◌≤◌}
-use Rattle.kin_basics.proofs.Results.{from_two}
+use Rattle.std.proofs.Common.{◌≡◌, sym, ap, ◌∙◌, subst, ℕ, ◌≤◌, ◌++◌, length, map, take, drop}
+use Rattle.std.specs.Prelude.{Contains}
 use Rattle.kin_motion.specs.ClosestPairs.{Near}
 use Rattle.kin_motion.specs.Deltas.{Change}
-use Rattle.kin_motion.specs.Kinetics.{HasChanged}
+use Rattle.kin_motion.specs.Parts.{moved_by}
 use Rattle.kin_tourney.specs.Tournament.{Tournament}
 use Rattle.kin_closest.specs.declared.distance.Distance.{Distance}
-use Rattle.kin_closest.proofs.Joining.{facts_low, told_dropped, told_born, passed_on}
+use Rattle.kin_closest.proofs.Joining.{facts_low}
+use Rattle.kin_closest.proofs.Moving.{gained_behind, report_moved}
 use Rattle.kin_closest.proofs.mail.Mail.settle_pairs.Goals as goal
 
-pub pass_on-requires-clause-dropped : goal.pass_on-requires-clause-dropped
-pass_on-requires-clause-dropped g c = λ p h. c.requires.low p (told_dropped c.args.pairs.now.facts c.settle_told.new.self.facts c.clear.new.self c.settle_told.new.out c.clear.ensures c.in_ok-settle_told.ensures.delta p h)
+pub move_from-requires : goal.move_from-requires
+move_from-requires g c = λ p h.
+    let n : c.len-dropped.result ≡ length c.args.out.now.dropped = c.len-dropped.ensures ∙ c.out.inside.dropped.ok.0 ∙ ap (λ (d : Change). length d.dropped) c.out.view_is in
+    c.requires.low p (gained_behind c.len-dropped.result c.args.out.now.dropped c.settle_told.new.out.dropped _ n c.in_ok-settle_told.ensures.delta.dropped p
+    (subst (λ (d : Change). Contains (drop c.len-dropped.result d.dropped) p) c.out-2.view_is h)).0
 
-pub pass_on-requires-clause-born : goal.pass_on-requires-clause-born
-pass_on-requires-clause-born g c = λ p h.
+pub move_from-requires-2 : goal.move_from-requires-2
+move_from-requires-2 g c = λ p h.
+    let n : c.len-born.result ≡ length c.args.out.now.born = c.len-born.ensures ∙ c.out.inside.born.ok.0 ∙ ap (λ (d : Change). length d.born) c.out.view_is in
     facts_low c.settle_told.new.self (g.O.Signs.scene c.args.now.now) c.in_ok-settle_told.ensures.settled
     (subst (λ (n : ℕ). n ≤ 15) (sym (ap (λ (t : Tournament Distance Near). t.size) c.in_ok-settle_told.ensures.same)) c.requires.small) p
-    (told_born c.args.pairs.now.facts c.settle_told.new.self.facts c.clear.new.self c.settle_told.new.out c.clear.ensures c.in_ok-settle_told.ensures.delta p h)
+    (gained_behind c.len-born.result c.args.out.now.born c.settle_told.new.out.born _ n c.in_ok-settle_told.ensures.delta.born p
+    (subst (λ (d : Change). Contains (drop c.len-born.result d.born) p) c.out-2.view_is h)).0
 
 pub returns-clause-delta : goal.returns-clause-delta
 returns-clause-delta g c =
-    from_two c.pass_on.result
-    (λ e f. passed_on c.args.pairs.now.facts c.settle_told.new.self.facts c.settle_told.new.out c.args.out.now c.pass_on.new.out (subst (λ (d : Change). HasChanged c.args.pairs.now.facts c.settle_told.new.self.facts d c.settle_told.new.out) c.clear.ensures c.in_ok-settle_told.ensures.delta) e)
-    c.pass_on.ensures c.pass_on.ensures
+    report_moved c.len-dropped.result c.len-born.result c.args.pairs.now.facts c.settle_told.new.self.facts c.args.out.now c.settle_told.new.out _
+    (c.len-dropped.ensures ∙ c.out.inside.dropped.ok.0 ∙ ap (λ (d : Change). length d.dropped) c.out.view_is) (c.len-born.ensures ∙ c.out.inside.born.ok.0 ∙ ap (λ (d : Change). length d.born) c.out.view_is)
+    c.in_ok-settle_told.ensures.delta
+    (c.move_from.ensures ∙ ap (λ (d : Change). take c.len-dropped.result d.dropped ++ map (moved_by 8) (drop c.len-dropped.result d.dropped)) c.out-2.view_is)
+    (c.move_from-2.ensures ∙ ap (λ (d : Change). take c.len-born.result d.born ++ map (moved_by 8) (drop c.len-born.result d.born)) c.out-2.view_is)
