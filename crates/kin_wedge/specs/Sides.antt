@@ -1,8 +1,10 @@
 -- On which sides of a point another one lies, by the four orders that bound the octants.
-use Rattle.std.specs.Prelude.{◌≡◌, ℕ, true, cond, List, Some, slice_get}
+use Rattle.std.specs.Prelude.{◌≡◌, ℕ, true, false, cond, List, Option, Some, slice_get, MatchOption}
 use Rattle.kin_motion.specs.Changes.{stands_before}
+use Rattle.kin_motion.specs.Numbers.{is_in}
 use Rattle.kin_motion.specs.Octants.{Octant, octants}
 use Rattle.kin_wedge.specs.declared.sides.Sides.{Sides}
+use Rattle.kin_wedge.specs.declared.sides.Spot.{Spot}
 use Rattle.kin_wedge.specs.Rows.{row_of, is_in_wedge}
 
 -- whether q stands behind p in each of the first four orders
@@ -11,6 +13,17 @@ pub record AreSides (rows : List (List ℕ)) (p q : ℕ) (s : Sides) : Type 0 wh
   pub difference : s.difference ≡ stands_before (row_of rows 1) p q
   pub x : s.x ≡ stands_before (row_of rows 2) p q
   pub sum : s.sum ≡ stands_before (row_of rows 3) p q
+
+-- the place of a number in a list, if it is there
+abbrev pub IsPlace : List ℕ → ℕ → Option ℕ → Type 0
+IsPlace row who place = MatchOption place (is_in who row ≡ false) (λ p. slice_get row p ≡ Some who)
+
+-- the places of a number in each of the first four orders
+pub record IsSpot (rows : List (List ℕ)) (who : ℕ) (s : Spot) : Type 0 where
+  pub y : IsPlace (row_of rows 0) who s.y
+  pub difference : IsPlace (row_of rows 1) who s.difference
+  pub x : IsPlace (row_of rows 2) who s.x
+  pub sum : IsPlace (row_of rows 3) who s.sum
 
 -- the octant in which q then lies, if it lies in one
 abbrev pub octant_by : Sides → ℕ

@@ -30,8 +30,9 @@ fn offer_to_all(
     ensures offered { OnOk result (IsOfferedAround (rows_of orders.now.lists.items) table.now no touches.new.all.items) }
     ensures touched { OnOk result (HasTouched table.now touches.old.all.items touches.new.all.items) }
 {
+    let spot = orders.spot(no);
     for apex in orders.list(0).items() {
-        touches.offer(orders, table, *apex, no)?;
+        touches.offer(orders, table, *apex, no, spot)?;
     }
     Ok(())
 }

@@ -5,6 +5,7 @@ ghost use Rattle.kin_motion.specs.Changes.{stands_before};
 ghost use Rattle.kin_wedge.specs.Parts.{AreVacant, vacant_listing};
 ghost use Rattle.kin_wedge.specs.Rows.{row_of, stands_after, is_in_wedge, AreRows};
 ghost use Rattle.kin_wedge.specs.Seen.{octant_seen, reading_seen, rows_of, IsOfEight};
+ghost use Rattle.kin_wedge.specs.Sides.{IsPlace};
 
 use crate::mail::Mail;
 use crate::octant::{Octant, Reading, direction};
@@ -57,17 +58,33 @@ impl Orders {
         &self.lists[part as usize]
     }
 
+    /// The place of a number in the order of a part.
+    pub fn place_in(&self, part: u32, no: u32) -> Option<u32>
+        requires { part < length self.now.lists.items }
+        ensures { IsPlace (row_of (rows_of self.now.lists.items) part) no result }
+    {
+        self.list(part).place_of(no)
+    }
+
+    /// Whether a number stands before the one that has this place in the order of a part.
+    pub fn stands_before_place(&self, part: u32, first: u32, place: Option<u32>) -> bool
+        requires rows { AreRows (rows_of self.now.lists.items) }
+        requires part { part < 8 }
+        ensures { (second : ℕ) → IsPlace (row_of (rows_of self.now.lists.items) part) second place → result ≡ stands_before (row_of (rows_of self.now.lists.items) part) first second }
+    {
+        match (self.place_in(part, first), place) {
+            (Some(i), Some(j)) => i < j,
+            _ => false,
+        }
+    }
+
     /// Whether a number stands before another in the order of a part.
     pub fn stands_before(&self, part: u32, first: u32, second: u32) -> bool
         requires rows { AreRows (rows_of self.now.lists.items) }
         requires part { part < 8 }
         ensures { result ≡ stands_before (row_of (rows_of self.now.lists.items) part) first second }
     {
-        let list = self.list(part);
-        match (list.place_of(first), list.place_of(second)) {
-            (Some(i), Some(j)) => i < j,
-            _ => false,
-        }
+        self.stands_before_place(part, first, self.place_in(part, second))
     }
 
     /// Whether q comes after p in an order as it is read.

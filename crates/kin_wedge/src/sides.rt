@@ -4,7 +4,7 @@ ghost use Rattle.std.specs.Prelude.{◌≡◌, ◌<◌, ℕ, Some, true, slice_g
 ghost use Rattle.kin_motion.specs.Octants.{Octant as Bounds, octants};
 ghost use Rattle.kin_wedge.specs.Rows.{is_in_wedge, AreRows};
 ghost use Rattle.kin_wedge.specs.Seen.{rows_of};
-ghost use Rattle.kin_wedge.specs.Sides.{octant_by, AreParted, AreSides};
+ghost use Rattle.kin_wedge.specs.Sides.{octant_by, AreParted, AreSides, IsSpot};
 
 use crate::orders::Orders;
 
@@ -37,28 +37,50 @@ impl Sides {
     }
 }
 
+/// Where a number stands in these four orders.
+#[derive(Clone, Copy)]
+pub struct Spot {
+    pub y: Option<u32>,
+    pub difference: Option<u32>,
+    pub x: Option<u32>,
+    pub sum: Option<u32>,
+}
+
 impl Orders {
-    /// On which sides of p the number q lies.
-    fn sides(&self, p: u32, q: u32) -> Sides
+    /// Where a number stands in the orders that bound the octants.
+    pub fn spot(&self, no: u32) -> Spot
         requires { AreRows (rows_of self.now.lists.items) }
-        ensures { AreSides (rows_of self.now.lists.items) p q result }
+        ensures { IsSpot (rows_of self.now.lists.items) no result }
     {
-        Sides {
-            y: self.stands_before(0, p, q),
-            difference: self.stands_before(1, p, q),
-            x: self.stands_before(2, p, q),
-            sum: self.stands_before(3, p, q),
+        Spot {
+            y: self.place_in(0, no),
+            difference: self.place_in(1, no),
+            x: self.place_in(2, no),
+            sum: self.place_in(3, no),
         }
     }
 
-    /// The octant of p in which q lies, if it lies in one.
-    pub fn octant_of(&self, p: u32, q: u32) -> u32
+    /// On which sides of p a number lies that stands there.
+    fn sides(&self, p: u32, spot: Spot) -> Sides
+        requires { AreRows (rows_of self.now.lists.items) }
+        ensures { (q : ℕ) → IsSpot (rows_of self.now.lists.items) q spot → AreSides (rows_of self.now.lists.items) p q result }
+    {
+        Sides {
+            y: self.stands_before_place(0, p, spot.y),
+            difference: self.stands_before_place(1, p, spot.difference),
+            x: self.stands_before_place(2, p, spot.x),
+            sum: self.stands_before_place(3, p, spot.sum),
+        }
+    }
+
+    /// The octant of p in which a number lies that stands there, if it lies in one.
+    pub fn octant_of(&self, p: u32, spot: Spot) -> u32
         requires rows { AreRows (rows_of self.now.lists.items) }
         requires parted { AreParted (rows_of self.now.lists.items) }
         ensures small { result < 8 }
-        ensures octant { (w : ℕ) (o : Bounds) → slice_get octants w ≡ Some o → is_in_wedge (rows_of self.now.lists.items) o p q ≡ true → result ≡ w }
+        ensures octant { (q w : ℕ) (o : Bounds) → IsSpot (rows_of self.now.lists.items) q spot → slice_get octants w ≡ Some o → is_in_wedge (rows_of self.now.lists.items) o p q ≡ true → result ≡ w }
     {
-        let sides = self.sides(p, q);
+        let sides = self.sides(p, spot);
         sides.octant()
     }
 }

@@ -4,11 +4,12 @@ ghost use Rattle.std.specs.Prelude.{◌≡◌, ℕ, ◌+◌, ◌*◌, ◌<◌, �
 ghost use Rattle.kin_motion.specs.Octants.{Octant as Bounds, octants};
 ghost use Rattle.kin_wedge.specs.Rows.{AreRows};
 ghost use Rattle.kin_wedge.specs.Seen.{rows_of};
-ghost use Rattle.kin_wedge.specs.Sides.{AreParted};
+ghost use Rattle.kin_wedge.specs.Sides.{AreParted, IsSpot};
 ghost use Rattle.kin_wedge.specs.Touched.{IsOffered, ComesFirst, ComesOrGoes, HasPassedBy, HasTouched, HasOfferedBoth};
 
 use crate::offer::{has_passed_by, leads};
 use crate::orders::Orders;
+use crate::sides::Spot;
 use crate::table::Table;
 use kin_num::memory::NoMemory;
 use std::alloc::Global;
@@ -137,22 +138,25 @@ impl Touches {
         Ok(())
     }
 
-    /// Offers a number to the octant of an apex that it is in, where no candidate stands before it.
+    /// Offers a number, which stands there, to the octant of an apex that it is in, where no candidate
+    /// stands before it.
     pub fn offer(
         &mut self,
         orders: &Orders,
         table: &Table,
         apex: u32,
         no: u32,
+        spot: Spot,
     ) -> Result<(), NoMemory>
         requires rows { AreRows (rows_of orders.now.lists.items) }
         requires parted { AreParted (rows_of orders.now.lists.items) }
+        requires spot { IsSpot (rows_of orders.now.lists.items) no spot }
         requires slot { 8 * apex + 7 < length table.now }
         requires small { length table.now < 2 ^ 32 }
         ensures offered { OnOk result ((w : ℕ) (o : Bounds) → slice_get octants w ≡ Some o → ComesFirst (rows_of orders.now.lists.items) table.now o apex w no → IsOffered self.new.all.items (8 * apex + w) (Some no)) }
         ensures touched { OnOk result (HasTouched table.now self.old.all.items self.new.all.items) }
     {
-        let w = orders.octant_of(apex, no);
+        let w = orders.octant_of(apex, spot);
         let wanted = leads(orders, table, apex, w, no);
         self.add_if(wanted, table, apex, w, no)?;
         Ok(())
@@ -187,7 +191,7 @@ impl Touches {
         ensures offered { OnOk result ((w : ℕ) (o : Bounds) → slice_get octants w ≡ Some o → ComesOrGoes (rows_of orders.now.lists.items) table.now o apex w no → IsOffered self.new.all.items (8 * apex + w) (Some no)) }
         ensures touched { OnOk result (HasTouched table.now self.old.all.items self.new.all.items) }
     {
-        self.offer(orders, table, apex, no)?;
+        self.offer(orders, table, apex, no, orders.spot(no))?;
         self.offer_again(table, apex, no)?;
         Ok(())
     }
