@@ -147,6 +147,52 @@ impl<L: Ledger> Trial<L> {
         self.table.remake(number, motions, &now, &mut self.steps)
     }
 
+    /// Bears two facts.
+    fn bear_both(
+        &mut self,
+        forms: (Form, Form),
+        motions: &Motions,
+        second: i64,
+    ) -> Result<(), NoMemory>
+        requires whole { unsigned_abs second < 2 ^ 31 }
+        requires known { (l : LiveFact) → Contains self.old.table.live l → (l.waits ≡ false) × Contains self.old.facts.items l.certificate.placed }
+        ensures { OnOk result ((l : LiveFact) → Contains self.new.table.live l → (l.waits ≡ false) × Contains self.new.facts.items l.certificate.placed) }
+    {
+        self.bear(forms.0, motions, second)?;
+        self.bear(forms.1, motions, second)
+    }
+
+    /// Makes anew what names the one number, and then what names the other.
+    fn turn_both(
+        &mut self,
+        numbers: (u32, u32),
+        motions: &Motions,
+        second: i64,
+    ) -> Result<(), NoMemory>
+        requires whole { unsigned_abs second < 2 ^ 31 }
+        requires known { (l : LiveFact) → Contains self.old.table.live l → (l.waits ≡ false) × Contains self.old.facts.items l.certificate.placed }
+        ensures { OnOk result ((l : LiveFact) → Contains self.new.table.live l → (l.waits ≡ false) × Contains self.new.facts.items l.certificate.placed) }
+    {
+        self.turn(numbers.0, motions, second)?;
+        self.turn(numbers.1, motions, second)
+    }
+
+    /// Bears a fact, and makes anew what names the number.
+    fn bear_and_turn(
+        &mut self,
+        form: Form,
+        number: u32,
+        motions: (&Motions, &Motions),
+        second: i64,
+    ) -> Result<(), NoMemory>
+        requires whole { unsigned_abs second < 2 ^ 31 }
+        requires known { (l : LiveFact) → Contains self.old.table.live l → (l.waits ≡ false) × Contains self.old.facts.items l.certificate.placed }
+        ensures { OnOk result ((l : LiveFact) → Contains self.new.table.live l → (l.waits ≡ false) × Contains self.new.facts.items l.certificate.placed) }
+    {
+        self.bear(form, motions.0, second)?;
+        self.turn(number, motions.1, second)
+    }
+
     /// Whether the next failure is at this second, and so many failure moments were made.
     fn is_next(&self, second: i64, made: u64) -> bool
         requires known { (l : LiveFact) → Contains self.now.table.live l → (l.waits ≡ false) × Contains self.now.facts.items l.certificate.placed }
@@ -175,8 +221,8 @@ fn whole(second: i64) -> Moment
     }
 }
 
-/// Three facts: one fails at 10, one never does, one at 30. Where point 1 stops at 4, the first never
-/// does and the second at 24. No fact names point 3.
+/// Of two facts one fails at 10 and one at 30. Where point 1 stops at 4, the first never does, and the
+/// second, which doesn't name it, stays. No fact names point 3.
 fn stops<L: Ledger>(
     alloc: Global,
     before: &Motions,
@@ -188,14 +234,10 @@ fn stops<L: Ledger>(
     requires some { 0 < L.parts }
 {
     let mut trial = Trial::<L>::begin(alloc, blank);
-    trial.bear(line(0, 1), before, 0)?;
-    trial.bear(line(1, 2), before, 0)?;
-    trial.bear(line(0, 2), before, 0)?;
-    let first = trial.is_next(10, 3);
-    trial.turn(1, after, 4)?;
-    let second = trial.is_next(24, 5);
-    trial.turn(3, after, 4)?;
-    Ok(first && second && trial.is_next(24, 5))
+    trial.bear_both((line(0, 1), line(0, 2)), before, 0)?;
+    let first = trial.is_next(10, 2);
+    trial.turn_both((1, 3), after, 4)?;
+    Ok(first && trial.is_next(30, 3))
 }
 
 /// A fact names point 1 twice and fails at 30. Where that stops at 4, it fails at 18.
@@ -222,8 +264,8 @@ fn is_named_twice<L: Ledger>(
     Ok(first && trial.is_next(18, 2))
 }
 
-/// A fact is born after others were made anew, and never fails. Where point 3 turns at 4, it fails
-/// at 18.
+/// A fact is born after another one was made anew, which fails at 24, and never fails. Where point 3
+/// turns at 4, it fails at 18.
 fn turns_late<L: Ledger>(
     alloc: Global,
     before: &Motions,
@@ -235,11 +277,9 @@ fn turns_late<L: Ledger>(
     requires some { 0 < L.parts }
 {
     let mut trial = Trial::<L>::begin(alloc, blank);
-    trial.bear(line(1, 2), before, 4)?;
-    trial.turn(1, before, 4)?;
-    trial.bear(line(1, 3), before, 4)?;
-    let first = trial.is_next(24, 3);
-    trial.turn(3, after, 4)?;
+    trial.bear_and_turn(line(1, 2), 1, (before, before), 4)?;
+    let first = trial.is_next(24, 2);
+    trial.bear_and_turn(line(1, 3), 3, (before, after), 4)?;
     Ok(first && trial.is_next(18, 4))
 }
 
