@@ -17,6 +17,7 @@ use kin_overlay::edit::ChainEdit;
 use kin_overlay::half::Half;
 use kin_overlay::overlay::Overlay;
 use std::alloc::Global;
+use std::mem::replace;
 use std::sync::ledger::Ledger;
 
 /// A node of the tree. A leaf passes on its own number, or nothing.
@@ -106,9 +107,9 @@ impl Node {
         ensures failed { OnOk result (self.new.failed.items ≡ self.old.failed.items) }
         ensures changed { OnOk result (HasChanged [] (facts_with self.new.merge) out.old out.new) }
     {
-        let merge = Overlay::build(alloc, a, b, part, now, out, steps)?;
+        let mut merge = Overlay::build(alloc, a, b, part, now, out, steps)?;
         diff(alloc, &self.passed, merge.chain(), &mut self.edits)?;
-        self.passed.clear();
+        merge.take_memory(replace(&mut self.passed, Vec::new(alloc)));
         self.merge = Some(merge);
         Ok(())
     }
@@ -181,7 +182,8 @@ impl Node {
     }
 }
 
-/// Repairs a merge whose halves both hold points. `part` is its part.
+/// Repairs a merge whose halves both hold points. `part` is its part. The merge makes its edits in the
+/// memory of those of the node.
 fn mend<O: Signs, L: Ledger>(
     merge: &mut Overlay,
     part: u32,
@@ -206,6 +208,7 @@ fn mend<O: Signs, L: Ledger>(
     merge.edit(Half::A, &left.edits)?;
     merge.edit(Half::B, &right.edits)?;
     leave_out_spared(merge, failed);
+    merge.swap_edits(edits);
     merge.settle(now, failed, out, steps)?;
     merge.swap_edits(edits);
     failed.clear();

@@ -199,6 +199,13 @@ impl Overlay {
         swap(&mut self.edits, edits);
     }
 
+    /// Takes a list of the caller's as memory for later. What stands in it doesn't matter.
+    pub fn take_memory(&mut self, numbers: Vec<u32>)
+        ensures { self.new ≡ self.old }
+    {
+        self.spare = numbers;
+    }
+
     /// Whether a fact names a number that a waiting edit drops.
     pub fn spares(&self, fact: &Placed) -> bool
         ensures { result ≡ names_gone self.now fact.now }

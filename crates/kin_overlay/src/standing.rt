@@ -5,6 +5,7 @@ ghost use Rattle.kin_motion.specs.declared.fact.Placed.{Placed as Put};
 ghost use Rattle.kin_motion.specs.declared.form.Form.TheVariants.{Turn};
 ghost use Rattle.kin_motion.specs.Scene.{Scene, IsReal, x_sign};
 ghost use Rattle.kin_overlay.specs.Descents.{Descends, IsRightward, IsSlopeSign, from_behind};
+ghost use Rattle.kin_overlay.specs.Overlays.{names_any};
 ghost use Rattle.kin_overlay.specs.Standings.{IsUnfailed, StandIn};
 
 use crate::breakpoint::Breakpoint;
@@ -41,22 +42,35 @@ fn has_failed(failed: &[Placed], fact: Fact) -> bool
     false
 }
 
+/// Whether a fact is one of the failed ones, or may be, where these are many.
+#[inline(always)]
+fn may_have_failed(failed: &[Placed], fact: Fact) -> bool
+    ensures { IsFalse result → (k : ℕ) (p : Put) → slice_get failed.now k ≡ Some p → p.fact ≡ fact → ⊥ }
+{
+    if failed.is_empty() {
+        return false;
+    }
+    failed.len() > FEW || has_failed(failed, fact)
+}
+
+/// Whether a fact names one of the numbers that have left.
+#[inline(always)]
+fn names_gone(fact: Fact, gone: &[u32]) -> bool
+    ensures { result ≡ names_any fact.form gone.now }
+{
+    !gone.is_empty() && names_any(&fact.form, gone)
+}
+
 impl Standing<'_> {
     /// Whether a fact is known neither to have failed nor to name a number that has left.
     #[inline(always)]
     fn is_unfailed(&self, fact: Fact) -> bool
         ensures { IsTrue result → IsUnfailed self.now.failed.now self.now.gone.now fact }
     {
-        if self.failed.is_empty() && self.gone.is_empty() {
-            return true;
-        }
-        if self.failed.len() > FEW {
+        if may_have_failed(self.failed, fact) {
             return false;
         }
-        if has_failed(self.failed, fact) {
-            return false;
-        }
-        !names_any(&fact.form, self.gone)
+        !names_gone(fact, self.gone)
     }
 
     /// The place of the breakpoint with this left point, where it stands near, and otherwise the end
