@@ -14,7 +14,6 @@ use Rattle.kin_overlay.specs.declared.fingers.Pick.{Pick}
 use Rattle.kin_overlay.specs.Lists.{first_of, front, behind}
 use Rattle.kin_overlay.specs.Seen.{seen}
 use Rattle.kin_overlay.specs.Remembered.{place_of, breakpoints, left_points}
-use Rattle.kin_overlay.specs.Descents.{Descends}
 use Rattle.kin_overlay.specs.Fingers.{chain_of, IsBefore, IsChosen, IsRival, IsFirstOfBoth, IsPick, next_with, next_of, seen_next, next_for, IsRest, AreLive, AreLess, IsBreakpointOf}
 
 -- ---- the first breakpoint of a chain
@@ -119,8 +118,6 @@ pub record IsUnderway (s : Scene) (a b : List ℕ) (start : Option Pick) (first 
   pub b_some : 0 < length second
   pub a_live : AreLive s.live first
   pub b_live : AreLive s.live second
-  pub a_falls : Descends s first
-  pub b_falls : Descends s second
   pub a_once : IsOnce first
   pub b_once : IsOnce second
   pub less : AreLess first second

@@ -4,7 +4,6 @@ pub mod LookupLaws
 pub mod HasLaws
 pub mod ReportLaws
 pub mod FingerLaws
-pub mod DescentLaws
 pub mod StepLaws
 pub mod WalkLaws
 pub mod FactLaws

@@ -1,5 +1,5 @@
 -- Remembered facts that stand.
-use Rattle.std.proofs.Common.{◌≡◌, ◌⊎◌, inl, inr, refl, sym, ap, ◌∙◌, subst, List, [], ℕ, suc, pos, ◌+◌, ◌<◌, arith, get_or, Bool, true, false, Option, Some, Contains}
+use Rattle.std.proofs.Common.{◌≡◌, ◌⊎◌, inl, inr, refl, sym, ap, ◌∙◌, subst, List, [], ℕ, pos, ◌+◌, ◌<◌, arith, get_or, Bool, true, false, Some, Contains}
 use Rattle.std.specs.Prelude.{slice_get, IsTrue, ◌↔◌}
 use Rattle.std.proofs.lemmas.Option.{get_or_from_slice_get}
 use Rattle.kin_algebra.specs.declared.sign.Sign.{Sign}
@@ -10,20 +10,17 @@ use Rattle.kin_motion.specs.declared.form.Form.TheVariants.{Line}
 use Rattle.kin_motion.specs.declared.fact.Placed.{Placed}
 use Rattle.kin_motion.specs.Kinetics.{ListsFailing}
 use Rattle.kin_motion.specs.Merges.{slope_form}
-use Rattle.kin_motion.specs.Scene.{Scene, IsReal, Holds, x_sign}
+use Rattle.kin_motion.specs.Scene.{Scene, Holds, x_sign}
 use Rattle.kin_motion.proofs.SetLaws.{contains_map}
-use Rattle.kin_motion.proofs.SlopeLaws.{real_slope_laws}
 use Rattle.kin_overlay.specs.declared.record.Record.{Record}
 use Rattle.kin_overlay.specs.declared.record.Next.{Next}
 use Rattle.kin_overlay.specs.declared.end.End.{End}
 use Rattle.kin_overlay.specs.declared.breakpoint.Breakpoint.{Breakpoint as Pair}
 use Rattle.kin_overlay.specs.declared.standing.Standing.{Standing}
-use Rattle.kin_overlay.specs.Descents.{Descends, IsRightward, IsSlopeSign, from_behind}
 use Rattle.kin_overlay.specs.Overlays.{names_any}
 use Rattle.kin_overlay.specs.Remembered.{Remembered, place_of, turn_fact, slope_facts_of, slope_facts, y_facts, facts_of, placed, all_placed}
 use Rattle.kin_overlay.specs.Seen.{seen}
 use Rattle.kin_overlay.specs.Standings.{IsUnfailed, StandIn}
-use Rattle.kin_overlay.proofs.DescentLaws.{slope-behind}
 use Rattle.kin_overlay.proofs.HasLaws.{is-turn, is-slope, in-record, has-end}
 
 same-sign : (a b : Sign) → (a ≡ b) ⊎ (a ≡ b → ⊥)
@@ -56,23 +53,15 @@ known-turn s w r k e c f stand at same across own u =
     sym holds ∙ ap (λ (g : Fact). s.sign g.form) (λ i. turn_fact (record r { at = same i; across = across i }))
 
 -- the slope of a record
-known-slope : (s : Scene) (w : Standing) (r : Record) (k : ℕ) (n : Next) (d : Pair) (f : Fact) → StandIn s w → slice_get w.list.now.records k ≡ Some r → r.next ≡ Some n → n.at ≡ d
-    → f ≡ record { form = slope_form (seen r.at) (seen d); sign = n.slope } → IsUnfailed w.failed.now w.gone.now f → n.slope ≡ s.sign (slope_form (seen r.at) (seen d))
-known-slope s w r k n d f stand at next other own u =
+pub known-slope : (s : Scene) (w : Standing) (r : Record) (k : ℕ) (n : Next) (e d : Pair) (f : Fact) → StandIn s w → slice_get w.list.now.records k ≡ Some r → r.next ≡ Some n → r.at ≡ e → n.at ≡ d
+    → f ≡ record { form = slope_form (seen e) (seen d); sign = n.slope } → IsUnfailed w.failed.now w.gone.now f → n.slope ≡ s.sign (slope_form (seen e) (seen d))
+known-slope s w r k n e d f stand at next same other own u =
     let m = w.list.now in
     let g : Fact = record { form = slope_form (seen r.at) (seen n.at); sign = n.slope } in
-    let is : f ≡ g = own ∙ (λ i. record { form = slope_form (seen r.at) (seen (sym other i)); sign = n.slope }) in
+    let is : f ≡ g = own ∙ (λ i. record { form = slope_form (seen (sym same i)) (seen (sym other i)); sign = n.slope }) in
     let within : Contains (slope_facts r) g = subst (λ o. Contains (slope_facts_of (place_of r) o) g) (sym next) (contains_head g []) in
     let there = is-slope m g (in-record m.records r g (contains_from_get m.records k r at) within) in
     sym (stand g there (subst (λ (h : Fact). IsUnfailed w.failed.now w.gone.now h) is u)) ∙ ap (λ (h : Fact). s.sign h.form) (sym is ∙ own)
-
--- what it tells of the first breakpoint of a chain in which the record's one stands
-pub slope-told : (s : Scene) (w : Standing) (r : Record) (k : ℕ) (n : Next) (xs : List ℕ) (count : ℕ) (d : Pair) (f : Fact) (o : Option Sign) → IsReal s → StandIn s w → Descends s xs → IsRightward s d
-    → slice_get w.list.now.records k ≡ Some r → r.next ≡ Some n → slice_get xs count ≡ Some r.at.left → slice_get xs (count + 1) ≡ Some r.at.right → n.at ≡ d
-    → f ≡ record { form = slope_form (seen r.at) (seen d); sign = n.slope } → IsUnfailed w.failed.now w.gone.now f → o ≡ from_behind count n.slope → (t : Sign) → o ≡ Some t → IsSlopeSign s xs d t
-slope-told s w r k n xs count d f o real stand down right at next left behind other own u tells t is =
-    let more : count + 1 ≡ suc count = omega arith in
-    slope-behind s (real_slope_laws s real) xs down count r.at.left r.at.right d t n.slope left (sym (ap (λ m. slice_get xs m) more) ∙ behind) right (known-slope s w r k n d f stand at next other own u) (sym tells ∙ is)
 
 -- none of the failed facts so far is this one
 pub none-yet : (failed : List Placed) (f : Fact) (n : ℕ) (d : Placed) (b : Bool) → b ≡ false → IsTrue b ↔ ((get_or failed n d).fact ≡ f) → ((k : ℕ) (p : Placed) → k < n → slice_get failed k ≡ Some p → p.fact ≡ f → ⊥)

@@ -17,7 +17,6 @@ use Rattle.kin_overlay.specs.Lists.{first_of, front, behind}
 use Rattle.kin_overlay.specs.Seen.{half_of, seen}
 use Rattle.kin_overlay.specs.Remembered.{breakpoints, left_points}
 use Rattle.kin_overlay.specs.Fingers.{chain_of, passed, IsFirstOfBoth, IsPick, next_of, next_for, IsRest, IsMerged, end_at, right_end, AreLive}
-use Rattle.kin_overlay.proofs.DescentLaws.{descends-behind}
 use Rattle.kin_overlay.proofs.FingerLaws.{first-shape, IsLinked, link, chain-more, IsUnderway, lefts-push, none-less, none-greater}
 use Rattle.kin_algebra.specs.declared.sign.Sign.{Sign}
 use Rattle.kin_motion.proofs.Members.{in_head, in_tail, not_in_tail}
@@ -59,8 +58,6 @@ module _ (s : Scene) (a b : List ℕ) (start : Option Pick) (i j : ℕ) (t bs : 
     b_some = u.b_some;
     a_live = λ x h. u.a_live x (in_tail x i (j ∷ t) h);
     b_live = u.b_live;
-    a_falls = descends-behind s i (j ∷ t) u.a_falls;
-    b_falls = u.b_falls;
     a_once = u.a_once.1;
     b_once = u.b_once;
     less = λ x y h l. u.less x y (in_tail x i (j ∷ t) h) l;
@@ -110,8 +107,6 @@ module _ (s : Scene) (a b : List ℕ) (start : Option Pick) (i j : ℕ) (t as' :
     b_some = omega arith;
     a_live = u.a_live;
     b_live = λ x h. u.b_live x (in_tail x i (j ∷ t) h);
-    a_falls = u.a_falls;
-    b_falls = descends-behind s i (j ∷ t) u.b_falls;
     a_once = u.a_once;
     b_once = u.b_once.1;
     less = λ x y h l. u.less x y h (in_tail y i (j ∷ t) l);

@@ -1,7 +1,6 @@
 pub mod Lists
 pub mod Seen
 pub mod Remembered
-pub mod Descents
 pub mod Fingers
 pub mod Reports
 pub mod Walks

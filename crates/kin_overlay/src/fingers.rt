@@ -6,9 +6,8 @@ ghost use Rattle.kin_motion.specs.Scene.{IsReal, x_sign};
 ghost use Rattle.kin_motion.specs.declared.form.Form.TheVariants.{Turn};
 ghost use Rattle.kin_motion.specs.Forms.{IsAskable};
 ghost use Rattle.kin_motion.specs.Merges.{Half.{A, B}, other_current, breakpoints_of, slope_form};
-ghost use Rattle.kin_overlay.specs.Descents.{Descends};
-ghost use Rattle.kin_overlay.specs.Fingers.{chain_of, passed, IsChosen, IsPick, next_of, end_at, IsMerged, AreLive, AreLess};
-ghost use Rattle.kin_overlay.specs.Lists.{first_of, front};
+ghost use Rattle.kin_overlay.specs.Fingers.{chain_of, passed, IsChosen, IsPick, next_of, end_at, IsMerged, AreLive, AreLess, IsBreakpointOf};
+ghost use Rattle.kin_overlay.specs.Lists.{front};
 ghost use Rattle.kin_overlay.specs.Seen.{half_of, seen};
 ghost use Rattle.kin_overlay.specs.Standings.{StandIn};
 
@@ -32,13 +31,11 @@ struct Pick {
     slope: Option<Sign>,
 }
 
-/// The sign of the slope form of the first breakpoints of two chains. It isn't asked where what is
-/// remembered from this place on tells it and stands.
+/// The sign of the slope form of two breakpoints. It isn't asked where it is remembered at this place
+/// and stands.
 fn slope_sign<O: Signs, L: Ledger>(
-    e: Breakpoint,
-    f: Breakpoint,
-    a: &[u32],
-    b: &[u32],
+    a: Breakpoint,
+    b: Breakpoint,
     standing: &Standing,
     place: usize,
     now: &O,
@@ -46,22 +43,17 @@ fn slope_sign<O: Signs, L: Ledger>(
 ) -> Sign
     requires real { IsReal (O.scene now.now) }
     requires standing { StandIn (O.scene now.now) standing.now }
-    requires a_first { first_of (breakpoints_of A a.now) ≡ Some (seen e) }
-    requires b_first { first_of (breakpoints_of B b.now) ≡ Some (seen f) }
-    requires a_live { AreLive (O.scene now.now).live a.now }
-    requires b_live { AreLive (O.scene now.now).live b.now }
-    requires a_falls { Descends (O.scene now.now) a.now }
-    requires b_falls { Descends (O.scene now.now) b.now }
-    ensures { result ≡ (O.scene now.now).sign (slope_form (seen e) (seen f)) }
+    requires a_live { IsBreakpointOf (O.scene now.now).live a }
+    requires b_live { IsBreakpointOf (O.scene now.now).live b }
+    ensures { result ≡ (O.scene now.now).sign (slope_form (seen a) (seen b)) }
 {
-    let found = standing.find_next(place);
-    if let Some(sign) = standing.slope(found, found - place, a, f) {
+    if let Some(sign) = standing.slope(place, a, b) {
         return sign;
     }
-    if let Some(sign) = standing.slope(found, found - place, b, e) {
+    if let Some(sign) = standing.slope(place, b, a) {
         return sign.opposite();
     }
-    now.sign(&e.slope(f), steps)
+    now.sign(&a.slope(b), steps)
 }
 
 /// The sign of a turn. It isn't asked where it is remembered at this place and stands.
@@ -83,13 +75,10 @@ fn turn_sign<O: Signs, L: Ledger>(
     }
 }
 
-/// Of the first breakpoints of A and B, the one that comes first in the list.
-#[inline(always)]
+/// Of a breakpoint of A and one of B, the one that comes first in the list.
 fn choose<O: Signs, L: Ledger>(
-    e: Breakpoint,
-    f: Breakpoint,
-    a: &[u32],
-    b: &[u32],
+    a: Breakpoint,
+    b: Breakpoint,
     standing: &Standing,
     place: usize,
     now: &O,
@@ -97,24 +86,20 @@ fn choose<O: Signs, L: Ledger>(
 ) -> Pick
     requires real { IsReal (O.scene now.now) }
     requires standing { StandIn (O.scene now.now) standing.now }
-    requires a_half { (seen e).half ≡ A }
-    requires b_half { (seen f).half ≡ B }
-    requires a_first { first_of (breakpoints_of A a.now) ≡ Some (seen e) }
-    requires b_first { first_of (breakpoints_of B b.now) ≡ Some (seen f) }
-    requires a_live { AreLive (O.scene now.now).live a.now }
-    requires b_live { AreLive (O.scene now.now).live b.now }
-    requires a_falls { Descends (O.scene now.now) a.now }
-    requires b_falls { Descends (O.scene now.now) b.now }
-    ensures { IsChosen (O.scene now.now) (seen e) (seen f) result }
+    requires a_half { (seen a).half ≡ A }
+    requires b_half { (seen b).half ≡ B }
+    requires a_live { IsBreakpointOf (O.scene now.now).live a }
+    requires b_live { IsBreakpointOf (O.scene now.now).live b }
+    ensures { IsChosen (O.scene now.now) (seen a) (seen b) result }
 {
-    let slope = slope_sign(e, f, a, b, standing, place, now, steps);
+    let slope = slope_sign(a, b, standing, place, now, steps);
     match slope {
         Sign::Minus => Pick {
-            at: f,
+            at: b,
             slope: Some(Sign::Plus),
         },
         Sign::Zero | Sign::Plus => Pick {
-            at: e,
+            at: a,
             slope: Some(slope),
         },
     }
@@ -122,7 +107,6 @@ fn choose<O: Signs, L: Ledger>(
 
 /// The first of the breakpoints of both chains, if there is one. It is expected at this place of what
 /// is remembered.
-#[inline(always)]
 fn pick_next<O: Signs, L: Ledger>(
     a: &[u32],
     b: &[u32],
@@ -135,12 +119,10 @@ fn pick_next<O: Signs, L: Ledger>(
     requires standing { StandIn (O.scene now.now) standing.now }
     requires a_live { AreLive (O.scene now.now).live a.now }
     requires b_live { AreLive (O.scene now.now).live b.now }
-    requires a_falls { Descends (O.scene now.now) a.now }
-    requires b_falls { Descends (O.scene now.now) b.now }
     ensures { IsPick (O.scene now.now) a.now b.now result }
 {
     match (Breakpoint::first(Half::A, a), Breakpoint::first(Half::B, b)) {
-        (Some(e), Some(f)) => Some(choose(e, f, a, b, standing, place, now, steps)),
+        (Some(e), Some(f)) => Some(choose(e, f, standing, place, now, steps)),
         (Some(e), None) => Some(Pick { at: e, slope: None }),
         (None, Some(f)) => Some(Pick { at: f, slope: None }),
         (None, None) => None,
@@ -239,8 +221,6 @@ impl BreakpointList {
         requires b_some { 0 < length b.now }
         requires a_live { AreLive (O.scene now.now).live a.now }
         requires b_live { AreLive (O.scene now.now).live b.now }
-        requires a_falls { Descends (O.scene now.now) a.now }
-        requires b_falls { Descends (O.scene now.now) b.now }
         requires a_once { IsOnce a.now }
         requires b_once { IsOnce b.now }
         requires less { AreLess a.now b.now }

@@ -1,11 +1,12 @@
 //! The signs that are remembered and still stand.
 
-ghost use Rattle.std.specs.Prelude.{◌≡◌, ◌≤◌, ◌+◌, ◌⊎◌, ℕ, IfSome, IsTrue, IsFalse, slice_get, Some};
+ghost use Rattle.std.specs.Prelude.{◌≡◌, ◌⊎◌, ℕ, IfSome, IsTrue, IsFalse, slice_get, Some};
 ghost use Rattle.kin_motion.specs.declared.fact.Placed.{Placed as Put};
 ghost use Rattle.kin_motion.specs.declared.form.Form.TheVariants.{Turn};
-ghost use Rattle.kin_motion.specs.Scene.{Scene, IsReal, x_sign};
-ghost use Rattle.kin_overlay.specs.Descents.{Descends, IsRightward, IsSlopeSign, from_behind};
+ghost use Rattle.kin_motion.specs.Merges.{slope_form};
+ghost use Rattle.kin_motion.specs.Scene.{Scene, x_sign};
 ghost use Rattle.kin_overlay.specs.Overlays.{names_any};
+ghost use Rattle.kin_overlay.specs.Seen.{seen};
 ghost use Rattle.kin_overlay.specs.Standings.{IsUnfailed, StandIn};
 
 use crate::breakpoint::Breakpoint;
@@ -134,72 +135,25 @@ impl Standing<'_> {
         Some(noted.turn)
     }
 
-    /// The place of the first record from this place on that has a next one of the other half, and
-    /// otherwise the end of the list.
-    pub fn find_next(&self, from: usize) -> usize
-        ensures { from ≤ result }
-    {
-        let mut place = from;
-        while place < self.list.len() && self.list.at(place).next.is_none() {
-            place += 1;
-        }
-        place
-    }
-
-    /// The sign of the slope form of the first breakpoint of a chain and one of the other chain. It is
-    /// told where the record at this place is of the chain's breakpoint that stands so many behind the
-    /// first, with the other one next, and stands. The slopes of a chain fall, so what a later one
-    /// isn't less steep than, the first is steeper than.
-    #[inline(always)]
-    pub fn slope(
-        &self,
-        place: usize,
-        behind: usize,
-        chain: &[u32],
-        other: Breakpoint,
-    ) -> Option<Sign>
-        ensures { IfSome result (λ sign. (s : Scene) → IsReal s → StandIn s self.now → Descends s chain.now → IsRightward s other → IsSlopeSign s chain.now other sign) }
+    /// The sign of the slope form of two breakpoints, where it is remembered at this place and stands.
+    pub fn slope(&self, place: usize, one: Breakpoint, other: Breakpoint) -> Option<Sign>
+        ensures { IfSome result (λ sign. (s : Scene) → StandIn s self.now → sign ≡ s.sign (slope_form (seen one) (seen other))) }
     {
         if place >= self.list.len() {
             return None;
         }
         let noted = self.list.at(place);
         let next = noted.next?;
-        if !is_breakpoint(chain, behind, noted.at) || !next.at.is(other) {
+        if !noted.at.is(one) || !next.at.is(other) {
             return None;
         }
         let fact = Fact {
-            form: noted.at.slope(other),
+            form: one.slope(other),
             sign: next.slope,
         };
         if !self.is_unfailed(fact) {
             return None;
         }
-        from_behind(behind, next.slope)
-    }
-}
-
-/// Whether the breakpoint of a chain that stands so many behind the first has these points.
-fn is_breakpoint(chain: &[u32], behind: usize, at: Breakpoint) -> bool
-    ensures left { IsTrue result → slice_get chain.now behind ≡ Some at.left }
-    ensures right { IsTrue result → slice_get chain.now (behind + 1) ≡ Some at.right }
-{
-    behind < chain.len()
-        && chain.len() - behind > 1
-        && chain[behind] == at.left
-        && chain[behind + 1] == at.right
-}
-
-/// The sign of the first breakpoint of a chain against one of the other chain, where that of the
-/// breakpoint that stands so many behind the first tells it.
-fn from_behind(behind: usize, sign: Sign) -> Option<Sign>
-    ensures { result ≡ from_behind behind sign }
-{
-    if behind == 0 {
-        return Some(sign);
-    }
-    match sign {
-        Sign::Minus => None,
-        Sign::Zero | Sign::Plus => Some(Sign::Plus),
+        Some(next.slope)
     }
 }

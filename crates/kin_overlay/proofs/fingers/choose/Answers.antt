@@ -9,12 +9,12 @@ use Rattle.kin_overlay.proofs.fingers.choose.Goals as goal
 pub returns-in-Minus : goal.returns-in-Minus
 returns-in-Minus g c =
     let s = g.O.Signs.scene c.args.now.now in
-    let e = c.args.e in
-    let f = c.args.f in
-    let turned : s.sign (slope_form (seen f) (seen e)) ≡ Plus =
-    (real_slope_laws s c.requires.real).opposite e.left e.right f.left f.right ∙ ap opposite_of (sym c.slope_sign-slope.ensures ∙ c.in-Minus.is) in
+    let a = c.args.a in
+    let b = c.args.b in
+    let turned : s.sign (slope_form (seen b) (seen a)) ≡ Plus =
+    (real_slope_laws s c.requires.real).opposite a.left a.right b.left b.right ∙ ap opposite_of (sym c.slope_sign-slope.ensures ∙ c.in-Minus.is) in
     inr (record {
       at = refl;
       slope = ap Some (sym turned);
-      before = ap (λ t. goes_first t (seen f).half (seen e).half) turned;
+      before = ap (λ t. goes_first t (seen b).half (seen a).half) turned;
     })

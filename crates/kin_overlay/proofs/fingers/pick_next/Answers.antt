@@ -1,7 +1,7 @@
 use Rattle.std.proofs.Common.{sym, ap, ◌∙◌, option_map}
 use Rattle.kin_motion.specs.Merges.{Half.{A, B}}
 use Rattle.kin_overlay.specs.Seen.{seen}
-use Rattle.kin_overlay.proofs.FingerLaws.{first-shape, chosen-first, only-a, only-b}
+use Rattle.kin_overlay.proofs.FingerLaws.{first-shape, first-live, chosen-first, only-a, only-b}
 use Rattle.kin_overlay.proofs.fingers.pick_next.Goals as goal
 
 pub choose-requires-clause-a_half : goal.choose-requires-clause-a_half
@@ -9,6 +9,12 @@ choose-requires-clause-a_half g c = (first-shape A c.args.a.now (seen c.in-Some-
 
 pub choose-requires-clause-b_half : goal.choose-requires-clause-b_half
 choose-requires-clause-b_half g c = (first-shape B c.args.b.now (seen c.in-Some-Some.f) (sym c.in-Some-Some.ensures')).2
+
+pub choose-requires-clause-a_live : goal.choose-requires-clause-a_live
+choose-requires-clause-a_live g c = first-live (g.O.Signs.scene c.args.now.now).live A c.args.a.now c.in-Some-Some.e c.requires.a_live (sym c.in-Some-Some.ensures)
+
+pub choose-requires-clause-b_live : goal.choose-requires-clause-b_live
+choose-requires-clause-b_live g c = first-live (g.O.Signs.scene c.args.now.now).live B c.args.b.now c.in-Some-Some.f c.requires.b_live (sym c.in-Some-Some.ensures')
 
 pub returns-in-Some-Some : goal.returns-in-Some-Some
 returns-in-Some-Some g c = chosen-first (g.O.Signs.scene c.args.now.now) c.args.a.now c.args.b.now (seen c.in-Some-Some.e) (seen c.in-Some-Some.f) c.choose.result (sym c.in-Some-Some.ensures) (sym c.in-Some-Some.ensures') c.choose.ensures

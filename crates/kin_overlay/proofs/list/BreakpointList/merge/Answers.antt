@@ -1,13 +1,11 @@
 use Rattle.std.proofs.Common.{◌≡◌, refl, sym, ap₂, ◌∙◌, subst, arith, ℕ, List, [], ◌∷◌, get_or, Option, Some}
-use Rattle.kin_motion.specs.Merges.{Half.{A, B}}
+use Rattle.kin_motion.specs.Merges.{Half.{B}}
 use Rattle.kin_overlay.specs.declared.end.End.{End}
 use Rattle.kin_overlay.specs.declared.fingers.Pick.{Pick}
-use Rattle.kin_overlay.specs.Descents.{Descends}
 use Rattle.kin_overlay.specs.Remembered.{Remembered}
 use Rattle.kin_overlay.specs.Fingers.{AreLive, IsMerged, end_at}
 use Rattle.kin_overlay.specs.Seen.{half_of}
 use Rattle.kin_overlay.specs.Lists.{front}
-use Rattle.kin_overlay.proofs.DescentLaws.{passed-descends}
 use Rattle.kin_overlay.proofs.FingerLaws.{IsUnderway}
 use Rattle.kin_overlay.proofs.StepLaws.{step, shorter, turn-askable, passed-live, merged-one, merged-more}
 use Rattle.kin_overlay.proofs.list.BreakpointList.merge.Goals as goal
@@ -29,16 +27,6 @@ pick_next-next-requires-in-Some-clause-b_live g c =
     let s = g.O.Signs.scene c.args.now.now in
     subst (AreLive s.live) (sym c.pass.ensures.b)
     (passed-live s c.args.a.now c.args.b.now c.pick_next-next.result c.loop-next.next c.loop-next.first.now c.loop-next.second.now (half_of c.in-Some.picked.at.half) B c.loop-next.self.records c.loop-next.invariant)
-
-pub pick_next-next-requires-in-Some-clause-a_falls : goal.pick_next-next-requires-in-Some-clause-a_falls
-pick_next-next-requires-in-Some-clause-a_falls g c =
-    let s = g.O.Signs.scene c.args.now.now in
-    subst (Descends s) (sym c.pass.ensures.a) (passed-descends s c.loop-next.first.now c.loop-next.second.now (half_of c.in-Some.picked.at.half) A c.loop-next.invariant.a_falls c.loop-next.invariant.b_falls)
-
-pub pick_next-next-requires-in-Some-clause-b_falls : goal.pick_next-next-requires-in-Some-clause-b_falls
-pick_next-next-requires-in-Some-clause-b_falls g c =
-    let s = g.O.Signs.scene c.args.now.now in
-    subst (Descends s) (sym c.pass.ensures.b) (passed-descends s c.loop-next.first.now c.loop-next.second.now (half_of c.in-Some.picked.at.half) B c.loop-next.invariant.a_falls c.loop-next.invariant.b_falls)
 
 pub loop-next-smaller : goal.loop-next-smaller
 loop-next-smaller g c =

@@ -3,11 +3,10 @@ use Rattle.kin_basics.proofs.Members.{contains_none}
 use Rattle.kin_motion.specs.Contents.{IsSettledMerge}
 use Rattle.kin_motion.specs.Deltas.{Change}
 use Rattle.kin_motion.specs.Kinetics.{HasChanged}
-use Rattle.kin_motion.proofs.RealLaws.{real_line_laws, real_turn_laws}
+use Rattle.kin_motion.proofs.RealLaws.{real_line_laws}
 use Rattle.kin_chain.proofs.MergeFacts.{rising_once}
 use Rattle.kin_overlay.specs.Fingers.{AreLess}
 use Rattle.kin_overlay.specs.Remembered.{Remembered, facts_of, all_placed}
-use Rattle.kin_overlay.proofs.DescentLaws.{upper-descends}
 use Rattle.kin_overlay.proofs.FactLaws.{merged-settled}
 use Rattle.kin_overlay.proofs.SoundLaws.{all-born}
 use Rattle.kin_overlay.proofs.overlay.Overlay.build.Goals as goal
@@ -17,12 +16,6 @@ merge-requires-clause-a_once g c = let s = g.O.Signs.scene c.args.now.now in ris
 
 pub merge-requires-clause-b_once : goal.merge-requires-clause-b_once
 merge-requires-clause-b_once g c = let s = g.O.Signs.scene c.args.now.now in rising_once s (real_line_laws s c.requires.real) c.args.b.now c.requires.b_chain.rising
-
-pub merge-requires-clause-a_falls : goal.merge-requires-clause-a_falls
-merge-requires-clause-a_falls g c = let s = g.O.Signs.scene c.args.now.now in upper-descends s (real_turn_laws s c.requires.real) c.args.a.now c.args.a.now c.requires.a_chain
-
-pub merge-requires-clause-b_falls : goal.merge-requires-clause-b_falls
-merge-requires-clause-b_falls g c = let s = g.O.Signs.scene c.args.now.now in upper-descends s (real_turn_laws s c.requires.real) c.args.b.now c.args.b.now c.requires.b_chain
 
 pub merge-requires-clause-standing : goal.merge-requires-clause-standing
 merge-requires-clause-standing g c = λ f there u. absurd (contains_none f (subst (λ (m : Remembered). Contains (facts_of m) f) c.new-none.ensures there))

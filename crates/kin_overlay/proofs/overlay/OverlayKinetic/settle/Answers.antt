@@ -1,17 +1,15 @@
 use Rattle.std.proofs.Common.{sym, subst, List, ℕ, rules}
 use Rattle.kin_motion.specs.Chains.{IsUpperChain}
 use Rattle.kin_motion.specs.Numbers.{IsOnce}
-use Rattle.kin_motion.proofs.RealLaws.{real_line_laws, real_turn_laws}
+use Rattle.kin_motion.proofs.RealLaws.{real_line_laws}
 use Rattle.kin_chain.proofs.MergeFacts.{rising_once}
 use Rattle.kin_motion.specs.Deltas.{Change}
 use Rattle.kin_motion.specs.Kinetics.{HasChanged, ListsFailing}
-use Rattle.kin_overlay.specs.Descents.{Descends}
 use Rattle.kin_overlay.specs.Fingers.{IsMerged}
 use Rattle.kin_overlay.specs.Overlays.{Merge, IsReady, names_gone}
 use Rattle.kin_overlay.specs.Remembered.{Remembered, facts_of, all_placed}
 use Rattle.kin_overlay.specs.Reports.{IsTold}
 use Rattle.kin_overlay.specs.Standings.{IsUnfailed}
-use Rattle.kin_overlay.proofs.DescentLaws.{upper-descends}
 use Rattle.kin_overlay.proofs.FactLaws.{merged-settled, changed}
 use Rattle.kin_overlay.proofs.SoundLaws.{whole}
 use Rattle.kin_overlay.proofs.StandingLaws.{still-stand}
@@ -28,18 +26,6 @@ merge-requires-clause-b_once g c =
     let s = g.O.Signs.scene c.args.now.now in
     let chain = subst (λ (m : Merge). IsUpperChain s m.b m.b) (sym c.self.view_is) c.requires.ready.b_chain in
     subst IsOnce (sym c.deref-3.ensures.value) (rising_once s (real_line_laws s c.requires.real) c.self.inside.b.items chain.rising)
-
-pub merge-requires-clause-a_falls : goal.merge-requires-clause-a_falls
-merge-requires-clause-a_falls g c =
-    let s = g.O.Signs.scene c.args.now.now in
-    let chain = subst (λ (m : Merge). IsUpperChain s m.a m.a) (sym c.self.view_is) c.requires.ready.a_chain in
-    subst (Descends s) (sym c.deref-2.ensures.value) (upper-descends s (real_turn_laws s c.requires.real) c.self.inside.a.items c.self.inside.a.items chain)
-
-pub merge-requires-clause-b_falls : goal.merge-requires-clause-b_falls
-merge-requires-clause-b_falls g c =
-    let s = g.O.Signs.scene c.args.now.now in
-    let chain = subst (λ (m : Merge). IsUpperChain s m.b m.b) (sym c.self.view_is) c.requires.ready.b_chain in
-    subst (Descends s) (sym c.deref-3.ensures.value) (upper-descends s (real_turn_laws s c.requires.real) c.self.inside.b.items c.self.inside.b.items chain)
 
 pub merge-requires-clause-standing : goal.merge-requires-clause-standing
 merge-requires-clause-standing g c = λ f there u.
