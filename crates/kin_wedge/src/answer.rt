@@ -45,9 +45,11 @@ impl Orders {
             return None;
         };
         let place = place as usize;
+        let first = self.place_in(octant.first.part, apex);
+        let second = self.place_in(octant.second.part, apex);
         for k in 0..steps_in(octant.third.from_end, place, items.len()) {
             let no = items[step_to(octant.third.from_end, place, k, items.len())];
-            if self.is_in_octant(octant, apex, no) {
+            if self.is_in_octant_of_places(octant, first, second, no) {
                 return Some(no);
             }
         }

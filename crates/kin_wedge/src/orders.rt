@@ -78,6 +78,18 @@ impl Orders {
         }
     }
 
+    /// Whether the number that has this place stands before another in the order of a part.
+    pub fn place_stands_before(&self, part: u32, place: Option<u32>, second: u32) -> bool
+        requires rows { AreRows (rows_of self.now.lists.items) }
+        requires part { part < 8 }
+        ensures { (first : ℕ) → IsPlace (row_of (rows_of self.now.lists.items) part) first place → result ≡ stands_before (row_of (rows_of self.now.lists.items) part) first second }
+    {
+        match (place, self.place_in(part, second)) {
+            (Some(i), Some(j)) => i < j,
+            _ => false,
+        }
+    }
+
     /// Whether a number stands before another in the order of a part.
     pub fn stands_before(&self, part: u32, first: u32, second: u32) -> bool
         requires rows { AreRows (rows_of self.now.lists.items) }
@@ -100,8 +112,36 @@ impl Orders {
         }
     }
 
-    /// Whether q is in an octant of p. In line, so that a scan looks the places of p up once.
-    #[inline(always)]
+    /// Whether q comes after the number that has this place, in an order as it is read.
+    pub fn comes_after_place(&self, reading: Reading, place: Option<u32>, q: u32) -> bool
+        requires rows { AreRows (rows_of self.now.lists.items) }
+        requires part { reading.part < 8 }
+        ensures { (p : ℕ) → IsPlace (row_of (rows_of self.now.lists.items) reading.part) p place → result ≡ stands_after (rows_of self.now.lists.items) (reading_seen reading) p q }
+    {
+        if reading.from_end {
+            self.stands_before_place(reading.part, q, place)
+        } else {
+            self.place_stands_before(reading.part, place, q)
+        }
+    }
+
+    /// Whether q is in an octant of the number that has these places in the two orders which bound it.
+    pub fn is_in_octant_of_places(
+        &self,
+        octant: Octant,
+        first: Option<u32>,
+        second: Option<u32>,
+        q: u32,
+    ) -> bool
+        requires rows { AreRows (rows_of self.now.lists.items) }
+        requires parts { IsOfEight (octant_seen octant) }
+        ensures { (p : ℕ) → IsPlace (row_of (rows_of self.now.lists.items) octant.first.part) p first → IsPlace (row_of (rows_of self.now.lists.items) octant.second.part) p second → result ≡ is_in_wedge (rows_of self.now.lists.items) (octant_seen octant) p q }
+    {
+        self.comes_after_place(octant.first, first, q)
+            && self.comes_after_place(octant.second, second, q)
+    }
+
+    /// Whether q is in an octant of p.
     pub fn is_in_octant(&self, octant: Octant, p: u32, q: u32) -> bool
         requires rows { AreRows (rows_of self.now.lists.items) }
         requires parts { IsOfEight (octant_seen octant) }

@@ -27,14 +27,14 @@ loop-k-preserved c = λ q t m h.
     goes_on c.args.octant.third.from_end c.in-Some.place c.loop-k.k t (c.loop-k.invariant q t m h)
     (λ s.
     let same = get_or_from_slice_get c.items-items.result.now c.step_to.result q 0 (ap (slice_get c.items-items.result.now) (c.step_to.ensures.value ∙ sym s) ∙ h) in
-    let e : true ≡ false = sym m ∙ ap (is_in_wedge (rows_of c.args.self.now.lists.items) (octant_seen c.args.octant) c.args.apex) (sym same) ∙ sym c.is_in_octant.ensures ∙ c.if-is_in_octant.false in
+    let e : true ≡ false = sym m ∙ ap (is_in_wedge (rows_of c.args.self.now.lists.items) (octant_seen c.args.octant) c.args.apex) (sym same) ∙ sym (c.is_in_octant_of_places.ensures c.args.apex c.place_in-first.ensures c.place_in-second.ensures) ∙ c.if-is_in_octant_of_places.false in
     cc)
 
-pub returns-then-is_in_octant : goal.returns-then-is_in_octant
-returns-then-is_in_octant c =
+pub returns-then-is_in_octant_of_places : goal.returns-then-is_in_octant_of_places
+returns-then-is_in_octant_of_places c =
     let row = c.items-items.ensures ∙ c.list-list.ensures.row in
     record {
-      member = sym c.is_in_octant.ensures ∙ c.if-is_in_octant.true;
+      member = sym (c.is_in_octant_of_places.ensures c.args.apex c.place_in-first.ensures c.place_in-second.ensures) ∙ c.if-is_in_octant_of_places.true;
       first = λ q m.
           let t = behind_place _ c.args.octant.third.from_end c.args.apex q (c.requires.behind q m) in
           let here = ap (λ (xs : List ℕ). slice_get xs t.0) row ∙ t.1 in
