@@ -36,7 +36,7 @@ use std::sync::ledger::Ledger;
 ///
 /// Between two calls every structure is settled at the moment now, and the table has exactly the
 /// live facts. After a changing call that answered want of memory the world isn't whole, and only
-/// `is_whole` and `keep` may be asked.
+/// `is_whole`, `keep` and `keeps` may be asked.
 #[derive(Drop)]
 pub struct World {
     alloc: Global,
