@@ -55,6 +55,18 @@ pub struct Overlay {
     spare: Vec<u32>,
 }
 
+/// So many more points a told chain can have before its memory is asked for again.
+const ROOM: usize = 4;
+
+/// A copy of a chain, with some room.
+fn copied(alloc: Global, chain: &[u32]) -> Result<Vec<u32>, NoMemory>
+    ensures { IfOk result (λ v. v.items ≡ chain.now) }
+{
+    let mut copy = Vec::with_capacity(alloc, chain.len() + ROOM)?;
+    copy.extend_from_slice(chain)?;
+    Ok(copy)
+}
+
 impl Model for Overlay {
     ghost use Rattle.kin_overlay.specs.Overlays.{Merge};
     ghost use Rattle.kin_overlay.specs.Remembered.{facts_of, all_placed};
@@ -111,8 +123,8 @@ impl Overlay {
         Ok(Overlay {
             alloc,
             part,
-            a: Vec::from_slice(alloc, a)?,
-            b: Vec::from_slice(alloc, b)?,
+            a: copied(alloc, a)?,
+            b: copied(alloc, b)?,
             list,
             chain,
             edits: Vec::new(alloc),

@@ -29,7 +29,7 @@ invariant_of-result g c =
     let chain = c.merged_chain.new.chain.items in
     let settled = merged-settled s c.requires.real a b chain c.args.part m c.requires.a_some c.requires.b_some c.requires.less c.requires.a_chain c.requires.b_chain c.in_ok-merge.ensures (c.in_ok-merged_chain.ensures s a b c.requires.a_some c.requires.b_some c.in_ok-merge.ensures) in
     record {
-      less = subst (λ (l : List ℕ). AreLess l c.in_ok-from_slice-2.field-0.items) (sym c.in_ok-from_slice.ensures.items) (subst (λ (l : List ℕ). AreLess a l) (sym c.in_ok-from_slice-2.ensures.items) c.requires.less);
+      less = subst (λ (l : List ℕ). AreLess l c.in_ok-copied-2.field-0.items) (sym c.in_ok-copied.ensures) (subst (λ (l : List ℕ). AreLess a l) (sym c.in_ok-copied-2.ensures) c.requires.less);
       distinct = settled.exact.once;
     }
 
@@ -48,8 +48,8 @@ returns g c =
       part = search rules;
       rest = search rules;
       settled =
-          subst (λ (l : List ℕ). IsSettledMerge s l c.in_ok-from_slice-2.field-0.items chain c.args.part (all_placed c.args.part (facts_of m))) (sym c.in_ok-from_slice.ensures.items)
-          (subst (λ (l : List ℕ). IsSettledMerge s a l chain c.args.part (all_placed c.args.part (facts_of m))) (sym c.in_ok-from_slice-2.ensures.items) settled);
+          subst (λ (l : List ℕ). IsSettledMerge s l c.in_ok-copied-2.field-0.items chain c.args.part (all_placed c.args.part (facts_of m))) (sym c.in_ok-copied.ensures)
+          (subst (λ (l : List ℕ). IsSettledMerge s a l chain c.args.part (all_placed c.args.part (facts_of m))) (sym c.in_ok-copied-2.ensures) settled);
       edits = search rules;
       gone = search rules;
       born = subst (λ (d : Change). HasChanged [] (all_placed c.args.part (facts_of m)) d (record { dropped = c.out.inside.dropped.items; born = c.tell_missing.new.told.items })) c.out.view_is done;
