@@ -1,8 +1,9 @@
 -- Where the common numbers stand in one order, no number is put that is dropped.
-use Rattle.std.proofs.Common.{◌≡◌, ◌≢◌, ◌⊎◌, inl, inr, refl, sym, ap, ap₂, ◌∙◌, subst, arith, List, [], ◌∷◌, ◌++◌, ℕ, zero, suc, ◌<◌, Bool, true, false, cond, ◌||◌, nat_eq, length, take, drop, Some}
+use Rattle.std.proofs.Common.{◌≡◌, ◌≢◌, ◌⊎◌, inl, inr, refl, sym, ap, ap₂, ◌∙◌, subst, arith, List, [], ◌∷◌, ◌++◌, ℕ, zero, suc, ◌<◌, ◌≤◌, Bool, true, false, cond, ◌||◌, nat_eq, length, take, drop, Some}
 use Rattle.std.specs.Prelude.{slice_get, filter}
 use Rattle.std.proofs.lemmas.List.{append-nil, append_assoc, take-append-drop}
 use Rattle.std.proofs.Math.Seq.{drop-append_seam}
+use Rattle.std.proofs.lemmas.Option.{same_Some}
 use Rattle.std.proofs.lemmas.Bool.{or_cases, eqb-true, false_from_ne_true, both_ways}
 use Rattle.std.proofs.lemmas.List.Elements.{filter-append}
 use Rattle.kin_motion.specs.Edits.{Edit, edited, all_edited, dropped_by_one, dropped_by, put_by}
@@ -118,6 +119,16 @@ apart-alike es start old new old' new' x xs ys e f p q w =
       gone = λ z h. false_from_ne_true (is_in z ys) (λ k. absurd (both_ways (is_in z (x ∷ ys)) (a.gone z h) (in_tail z x ys k)));
       apart = a.apart;
     }))
+
+-- without numbers that both begin with
+pub apart-front : (es : List Edit) (start old new : List ℕ) (n : ℕ) → n ≤ length old → n ≤ length new → ((k : ℕ) → k < n → slice_get old k ≡ slice_get new k) → IsApart es start old new → IsApart es start (drop n old) (drop n new)
+apart-front es start old new zero p q same w = w
+apart-front es start [] new (suc n) p q same w = absurd (omega arith)
+apart-front es start (x ∷ xs) [] (suc n) p q same w = absurd (omega arith)
+apart-front es start (x ∷ xs) (y ∷ ys) (suc n) p q same w =
+    let e : x ≡ y = same_Some x y (same zero (omega arith)) in
+    apart-front es start xs ys n (omega arith) (omega arith) (λ k l. same (suc k) (omega arith))
+    (apart-alike es start (x ∷ xs) (y ∷ ys) xs ys x xs ys refl (ap (λ (z : ℕ). z ∷ ys) (sym e)) refl refl w)
 
 -- a stretch of numbers that aren't in both
 module _ (es : List Edit) (start old new front rest tail put : List ℕ) (place gone added : ℕ) (counted : length front ≡ place) (led : all_edited es start ≡ front ++ old)

@@ -2,7 +2,8 @@
 use Rattle.std.proofs.Common.{◌≡◌, refl, sym, ap, ap₂, ◌∙◌, arith, List, [], ◌∷◌, ◌++◌, ℕ, zero, suc, ◌+◌, ◌<◌, ◌≤◌, ◌≢◌, true, false, Some, length, take, drop}
 use Rattle.std.specs.Prelude.{slice_get}
 use Rattle.kin_motion.specs.Numbers.{is_in}
-use Rattle.std.proofs.lemmas.List.{append_assoc, length-append}
+use Rattle.std.proofs.lemmas.List.{append_assoc, length-append, take-append-drop}
+use Rattle.std.proofs.lemmas.Option.{same_Some}
 use Rattle.std.proofs.Math.Seq.{take-append_seam, drop-append-add}
 use Rattle.kin_motion.specs.Edits.{Edit, edited, all_edited, AreFitting}
 
@@ -14,11 +15,16 @@ fitting-push : (es : List Edit) (e : Edit) (xs : List ℕ) → AreFitting es xs 
 fitting-push [] e xs fit here = (here, tt)
 fitting-push (d ∷ es) e xs fit here = (fit.0, fitting-push es e (edited d xs) fit.1 here)
 
--- a number that both begin with goes to the front
-pub one_more : (front old rest : List ℕ) (x : ℕ) (xs : List ℕ) → old ≡ x ∷ xs → rest ≡ drop 1 old → front ++ old ≡ (front ++ x ∷ []) ++ rest
-one_more front old rest x xs e q =
-    let r : rest ≡ xs = q ∙ ap (λ (l : List ℕ). drop 1 l) e in
-    ap (λ (l : List ℕ). front ++ l) e ∙ sym (append_assoc front (x ∷ []) xs) ∙ ap (λ (l : List ℕ). (front ++ x ∷ []) ++ l) (sym r)
+-- what stands at the front of both lists is the same
+pub same-front : (xs ys : List ℕ) (n : ℕ) → n ≤ length xs → n ≤ length ys → ((k : ℕ) → k < n → slice_get xs k ≡ slice_get ys k) → take n xs ≡ take n ys
+same-front xs ys zero p q same = refl
+same-front [] ys (suc n) p q same = absurd (omega arith)
+same-front (x ∷ xs) [] (suc n) p q same = absurd (omega arith)
+same-front (x ∷ xs) (y ∷ ys) (suc n) p q same = ap₂ (λ (z : ℕ) (l : List ℕ). z ∷ l) (same_Some x y (same zero (omega arith))) (same-front xs ys n (omega arith) (omega arith) (λ k l. same (suc k) (omega arith)))
+
+-- numbers go to the front
+pub more-front : (front old rest : List ℕ) (n : ℕ) → rest ≡ drop n old → front ++ old ≡ (front ++ take n old) ++ rest
+more-front front old rest n q = ap (λ (l : List ℕ). front ++ l) (sym (take-append-drop n old) ∙ ap (λ (l : List ℕ). take n old ++ l) (sym q)) ∙ sym (append_assoc front (take n old) rest)
 
 module _ (es : List Edit) (old front rest put : List ℕ) (place gone : ℕ) (counted : length front ≡ place) (led : all_edited es old ≡ front ++ rest) where
   abbrev stretch : Edit

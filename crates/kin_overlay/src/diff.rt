@@ -22,15 +22,19 @@ fn strangers(list: &[u32], other: &[u32]) -> usize
     count
 }
 
-/// Whether both lists begin with the same number.
-fn begin_alike(old: &[u32], new: &[u32]) -> bool
-    ensures alike { IsTrue result → (x : ℕ) × (xs ys : List ℕ) × (old.now ≡ x ∷ xs) × (new.now ≡ x ∷ ys) }
-    ensures differ { IsFalse result → (x y : ℕ) (xs ys : List ℕ) → old.now ≡ x ∷ xs → new.now ≡ y ∷ ys → x ≢ y }
+/// How many numbers stand at the front of both lists.
+fn alike(old: &[u32], new: &[u32]) -> usize
+    ensures within_old { result ≤ length old.now }
+    ensures within_new { result ≤ length new.now }
+    ensures same { (k : ℕ) → k < result → slice_get old.now k ≡ slice_get new.now k }
+    ensures differ { result ≡ 0 → (x y : ℕ) (xs ys : List ℕ) → old.now ≡ x ∷ xs → new.now ≡ y ∷ ys → x ≢ y }
 {
-    match (old.first(), new.first()) {
-        (Some(x), Some(y)) => x == y,
-        _ => false,
+    let most = old.len().min(new.len());
+    let mut count = 0;
+    while count < most && old[count] == new[count] {
+        count += 1;
     }
+    count
 }
 
 /// How many numbers of the new list stand before the first of the rest of the old one: all of them
@@ -104,10 +108,11 @@ pub fn diff(
     let (mut old, mut new) = (old, new);
     let mut place = 0;
     while !is_done(old, new) {
-        if begin_alike(old, new) {
-            old = old.split_at(1).1;
-            new = new.split_at(1).1;
-            place += 1;
+        let alike = alike(old, new);
+        if alike > 0 {
+            old = old.split_at(alike).1;
+            new = new.split_at(alike).1;
+            place += alike;
         } else {
             let (gone, rest) = old.split_at(strangers(old, new));
             let (put, tail) = new.split_at(added_before(new, rest));
