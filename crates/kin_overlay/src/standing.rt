@@ -64,7 +64,6 @@ fn names_gone(fact: Fact, gone: &[u32]) -> bool
 
 impl Standing<'_> {
     /// Whether a fact is known neither to have failed nor to name a number that has left.
-    #[inline(always)]
     fn is_unfailed(&self, fact: Fact) -> bool
         ensures { IsTrue result → IsUnfailed self.now.failed.now self.now.gone.now fact }
     {
