@@ -9,7 +9,6 @@ use Rattle.kin_motion.proofs.Members.{in_head, in_tail}
 use Rattle.kin_chain.specs.Merging.{is_in_place}
 use Rattle.kin_overlay.specs.declared.breakpoint.Breakpoint.{Breakpoint as Pair}
 use Rattle.kin_overlay.specs.declared.record.Record.{Record}
-use Rattle.kin_overlay.specs.declared.record.Next.{Next}
 use Rattle.kin_overlay.specs.declared.fingers.Pick.{Pick}
 use Rattle.kin_overlay.specs.Lists.{first_of, front, behind}
 use Rattle.kin_overlay.specs.Seen.{seen}

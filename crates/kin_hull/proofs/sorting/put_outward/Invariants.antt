@@ -1,4 +1,4 @@
-use Rattle.std.proofs.Common.{◌≡◌, ◌≤◌, ◌++◌, length, map, take, drop}
+use Rattle.std.proofs.Common.{◌≡◌, ◌++◌, length, map, take, drop}
 use Rattle.kin_hull.specs.Sides.{outward}
 use Rattle.kin_hull.proofs.sorting.put_outward.Given as goal
 

@@ -1,4 +1,4 @@
-use Rattle.std.proofs.Common.{◌≡◌, refl, sym, ap, ap₂, ◌∙◌, subst, arith, ℕ, ◌+◌, List, [], ◌∷◌, ◌++◌, length, take, drop}
+use Rattle.std.proofs.Common.{◌≡◌, sym, ap, ap₂, ◌∙◌, subst, arith, ℕ, ◌+◌, List, [], ◌∷◌, ◌++◌, length, take, drop}
 use Rattle.std.proofs.lemmas.List.{append_assoc, length-append, take-append-drop}
 use Rattle.kin_motion.specs.Edits.{Edit, all_edited, AreFitting}
 use Rattle.kin_overlay.proofs.ApartLaws.{IsApart, apart-front, apart-stretch, front-strange, next-in, not-in-front}
