@@ -1,45 +1,81 @@
 -- What stays true of the world from change to change.
-use Rattle.std.proofs.Common.{◌≡◌, ◌∙◌, refl, ap, subst, ℕ, ℤ, zero, suc, List, [], ◌∷◌, Option, Some, None}
-use Rattle.std.specs.Prelude.{slice_get}
+use Rattle.std.proofs.Common.{◌≡◌, refl, rules, sym, ap, subst, ℕ, ℤ, zero, suc, List, [], ◌∷◌, Option, Some, None}
+use Rattle.std.specs.Prelude.{slice_get, ◌↔◌, true}
+use Rattle.std.specs.Ordering.{is_lt}
+use Rattle.std.specs.declared.cmp.Ordering.{Ordering}
+use Rattle.std.specs.declared.cmp.Ordering.TheVariants.{Less, Equal, Greater}
 use Rattle.std.proofs.lemmas.Option.{same_Some}
 use Rattle.kin_num.specs.declared.instant.Moment.{Moment}
+use Rattle.kin_num.specs.Order.{IsEarlier}
+use Rattle.kin_num.proofs.Grains.{moments_run_out}
 use Rattle.kin_motion.specs.declared.keep.Keep.{Keep}
 use Rattle.kin_motion.specs.declared.keep.Keep.TheVariants.{Closest, Range}
+use Rattle.kin_motion.specs.Course.{Course}
 use Rattle.kin_motion.specs.Journal.{Block}
 use Rattle.kin_motion.specs.Live.{IsSmallKeep}
-use Rattle.kin_world.specs.Worlds.{World, IsWhole, AreKeepable, HasTurned, HasStepped, failure_count, empty}
-use Rattle.kin_example.specs.Watched.{IsWatched}
+use Rattle.kin_world.specs.Worlds.{World, IsWhole, AreKeepable, HasInserted, HasRemoved, HasTurned, HasStepped, empty}
+use Rattle.kin_example.specs.Watched.{AreKept, IsWatched, CanGoOn, HasGoneOn}
 
+-- ---- at the start
+-- what is kept, as it is handed to `World::new`
+abbrev kept : List Keep
+kept = Closest ∷ Range ∷ []
+
+-- each direction is small
+abbrev AreSmall : List Keep → Type 0
+AreSmall [] = Unit {0}
+AreSmall (keep ∷ keeps) = IsSmallKeep keep × AreSmall keeps
+
+each_small : (keeps : List Keep) → AreSmall keeps → (k : ℕ) (keep : Keep) → slice_get keeps k ≡ Some keep → IsSmallKeep keep
+each_small [] small k keep e = absurd cc
+each_small (first ∷ rest) small zero keep e = subst IsSmallKeep (same_Some _ _ e) small.0
+each_small (first ∷ rest) small (suc k) keep e = each_small rest small.1 k keep e
+
+-- they may be kept together
+pub are_keepable : AreKeepable kept
+are_keepable = record { few = refl; small = each_small kept (search rules) }
+
+-- and stand in their places
+are_kept : AreKept kept
+are_kept = search rules
+
+pub starts : (size : ℕ) (w : World) → w ≡ empty size kept → IsWhole w → IsWatched w
+starts size w e whole = record { whole = whole; kept = subst AreKept (sym (ap (λ (v : World). v.keeps) e)) are_kept }
+
+-- ---- from change to change
 -- it is whole again, and keeps what it kept
 same_keeps : (old new : World) → IsWhole new → new.keeps ≡ old.keeps → IsWatched old → IsWatched new
-same_keeps old new whole same h = record {
-  whole = whole;
-  closest = (h.closest.0, ap (λ (ks : List Keep). slice_get ks h.closest.0) same ∙ h.closest.1);
-  range = (h.range.0, ap (λ (ks : List Keep). slice_get ks h.range.0) same ∙ h.range.1);
+same_keeps old new whole same h = record { whole = whole; kept = subst AreKept (sym same) h.kept }
+
+pub inserted : (number : ℕ) (motion : Course) (old new : World) → IsWatched old → HasInserted number motion old new → IsWatched new
+inserted number motion old new watched h = same_keeps old new h.whole (ap (λ (w : World). w.keeps) h.state) watched
+
+pub removed : (number : ℕ) (old new : World) → IsWatched old → HasRemoved number old new → IsWatched new
+removed number old new watched h = same_keeps old new h.whole (ap (λ (w : World). w.keeps) h.state) watched
+
+pub turned : (number : ℕ) (u v : ℤ) (old new : World) → IsWatched old → HasTurned number u v old new → IsWatched new
+turned number u v old new watched h = same_keeps old new h.whole (ap (λ (w : World). w.keeps) h.state) watched
+
+-- a test by `compare_moments` says that the limit is later
+pub can_go_on : (order : Ordering) (limit here : Moment) (w : World) → IsWatched w → here ≡ w.moment → is_lt order ≡ true → (order ≡ Less) ↔ IsEarlier here limit → (order ≡ Greater) ↔ IsEarlier limit here → CanGoOn limit w
+can_go_on Less limit here w watched same test less greater = record {
+  watched = watched;
+  ahead = subst (λ m. IsEarlier m limit) same (less.0 refl);
+  not_past = subst (λ m. ¬ (IsEarlier limit m)) same (λ h. let e = greater.1 h in cc);
 }
+can_go_on Equal limit here w watched same test less greater = absurd cc
+can_go_on Greater limit here w watched same test less greater = absurd cc
 
-pub turned : (number : ℕ) (u v : ℤ) (old new : World) → HasTurned number u v old new → IsWatched old → IsWatched new
-turned number u v old new h = same_keeps old new h.whole (ap (λ (w : World). w.keeps) h.state)
-
-stepped : (limit : Moment) (b : Option Block) (old new : World) → HasStepped limit b old new → IsWatched old → IsWatched new
-stepped limit None old new h = same_keeps old new h.whole (ap (λ (w : World). w.keeps) h.state)
-stepped limit (Some b) old new h = same_keeps old new h.whole (ap (λ (w : World). w.keeps) h.state)
-
-pub passed : (limit : Moment) (count : Option ℕ) (old new : World) → ((b : Option Block) × HasStepped limit b old new × (count ≡ failure_count b)) → IsWatched old → IsWatched new
-passed limit count old new h = stepped limit h.0 old new h.1
-
--- a closest pair and a range may be kept together
-pub are_keepable : AreKeepable (Closest ∷ Range ∷ [])
-are_keepable = record { few = refl; small = small }
+-- the next event is later, and so is the limit
+pub goes_on : (limit : Moment) (b : Option Block) (old new : World) → CanGoOn limit old → HasStepped limit b old new → HasGoneOn old new
+goes_on limit b old new can stepped = at b stepped
   where
-    small : (j : ℕ) (keep : Keep) → slice_get (Closest ∷ Range ∷ []) j ≡ Some keep → IsSmallKeep keep
-    small zero keep e = subst IsSmallKeep (same_Some _ _ e) tt
-    small (suc zero) keep e = subst IsSmallKeep (same_Some _ _ e) tt
-    small (suc (suc j)) keep e = absurd cc
+    later : (m : Moment) → IsWhole new → new.keeps ≡ old.keeps → new.moment ≡ m → IsEarlier old.moment m → HasGoneOn old new
+    later m whole keeps here after = record {
+      watched = same_keeps old new whole keeps can.watched;
+      fewer = moments_run_out old.moment new.moment can.watched.whole.canonical whole.canonical (subst (IsEarlier old.moment) (sym here) after);
+    }
 
-pub starts : (w : World) → w ≡ empty 2 (Closest ∷ Range ∷ []) → IsWhole w → IsWatched w
-starts w e whole = record {
-  whole = whole;
-  closest = (0, ap (λ (v : World). slice_get v.keeps 0) e);
-  range = (1, ap (λ (v : World). slice_get v.keeps 1) e);
-}
+    at : (b : Option Block) → HasStepped limit b old new → HasGoneOn old new
+    at None h = later limit h.whole (ap (λ (w : World). w.keeps) h.state) (ap (λ (w : World). w.moment) h.state) can.ahead
+    at (Some b) h = later b.moment h.whole (ap (λ (w : World). w.keeps) h.state) (ap (λ (w : World). w.moment) h.state) h.next.later
