@@ -1,5 +1,5 @@
--- What stays true of the world from change to change.
-use Rattle.std.proofs.Common.{◌≡◌, refl, rules, sym, ap, subst, ℕ, ℤ, zero, suc, List, [], ◌∷◌, Option, Some, None}
+-- Why the world is watched at the start, and how an event leaves it.
+use Rattle.std.proofs.Common.{◌≡◌, refl, rules, sym, ap, subst, ℕ, zero, suc, List, [], ◌∷◌, Option, Some, None}
 use Rattle.std.specs.Prelude.{slice_get, ◌↔◌, true}
 use Rattle.std.specs.Ordering.{is_lt}
 use Rattle.std.specs.declared.cmp.Ordering.{Ordering}
@@ -10,10 +10,9 @@ use Rattle.kin_num.specs.Order.{IsEarlier}
 use Rattle.kin_num.proofs.Grains.{moments_run_out}
 use Rattle.kin_motion.specs.declared.keep.Keep.{Keep}
 use Rattle.kin_motion.specs.declared.keep.Keep.TheVariants.{Closest, Range}
-use Rattle.kin_motion.specs.Course.{Course}
 use Rattle.kin_motion.specs.Journal.{Block}
 use Rattle.kin_motion.specs.Live.{IsSmallKeep}
-use Rattle.kin_world.specs.Worlds.{World, IsWhole, AreKeepable, HasInserted, HasRemoved, HasTurned, HasStepped, empty}
+use Rattle.kin_world.specs.Worlds.{World, IsWhole, AreKeepable, HasStepped, empty}
 use Rattle.kin_example.specs.Watched.{AreKept, IsWatched, CanGoOn, HasGoneOn}
 
 -- ---- at the start
@@ -42,20 +41,7 @@ are_kept = search rules
 pub starts : (size : ℕ) (w : World) → w ≡ empty size kept → IsWhole w → IsWatched w
 starts size w e whole = record { whole = whole; kept = subst AreKept (sym (ap (λ (v : World). v.keeps) e)) are_kept }
 
--- ---- from change to change
--- it is whole again, and keeps what it kept
-same_keeps : (old new : World) → IsWhole new → new.keeps ≡ old.keeps → IsWatched old → IsWatched new
-same_keeps old new whole same h = record { whole = whole; kept = subst AreKept (sym same) h.kept }
-
-pub inserted : (number : ℕ) (motion : Course) (old new : World) → IsWatched old → HasInserted number motion old new → IsWatched new
-inserted number motion old new watched h = same_keeps old new h.whole (ap (λ (w : World). w.keeps) h.state) watched
-
-pub removed : (number : ℕ) (old new : World) → IsWatched old → HasRemoved number old new → IsWatched new
-removed number old new watched h = same_keeps old new h.whole (ap (λ (w : World). w.keeps) h.state) watched
-
-pub turned : (number : ℕ) (u v : ℤ) (old new : World) → IsWatched old → HasTurned number u v old new → IsWatched new
-turned number u v old new watched h = same_keeps old new h.whole (ap (λ (w : World). w.keeps) h.state) watched
-
+-- ---- from event to event
 -- a test by `compare_moments` says that the limit is later
 pub can_go_on : (order : Ordering) (limit here : Moment) (w : World) → IsWatched w → here ≡ w.moment → is_lt order ≡ true → (order ≡ Less) ↔ IsEarlier here limit → (order ≡ Greater) ↔ IsEarlier limit here → CanGoOn limit w
 can_go_on Less limit here w watched same test less greater = record {
@@ -71,8 +57,8 @@ pub goes_on : (limit : Moment) (b : Option Block) (old new : World) → CanGoOn 
 goes_on limit b old new can stepped = at b stepped
   where
     later : (m : Moment) → IsWhole new → new.keeps ≡ old.keeps → new.moment ≡ m → IsEarlier old.moment m → HasGoneOn old new
-    later m whole keeps here after = record {
-      watched = same_keeps old new whole keeps can.watched;
+    later m whole same here after = record {
+      watched = record { whole = whole; kept = subst AreKept (sym same) can.watched.kept };
       fewer = moments_run_out old.moment new.moment can.watched.whole.canonical whole.canonical (subst (IsEarlier old.moment) (sym here) after);
     }
 

@@ -1,7 +1,5 @@
 use Rattle.std.specs.Prelude.{◌≡◌, false, Result, Ok, Err, is_err, IfOk}
 use Rattle.std.proofs.Common.{◌∙◌, sym}
-use Rattle.std.proofs.lemmas.Result.{on_ok_weaker}
-use Rattle.kin_example.proofs.Watching.{turned}
 use Rattle.kin_example.proofs.turn.Goals as goal
 
 -- what isn't an `Err` has a value
@@ -11,6 +9,3 @@ value_of P (Err e) ok h = absurd cc
 
 pub turn-requires-clause-turnable : goal.turn-requires-clause-turnable
 turn-requires-clause-turnable g c = value_of _ c.turned.result (sym c.is_err.ensures.value ∙ c.if-is_err.false) c.turned.ensures.turns
-
-pub returns : goal.returns
-returns g c = on_ok_weaker c.turn.result (turned _ _ _ _ c.turn.new.self c.requires.watched) c.turn.ensures.turned
