@@ -59,6 +59,13 @@ module _ (old mid : List (Option Entry)) (id : ℕ) (owned : Owned) (seat : Seat
           ∙ freed-count;
     }
 
+-- a fact that is made anew is the same fact
+pub renewed-facts : (scene : Moment → Scene) (now : Moment) (old : List (Option Entry)) (id : ℕ) (new : List (Option Entry)) → HasRenewed scene now old id new → HaveSameFacts old new
+renewed-facts scene now old id new h j = elim (cases_eq j id) [
+  | inl e ↦ subst (λ (k : ℕ). owned_in (entry_at new k) ≡ owned_in (entry_at old k)) (sym e) (ap owned_in h.renewed.is ∙ sym (ap owned_in h.renewed.was))
+  | inr n ↦ ap owned_in (h.others j n)
+]
+
 -- one more
 module _ (scene : Moment → Scene) (now : Moment) (marks : List ℕ) (m : ℕ) (old mid new : List (Option Entry)) (so_far : AreRenewed scene now marks old mid) (more : HasRenewed scene now mid (m / 4) new) (same : HaveSameFacts mid new) where
   here : IsRenewed scene now (entry_at old (m / 4)) (entry_at new (m / 4))

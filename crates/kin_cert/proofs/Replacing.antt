@@ -16,14 +16,10 @@ use Rattle.kin_cert.specs.declared.entry.Seat.{Seat}
 use Rattle.kin_cert.specs.declared.owned.Owned.{Owned}
 use Rattle.kin_cert.specs.Facts.{LiveFact}
 use Rattle.kin_cert.specs.Applied.{IsOf, IsLiveIn, MayApply, IsBorn, HasApplied}
-use Rattle.kin_cert.specs.Layout.{entry_at, owned_rank, live_fact, live_in, fresh, timed, HasSlot, IsTakenOver, IsTimed, HasReplaced, HasBorn}
+use Rattle.kin_cert.specs.Layout.{entry_at, owned_rank, live_fact, live_in, held, fresh, timed, HasSlot, IsTakenOver, IsTimed, HasReplaced, HasBorn}
 use Rattle.kin_cert.proofs.Changes.{is-at, once-same}
 use Rattle.kin_cert.proofs.Slots.{live-from, live-set-count}
 use Rattle.kin_cert.proofs.Tables.{at-rank, rank-of-live, table-once, has-slot, gained-exactly, replaced-exactly}
-
--- the fact with its owner
-abbrev pub held : ℕ → Placed → Owned
-held s p = record { structure = s; part = p.part; fact = p.fact }
 
 -- a slot that is written twice
 pub twice : (slots after later : List (Option Entry)) (id : ℕ) (o o' : Option Entry) → HasSlot slots after id o → HasSlot after later id o' → HasSlot slots later id o'

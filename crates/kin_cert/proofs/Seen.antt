@@ -16,7 +16,7 @@ use Rattle.kin_motion.specs.Scene.{scene_at, Holds}
 use Rattle.kin_cert.specs.declared.entry.Entry.{Entry}
 use Rattle.kin_cert.specs.declared.owned.Owned.{Owned}
 use Rattle.kin_cert.specs.Failures.{IsFirstFailure, seen_by}
-use Rattle.kin_cert.specs.Layout.{IsTimed}
+use Rattle.kin_cert.specs.Layout.{IsTimed, IsTimedFact}
 
 pub holds-seen : (ms : List (Option Course)) (f : Fact) (m : Moment) → Holds (scene_at ms m) f → sign_at (polynomial_of ms f.form) m ≡ f.sign
 unfolding sign_of_form
@@ -38,10 +38,11 @@ timed-seen ms now o id slots slots' moments moments' p e h = record {
   moments_are = h.moments_are;
 }
 
-pub on_timed : {T E : Type 0} (ms : List (Option Course)) (now : Moment) (o : Owned) (id : ℕ) (slots slots' : List (Option Entry)) (moments moments' : FinMap nat_cmp Moment) (p : Quadratic) → p ≡ polynomial_of ms o.fact.form
-    → (r : Result T E) → OnOk r (IsTimed (seen_by p) now o id slots moments slots' moments') → OnOk r (IsTimed (scene_at ms) now o id slots moments slots' moments')
-on_timed ms now o id slots slots' moments moments' p e (Ok v) h = timed-seen ms now o id slots slots' moments moments' p e h
-on_timed ms now o id slots slots' moments moments' p e (Err x) h = tt
+pub on_timed : {T E : Type 0} (ms : List (Option Course)) (now : Moment) (f : Fact) (id : ℕ) (slots slots' : List (Option Entry)) (moments moments' : FinMap nat_cmp Moment) (p : Quadratic) → p ≡ polynomial_of ms f.form
+    → (r : Result T E) → OnOk r (IsTimedFact (seen_by p) now f id slots moments slots' moments') → OnOk r (IsTimedFact (scene_at ms) now f id slots moments slots' moments')
+on_timed ms now f id slots slots' moments moments' p e (Ok v) h =
+    λ o there is. timed-seen ms now o id slots slots' moments moments' p (e ∙ ap (λ (g : Fact). polynomial_of ms g.form) (sym is)) (h o there is)
+on_timed ms now f id slots slots' moments moments' p e (Err x) h = tt
 
 -- the numbers of a line as the code reads them
 abbrev read : ℤ → ℤ

@@ -12,10 +12,9 @@ use Rattle.kin_cert.specs.declared.entry.Seat.{Seat}
 use Rattle.kin_cert.specs.Facts.{LiveFact}
 use Rattle.kin_cert.specs.Applied.{IsOf}
 use Rattle.kin_cert.specs.Cost.{is_of, is_ungiven, ungiven}
-use Rattle.kin_cert.specs.Layout.{live_fact, live_in, owned_rank, is_rank, IsSeatOf}
+use Rattle.kin_cert.specs.Layout.{held, live_fact, live_in, owned_rank, is_rank, IsSeatOf}
 use Rattle.kin_cert.specs.Rank.{padded_rank}
 use Rattle.kin_cert.proofs.Ranks.{both_hold, rank_names, rank_same, rank_itself}
-use Rattle.kin_cert.proofs.Replacing.{held}
 use Rattle.kin_cert.proofs.Slots.{live-there}
 use Rattle.kin_cert.proofs.Tables.{at-rank}
 

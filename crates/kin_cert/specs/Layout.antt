@@ -7,6 +7,7 @@ use Rattle.std.specs.FinMap.{FinMap}
 use lib.Pointwise.{pointwise}
 use Rattle.kin_num.specs.declared.instant.Moment.{Moment}
 use Rattle.kin_num.specs.Order.{IsEarlier}
+use Rattle.kin_motion.specs.declared.fact.Fact.{Fact}
 use Rattle.kin_motion.specs.declared.fact.Placed.{Placed}
 use Rattle.kin_motion.specs.Scene.{Scene}
 use Rattle.kin_cert.specs.declared.entry.Entry.{Entry}
@@ -50,6 +51,10 @@ is_rank = pointwise int_eq
 
 abbrev pub owned_place : Owned → List ℕ
 owned_place o = place_of o.structure o.part o.fact.form
+
+-- the fact in a part of a structure, with its owner
+abbrev pub held : ℕ → Placed → Owned
+held s p = record { structure = s; part = p.part; fact = p.fact }
 
 -- the entry of an id, if there is one
 abbrev pub entry_at : List (Option Entry) → ℕ → Option Entry
@@ -145,6 +150,10 @@ pub record IsTimed (scene : Moment → Scene) (now : Moment) (o : Owned) (id : �
   pub first : IsFirstFailure scene now o.fact fails
   pub slots_are : slots' ≡ slice_set slots id (Some (timed (fresh o) fails))
   pub moments_are : moments' ≡ with moments id fails
+
+-- the same, whoever owns the new fact of the id
+abbrev pub IsTimedFact : (Moment → Scene) → Moment → Fact → ℕ → List (Option Entry) → FinMap nat_cmp Moment → List (Option Entry) → FinMap nat_cmp Moment → Type 0
+IsTimedFact scene now fact id slots moments slots' moments' = (o : Owned) → entry_at slots id ≡ Some (fresh o) → o.fact ≡ fact → IsTimed scene now o id slots moments slots' moments'
 
 -- what is dropped and what is born
 abbrev pub change_of : Pending → Change

@@ -5,7 +5,7 @@ ghost use Rattle.kin_cert.specs.declared.entry.Entry.{Entry as Kept};
 ghost use Rattle.kin_cert.specs.Place.{place_of};
 ghost use Rattle.kin_cert.specs.Rank.{padded_rank};
 ghost use Rattle.indexmap.specs.IndexMap.{get as look_up};
-ghost use Rattle.kin_cert.specs.Layout.{entry_at, owned_place, owned_rank, is_rank, fresh, waiting, timed, HasSlot, NoneTwice, IsFoundAt, IsNotFound, IsSeatOf, IsTakenOver};
+ghost use Rattle.kin_cert.specs.Layout.{entry_at, owned_place, owned_rank, is_rank, fresh, waiting, timed, held, HasSlot, NoneTwice, IsFoundAt, IsNotFound, IsSeatOf, IsTakenOver};
 ghost use Rattle.kin_cert.specs.Names.{form_in, IsFreed};
 ghost use Rattle.kin_cert.specs.Rolls.{IsFirstAt, HasNoFirstAt, IsIdOf, HasNoId, IsStruck, MayFollow, IsEnrolled, IsSameIndex};
 
@@ -15,6 +15,7 @@ use crate::owned::Owned;
 use crate::place::{Place, first_number, place};
 use crate::rank::{Rank, rank};
 use indexmap::IndexMap;
+use kin_motion::fact::Placed;
 use kin_motion::form::Form;
 use kin_num::{Moment, NoMemory, Sign};
 use slab::Slab;
@@ -132,28 +133,29 @@ impl Roll {
     /// Puts a fact of the same place in the stead of a fact, which is there, where that is the one by
     /// which its place is known and no other fact has the owner and the form of the new one. The new
     /// one never fails as yet. Else nothing changes.
-    pub(crate) fn take_over(&mut self, old: &Owned, new: Owned) -> Option<Seat>
-        ensures taken { IfSome result (λ seat. IsTakenOver self.old (owned_rank old.now) new seat self.new) }
+    pub(crate) fn take_over(&mut self, structure: u32, old: &Placed, new: &Placed) -> Option<Seat>
+        ensures taken { IfSome result (λ seat. IsTakenOver self.old (owned_rank (held structure old.now)) (held structure new.now) seat self.new) }
         ensures none { IfNone result (self.new ≡ self.old) }
     {
-        if !may_follow(&self.others, old, &new) {
+        if !may_follow(&self.others, structure, old, new) {
             return None;
         }
-        let form = old.fact.form;
-        let place = place(old.structure, old.part, form);
+        let place = place(structure, old.part, old.fact.form);
         let id = self.guesses.id_of(&self.firsts, &place)?;
-        if !has_form(&self.entries, id, form) {
+        if !has_form(&self.entries, id, &old.fact.form) {
             return None;
         }
         let Some(entry) = self.entries.get_mut(id) else {
             unreachable!()
         };
         let is_queued = entry.is_queued();
-        *entry = Entry {
-            owned: new,
-            fails: None,
-            is_waiting: false,
+        entry.owned = Owned {
+            structure,
+            part: new.part,
+            fact: new.fact,
         };
+        entry.fails = None;
+        entry.is_waiting = false;
         Some(Seat { id, is_queued })
     }
 
@@ -225,7 +227,7 @@ fn first_at(
     ensures none { IfNone result (HasNoFirstAt entries.now.slots firsts.now (place_of structure part form) form) }
 {
     let id = *firsts.get(&place(structure, part, form))?;
-    if has_form(entries, id, form) {
+    if has_form(entries, id, &form) {
         Some(id)
     } else {
         None
@@ -233,11 +235,11 @@ fn first_at(
 }
 
 // Whether an id has a fact of this form.
-fn has_form(entries: &Slab<Entry>, id: usize, form: Form) -> bool
-    ensures { IsTrue result ↔ ((e : Kept) × (entry_at entries.now.slots id ≡ Some e) × (e.owned.fact.form ≡ form)) }
+fn has_form(entries: &Slab<Entry>, id: usize, form: &Form) -> bool
+    ensures { IsTrue result ↔ ((e : Kept) × (entry_at entries.now.slots id ≡ Some e) × (e.owned.fact.form ≡ form.now)) }
 {
     match entries.get(id) {
-        Some(entry) => entry.owned.fact.form.is(form),
+        Some(entry) => entry.owned.fact.form.is(*form),
         None => false,
     }
 }
@@ -287,14 +289,14 @@ fn is_among(others: &IndexMap<Rank, usize>, structure: u32, part: u32, form: For
 }
 
 // Whether the new fact has the place of the old one, and isn't among the others.
-fn may_follow(others: &IndexMap<Rank, usize>, old: &Owned, new: &Owned) -> bool
-    ensures { IsTrue result → MayFollow others.now old.now new.now }
+fn may_follow(others: &IndexMap<Rank, usize>, structure: u32, old: &Placed, new: &Placed) -> bool
+    ensures { IsTrue result → MayFollow others.now (held structure old.now) (held structure new.now) }
 {
-    let (was, is) = (old.fact.form, new.fact.form);
-    new.structure == old.structure
-        && new.part == old.part
-        && first_number(is) == first_number(was)
-        && (is.is(was) || !is_among(others, new.structure, new.part, is))
+    new.part == old.part
+        && first_number(new.fact.form) == first_number(old.fact.form)
+        && (others.is_empty()
+            || new.fact.form.is(old.fact.form)
+            || !is_among(others, structure, new.part, new.fact.form))
 }
 
 // Notes the id of an owner's form, which has none.

@@ -1,54 +1,54 @@
 //! When new facts fail first.
 
-ghost use Rattle.std.specs.Prelude.{◌≡◌, ℕ, ◌+◌, ◌*◌, ◌/◌, cond, length, Contains, Some, None, OnOk, OnErr, is_some};
+ghost use Rattle.std.specs.Prelude.{◌≡◌, ℕ, ◌+◌, ◌*◌, ◌/◌, cond, length, Contains, None, OnOk, OnErr, IsSome, is_some};
 ghost use Rattle.std.specs.FinMap as map;
 ghost use Rattle.kin_num.specs.Instants.{sign_at};
 ghost use Rattle.kin_motion.specs.Course.{live_of};
 ghost use Rattle.kin_motion.specs.Forms.{IsAskable};
 ghost use Rattle.kin_motion.specs.Scene.{scene_at, Holds};
 ghost use Rattle.kin_cert.specs.Failures.{seen_by};
-ghost use Rattle.kin_cert.specs.Layout.{entry_at, fresh, live_in, IsTable, IsTimed};
+ghost use Rattle.kin_cert.specs.Layout.{entry_at, live_in, IsTable, IsTimedFact};
 ghost use Rattle.kin_cert.specs.Cost.{TakesAtMost};
 ghost use Rattle.kin_cert.specs.Names.{HaveSameFacts, MayRenew, HasRenewed, AreRenewed};
 
 use crate::entry::Seat;
 use crate::first_fail::first_fail;
-use crate::owned::Owned;
 use crate::roll::Roll;
 use crate::schedule::Schedule;
+use kin_motion::fact::Fact;
 use kin_motion::form::Form;
 use kin_motion::motion::Motions;
 use kin_motion::poly::{poly_of, poly_of_line};
 use kin_num::{Moment, NoMemory, Poly, Steps};
 use std::sync::ledger::Ledger;
 
-/// Finds out when a new fact fails first, and puts its id in the schedule if it ever does.
+/// Finds out when the new fact of an id fails first, and puts the id in the schedule if it ever does.
 pub(crate) fn time<L: Ledger>(
     roll: &mut Roll,
     schedule: &mut Schedule,
     id: usize,
-    owned: &Owned,
+    fact: &Fact,
     motions: &Motions,
     now: &Moment,
     steps: &mut Steps<L>,
 ) -> Result<(), NoMemory>
-    requires fresh { entry_at roll.old id ≡ Some (fresh owned.now) }
+    requires there { IsSome (entry_at roll.old id) }
     requires absent { map.get schedule.old id ≡ None }
-    requires askable { IsAskable (live_of motions.now) owned.now.fact.form }
-    requires holds { Holds (scene_at motions.now now.now) owned.now.fact }
-    ensures ok { OnOk result (IsTimed (scene_at motions.now) now.now owned.now id roll.old schedule.old roll.new schedule.new) }
+    requires askable { IsAskable (live_of motions.now) fact.now.form }
+    requires holds { Holds (scene_at motions.now now.now) fact.now }
+    ensures ok { OnOk result (IsTimedFact (scene_at motions.now) now.now fact.now id roll.old schedule.old roll.new schedule.new) }
     ensures roll { OnErr result (roll.new ≡ roll.old) }
     ensures schedule { OnErr result (schedule.new ≡ schedule.old) }
     ensures cost { OnOk result (TakesAtMost (map.len schedule.old) (λ r. r + 1) steps.old steps.new) }
 {
-    match owned.fact.form {
+    match fact.form {
         Form::Line { dx, dy, off, i, j } => {
             let p = poly_of_line(motions, dx, dy, off, i, j);
-            time_by(roll, schedule, id, owned, &p, now, steps)
+            time_by(roll, schedule, id, fact, &p, now, steps)
         }
         _ => {
-            let p = poly_of(&owned.fact.form, motions);
-            time_by(roll, schedule, id, owned, &p, now, steps)
+            let p = poly_of(&fact.form, motions);
+            time_by(roll, schedule, id, fact, &p, now, steps)
         }
     }
 }
@@ -59,20 +59,20 @@ fn time_by<L: Ledger>(
     roll: &mut Roll,
     schedule: &mut Schedule,
     id: usize,
-    owned: &Owned,
+    fact: &Fact,
     p: &Poly,
     now: &Moment,
     steps: &mut Steps<L>,
 ) -> Result<(), NoMemory>
-    requires fresh { entry_at roll.old id ≡ Some (fresh owned.now) }
+    requires there { IsSome (entry_at roll.old id) }
     requires absent { map.get schedule.old id ≡ None }
-    requires holds { sign_at p.now now.now ≡ owned.now.fact.sign }
-    ensures ok { OnOk result (IsTimed (seen_by p.now) now.now owned.now id roll.old schedule.old roll.new schedule.new) }
+    requires holds { sign_at p.now now.now ≡ fact.now.sign }
+    ensures ok { OnOk result (IsTimedFact (seen_by p.now) now.now fact.now id roll.old schedule.old roll.new schedule.new) }
     ensures roll { OnErr result (roll.new ≡ roll.old) }
     ensures schedule { OnErr result (schedule.new ≡ schedule.old) }
     ensures cost { OnOk result (TakesAtMost (map.len schedule.old) (λ r. r + 1) steps.old steps.new) }
 {
-    let Some(at) = first_fail(&owned.fact, p, now, steps) else {
+    let Some(at) = first_fail(fact, p, now, steps) else {
         return Ok(());
     };
     schedule.insert(id, &at, steps)?;
@@ -132,6 +132,6 @@ fn time_anew<L: Ledger>(
 {
     let (owned, seat) = roll.free(id);
     unqueue(schedule, seat, steps);
-    time(roll, schedule, id, &owned, motions, now, steps)?;
+    time(roll, schedule, id, &owned.fact, motions, now, steps)?;
     Ok(())
 }

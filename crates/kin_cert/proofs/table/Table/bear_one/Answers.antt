@@ -4,13 +4,13 @@ use Rattle.kin_motion.specs.Scene.{scene_at}
 use Rattle.kin_cert.specs.declared.entry.Entry.{Entry}
 use Rattle.kin_cert.specs.declared.owned.Owned.{Owned}
 use Rattle.kin_cert.specs.Facts.{Facts}
-use Rattle.kin_cert.specs.Layout.{live_in, owned_rank, fresh, timed, HasSlot, IsNotFound, IsTimed, HasBorn}
+use Rattle.kin_cert.specs.Layout.{live_in, owned_rank, held, fresh, timed, HasSlot, IsNotFound, IsTimed, HasBorn}
 use Rattle.kin_cert.specs.Names.{numbers_at, IsListed}
 use Rattle.kin_cert.proofs.Schedules.{Moments}
 use Rattle.kin_cert.proofs.Naming.{renamed, still-named, same-facts}
 use Rattle.kin_cert.proofs.Slots.{live-count}
 use Rattle.kin_cert.proofs.Tables.{not-found, put-table, timed-slot, timed-table}
-use Rattle.kin_cert.proofs.Replacing.{held, has-born, born-count}
+use Rattle.kin_cert.proofs.Replacing.{has-born, born-count}
 use Rattle.kin_cert.proofs.Costs.{in_queue}
 use Rattle.kin_cert.proofs.QueueSizes.{few-queued-of}
 use Rattle.kin_cert.proofs.table.Table.bear_one.Goals as goal
@@ -46,7 +46,7 @@ invariant_of-self-2 g c =
     let scene = scene_at c.args.motions.now in
     let table = put-table c.self.inside.roll c.put_in.new.self c.self.inside.schedule c.in_ok-id.id o c.self.invariant.table c.in_ok-id.ensures.vacant c.in_ok-id.ensures.slot in
     let named = renamed c.self.inside.names c.note.new.self c.self.inside.roll c.put_in.new.self c.in_ok-id.id (numbers_at (Some (fresh o))) (Some (fresh o)) c.self.invariant.named c.in_ok-id.ensures.slot c.note.ensures refl in
-    let t = c.in_ok-time.ensures.ok in
+    let t = c.in_ok-time.ensures.ok o c.in_ok-id.ensures.slot.changed refl in
     let slot = timed-slot scene c.args.now.now o c.in_ok-id.id c.put_in.new.self c.time.new.roll c.self.inside.schedule c.time.new.schedule table c.in_ok-id.ensures.slot.changed t in
     record {
       table = timed-table scene c.args.now.now o c.in_ok-id.id c.put_in.new.self c.time.new.roll c.self.inside.schedule c.time.new.schedule table c.in_ok-id.ensures.slot.changed t;
@@ -61,7 +61,7 @@ returns-clause-gained g c =
     let slot : HasSlot c.self.inside.roll c.put_in.new.self c.in_ok-id.id (Some (fresh (held s p))) =
     subst (λ (o : Owned). HasSlot c.self.inside.roll c.put_in.new.self c.in_ok-id.id (Some (fresh o))) c.owned_by-owned.ensures c.in_ok-id.ensures.slot in
     let timed_so : IsTimed scene c.args.now.now (held s p) c.in_ok-id.id c.put_in.new.self c.self.inside.schedule c.time.new.roll c.time.new.schedule =
-    subst (λ (o : Owned). IsTimed scene c.args.now.now o c.in_ok-id.id c.put_in.new.self c.self.inside.schedule c.time.new.roll c.time.new.schedule) c.owned_by-owned.ensures c.in_ok-time.ensures.ok in
+    subst (λ (o : Owned). IsTimed scene c.args.now.now o c.in_ok-id.id c.put_in.new.self c.self.inside.schedule c.time.new.roll c.time.new.schedule) c.owned_by-owned.ensures (c.in_ok-time.ensures.ok c.owned_by-owned.result c.in_ok-id.ensures.slot.changed refl) in
     subst (λ (t : Facts). HasBorn s scene c.args.now.now p t.live (live_in c.time.new.roll)) c.self.view_is
     (has-born s scene c.args.now.now p c.self.inside.roll c.put_in.new.self c.time.new.roll c.in_ok-id.id c.self.inside.schedule c.time.new.schedule slot.changed timed_so c.in_ok-id.ensures.vacant slot)
 
@@ -73,7 +73,7 @@ returns-clause-count g c =
     let slot : HasSlot c.self.inside.roll c.put_in.new.self c.in_ok-id.id (Some (fresh (held s p))) =
     subst (λ (o : Owned). HasSlot c.self.inside.roll c.put_in.new.self c.in_ok-id.id (Some (fresh o))) c.owned_by-owned.ensures c.in_ok-id.ensures.slot in
     let timed_so : IsTimed scene c.args.now.now (held s p) c.in_ok-id.id c.put_in.new.self c.self.inside.schedule c.time.new.roll c.time.new.schedule =
-    subst (λ (o : Owned). IsTimed scene c.args.now.now o c.in_ok-id.id c.put_in.new.self c.self.inside.schedule c.time.new.roll c.time.new.schedule) c.owned_by-owned.ensures c.in_ok-time.ensures.ok in
+    subst (λ (o : Owned). IsTimed scene c.args.now.now o c.in_ok-id.id c.put_in.new.self c.self.inside.schedule c.time.new.roll c.time.new.schedule) c.owned_by-owned.ensures (c.in_ok-time.ensures.ok c.owned_by-owned.result c.in_ok-id.ensures.slot.changed refl) in
     let more : length (live_in c.put_in.new.self) ≡ length (live_in c.self.inside.roll) + 1 = omega (arith, live-count c.put_in.new.self, live-count c.self.inside.roll, c.in_ok-id.ensures.count) in
     born-count s scene c.args.now.now p c.self.inside.roll c.put_in.new.self c.time.new.roll c.in_ok-id.id c.self.inside.schedule c.time.new.schedule slot.changed timed_so more
     ∙ ap (λ (t : Facts). length t.live + 1) c.self.view_is
