@@ -8,7 +8,7 @@ use Rattle.std.specs.FinMap.{FinMap, get-empty}
 use Rattle.std.proofs.lemmas.Bool.{cases_eq}
 use Rattle.kin_num.specs.declared.instant.Moment.{Moment}
 use Rattle.kin_queue.specs.Agenda.{IsLeast}
-use Rattle.kin_cert.specs.declared.entry.Entry.{Entry}
+use Rattle.kin_cert.specs.Entries.{Entry}
 use Rattle.kin_cert.specs.Facts.{LiveFact}
 use Rattle.kin_cert.specs.Rank.{padded_rank}
 use Rattle.kin_cert.specs.Taken.{NoneWaits, NoneFails, IsLeastFailure}

@@ -3,7 +3,7 @@ use Rattle.std.proofs.Common.{◌≡◌, refl, sym, ap, ◌∙◌, arith, List, 
 use Rattle.std.proofs.lemmas.Option.{same_Some, none-some}
 use Rattle.std.proofs.lemmas.Bool.{cases_eq, cases_lt}
 use Rattle.kin_pointers.specs.Pointing.{Pointing}
-use Rattle.kin_cert.specs.declared.entry.Entry.{Entry}
+use Rattle.kin_cert.specs.Entries.{Entry}
 use Rattle.kin_cert.specs.Layout.{entry_at, HasSlot}
 use Rattle.kin_cert.specs.Names.{target_of, slot_number, numbers_in, numbers_at, owned_in, IsIndex, IsIndexUpTo, AreNamed, HasNumbers, AreKept, HaveSameFacts}
 

@@ -11,7 +11,7 @@ use Rattle.kin_motion.specs.Scene.{Scene, Holds}
 use Rattle.kin_motion.specs.Sets.{AreDistinct}
 use Rattle.kin_motion.proofs.SetLaws.{distinct_head, distinct_tail}
 use Rattle.kin_pointers.specs.Pointing.{Pointing, AreSlotsOf}
-use Rattle.kin_cert.specs.declared.entry.Entry.{Entry}
+use Rattle.kin_cert.specs.Entries.{Entry}
 use Rattle.kin_cert.specs.Facts.{LiveFact}
 use Rattle.kin_cert.specs.Failures.{IsFirstFailure}
 use Rattle.kin_cert.specs.Layout.{entry_at, live_fact, live_in, fresh, timed, HasSlot}

@@ -10,7 +10,7 @@ use Rattle.std.specs.FinMap.{FinMap}
 use Rattle.kin_basics.proofs.Members.{contains_none, contains_head, contains_cases}
 use Rattle.kin_num.specs.declared.instant.Moment.{Moment}
 use Rattle.kin_motion.specs.Scene.{Scene}
-use Rattle.kin_cert.specs.declared.entry.Entry.{Entry}
+use Rattle.kin_cert.specs.Entries.{Entry}
 use Rattle.kin_cert.specs.declared.entry.Seat.{Seat}
 use Rattle.kin_cert.specs.declared.owned.Owned.{Owned}
 use Rattle.kin_cert.specs.Failures.{IsFirstFailure}

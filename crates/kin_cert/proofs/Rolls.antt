@@ -5,7 +5,7 @@ use Rattle.std.proofs.lemmas.Cmp.{nat_eq_equiv, lists_equiv}
 use Rattle.std.proofs.lemmas.Bool.{cases_eq}
 use Rattle.indexmap.specs.IndexMap.{IndexMap, get as look_up}
 use Rattle.kin_motion.specs.declared.form.Form.{Form}
-use Rattle.kin_cert.specs.declared.entry.Entry.{Entry}
+use Rattle.kin_cert.specs.Entries.{Entry}
 use Rattle.kin_cert.specs.declared.owned.Owned.{Owned}
 use Rattle.kin_cert.specs.Place.{place_of}
 use Rattle.kin_cert.specs.Rank.{padded_rank}

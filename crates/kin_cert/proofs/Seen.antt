@@ -13,7 +13,7 @@ use Rattle.kin_motion.specs.declared.form.Form.TheVariants.{Line}
 use Rattle.kin_motion.specs.Course.{Course}
 use Rattle.kin_motion.specs.Forms.{IsAskable, sign_of_form, polynomial_of}
 use Rattle.kin_motion.specs.Scene.{scene_at, Holds}
-use Rattle.kin_cert.specs.declared.entry.Entry.{Entry}
+use Rattle.kin_cert.specs.Entries.{Entry}
 use Rattle.kin_cert.specs.declared.owned.Owned.{Owned}
 use Rattle.kin_cert.specs.Failures.{IsFirstFailure, seen_by}
 use Rattle.kin_cert.specs.Layout.{IsTimed, IsTimedFact}

@@ -6,7 +6,7 @@ use Rattle.std.specs.List.{Contains}
 use Rattle.std.proofs.lemmas.List.Sums.{sum_by-cons}
 use Rattle.std.proofs.lemmas.List.Kept.{AllPairs-cons}
 use Rattle.slab.proofs.SlabLemmas.{Contains-cons, Contains-cons_cases}
-use Rattle.kin_cert.specs.declared.entry.Entry.{Entry}
+use Rattle.kin_cert.specs.Entries.{Entry}
 use Rattle.kin_cert.specs.Facts.{LiveFact, AreAlike, NoneAlike}
 use Rattle.kin_cert.specs.Layout.{live_fact, live_in, waiting, due_count}
 

@@ -12,7 +12,7 @@ use Rattle.kin_num.specs.declared.instant.Moment.{Moment}
 use Rattle.kin_motion.specs.declared.form.Form.{Form}
 use Rattle.kin_motion.specs.Scene.{Scene}
 use Rattle.kin_queue.proofs.Entries.{same, same_is, same_itself, differ}
-use Rattle.kin_cert.specs.declared.entry.Entry.{Entry}
+use Rattle.kin_cert.specs.Entries.{Entry}
 use Rattle.kin_cert.specs.declared.owned.Owned.{Owned}
 use Rattle.kin_cert.specs.Facts.{LiveFact, IsAt, NoneAlike}
 use Rattle.kin_cert.specs.Rank.{padded_rank}

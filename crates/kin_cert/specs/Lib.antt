@@ -5,6 +5,7 @@ pub mod Facts
 pub mod Applied
 pub mod Taken
 pub mod Blocks
+pub mod Entries
 pub mod Layout
 pub mod Rolls
 pub mod Laws

@@ -8,7 +8,7 @@ use Rattle.kin_motion.specs.Numbers.{is_in}
 use Rattle.kin_motion.specs.Forms.{numbers_of, IsAskable}
 use Rattle.kin_motion.specs.Scene.{Scene, Holds}
 use Rattle.kin_pointers.specs.Pointing.{Pointing, AreSlotsOf}
-use Rattle.kin_cert.specs.declared.entry.Entry.{Entry}
+use Rattle.kin_cert.specs.Entries.{Entry}
 use Rattle.kin_cert.specs.declared.entry.Seat.{Seat}
 use Rattle.kin_cert.specs.declared.owned.Owned.{Owned}
 use Rattle.kin_cert.specs.Failures.{IsFirstFailure}

@@ -3,7 +3,7 @@ use Rattle.std.specs.Prelude.{◌≡◌, ◌≢◌, ◌⊎◌, ℕ, Bool, cond, 
 use lib.Pointwise.{pointwise}
 use Rattle.indexmap.specs.IndexMap.{IndexMap, get as look_up}
 use Rattle.kin_motion.specs.declared.form.Form.{Form}
-use Rattle.kin_cert.specs.declared.entry.Entry.{Entry}
+use Rattle.kin_cert.specs.Entries.{Entry}
 use Rattle.kin_cert.specs.declared.owned.Owned.{Owned}
 use Rattle.kin_cert.specs.Place.{place_of}
 use Rattle.kin_cert.specs.Rank.{padded_rank}

@@ -67,20 +67,26 @@ impl Names {
         }
     }
 
-    /// Notes the form of an id's fact, or that there is none. After want of memory all is as if nobody
-    /// had asked.
+    /// Notes the form of an id's fact. After want of memory all is as if nobody had asked.
     #[inline(always)]
-    pub(crate) fn note(&mut self, id: usize, form: Option<Form>) -> Result<(), NoMemory>
-        ensures { AreKept self.old self.new id (numbers_in form) }
+    pub(crate) fn note(&mut self, id: usize, form: &Form) -> Result<(), NoMemory>
+        ensures { AreKept self.old self.new id (numbers_in (Some form.now)) }
     {
         // While nobody has asked not even a call is made.
         if self.pointers.is_none() {
             return Ok(());
         }
-        self.note_asked(id, form)
+        self.note_asked(id, Some(*form))
     }
 
-    // The same, where somebody may have asked.
+    /// Notes that an id has no fact. After want of memory all is as if nobody had asked.
+    pub(crate) fn forget(&mut self, id: usize) -> Result<(), NoMemory>
+        ensures { AreKept self.old self.new id (numbers_in None) }
+    {
+        self.note_asked(id, None)
+    }
+
+    // Notes the form of an id's fact, or that there is none, where somebody may have asked.
     #[inline(never)]
     fn note_asked(&mut self, id: usize, form: Option<Form>) -> Result<(), NoMemory>
         ensures { AreKept self.old self.new id (numbers_in form) }

@@ -1,7 +1,7 @@
 //! The roll of the live facts: an entry by id, and the id of each owner's form.
 
 ghost use Rattle.std.specs.Prelude.{◌≡◌, ◌≤◌, length, ◌+◌, [], Some, None, is_some, count_by, OnOk, OnErr, IfOk, IfSome, IfNone, IsSome, IsTrue, ◌↔◌, slice_set, ⊤};
-ghost use Rattle.kin_cert.specs.declared.entry.Entry.{Entry as Kept};
+ghost use Rattle.kin_cert.specs.Entries.{Entry as Kept};
 ghost use Rattle.kin_cert.specs.Place.{place_of};
 ghost use Rattle.kin_cert.specs.Rank.{padded_rank};
 ghost use Rattle.indexmap.specs.IndexMap.{get as look_up};
@@ -37,7 +37,7 @@ pub(crate) struct Roll {
 
 impl Model for Roll {
     ghost use Rattle.std.specs.Prelude.{List, Option};
-    ghost use Rattle.kin_cert.specs.declared.entry.Entry.{Entry as Kept};
+    ghost use Rattle.kin_cert.specs.Entries.{Entry as Kept};
 
     ghost Value = { List (Option Kept) };
 
@@ -83,7 +83,7 @@ impl Roll {
             form,
         )?;
         let entry = self.entries.get(id)?;
-        Some(entry.owned.fact.sign)
+        Some(entry.owned().fact.sign)
     }
 
     /// Puts in a fact that never fails as yet. No fact of its owner has its form.
@@ -97,11 +97,7 @@ impl Roll {
         self.entries.reserve(1)?;
         let id = self.entries.vacant_key();
         enrol(&mut self.firsts, &mut self.others, &owned, id)?;
-        self.entries.insert_reserved(Entry {
-            owned,
-            fails: None,
-            is_waiting: false,
-        });
+        self.entries.insert_reserved(Entry::new(owned));
         Ok(id)
     }
 
@@ -149,13 +145,7 @@ impl Roll {
             unreachable!()
         };
         let is_queued = entry.is_queued();
-        entry.owned = Owned {
-            structure,
-            part: new.part,
-            fact: new.fact,
-        };
-        entry.fails = None;
-        entry.is_waiting = false;
+        entry.replace_with(structure, new);
         Some(Seat { id, is_queued })
     }
 
@@ -167,7 +157,7 @@ impl Roll {
         let Some(entry) = self.entries.get_mut(id) else {
             unreachable!()
         };
-        entry.fails = Some(*at);
+        entry.set_failure(at);
     }
 
     /// Lets a live fact be as a new one, which never fails as yet. Answers it with what its seat was.
@@ -179,9 +169,8 @@ impl Roll {
             unreachable!()
         };
         let is_queued = entry.is_queued();
-        entry.fails = None;
-        entry.is_waiting = false;
-        (entry.owned, Seat { id, is_queued })
+        entry.renew();
+        (*entry.owned(), Seat { id, is_queued })
     }
 
     /// From this id on there is no fact.
@@ -196,7 +185,7 @@ impl Roll {
         ensures { result ≡ form_in (entry_at self.now id) }
     {
         match self.entries.get(id) {
-            Some(entry) => Some(entry.owned.fact.form),
+            Some(entry) => Some(entry.owned().fact.form),
             None => None,
         }
     }
@@ -210,8 +199,8 @@ impl Roll {
         let Some(entry) = self.entries.get_mut(id) else {
             unreachable!()
         };
-        entry.is_waiting = true;
-        entry.owned
+        entry.let_wait();
+        *entry.owned()
     }
 }
 
@@ -239,7 +228,7 @@ fn has_form(entries: &Slab<Entry>, id: usize, form: &Form) -> bool
     ensures { IsTrue result ↔ ((e : Kept) × (entry_at entries.now.slots id ≡ Some e) × (e.owned.fact.form ≡ form.now)) }
 {
     match entries.get(id) {
-        Some(entry) => entry.owned.fact.form.is(*form),
+        Some(entry) => entry.owned().fact.form.is(*form),
         None => false,
     }
 }

@@ -60,7 +60,9 @@ impl Schedule {
         }
     }
 
-    /// Puts an id in at a moment. The id isn't there yet. Want of memory changes nothing.
+    /// Puts an id in at a moment. The id isn't there yet. Want of memory changes nothing. It is made in line, since who
+    /// calls it mostly knows the phase.
+    #[inline(always)]
     pub(crate) fn insert<L: Ledger>(
         &mut self,
         id: usize,

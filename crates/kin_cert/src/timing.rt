@@ -23,6 +23,8 @@ use kin_num::{Moment, NoMemory, Poly, Steps};
 use std::sync::ledger::Ledger;
 
 /// Finds out when the new fact of an id fails first, and puts the id in the schedule if it ever does.
+/// It is made in line for lines.
+#[inline(always)]
 pub(crate) fn time<L: Ledger>(
     roll: &mut Roll,
     schedule: &mut Schedule,
@@ -46,11 +48,32 @@ pub(crate) fn time<L: Ledger>(
             let p = poly_of_line(motions, dx, dy, off, i, j);
             time_by(roll, schedule, id, fact, &p, now, steps)
         }
-        _ => {
-            let p = poly_of(&fact.form, motions);
-            time_by(roll, schedule, id, fact, &p, now, steps)
-        }
+        _ => time_curve(roll, schedule, id, fact, motions, now, steps),
     }
+}
+
+// The same for a form of any degree, out of the way of lines.
+#[inline(never)]
+fn time_curve<L: Ledger>(
+    roll: &mut Roll,
+    schedule: &mut Schedule,
+    id: usize,
+    fact: &Fact,
+    motions: &Motions,
+    now: &Moment,
+    steps: &mut Steps<L>,
+) -> Result<(), NoMemory>
+    requires there { IsSome (entry_at roll.old id) }
+    requires absent { map.get schedule.old id ≡ None }
+    requires askable { IsAskable (live_of motions.now) fact.now.form }
+    requires holds { Holds (scene_at motions.now now.now) fact.now }
+    ensures ok { OnOk result (IsTimedFact (scene_at motions.now) now.now fact.now id roll.old schedule.old roll.new schedule.new) }
+    ensures roll { OnErr result (roll.new ≡ roll.old) }
+    ensures schedule { OnErr result (schedule.new ≡ schedule.old) }
+    ensures cost { OnOk result (TakesAtMost (map.len schedule.old) (λ r. r + 1) steps.old steps.new) }
+{
+    let p = poly_of(&fact.form, motions);
+    time_by(roll, schedule, id, fact, &p, now, steps)
 }
 
 // The same, where `p` is the polynomial of the fact's form.

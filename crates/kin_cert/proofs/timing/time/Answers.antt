@@ -11,26 +11,7 @@ time_by-requires-clause-holds g c =
     let p_is : c.poly_of_line-p.result ≡ polynomial_of c.args.motions.now c.args.fact.now.form = c.poly_of_line-p.ensures ∙ ap (λ (f : Form). polynomial_of c.args.motions.now f) (line-read _ c.args.fact.now.form c.in-Line.dx c.in-Line.dy c.in-Line.off c.in-Line.i c.in-Line.j c.requires.askable c.in-Line.is) in
     ap (λ (q : Quadratic). sign_at q c.args.now.now) p_is ∙ holds-seen c.args.motions.now c.args.fact.now c.args.now.now c.requires.holds
 
-pub time_by-requires-in_default : goal.time_by-requires-in_default
-time_by-requires-in_default g c =
-    let p_is : c.poly_of-p.result ≡ polynomial_of c.args.motions.now c.args.fact.now.form = c.poly_of-p.ensures in
-    record {
-      there = c.requires.there;
-      absent = c.requires.absent;
-      holds = ap (λ (q : Quadratic). sign_at q c.args.now.now) p_is ∙ holds-seen c.args.motions.now c.args.fact.now c.args.now.now c.requires.holds;
-    }
-
 pub returns-in-Line-clause-ok : goal.returns-in-Line-clause-ok
 returns-in-Line-clause-ok g c =
     let p_is : c.poly_of_line-p.result ≡ polynomial_of c.args.motions.now c.args.fact.now.form = c.poly_of_line-p.ensures ∙ ap (λ (f : Form). polynomial_of c.args.motions.now f) (line-read _ c.args.fact.now.form c.in-Line.dx c.in-Line.dy c.in-Line.off c.in-Line.i c.in-Line.j c.requires.askable c.in-Line.is) in
     on_timed c.args.motions.now c.args.now.now c.args.fact.now c.args.id c.args.roll.now c.time_by.new.roll c.args.schedule.now c.time_by.new.schedule c.poly_of_line-p.result p_is c.time_by.result c.time_by.ensures.ok
-
-pub returns-in_default : goal.returns-in_default
-returns-in_default g c =
-    let p_is : c.poly_of-p.result ≡ polynomial_of c.args.motions.now c.args.fact.now.form = c.poly_of-p.ensures in
-    record {
-      ok = on_timed c.args.motions.now c.args.now.now c.args.fact.now c.args.id c.args.roll.now c.time_by-in_default.new.roll c.args.schedule.now c.time_by-in_default.new.schedule c.poly_of-p.result p_is c.time_by-in_default.result c.time_by-in_default.ensures.ok;
-      roll = c.time_by-in_default.ensures.roll;
-      schedule = c.time_by-in_default.ensures.schedule;
-      cost = c.time_by-in_default.ensures.cost;
-    }

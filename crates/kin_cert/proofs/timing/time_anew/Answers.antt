@@ -1,6 +1,6 @@
 use Rattle.std.proofs.Common.{List, Option, length, refl, ap, sym, subst, ◌∙◌, arith}
 use Rattle.kin_motion.specs.Scene.{scene_at}
-use Rattle.kin_cert.specs.declared.entry.Entry.{Entry}
+use Rattle.kin_cert.specs.Entries.{Entry}
 use Rattle.kin_cert.specs.Layout.{queued_at, live_in, IsTable}
 use Rattle.kin_cert.proofs.Schedules.{Moments}
 use Rattle.kin_cert.proofs.Tables.{timed-table}

@@ -1,5 +1,5 @@
 use Rattle.std.proofs.Common.{List, Option, subst}
-use Rattle.kin_cert.specs.declared.entry.Entry.{Entry}
+use Rattle.kin_cert.specs.Entries.{Entry}
 use Rattle.kin_cert.specs.Layout.{NoneTwice}
 use Rattle.kin_cert.proofs.Rolls.{once}
 use Rattle.kin_cert.proofs.roll.Roll.len.Goals as goal

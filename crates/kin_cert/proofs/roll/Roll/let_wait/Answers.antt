@@ -1,5 +1,6 @@
-use Rattle.std.proofs.Common.{◌≡◌, List, Option, Some, refl, sym, subst}
-use Rattle.kin_cert.specs.declared.entry.Entry.{Entry}
+use Rattle.std.proofs.Common.{◌≡◌, List, Option, Some, slice_set, refl, sym, subst}
+use Rattle.kin_cert.specs.Rolls.{IsRoll}
+use Rattle.kin_cert.specs.Entries.{Entry}
 use Rattle.kin_cert.specs.Layout.{entry_at, waiting, NoneTwice}
 use Rattle.kin_cert.proofs.Rolls.{once, kept-roll}
 use Rattle.kin_cert.proofs.Tables.{has-slot}
@@ -9,7 +10,8 @@ pub invariant_of-self : goal.invariant_of-self
 invariant_of-self c =
     let e = c.in-Some.entry.now in
     let there : entry_at c.self.inside.entries.slots c.args.id ≡ Some e = sym c.in-Some.ensures.value in
-    kept-roll c.self.inside.entries.slots c.self.inside.firsts c.self.inside.others c.self.invariant _ c.args.id e (waiting e) there (has-slot c.self.inside.entries.slots c.args.id e (Some (waiting e)) there) refl
+    subst (λ (x : Entry). IsRoll (slice_set c.self.inside.entries.slots c.args.id (Some x)) c.self.inside.firsts c.self.inside.others) (sym c.let_wait.ensures)
+    (kept-roll c.self.inside.entries.slots c.self.inside.firsts c.self.inside.others c.self.invariant _ c.args.id e (waiting e) there (has-slot c.self.inside.entries.slots c.args.id e (Some (waiting e)) there) refl)
 
 pub returns-clause-once : goal.returns-clause-once
 returns-clause-once c = subst (λ (slots : List (Option Entry)). NoneTwice slots) c.self.view_is (once c.self.inside.entries.slots c.self.inside.firsts c.self.inside.others c.self.invariant)

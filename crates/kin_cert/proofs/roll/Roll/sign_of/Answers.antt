@@ -1,6 +1,7 @@
-use Rattle.std.proofs.Common.{◌≡◌, List, Option, Some, refl, sym, subst, ◌∙◌}
+use Rattle.std.proofs.Common.{◌≡◌, List, Option, Some, sym, ap, subst, ◌∙◌}
 use Rattle.std.proofs.lemmas.Option.{same_Some}
-use Rattle.kin_cert.specs.declared.entry.Entry.{Entry}
+use Rattle.kin_cert.specs.Entries.{Entry}
+use Rattle.kin_cert.specs.declared.owned.Owned.{Owned}
 use Rattle.kin_cert.specs.Layout.{entry_at, IsFoundAt}
 use Rattle.kin_cert.specs.Rank.{padded_rank}
 use Rattle.kin_cert.proofs.Rolls.{id-there}
@@ -12,5 +13,5 @@ returns-clause-some c =
     let there : entry_at c.self.inside.entries.slots c.in_ok-id.id ≡ Some e = sym c.in_ok-entry.ensures in
     let k = id-there c.self.inside.entries.slots c.self.inside.firsts c.self.inside.others c.self.invariant c.args.structure c.args.part c.args.form c.in_ok-id.id c.in_ok-id.ensures.some in
     let e_is : k.0 ≡ e = same_Some k.0 e (sym k.1 ∙ there) in
-    subst (λ (slots : List (Option Entry)). IsFoundAt slots (padded_rank c.args.structure c.args.part c.args.form) (λ x. x.owned.fact.sign ≡ e.owned.fact.sign)) c.self.view_is
-    (c.in_ok-id.id, e, there, subst (λ (x : Entry). padded_rank x.owned.structure x.owned.part x.owned.fact.form ≡ padded_rank c.args.structure c.args.part c.args.form) e_is k.2, refl)
+    subst (λ (slots : List (Option Entry)). IsFoundAt slots (padded_rank c.args.structure c.args.part c.args.form) (λ x. x.owned.fact.sign ≡ c.owned.result.now.fact.sign)) c.self.view_is
+    (c.in_ok-id.id, e, there, subst (λ (x : Entry). padded_rank x.owned.structure x.owned.part x.owned.fact.form ≡ padded_rank c.args.structure c.args.part c.args.form) e_is k.2, ap (λ (o : Owned). o.fact.sign) (sym c.owned.ensures))

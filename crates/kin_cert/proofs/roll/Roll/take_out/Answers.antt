@@ -1,6 +1,6 @@
 use Rattle.std.proofs.Common.{◌≡◌, List, Option, IsSome, refl, sym, subst, ap, ◌∙◌}
 use Rattle.std.proofs.lemmas.Option.{same_Some}
-use Rattle.kin_cert.specs.declared.entry.Entry.{Entry}
+use Rattle.kin_cert.specs.Entries.{Entry}
 use Rattle.kin_cert.specs.Rank.{padded_rank}
 use Rattle.kin_cert.specs.Layout.{entry_rank, NoneTwice, IsSeatOf}
 use Rattle.kin_cert.proofs.Rolls.{once, id-there, struck-id, struck-roll}

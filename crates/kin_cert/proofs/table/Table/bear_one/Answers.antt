@@ -1,7 +1,7 @@
 use Rattle.std.proofs.Common.{◌≡◌, ◌+◌, List, Option, length, Some, refl, subst, sym, ap, ◌∙◌, arith}
 use Rattle.std.specs.List.{Contains}
 use Rattle.kin_motion.specs.Scene.{scene_at}
-use Rattle.kin_cert.specs.declared.entry.Entry.{Entry}
+use Rattle.kin_cert.specs.Entries.{Entry}
 use Rattle.kin_cert.specs.declared.owned.Owned.{Owned}
 use Rattle.kin_cert.specs.Facts.{Facts}
 use Rattle.kin_cert.specs.Layout.{live_in, owned_rank, held, fresh, timed, HasSlot, IsNotFound, IsTimed, HasBorn}

@@ -1,6 +1,6 @@
 use Rattle.std.proofs.Common.{◌≡◌, true, List, [], length, Option, None, refl, subst, sym, ap, ◌↔◌, arith}
 use Rattle.std.specs.List.{Contains}
-use Rattle.kin_cert.specs.declared.entry.Entry.{Entry}
+use Rattle.kin_cert.specs.Entries.{Entry}
 use Rattle.kin_cert.specs.Cost.{is_ungiven}
 use Rattle.kin_cert.specs.Facts.{Facts}
 use Rattle.kin_cert.specs.Applied.{IsOf}
@@ -29,7 +29,7 @@ invariant_of-self g c =
     subst (λ (xs : List (Option Entry)). HasSlot c.self.inside.roll xs c.take_out-seat.result.id None) (sym c.take_out-seat.ensures.slots) (has-slot c.self.inside.roll c.take_out-seat.result.id k.entry None k.there) in
     record {
       table = unqueued-table c.self.inside.roll c.take_out-seat.new.self c.self.inside.schedule c.unqueue.new.schedule c.take_out-seat.result.id None c.self.invariant.table slot refl c.unqueue.ensures.rest;
-      named = renamed c.self.inside.names c.note.new.self c.self.inside.roll c.take_out-seat.new.self c.take_out-seat.result.id [] None c.self.invariant.named slot c.note.ensures refl;
+      named = renamed c.self.inside.names c.forget.new.self c.self.inside.roll c.take_out-seat.new.self c.take_out-seat.result.id [] None c.self.invariant.named slot c.forget.ensures refl;
     }
 
 pub returns-clause-rest : goal.returns-clause-rest

@@ -1,6 +1,6 @@
 use Rattle.std.proofs.Common.{◌≡◌, true, List, length, Option, Some, IsSome, refl, sym, ap, subst, ◌∙◌, arith}
 use Rattle.kin_motion.specs.Scene.{scene_at}
-use Rattle.kin_cert.specs.declared.entry.Entry.{Entry}
+use Rattle.kin_cert.specs.Entries.{Entry}
 use Rattle.kin_cert.specs.Cost.{is_ungiven}
 use Rattle.kin_cert.specs.Facts.{Facts}
 use Rattle.kin_cert.specs.Layout.{live_in, held, owned_rank, fresh, timed, queued_at, HasReplaced}

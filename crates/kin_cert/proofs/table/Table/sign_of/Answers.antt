@@ -2,7 +2,7 @@ use Rattle.std.proofs.Common.{◌≡◌, ℕ, List, Option, None, Some, IfSome, 
 use Rattle.std.specs.List.{Contains}
 use Rattle.kin_algebra.specs.declared.sign.Sign.{Sign}
 use Rattle.kin_motion.specs.declared.form.Form.{Form}
-use Rattle.kin_cert.specs.declared.entry.Entry.{Entry}
+use Rattle.kin_cert.specs.Entries.{Entry}
 use Rattle.kin_cert.specs.Facts.{Facts, LiveFact, IsAt}
 use Rattle.kin_cert.specs.Rank.{padded_rank}
 use Rattle.kin_cert.specs.Layout.{live_in, live_fact, IsFoundAt, IsNotFound}
