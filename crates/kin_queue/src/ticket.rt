@@ -19,6 +19,7 @@ impl Ticket {
     ghost use Rattle.kin_queue.specs.Tickets.{key_in};
 
     /// The ticket of an id at a moment.
+    #[inline(always)]
     pub fn new(id: u32, at: &Moment) -> Ticket
         ensures id { result.id ≡ id }
         ensures key { IsKeyOf (key_in result) at.now }
