@@ -5,6 +5,7 @@ pub mod Giving
 pub mod Ranks
 pub mod Rolls
 pub mod Replacing
+pub mod Alone
 pub mod SlotNumbers
 pub mod Naming
 pub mod Renewing

@@ -15,7 +15,7 @@ use Rattle.kin_cert.proofs.Replacing.{apart-born}
 use Rattle.kin_cert.proofs.Ungiven.{cost_if, still-ungiven, ungiven-cons, fewer-ungiven, more-ungiven}
 
 -- one or none of them
-share : (b : Bool) (r : ℕ) → cond b 1 0 * r ≡ cond b r 0
+pub share : (b : Bool) (r : ℕ) → cond b 1 0 * r ≡ cond b r 0
 share true r = omega arith
 share false r = omega arith
 
@@ -48,24 +48,24 @@ module _ (s : ℕ) (scene : Moment → Scene) (now : Moment) (d b : Placed) (ds 
     | inr is ↦ absurd (apart-born s scene now d b ds bs old mid may did p there (subst (λ (x : LiveFact). IsOf s p x) is of))
   ])
 
-  pub rest-paid : (n : ℕ) (all : ℕ → ℕ) (before at after : ℕ) → length old ≡ n → IsPaid n all (change_cost s (record { dropped = d ∷ ds; born = b ∷ bs }) old) before at
+  pub rest-paid : (n : ℕ) (all : ℕ → ℕ) (before at after : ℕ) → length old ≤ n → IsPaid n all (change_cost s (record { dropped = d ∷ ds; born = b ∷ bs }) old) before at
       → TakesAtMost (length old) (λ r. cond (is_ungiven s old d) r 0 + (r + 1)) at after → IsPaid n all (change_cost s (record { dropped = ds; born = bs }) mid) before after
-  rest-paid n all before at after same paid one r e =
+  rest-paid n all before at after le paid one r e =
       let so_far = paid r e in
-      let pair = one r (enough (length old) n r (omega (arith, same)) e) in
+      let pair = one r (enough (length old) n r le e) in
       let fewer : ungiven s mid ds * r ≤ ungiven s old ds * r = mul-le (ungiven s mid ds) r (ungiven s old ds) r rest-ungiven (omega arith) in
       let first = share (is_ungiven s old d) r in
       let sum : ungiven s old (d ∷ ds) * r ≡ (cond (is_ungiven s old d) 1 0 + ungiven s old ds) * r = ap (λ (k : ℕ). k * r) (ungiven-cons s old d ds) in
       omega (arith, so_far, pair, fewer, first, sum)
 
 -- what is replaced, what is only dropped and what is only born
-pub all-paid : (s : ℕ) (all rest : Change) (old cur : List LiveFact) (mid more before replaced dropped after : ℕ) → length cur ≡ length old → mid ≤ length old + more
-    → IsPaid (length old) (change_cost s all old) (change_cost s rest cur) before replaced
+pub all-paid : (n s : ℕ) (all rest : Change) (old cur : List LiveFact) (mid before replaced dropped after : ℕ) → length cur ≤ n → mid ≤ n
+    → IsPaid n (change_cost s all old) (change_cost s rest cur) before replaced
     → TakesAtMost (length cur) (λ r. ungiven s cur rest.dropped * r) replaced dropped
     → TakesAtMost mid (λ r. length rest.born * (r + 1)) dropped after
-    → TakesAtMost (length old + more) (change_cost s all old) before after
-all-paid s all rest old cur mid more before replaced dropped after same le paid drops bears r e =
-    let first = paid r (enough (length old) (length old + more) r (omega arith) e) in
-    let second = drops r (enough (length cur) (length old + more) r (omega (arith, same)) e) in
-    let third = bears r (enough mid (length old + more) r le e) in
+    → TakesAtMost n (change_cost s all old) before after
+all-paid n s all rest old cur mid before replaced dropped after cur_le mid_le paid drops bears r e =
+    let first = paid r e in
+    let second = drops r (enough (length cur) n r cur_le e) in
+    let third = bears r (enough mid n r mid_le e) in
     omega (arith, first, second, third)

@@ -14,7 +14,7 @@ use Rattle.kin_motion.specs.Scene.{Scene}
 use Rattle.kin_cert.specs.Entries.{Entry}
 use Rattle.kin_cert.specs.declared.entry.Seat.{Seat}
 use Rattle.kin_cert.specs.declared.owned.Owned.{Owned}
-use Rattle.kin_cert.specs.Facts.{LiveFact}
+use Rattle.kin_cert.specs.Facts.{LiveFact, NoneAlike}
 use Rattle.kin_cert.specs.Applied.{IsOf, IsLiveIn, MayApply, IsBorn, HasApplied}
 use Rattle.kin_cert.specs.Layout.{entry_at, owned_rank, live_fact, live_in, held, fresh, timed, HasSlot, IsTakenOver, IsTimed, HasReplaced, HasBorn}
 use Rattle.kin_cert.proofs.Changes.{is-at, once-same}
@@ -77,41 +77,42 @@ module _ (s : ℕ) (scene : Moment → Scene) (now : Moment) (p : Placed) (slots
         once = table-once slots k.once;
       }
 
--- the rest of a change after its first pair
-module _ (s : ℕ) (scene : Moment → Scene) (now : Moment) (d b : Placed) (ds bs : List Placed) (old mid : List LiveFact)
-    (may : MayApply s (record { dropped = d ∷ ds; born = b ∷ bs }) old) (did : HasReplaced s scene now d b old mid) where
-  -- the live fact of a dropped one
-  live-of : (i : ℕ) → i < length (d ∷ ds) → IsLiveIn old s (get_or (d ∷ ds) i d)
+-- a dropped fact is live
+module _ (s : ℕ) (d : Placed) (ds bs : List Placed) (old : List LiveFact) (may : MayApply s (record { dropped = d ∷ ds; born = bs }) old) (once : NoneAlike old) where
+  pub live-of : (i : ℕ) → i < length (d ∷ ds) → IsLiveIn old s (get_or (d ∷ ds) i d)
   live-of i lt = may.dropped_live i d lt
 
-  -- a later dropped fact isn't the first one
-  apart : (i : ℕ) → i < length ds → (l : LiveFact) → Contains old l → IsOf s d l → IsOf s (get_or ds i d) l → ⊥
-  apart i lt l c of_d of =
+  -- and no later one is the first one
+  pub later-apart : (i : ℕ) → i < length ds → (l : LiveFact) → Contains old l → IsOf s d l → IsOf s (get_or ds i d) l → ⊥
+  later-apart i lt l c of_d of =
       let k = live-of 0 (omega arith) in
       let m = live-of (suc i) (omega (arith, lt)) in
-      let k_is : k.0 ≡ l = once-same old did.once s d.part d.fact.form k.0 l k.1 c (is-at s d k.0 k.2) of_d in
-      let m_is : m.0 ≡ l = once-same old did.once s (get_or ds i d).part (get_or ds i d).fact.form m.0 l m.1 c (is-at s (get_or ds i d) m.0 m.2) of in
+      let k_is : k.0 ≡ l = once-same old once s d.part d.fact.form k.0 l k.1 c (is-at s d k.0 k.2) of_d in
+      let m_is : m.0 ≡ l = once-same old once s (get_or ds i d).part (get_or ds i d).fact.form m.0 l m.1 c (is-at s (get_or ds i d) m.0 m.2) of in
       let same : d ≡ get_or ds i d = ap (λ (x : Certificate). x.placed) (sym k.2 ∙ ap (λ (x : LiveFact). x.certificate) (k_is ∙ sym m_is) ∙ m.2) in
       let e : 0 ≡ suc i = may.dropped_once 0 (suc i) d refl (slice_get-get_or (d ∷ ds) (suc i) d (omega (arith, lt)) ∙ ap (λ (x : Placed). Some x) (sym same)) in
       absurd (omega (arith, e))
 
+-- the rest of a change after its first pair
+module _ (s : ℕ) (scene : Moment → Scene) (now : Moment) (d b : Placed) (ds bs : List Placed) (old mid : List LiveFact)
+    (may : MayApply s (record { dropped = d ∷ ds; born = b ∷ bs }) old) (did : HasReplaced s scene now d b old mid) where
   -- no later dropped fact has the owner and form of the born one
   pub apart-born : (q : Placed) → Contains ds q → IsOf s q did.fact → ⊥
   apart-born q (j, lt, is) of =
       let at = is-at s b did.fact did.is_born.is in
       let of' : IsOf s (get_or ds j d) did.fact = subst (λ (x : Placed). IsOf s x did.fact) (sym is ∙ get_or_default ds j q d lt) of in
-      let m = live-of (suc j) (omega (arith, lt)) in
+      let m = live-of s d ds (b ∷ bs) old may did.once (suc j) (omega (arith, lt)) in
       let m_at = is-at s (get_or ds j d) m.0 m.2 in
       let of_b : IsOf s b m.0 = record { structure_is = m_at.structure_is; part_is = m_at.part_is ∙ sym of'.part_is ∙ at.part_is; form_is = m_at.form_is ∙ sym of'.form_is ∙ at.form_is } in
-      apart j lt m.0 m.1 (did.free m.0 m.1 of_b) m_at
+      later-apart s d ds (b ∷ bs) old may did.once j lt m.0 m.1 (did.free m.0 m.1 of_b) m_at
 
   pub rest-may : MayApply s (record { dropped = ds; born = bs }) mid
   rest-may =
       record {
         dropped_live = λ i x lt.
-            let m = live-of (suc i) (omega (arith, lt)) in
+            let m = live-of s d ds (b ∷ bs) old may did.once (suc i) (omega (arith, lt)) in
             let x_is : get_or ds i d ≡ get_or ds i x = get_or_default ds i d x lt in
-            subst (λ (y : Placed). IsLiveIn mid s y) x_is (m.0, (did.exactly m.0).1 (inl (m.1, λ of_d. apart i lt m.0 m.1 of_d (is-at s (get_or ds i d) m.0 m.2))), m.2);
+            subst (λ (y : Placed). IsLiveIn mid s y) x_is (m.0, (did.exactly m.0).1 (inl (m.1, λ of_d. later-apart s d ds (b ∷ bs) old may did.once i lt m.0 m.1 of_d (is-at s (get_or ds i d) m.0 m.2))), m.2);
         dropped_once = λ i j x at_i at_j. let e : suc i ≡ suc j = may.dropped_once (suc i) (suc j) x at_i at_j in omega (arith, e);
         born_free = λ l c (q, q_born, of). elim ((did.exactly l).0 c) [
           | inl (was, not_d) ↦

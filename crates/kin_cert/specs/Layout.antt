@@ -163,6 +163,11 @@ change_of p = record { dropped = p.dropped.now; born = p.born.now }
 abbrev pub IsLeftToApply : ℕ → (Moment → Scene) → Moment → Change → List LiveFact → Change → List LiveFact → Type 0
 IsLeftToApply structure scene now all old rest new = (after : List LiveFact) → HasApplied structure rest scene now new after → HasApplied structure all scene now old after
 
+-- the facts that are gone and those that are new are counted off both lists of the change
+pub record AreCounted (all : Change) (old : List LiveFact) (rest : Change) (new : List LiveFact) : Type 0 where
+  pub live : length new + length all.dropped + length rest.born ≡ length old + length all.born + length rest.dropped
+  pub fewer : length rest.dropped ≤ length all.dropped
+
 -- some facts that fail at the moment were given out, and the others are as they were
 pub record IsGivenUpTo (m : Moment) (old new : List LiveFact) (taken : List Owned) : Type 0 where
   pub given : (o : Owned) → Contains taken o → (l : LiveFact) × Contains new l × IsTrue l.waits × (l.certificate ≡ certificate_of o)

@@ -3,13 +3,13 @@ use Rattle.std.specs.Prelude.{ℕ, List, [], ◌∷◌}
 use Rattle.kin_motion.specs.declared.form.Form.{Form}
 use Rattle.kin_motion.specs.declared.form.Form.TheVariants.{Line, Turn, Slope, Dist}
 
--- the first number that a form names
-abbrev pub first_number : Form → ℕ
-first_number (Line dx dy off i j) = i
-first_number (Turn i j k) = i
-first_number (Slope i j k l) = i
-first_number (Dist i j k l) = i
+-- the first number that a form names, and 0 for a comparison of distances
+abbrev pub place_number : Form → ℕ
+place_number (Line dx dy off i j) = i
+place_number (Turn i j k) = i
+place_number (Slope i j k l) = i
+place_number (Dist i j k l) = 0
 
--- structure, part and first number
+-- structure, part and that number
 abbrev pub place_of : ℕ → ℕ → Form → List ℕ
-place_of structure part form = structure ∷ part ∷ first_number form ∷ []
+place_of structure part form = structure ∷ part ∷ place_number form ∷ []

@@ -12,7 +12,7 @@ ghost use Rattle.kin_cert.specs.Rolls.{IsFirstAt, HasNoFirstAt, IsIdOf, HasNoId,
 use crate::entry::{Entry, Seat};
 use crate::guesses::Guesses;
 use crate::owned::Owned;
-use crate::place::{Place, first_number, place};
+use crate::place::{Place, place, place_number};
 use crate::rank::{Rank, rank};
 use indexmap::IndexMap;
 use kin_motion::fact::Placed;
@@ -282,7 +282,7 @@ fn may_follow(others: &IndexMap<Rank, usize>, structure: u32, old: &Placed, new:
     ensures { IsTrue result → MayFollow others.now (held structure old.now) (held structure new.now) }
 {
     new.part == old.part
-        && first_number(new.fact.form) == first_number(old.fact.form)
+        && place_number(&new.fact.form) == place_number(&old.fact.form)
         && (others.is_empty()
             || new.fact.form.is(old.fact.form)
             || !is_among(others, structure, new.part, new.fact.form))

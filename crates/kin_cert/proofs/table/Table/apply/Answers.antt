@@ -32,11 +32,10 @@ returns-clause-cost g c =
     let rest = c.in_ok-rest.rest in
     let change_is : record { dropped = c.deref.result.now; born = c.deref-2.result.now } ≡ c.args.delta.now =
     ap₂ (λ (ds bs : List Placed). record { dropped = ds; born = bs }) c.deref.ensures.value c.deref-2.ensures.value ∙ c.delta.view_is in
-    let whole = (returns-clause-applied g c).count in
+    let n = length c.args.self.now.live + length c.deref-2.result.now in
+    let counted = c.in_ok-rest.ensures.count.live in
+    let fewer = c.in_ok-rest.ensures.count.fewer in
     let dropped = c.drop_each.ensures.count in
-    let born = c.in_ok-bear_each.ensures.count in
-    let same = c.in_ok-rest.ensures.count in
-    let viewed = ap (λ (t : Facts). length t.live) c.self.view_is in
-    subst (λ (x : Change). TakesAtMost (length c.args.self.now.live + length c.args.delta.now.born) (change_cost c.args.structure x c.args.self.now.live) c.args.steps.now c.bear_each.new.steps) change_is
-    (all-paid c.args.structure (record { dropped = c.deref.result.now; born = c.deref-2.result.now }) (change_of rest) c.args.self.now.live c.replace_each.new.self.live (length c.drop_each.new.self.live + length rest.born.now) (length c.args.delta.now.born) _ _ _ _ same
-    (omega (arith, whole, dropped, born, same, viewed)) c.in_ok-rest.ensures.cost c.drop_each.ensures.cost c.in_ok-bear_each.ensures.cost)
+    subst (λ (x : Change). TakesAtMost (length c.args.self.now.live + length x.born) (change_cost c.args.structure x c.args.self.now.live) c.args.steps.now c.bear_each.new.steps) change_is
+    (all-paid n c.args.structure (record { dropped = c.deref.result.now; born = c.deref-2.result.now }) (change_of rest) c.args.self.now.live c.replace_each.new.self.live (length c.drop_each.new.self.live + length rest.born.now) _ _ _ _
+    (omega (arith, counted, fewer)) (omega (arith, counted, fewer, dropped)) c.in_ok-rest.ensures.cost c.drop_each.ensures.cost c.in_ok-bear_each.ensures.cost)

@@ -2,13 +2,13 @@ use Rattle.std.proofs.Common.{◌≡◌, true, List, [], length, Option, None, r
 use Rattle.std.specs.List.{Contains}
 use Rattle.kin_cert.specs.Entries.{Entry}
 use Rattle.kin_cert.specs.Cost.{is_ungiven}
-use Rattle.kin_cert.specs.Facts.{Facts}
+use Rattle.kin_cert.specs.Facts.{Facts, NoneAlike}
 use Rattle.kin_cert.specs.Applied.{IsOf}
 use Rattle.kin_cert.specs.Layout.{live_in, HasSlot}
 use Rattle.kin_cert.proofs.Changes.{is-at}
 use Rattle.kin_cert.proofs.Slots.{live-from, live-count}
 use Rattle.kin_cert.proofs.Naming.{renamed}
-use Rattle.kin_cert.proofs.Tables.{at-rank, rank-of-live, has-slot, unqueued-table, dropped-rest}
+use Rattle.kin_cert.proofs.Tables.{at-rank, rank-of-live, has-slot, unqueued-table, dropped-rest, table-once}
 use Rattle.kin_cert.proofs.Costs.{in_queue}
 use Rattle.kin_cert.proofs.QueueSizes.{few-queued-of}
 use Rattle.kin_cert.proofs.Ungiven.{cost_if, queued-ungiven}
@@ -55,3 +55,6 @@ returns-clause-cost g c = λ r e.
     let part = in_queue _ _ _ _ _ few c.unqueue.ensures.cost r e in
     let less = cost_if _ _ r queued in
     omega (arith, part, less)
+
+pub returns-clause-once : goal.returns-clause-once
+returns-clause-once g c = subst (λ (t : Facts). NoneAlike t.live) c.self.view_is (table-once c.self.inside.roll c.take_out-seat.ensures.once)

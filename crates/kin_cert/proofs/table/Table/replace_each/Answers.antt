@@ -1,16 +1,23 @@
-use Rattle.std.proofs.Common.{◌≡◌, ◌∙◌, ℕ, List, ◌∷◌, length, sym, subst}
+use Rattle.std.proofs.Common.{◌≡◌, ◌∙◌, ℕ, ◌+◌, Bool, false, List, ◌∷◌, length, sym, ap, subst, arith}
+use Rattle.std.specs.Prelude.{IsTrue}
 use Rattle.std.specs.List.{All}
 use Rattle.std.proofs.lemmas.List.Elements.{All-head, All-tail}
 use Rattle.kin_motion.specs.declared.fact.Placed.{Placed}
 use Rattle.kin_motion.specs.Course.{live_of}
 use Rattle.kin_motion.specs.Forms.{IsAskable}
 use Rattle.kin_motion.specs.Scene.{scene_at, Holds}
-use Rattle.kin_cert.specs.Applied.{MayApply, HasApplied}
+use Rattle.kin_cert.specs.Applied.{IsLiveIn, MayApply, HasApplied}
+use Rattle.kin_cert.specs.Facts.{Facts}
+use Rattle.kin_cert.proofs.Alone.{dropped-may, dropped-did, dropped-paid, born-may, born-did, born-paid}
 use Rattle.kin_cert.proofs.Replacing.{rest-may, rest-did}
+use Rattle.kin_cert.proofs.Tables.{none-of}
 use Rattle.kin_cert.specs.Cost.{change_cost}
 use Rattle.kin_cert.specs.Layout.{change_of, IsPaid}
 use Rattle.kin_cert.proofs.Paying.{rest-paid}
 use Rattle.kin_cert.proofs.table.Table.replace_each.Goals as goal
+
+is_not : (b : Bool) → b ≡ false → ¬ (IsTrue b)
+is_not b f t = cc
 
 pub replace-requires-clause-askable : goal.replace-requires-clause-askable
 replace-requires-clause-askable g c =
@@ -22,8 +29,8 @@ replace-requires-clause-holds g c =
     let b_is = c.in-Some-split_first.ensures.cases.0 in
     All-head (λ (p : Placed). Holds (scene_at c.args.motions.now c.args.now.now) p.fact) _ _ (subst (λ (xs : List Placed). All (λ (p : Placed). Holds (scene_at c.args.motions.now c.args.now.now) p.fact) xs) b_is c.loop-dropped.invariant.holds)
 
-pub loop-dropped-preserved : goal.loop-dropped-preserved
-loop-dropped-preserved g c =
+pub loop-dropped-preserved-then-branch : goal.loop-dropped-preserved-then-branch
+loop-dropped-preserved-then-branch g c =
     let s = c.args.structure in
     let scene = scene_at c.args.motions.now in
     let inv = c.loop-dropped.invariant in
@@ -37,7 +44,7 @@ loop-dropped-preserved g c =
     subst (λ (xs : List Placed). MayApply s (record { dropped = xs; born = b ∷ bs }) c.loop-dropped.self.live) d_is
     (subst (λ (ys : List Placed). MayApply s (record { dropped = c.loop-dropped.rest.dropped.now; born = ys }) c.loop-dropped.self.live) b_is inv.may) in
     let all : ℕ → ℕ = change_cost s (change_of c.args.all) c.args.self.now.live in
-    let did = c.in_ok-replace.ensures.yes c.if-not-branch.false in
+    let did = c.in_ok-replace.ensures.yes c.if-branch.true in
     record {
       may = rest-may s scene c.args.now.now d b ds bs c.loop-dropped.self.live c.replace.new.self.live may did;
       did = λ after app.
@@ -48,9 +55,119 @@ loop-dropped-preserved g c =
       askable = All-tail (λ (p : Placed). IsAskable (live_of c.args.motions.now) p.fact.form) b bs (subst (λ (xs : List Placed). All (λ (p : Placed). IsAskable (live_of c.args.motions.now) p.fact.form) xs) b_is inv.askable);
       holds = All-tail (λ (p : Placed). Holds (scene c.args.now.now) p.fact) b bs (subst (λ (xs : List Placed). All (λ (p : Placed). Holds (scene c.args.now.now) p.fact) xs) b_is inv.holds);
       made = c.in_ok-replace.ensures.made ∙ inv.made;
-      count = did.count ∙ inv.count;
-      cost = rest-paid s scene c.args.now.now d b ds bs c.loop-dropped.self.live c.replace.new.self.live may did _ _ _ _ _ inv.count
-          (subst (λ (xs : List Placed). IsPaid (length c.args.self.now.live) all (change_cost s (record { dropped = xs; born = b ∷ bs }) c.loop-dropped.self.live) c.args.steps.now c.loop-dropped.steps) d_is
-          (subst (λ (ys : List Placed). IsPaid (length c.args.self.now.live) all (change_cost s (record { dropped = c.loop-dropped.rest.dropped.now; born = ys }) c.loop-dropped.self.live) c.args.steps.now c.loop-dropped.steps) b_is inv.cost))
-          (c.in_ok-replace.ensures.cost c.if-not-branch.false);
+      count =
+          let live = inv.count.live in
+          let fewer = inv.count.fewer in
+          record { live = omega (arith, live, did.count, ap length d_is, ap length b_is); fewer = omega (arith, fewer, ap length d_is) };
+      cost = rest-paid s scene c.args.now.now d b ds bs c.loop-dropped.self.live c.replace.new.self.live may did _ _ _ _ _ (omega (arith, inv.count.live, inv.count.fewer))
+          (subst (λ (xs : List Placed). IsPaid (length c.args.self.now.live + length c.args.all.born.now) all (change_cost s (record { dropped = xs; born = b ∷ bs }) c.loop-dropped.self.live) c.args.steps.now c.loop-dropped.steps) d_is
+          (subst (λ (ys : List Placed). IsPaid (length c.args.self.now.live + length c.args.all.born.now) all (change_cost s (record { dropped = c.loop-dropped.rest.dropped.now; born = ys }) c.loop-dropped.self.live) c.args.steps.now c.loop-dropped.steps) b_is inv.cost))
+          (c.in_ok-replace.ensures.cost c.if-branch.true);
+    }
+
+pub drop_one-requires : goal.drop_one-requires
+drop_one-requires g c =
+    let s = c.args.structure in
+    let d_is = c.in-Some.ensures.cases.0 in
+    let same = c.in_ok-replace.ensures.no (is_not _ c.if-branch.false) in
+    record {
+      live = subst (λ (t : Facts). IsLiveIn t.live s c.in-Some.dropped.now) (sym same)
+          ((subst (λ (xs : List Placed). All (IsLiveIn c.loop-dropped.self.live s) xs) d_is c.loop-dropped.invariant.may.dropped_live) 0 c.in-Some.dropped.now (omega arith));
+    }
+
+pub loop-dropped-preserved-then-rest : goal.loop-dropped-preserved-then-rest
+loop-dropped-preserved-then-rest g c =
+    let s = c.args.structure in
+    let scene = scene_at c.args.motions.now in
+    let now = c.args.now.now in
+    let inv = c.loop-dropped.invariant in
+    let d = c.in-Some.dropped.now in
+    let ds = c.in-Some.later_dropped.now in
+    let bs = c.loop-dropped.rest.born.now in
+    let mid = c.replace.new.self.live in
+    let new = c.drop_one.new.self.live in
+    let d_is : c.loop-dropped.rest.dropped.now ≡ d ∷ ds = c.in-Some.ensures.cases.0 in
+    let same : c.replace.new.self ≡ c.loop-dropped.self = c.in_ok-replace.ensures.no (is_not _ c.if-branch.false) in
+    let idle : c.replace.new.steps ≡ c.loop-dropped.steps = c.in_ok-replace.ensures.idle (is_not _ c.if-branch.false) in
+    let may : MayApply s (record { dropped = d ∷ ds; born = bs }) mid =
+    subst (λ (t : Facts). MayApply s (record { dropped = d ∷ ds; born = bs }) t.live) (sym same) (subst (λ (xs : List Placed). MayApply s (record { dropped = xs; born = bs }) c.loop-dropped.self.live) d_is inv.may) in
+    let once = c.drop_one.ensures.once in
+    let gone = c.drop_one.ensures.rest in
+    let count = c.drop_one.ensures.count in
+    let same_count : length mid ≡ length c.loop-dropped.self.live = ap (λ (t : Facts). length t.live) same in
+    let n = length c.args.self.now.live + length c.args.all.born.now in
+    let all : ℕ → ℕ = change_cost s (change_of c.args.all) c.args.self.now.live in
+    record {
+      may = dropped-may s d ds bs mid new may once gone count;
+      did = λ after app.
+          inv.did after
+          (subst (λ (xs : List Placed). HasApplied s (record { dropped = xs; born = bs }) scene now c.loop-dropped.self.live after) (sym d_is)
+          (subst (λ (t : Facts). HasApplied s (record { dropped = d ∷ ds; born = bs }) scene now t.live after) same (dropped-did s d ds bs mid new may once gone count scene now after app)));
+      askable = inv.askable;
+      holds = inv.holds;
+      made = c.drop_one.ensures.made ∙ ap (λ (t : Facts). t.made) same ∙ inv.made;
+      count =
+          let live = inv.count.live in
+          let fewer = inv.count.fewer in
+          record { live = omega (arith, live, count, same_count, ap length d_is); fewer = omega (arith, fewer, ap length d_is) };
+      cost = dropped-paid s d ds bs mid new may once gone count n all _ _ _ (omega (arith, inv.count.live, inv.count.fewer, same_count))
+          (subst (λ (k : ℕ). IsPaid n all (change_cost s (record { dropped = d ∷ ds; born = bs }) mid) c.args.steps.now k) (sym idle)
+          (subst (λ (t : Facts). IsPaid n all (change_cost s (record { dropped = d ∷ ds; born = bs }) t.live) c.args.steps.now c.loop-dropped.steps) (sym same)
+          (subst (λ (xs : List Placed). IsPaid n all (change_cost s (record { dropped = xs; born = bs }) c.loop-dropped.self.live) c.args.steps.now c.loop-dropped.steps) d_is inv.cost)))
+          c.drop_one.ensures.cost;
+    }
+
+pub bear_one-requires-clause-free : goal.bear_one-requires-clause-free
+bear_one-requires-clause-free g c = c.sign_of.ensures.none.0 (none-of c.sign_of.result c.if-is_none.ensures)
+
+pub bear_one-requires-clause-askable : goal.bear_one-requires-clause-askable
+bear_one-requires-clause-askable g c =
+    let b_is = c.in-Some-split_first.ensures.cases.0 in
+    All-head (λ (p : Placed). IsAskable (live_of c.args.motions.now) p.fact.form) _ _ (subst (λ (xs : List Placed). All (λ (p : Placed). IsAskable (live_of c.args.motions.now) p.fact.form) xs) b_is c.loop-dropped.invariant.askable)
+
+pub bear_one-requires-clause-holds : goal.bear_one-requires-clause-holds
+bear_one-requires-clause-holds g c =
+    let b_is = c.in-Some-split_first.ensures.cases.0 in
+    All-head (λ (p : Placed). Holds (scene_at c.args.motions.now c.args.now.now) p.fact) _ _ (subst (λ (xs : List Placed). All (λ (p : Placed). Holds (scene_at c.args.motions.now c.args.now.now) p.fact) xs) b_is c.loop-dropped.invariant.holds)
+
+pub loop-dropped-preserved : goal.loop-dropped-preserved
+loop-dropped-preserved g c =
+    let s = c.args.structure in
+    let scene = scene_at c.args.motions.now in
+    let now = c.args.now.now in
+    let inv = c.loop-dropped.invariant in
+    let ds = c.loop-dropped.rest.dropped.now in
+    let b = c.in-Some-split_first.born.now in
+    let bs = c.in-Some-split_first.later_born.now in
+    let mid = c.replace.new.self.live in
+    let new = c.bear_one.new.self.live in
+    let b_is : c.loop-dropped.rest.born.now ≡ b ∷ bs = c.in-Some-split_first.ensures.cases.0 in
+    let same : c.replace.new.self ≡ c.loop-dropped.self = c.in_ok-replace.ensures.no (is_not _ c.if-branch.false) in
+    let idle : c.replace.new.steps ≡ c.loop-dropped.steps = c.in_ok-replace.ensures.idle (is_not _ c.if-branch.false) in
+    let may : MayApply s (record { dropped = ds; born = b ∷ bs }) mid =
+    subst (λ (t : Facts). MayApply s (record { dropped = ds; born = b ∷ bs }) t.live) (sym same) (subst (λ (ys : List Placed). MayApply s (record { dropped = ds; born = ys }) c.loop-dropped.self.live) b_is inv.may) in
+    let free = c.sign_of.ensures.none.0 (none-of c.sign_of.result c.if-is_none.ensures) in
+    let did = c.in_ok-bear_one.ensures.gained in
+    let count = c.in_ok-bear_one.ensures.count in
+    let same_count : length mid ≡ length c.loop-dropped.self.live = ap (λ (t : Facts). length t.live) same in
+    let n = length c.args.self.now.live + length c.args.all.born.now in
+    let all : ℕ → ℕ = change_cost s (change_of c.args.all) c.args.self.now.live in
+    record {
+      may = born-may s scene now b ds bs mid new may free did count;
+      did = λ after app.
+          inv.did after
+          (subst (λ (ys : List Placed). HasApplied s (record { dropped = ds; born = ys }) scene now c.loop-dropped.self.live after) (sym b_is)
+          (subst (λ (t : Facts). HasApplied s (record { dropped = ds; born = b ∷ bs }) scene now t.live after) same (born-did s scene now b ds bs mid new may free did count after app)));
+      askable = All-tail (λ (p : Placed). IsAskable (live_of c.args.motions.now) p.fact.form) b bs (subst (λ (xs : List Placed). All (λ (p : Placed). IsAskable (live_of c.args.motions.now) p.fact.form) xs) b_is inv.askable);
+      holds = All-tail (λ (p : Placed). Holds (scene c.args.now.now) p.fact) b bs (subst (λ (xs : List Placed). All (λ (p : Placed). Holds (scene c.args.now.now) p.fact) xs) b_is inv.holds);
+      made = c.bear_one.ensures.made ∙ ap (λ (t : Facts). t.made) same ∙ inv.made;
+      count =
+          let live = inv.count.live in
+          let fewer = inv.count.fewer in
+          record { live = omega (arith, live, count, same_count, ap length b_is); fewer = fewer };
+      cost = born-paid s scene now b ds bs mid new may free did count n all _ _ _ (omega (arith, inv.count.live, inv.count.fewer, same_count))
+          (subst (λ (k : ℕ). IsPaid n all (change_cost s (record { dropped = ds; born = b ∷ bs }) mid) c.args.steps.now k) (sym idle)
+          (subst (λ (t : Facts). IsPaid n all (change_cost s (record { dropped = ds; born = b ∷ bs }) t.live) c.args.steps.now c.loop-dropped.steps) (sym same)
+          (subst (λ (ys : List Placed). IsPaid n all (change_cost s (record { dropped = ds; born = ys }) c.loop-dropped.self.live) c.args.steps.now c.loop-dropped.steps) b_is inv.cost)))
+          c.in_ok-bear_one.ensures.cost;
     }
