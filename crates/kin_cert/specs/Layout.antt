@@ -14,7 +14,7 @@ use Rattle.kin_cert.specs.Entries.{Entry}
 use Rattle.kin_cert.specs.declared.entry.Seat.{Seat}
 use Rattle.kin_cert.specs.declared.owned.Owned.{Owned}
 use Rattle.kin_cert.specs.Facts.{LiveFact, NoneAlike, certificate_of}
-use Rattle.kin_cert.specs.declared.table.Pending.{Pending}
+use Rattle.kin_cert.specs.declared.change.Pending.{Pending}
 use Rattle.kin_motion.specs.Deltas.{Change}
 use Rattle.kin_cert.specs.Failures.{IsFirstFailure}
 use Rattle.kin_cert.specs.Applied.{IsBorn, IsOf, HasApplied}

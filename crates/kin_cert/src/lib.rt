@@ -11,6 +11,7 @@ pub use now::Now;
 pub use owned::{Block, Failure, Owned};
 pub use table::Table;
 
+mod change;
 mod entry;
 pub mod first_fail;
 mod guesses;
