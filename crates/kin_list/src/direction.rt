@@ -5,7 +5,6 @@ ghost use Rattle.kin_motion.specs.declared.form.Form.TheVariants.{Line};
 ghost use Rattle.kin_motion.specs.Orders.{leads};
 ghost use Rattle.kin_list.specs.Links.{fact_of};
 
-use crate::link::Link;
 use kin_motion::fact::{Fact, Placed};
 use kin_motion::form::Form;
 use kin_num::Sign;
@@ -44,15 +43,15 @@ impl Direction {
 }
 
 impl Direction {
-    /// The fact of a link of `i`.
-    pub fn fact(self, i: u32, link: Link) -> Placed
-        ensures { result ≡ fact_of self.dx self.dy i link }
+    /// The fact of a link of `i` to `right`.
+    pub fn fact(self, i: u32, right: u32, sign: Sign) -> Placed
+        ensures { result ≡ fact_of self.dx self.dy i (record { right = right; sign = sign }) }
     {
         Placed {
             part: 0,
             fact: Fact {
-                form: self.line(i, link.right),
-                sign: link.sign,
+                form: self.line(i, right),
+                sign,
             },
         }
     }

@@ -1,6 +1,6 @@
 //! The link of a number to its right neighbour.
 
-ghost use Rattle.std.specs.Prelude.{◌≡◌, ◌↔◌, IsTrue, None, replicate, IfOk};
+ghost use Rattle.std.specs.Prelude.{◌≡◌, None, replicate, IfOk};
 
 use kin_num::Sign;
 use std::alloc::{AllocError, Global};
@@ -11,13 +11,6 @@ use std::alloc::{AllocError, Global};
 pub struct Link {
     pub right: u32,
     pub sign: Sign,
-}
-
-/// Whether they are the same.
-pub fn is_same_link(old: Link, new: Link) -> bool
-    ensures { IsTrue result ↔ (old ≡ new) }
-{
-    old.right == new.right && old.sign == new.sign
 }
 
 /// No link for any number below `room`.

@@ -11,7 +11,7 @@ written {A} (y ∷ ys) zero (suc i) x z = inr refl
 written {A} (y ∷ ys) (suc n) zero x z = inr refl
 written {A} (y ∷ ys) (suc n) (suc i) x z = written ys n i x z
 
-none_is_not_some : (c : Course) {A : Type 0} → None ≡ Some c → A
+pub none_is_not_some : (c : Course) {A : Type 0} → None ≡ Some c → A
 none_is_not_some c e = cc
 
 same_course : (c d : Course) → Some c ≡ Some d → c ≡ d

@@ -37,21 +37,6 @@ struct Step {
     y: Linear,
 }
 
-/// The motion of a live number.
-fn motion_at(motions: &Motions, no: u32) -> Motion
-    requires live { IsIn no (live_of motions.now) }
-    ensures motion { motion_of motions.now no ≡ Some result }
-    ensures slow { IsSlow result }
-{
-    match motions.get(no) {
-        Some(motion) => {
-            let _x = motion.x();
-            motion
-        }
-        None => unreachable!(),
-    }
-}
-
 /// How far it is from one coordinate to another.
 fn way(from: i32, to: i32) -> i64
     requires from_small { unsigned_abs from ≤ 4096 }
@@ -71,7 +56,7 @@ fn step_between(motions: &Motions, i: u32, j: u32) -> Step
     ensures x_short { IsShort result.x }
     ensures y_short { IsShort result.y }
 {
-    let (from, to) = (motion_at(motions, i), motion_at(motions, j));
+    let (from, to) = (motions.of_live(i), motions.of_live(j));
     Step {
         x: Linear {
             slope: way(from.u(), to.u()),

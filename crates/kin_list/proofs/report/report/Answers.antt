@@ -1,5 +1,5 @@
-use Rattle.std.proofs.Common.{◌≡◌, refl, sym, ap, ◌∙◌, subst, arith, List, ℕ, ◌<◌, length, Some, get_or, inl}
-use Rattle.std.specs.Prelude.{slice_get, ◌⊎◌}
+use Rattle.std.proofs.Common.{◌≡◌, refl, sym, ap, ◌∙◌, arith, List, ℕ, ◌<◌, length, Some, get_or, inl}
+use Rattle.std.specs.Prelude.{slice_get}
 use Rattle.std.proofs.lemmas.Option.{slice_get-get_or, slice_get_within}
 use Rattle.kin_motion.proofs.ChangeLaws.{nothing_changed}
 use Rattle.kin_list.specs.Links.{link_for, facts_from}
@@ -25,14 +25,14 @@ loop-no-preserved c =
     let at = seen c.deref-no-items.result.now c.args.lineup.now.touched.items c.loop-no.no-index c.deref-no-items.ensures.value c.loop-no-test.true in
     let first = c.args.links.now.items in
     let now = c.loop-no.links.items in
+    let target = link_for c.args.lineup.now.row.items c.args.lineup.now.signs.items in
     record {
       same_length = c.in_ok-renew.ensures.length ∙ c.loop-no.invariant.same_length;
-      each = renewed_each c.args.along.dx c.args.along.dy first now c.renew.new.links.items no c.link_of.result c.in_ok-renew.ensures.links (link_for c.args.lineup.now.row.items c.args.lineup.now.signs.items) c.link_of.ensures c.loop-no.invariant.each;
-      done = renewed_done c.args.along.dx c.args.along.dy first now c.renew.new.links.items no c.link_of.result c.in_ok-renew.ensures.links (link_for c.args.lineup.now.row.items c.args.lineup.now.signs.items) c.args.lineup.now.touched.items c.loop-no.no-index c.link_of.ensures at c.loop-no.invariant.same_length c.loop-no.invariant.done;
-      others = renewed_others c.args.along.dx c.args.along.dy first now c.renew.new.links.items no c.link_of.result c.in_ok-renew.ensures.links c.args.lineup.now.touched.items c.loop-no.no-index at c.loop-no.invariant.others;
-      changed = renewed c.args.along.dx c.args.along.dy first now c.renew.new.links.items no c.link_of.result c.in_ok-renew.ensures.links c.args.out.now c.loop-no.out c.renew.new.out
-          (subst (λ o. (slice_get now no ≡ slice_get first no) ⊎ (slice_get now no ≡ Some o)) (sym c.link_of.ensures) (c.loop-no.invariant.each no))
-          c.in_ok-renew.ensures.past c.in_ok-renew.ensures.kept c.in_ok-renew.ensures.changed c.loop-no.invariant.changed;
+      each = renewed_each c.args.along.dx c.args.along.dy first now c.renew.new.links.items no (target no) c.in_ok-renew.ensures.links target refl c.loop-no.invariant.each;
+      done = renewed_done c.args.along.dx c.args.along.dy first now c.renew.new.links.items no (target no) c.in_ok-renew.ensures.links target c.args.lineup.now.touched.items c.loop-no.no-index refl at c.loop-no.invariant.same_length c.loop-no.invariant.done;
+      others = renewed_others c.args.along.dx c.args.along.dy first now c.renew.new.links.items no (target no) c.in_ok-renew.ensures.links c.args.lineup.now.touched.items c.loop-no.no-index at c.loop-no.invariant.others;
+      changed = renewed c.args.along.dx c.args.along.dy first now c.renew.new.links.items no (target no) c.in_ok-renew.ensures.links c.args.out.now c.loop-no.out c.renew.new.out
+          (c.loop-no.invariant.each no) c.in_ok-renew.ensures.past c.in_ok-renew.ensures.kept c.in_ok-renew.ensures.changed c.loop-no.invariant.changed;
     }
 
 pub returns-clause-touched : goal.returns-clause-touched

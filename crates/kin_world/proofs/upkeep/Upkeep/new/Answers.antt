@@ -9,6 +9,9 @@ use Rattle.kin_world.specs.Upkeep.{Stage, IsSound}
 use Rattle.kin_world.proofs.StartLaws.{empty_slots, none_live, sound_start}
 use Rattle.kin_world.proofs.upkeep.Upkeep.new.Goals as goal
 
+pub of-requires : goal.of-requires
+of-requires c = record { canonical = start_canonical }
+
 pub returns-clause-sound : goal.returns-clause-sound
 returns-clause-sound c =
     let motions = c.in_ok-motions.ensures in
