@@ -18,6 +18,7 @@ pub mod along;
 pub mod doubt;
 mod entry;
 pub mod keyed;
+mod matches;
 mod points;
 mod report;
 pub mod tourney;

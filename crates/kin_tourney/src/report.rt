@@ -1,13 +1,21 @@
 //! What is told of the fact of a node.
 
-ghost use Rattle.std.specs.Prelude.{◌≡◌, ◌<◌, ◌≤◌, ◌^◌, Some, None, length, slice_set, OnOk};
+ghost use Rattle.std.specs.Prelude.{◌≡◌, ◌<◌, ◌≤◌, ◌^◌, ◌↔◌, IsTrue, Some, None, length, slice_set, OnOk};
 ghost use Rattle.kin_tourney.specs.Repairs.{IsReported};
 ghost use Rattle.kin_tourney.specs.Standings.{fact_in};
 
 use kin_motion::fact::{Delta, Fact, Placed};
 use kin_num::memory::NoMemory;
 
+/// Whether it is the same fact. Mostly the sign differs.
+fn is_same(old: &Fact, new: &Fact) -> bool
+    ensures { IsTrue result ↔ (old.now ≡ new.now) }
+{
+    old.sign == new.sign && old.form.is(new.form)
+}
+
 /// Writes the fact of a node, and reports it where it is another one than before.
+#[inline(always)]
 pub fn tell(
     facts: &mut Vec<Option<Fact>>,
     node: usize,
@@ -21,11 +29,11 @@ pub fn tell(
     ensures reported { OnOk result (IsReported node (fact_in facts.old.items node) (Some fact) out.old out.new) }
 {
     let part = node as u32;
-    if let Some(old) = facts[node] {
-        if old.is(fact) {
+    if let Some(old) = &facts[node] {
+        if is_same(old, &fact) {
             return Ok(());
         }
-        out.report_dropped(Placed { part, fact: old })?;
+        out.report_dropped(Placed { part, fact: *old })?;
     }
     out.report_born(Placed { part, fact })?;
     facts[node] = Some(fact);

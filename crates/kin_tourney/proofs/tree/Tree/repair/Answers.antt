@@ -1,27 +1,16 @@
-use Rattle.std.proofs.Common.{◌≡◌, ◌≢◌, ◌⊎◌, ◌<◌, ℕ, List, inl, inr, arith, sym, ◌∙◌, ap, length}
-use Rattle.kin_tourney.specs.declared.doubt.Doubt.{Doubt}
-use Rattle.kin_tourney.specs.declared.doubt.Doubt.TheVariants.{Clear}
-use Rattle.kin_tourney.specs.Standings.{doubt_in}
+use Rattle.std.proofs.Common.{arith}
 use Rattle.kin_tourney.proofs.Trees.{all_clear, some_inner}
 use Rattle.kin_tourney.proofs.Mending.{mending_starts, passed, stepped}
 use Rattle.kin_tourney.proofs.tree.Tree.repair.Goals as goal
 
-place_first : (ds : List Doubt) (n node : ℕ) → 1 < n → (node ≡ 0) × (doubt_in ds 1 ≡ Clear) ⊎ (node ≡ 1) × (doubt_in ds 1 ≢ Clear) → 0 < node → (node < n) × (doubt_in ds node ≢ Clear)
-place_first ds n node many (inl k) some = absurd (omega arith)
-place_first ds n node many (inr k) some = (omega arith, λ e. k.1 (sym (ap (doubt_in ds) k.0) ∙ e))
-
-ended_first : (ds : List Doubt) (node : ℕ) → (node ≡ 0) × (doubt_in ds 1 ≡ Clear) ⊎ (node ≡ 1) × (doubt_in ds 1 ≢ Clear) → node ≡ 0 → doubt_in ds 1 ≡ Clear
-ended_first ds node (inl k) none = k.1
-ended_first ds node (inr k) none = absurd (omega arith)
-
-pub doubted_root-node-requires-clause-some : goal.doubted_root-node-requires-clause-some
-doubted_root-node-requires-clause-some g c = some_inner c.args.self.now c.requires.doubtful.tree c.requires.some
+pub doubted_node-node-requires-clause-some : goal.doubted_node-node-requires-clause-some
+doubted_node-node-requires-clause-some g c = some_inner c.args.self.now c.requires.doubtful.tree c.requires.some
 
 pub loop-node-init : goal.loop-node-init
 loop-node-init g c = record {
   mending = mending_starts c.args.all (g.K.Keyed.key c.args.key.now) (g.O.Signs.scene c.args.now.now).sign c.args.self.now c.args.out.now c.requires.doubtful;
-  place = place_first c.args.self.now.doubts (length c.args.self.now.items) c.doubted_root-node.result (some_inner c.args.self.now c.requires.doubtful.tree c.requires.some) c.doubted_root-node.ensures;
-  ended = ended_first c.args.self.now.doubts c.doubted_root-node.result c.doubted_root-node.ensures;
+  place = λ some. (c.doubted_node-node.ensures.inner, c.doubted_node-node.ensures.doubted);
+  ended = c.doubted_node-node.ensures.none;
   cost = omega arith;
 }
 

@@ -1,0 +1,230 @@
+//! Matches are played again.
+
+ghost use Rattle.std.specs.Prelude.{◌≡◌, ◌≢◌, ℕ, ◌+◌, ◌*◌, ◌/◌, ◌^◌, ◌<◌, ◌≤◌, false, length, slice_set, IfOk, OnOk, MatchOption, Some};
+ghost use Rattle.kin_motion.specs.Scene.{Scene};
+ghost use Rattle.kin_motion.specs.Tournaments.{item_in};
+ghost use Rattle.kin_motion.specs.Kinetics.{HasChanged};
+ghost use Rattle.kin_tourney.specs.Names.{AreLive};
+ghost use Rattle.kin_tourney.specs.Standings.{IsTree, entry_at, match_at, match_of, fact_in, doubt_in, doubt_count, placed_facts};
+ghost use Rattle.kin_tourney.specs.Tournament.{mark_in};
+ghost use Rattle.kin_tourney.specs.Repairs.{IsReplayed, IsRenewed, IsReported, IsCleared, IsDoubtful};
+
+use crate::doubt::Doubt;
+use crate::entry::Entry;
+use crate::keyed::Keyed;
+use crate::report::{tell, untell};
+use crate::tree::Tree;
+use kin_motion::fact::{Delta, Fact};
+use kin_motion::signs::Signs;
+use kin_num::memory::NoMemory;
+use kin_num::steps::Steps;
+use std::sync::ledger::Ledger;
+
+impl<I: Copy> Tree<I> {
+    /// Plays the match of two entries, the halves of a node, and tells of its fact. The winner's slot
+    /// is the result.
+    fn meet<K: Keyed<Item = I>, O: Signs, L: Ledger>(
+        &mut self,
+        node: usize,
+        left: Entry<I>,
+        right: Entry<I>,
+        key: &K,
+        now: &O,
+        out: &mut Delta,
+        steps: &mut Steps<L>,
+    ) -> Result<Option<u32>, NoMemory>
+        requires node { node < length self.old.facts }
+        requires small { length self.old.facts ≤ 2 ^ 15 }
+        requires left { AreLive (O.scene now.now).live (K.names left.item) }
+        requires right { AreLive (O.scene now.now).live (K.names right.item) }
+        ensures same { self.new ≡ record self.old { facts = self.new.facts } }
+        ensures room { length self.new.facts ≡ length self.old.facts }
+        ensures value { IfOk result (λ best. (best, fact_in self.new.facts node) ≡ match_of (K.key key.now) (O.scene now.now).sign (Some left) (Some right)) }
+        ensures facts { OnOk result (self.new.facts ≡ slice_set self.old.facts node (fact_in self.new.facts node)) }
+        ensures reported { OnOk result (IsReported node (fact_in self.old.facts node) (fact_in self.new.facts node) out.old out.new) }
+        ensures cost { steps.new ≤ steps.old + 1 }
+    {
+        let form = key.form(&left.item, &right.item);
+        let sign = now.sign(&form, steps);
+        tell(&mut self.facts, node, Fact { form, sign }, out)?;
+        if key.left_wins(sign, &left.item, &right.item) {
+            Ok(Some(left.slot))
+        } else {
+            Ok(Some(right.slot))
+        }
+    }
+
+    /// Plays the match of the two halves of a node, and tells of its fact. The winner's slot is the
+    /// result.
+    fn play<K: Keyed<Item = I>, O: Signs, L: Ledger>(
+        &mut self,
+        node: usize,
+        key: &K,
+        now: &O,
+        out: &mut Delta,
+        steps: &mut Steps<L>,
+    ) -> Result<Option<u32>, NoMemory>
+        requires tree { IsTree self.old }
+        requires node { node < length self.old.items }
+        requires live { (i : ℕ) (a : I) → item_in self.old.items i ≡ Some a → AreLive (O.scene now.now).live (K.names a) }
+        ensures same { self.new ≡ record self.old { facts = self.new.facts } }
+        ensures room { length self.new.facts ≡ length self.old.facts }
+        ensures value { IfOk result (λ best. (best, fact_in self.new.facts node) ≡ match_at (K.key key.now) (O.scene now.now).sign self.old node) }
+        ensures facts { OnOk result (self.new.facts ≡ slice_set self.old.facts node (fact_in self.new.facts node)) }
+        ensures reported { OnOk result (IsReported node (fact_in self.old.facts node) (fact_in self.new.facts node) out.old out.new) }
+        ensures cost { steps.new ≤ steps.old + 1 }
+    {
+        match (self.entry(2 * node), self.entry(2 * node + 1)) {
+            (Some(left), Some(right)) => self.meet(node, left, right, key, now, out, steps),
+            (Some(left), None) => {
+                untell(&mut self.facts, node, out)?;
+                Ok(Some(left.slot))
+            }
+            (None, Some(right)) => {
+                untell(&mut self.facts, node, out)?;
+                Ok(Some(right.slot))
+            }
+            (None, None) => {
+                untell(&mut self.facts, node, out)?;
+                Ok(None)
+            }
+        }
+    }
+
+    /// Plays the match of a node again. Where its winner changes, the node above has to be played
+    /// again too.
+    fn replay<K: Keyed<Item = I>, O: Signs, L: Ledger>(
+        &mut self,
+        node: usize,
+        key: &K,
+        now: &O,
+        out: &mut Delta,
+        steps: &mut Steps<L>,
+    ) -> Result<(), NoMemory>
+        requires tree { IsTree self.old }
+        requires root { 0 < node }
+        requires inner { node < length self.old.items }
+        requires doubted { doubt_in self.old.doubts node ≢ Doubt.Clear }
+        requires live { (i : ℕ) (a : I) → item_in self.old.items i ≡ Some a → AreLive (O.scene now.now).live (K.names a) }
+        ensures tree { IsTree self.new }
+        ensures replayed { OnOk result (IsReplayed (K.key key.now) (O.scene now.now).sign node self.old self.new out.old out.new) }
+        ensures cost { OnOk result (steps.new ≤ steps.old + 1) }
+    {
+        let best = self.play(node, key, now, out, steps)?;
+        if best != self.best[node] {
+            self.best[node] = best;
+            self.doubts[node / 2] = Doubt::Here;
+        }
+        Ok(())
+    }
+
+    /// Plays the match of a node again where it has to be.
+    fn renew<K: Keyed<Item = I>, O: Signs, L: Ledger>(
+        &mut self,
+        node: usize,
+        all: bool,
+        key: &K,
+        now: &O,
+        out: &mut Delta,
+        steps: &mut Steps<L>,
+    ) -> Result<(), NoMemory>
+        requires tree { IsTree self.old }
+        requires root { 0 < node }
+        requires inner { node < length self.old.items }
+        requires live { (i : ℕ) (a : I) → item_in self.old.items i ≡ Some a → AreLive (O.scene now.now).live (K.names a) }
+        ensures tree { IsTree self.new }
+        ensures renewed { OnOk result (IsRenewed all (K.key key.now) (O.scene now.now).sign node self.old self.new out.old out.new) }
+        ensures cost { OnOk result (steps.new ≤ steps.old + 1) }
+    {
+        if self.needs_play(node, all) {
+            return self.replay(node, key, now, out, steps);
+        }
+        Ok(())
+    }
+
+    /// Clears a node whose halves are clear, and unmarks the slots right below it.
+    fn settle_node(&mut self, node: usize)
+        requires tree { IsTree self.old }
+        requires root { 0 < node }
+        requires inner { node < length self.old.items }
+        requires halves { (v : ℕ) → 0 < v → v / 2 ≡ node → doubt_in self.old.doubts v ≡ Doubt.Clear }
+        ensures tree { IsTree self.new }
+        ensures cleared { IsCleared node self.old self.new }
+    {
+        unmark_below(&mut self.marked, node);
+        self.doubts[node] = Doubt::Clear;
+    }
+
+    /// The first inner half of a node that isn't clear.
+    fn doubted_half(&self, node: usize) -> Option<usize>
+        requires tree { IsTree self.now }
+        requires root { 0 < node }
+        requires inner { node < length self.now.items }
+        ensures { MatchOption result
+            ((v : ℕ) → 0 < v → v / 2 ≡ node → doubt_in self.now.doubts v ≡ Doubt.Clear)
+            (λ half. (half / 2 ≡ node) × (node < half) × (half < length self.now.items) × (doubt_in self.now.doubts half ≢ Doubt.Clear)) }
+    {
+        let left = 2 * node;
+        if left >= self.slots() {
+            return None;
+        }
+        if !self.is_clear(left) {
+            return Some(left);
+        }
+        if !self.is_clear(left + 1) {
+            return Some(left + 1);
+        }
+        None
+    }
+
+    /// Plays the matches in doubt again, all or only those that are in doubt themselves, the halves of
+    /// a node before the node. The doubts lead the way down, and only nodes in doubt are visited.
+    pub fn repair<K: Keyed<Item = I>, O: Signs, L: Ledger>(
+        &mut self,
+        all: bool,
+        key: &K,
+        now: &O,
+        out: &mut Delta,
+        steps: &mut Steps<L>,
+    ) -> Result<(), NoMemory>
+        requires doubtful { IsDoubtful all (K.key key.now) (O.scene now.now).sign self.old }
+        requires some { 1 ≤ self.old.size }
+        requires live { (i : ℕ) (a : I) → item_in self.old.items i ≡ Some a → AreLive (O.scene now.now).live (K.names a) }
+        ensures tree { IsTree self.new }
+        ensures same_size { OnOk result (self.new.size ≡ self.old.size) }
+        ensures same_items { OnOk result (self.new.items ≡ self.old.items) }
+        ensures known { OnOk result (IsDoubtful all (K.key key.now) (O.scene now.now).sign self.new) }
+        ensures clear { OnOk result ((v : ℕ) → 0 < v → doubt_in self.new.doubts v ≡ Doubt.Clear) }
+        ensures delta { OnOk result (HasChanged (placed_facts self.old) (placed_facts self.new) out.old out.new) }
+        ensures cost { OnOk result (steps.new + 1 ≤ steps.old + doubt_count self.old.doubts) }
+    {
+        let mut node = self.doubted_node();
+        while node > 0 {
+            if let Some(half) = self.doubted_half(node) {
+                node = half;
+            } else {
+                self.renew(node, all, key, now, out, steps)?;
+                self.settle_node(node);
+                node /= 2;
+            }
+        }
+        Ok(())
+    }
+}
+
+/// Unmarks the slots right below a node.
+fn unmark_below(marked: &mut Vec<bool>, node: usize)
+    requires inner { node < length marked.old.items }
+    requires even { length marked.old.items ≢ 2 * node + 1 }
+    requires small { length marked.old.items ≤ 2 ^ 15 }
+    ensures room { length marked.new.items ≡ length marked.old.items }
+    ensures unmarked { (i : ℕ) → (length marked.old.items + i) / 2 ≡ node → mark_in marked.new.items i ≡ false }
+    ensures kept { (i : ℕ) → (length marked.old.items + i) / 2 ≢ node → mark_in marked.new.items i ≡ mark_in marked.old.items i }
+{
+    let left = 2 * node;
+    if left >= marked.len() {
+        let slot = left - marked.len();
+        marked[slot] = false;
+        marked[slot + 1] = false;
+    }
+}
