@@ -7,6 +7,7 @@ pub mod Raising
 pub mod Mending
 pub mod Marks
 pub mod Entrants
+pub mod Rechecks
 pub mod Soundness
 pub mod Fresh
 pub mod Vacant

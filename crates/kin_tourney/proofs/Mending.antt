@@ -13,8 +13,9 @@ use Rattle.kin_motion.proofs.ChangeLaws.{nothing_changed}
 use Rattle.kin_tourney.specs.declared.doubt.Doubt.TheVariants.{Clear, Here}
 use Rattle.kin_tourney.specs.Tournament.{mark_in}
 use Rattle.kin_tourney.specs.Standings.{Standings, IsTree, IsRight, best_in, fact_in, doubt_in, doubt_count, entry_in, entry_at, match_of, match_at, placed_facts}
-use Rattle.kin_tourney.specs.Repairs.{IsDoubtful, IsReplayed, IsRenewed, IsCleared, needs_play}
+use Rattle.kin_tourney.specs.Repairs.{IsDoubtful, IsReplayed, IsRenewed, IsRightOnce, IsCleared, needs_play}
 use Rattle.kin_tourney.proofs.AfterWrite.{read_set}
+use Rattle.kin_tourney.proofs.Entrants.{right_at_one}
 use Rattle.kin_tourney.proofs.Doubts.{here_is_doubt, count_kept, count_lowered}
 use Rattle.kin_tourney.proofs.Placements.{changed_on}
 use Rattle.kin_tourney.proofs.Trees.{above_in_doubt}
@@ -26,18 +27,8 @@ falls n count less at e inside = let k : count * n ≡ less * n + n = ap (λ c. 
     more : (a b : ℕ) → (a + 1) * b ≡ a * b + b
     more a b = omega arith
 
-module _ {Item : Type 0} (all : Bool) (key : Key Item) (sign : Form → Sign) where
-  -- from the start on; only the node "except" may differ in its fact though it is still in doubt
-  pub record IsMending (start : Standings Item) (except : ℕ) (t : Standings Item) (before after : Change) : Type 0 where
-    pub doubtful : IsDoubtful all key sign t
-    pub same_size : t.size ≡ start.size
-    pub same_items : t.items ≡ start.items
-    pub untouched : (v : ℕ) → 0 < v → v ≢ except → doubt_in t.doubts v ≢ Clear → fact_in t.facts v ≡ fact_in start.facts v
-    pub changed : HasChanged (placed_facts start) (placed_facts t) before after
-
-  pub mending_starts : (t : Standings Item) (c : Change) → IsDoubtful all key sign t → IsMending t 0 t c c
-  mending_starts t c h = record { doubtful = h; same_size = refl; same_items = refl; untouched = λ v some n d. refl; changed = nothing_changed (placed_facts t) c }
-
+-- the match of the same halves
+module _ {Item : Type 0} (key : Key Item) (sign : Form → Sign) where
   entry_same : (t u : Standings Item) → t.items ≡ u.items → (v : ℕ) → best_in t.best v ≡ best_in u.best v → entry_at t v ≡ entry_at u v
   entry_same t u items v best =
       ap (λ (l : List (Option Item)). entry_in l (cond (nat_lt v (length l)) (best_in t.best v) (Some (v - length l)))) items
@@ -51,6 +42,18 @@ module _ {Item : Type 0} (all : Bool) (key : Key Item) (sign : Form → Sign) wh
       → best_in t.best (2 * v) ≡ best_in u.best (2 * v) → best_in t.best (2 * v + 1) ≡ best_in u.best (2 * v + 1) → IsRight key sign u v → IsRight key sign t v
   right_same t u items v best fact left right h =
       ap (λ b. (b, fact_in t.facts v)) best ∙ ap (λ f. (best_in u.best v, f)) fact ∙ h ∙ sym (match_same t u items v left right)
+
+module _ {Item : Type 0} (all : Bool) (key : Key Item) (sign : Form → Sign) where
+  -- from the start on; only the node "except" may differ in its fact though it is still in doubt
+  pub record IsMending (start : Standings Item) (except : ℕ) (t : Standings Item) (before after : Change) : Type 0 where
+    pub doubtful : IsDoubtful all key sign t
+    pub same_size : t.size ≡ start.size
+    pub same_items : t.items ≡ start.items
+    pub untouched : (v : ℕ) → 0 < v → v ≢ except → doubt_in t.doubts v ≢ Clear → fact_in t.facts v ≡ fact_in start.facts v
+    pub changed : HasChanged (placed_facts start) (placed_facts t) before after
+
+  pub mending_starts : (t : Standings Item) (c : Change) → IsDoubtful all key sign t → IsMending t 0 t c c
+  mending_starts t c h = record { doubtful = h; same_size = refl; same_items = refl; untouched = λ v some n d. refl; changed = nothing_changed (placed_facts t) c }
 
   -- a node is played again
   module _ (start t mid : Standings Item) (before middle after : Change) (node : ℕ) (some : 0 < node) (inside : node < length t.items) (doubted : doubt_in t.doubts node ≢ Clear)
@@ -70,8 +73,8 @@ module _ {Item : Type 0} (all : Bool) (key : Key Item) (sign : Form → Sign) wh
         at (inr k) = raised (read_set t.doubts (node / 2) v Here Clear fits) (sym (ap (λ ds. doubt_in ds v) k) ∙ e)
 
     -- a node that need not be played again was so before, and its halves' winners are as they were
-    still : (v : ℕ) → needs_play all (doubt_in mid.doubts v) ≡ false → (needs_play all (doubt_in t.doubts v) ≡ false) × ((u : ℕ) → u / 2 ≡ v → best_in mid.best u ≡ best_in t.best u)
-    still v n = at r.doubts
+    still : (all : Bool) (v : ℕ) → needs_play all (doubt_in mid.doubts v) ≡ false → (needs_play all (doubt_in t.doubts v) ≡ false) × ((u : ℕ) → u / 2 ≡ v → best_in mid.best u ≡ best_in t.best u)
+    still all v n = at r.doubts
       where
         kept : (best_in mid.best node ≡ best_in t.best node) ⊎ (v ≢ node / 2) → (u : ℕ) → u / 2 ≡ v → best_in mid.best u ≡ best_in t.best u
         kept same u up = own (cases_eq u node) same
@@ -91,7 +94,7 @@ module _ {Item : Type 0} (all : Bool) (key : Key Item) (sign : Form → Sign) wh
         at (inr k) = raised (read_set t.doubts (node / 2) v Here Clear fits) (sym (ap (λ ds. doubt_in ds v) k))
 
     pub played_right : IsRight key sign mid node
-    played_right = r.played ∙ sym (match_same mid t r.same_items node (r.other_best (2 * node) (omega arith)) (r.other_best (2 * node + 1) (omega arith)))
+    played_right = r.played ∙ sym (match_same key sign mid t r.same_items node (r.other_best (2 * node) (omega arith)) (r.other_best (2 * node + 1) (omega arith)))
 
     right_next : (v : ℕ) → 0 < v → v < length mid.items → needs_play all (doubt_in mid.doubts v) ≡ false → IsRight key sign mid v
     right_next v big low n = own (cases_eq v node)
@@ -99,9 +102,20 @@ module _ {Item : Type 0} (all : Bool) (key : Key Item) (sign : Form → Sign) wh
         own : (v ≡ node) ⊎ (v ≢ node) → IsRight key sign mid v
         own (inl e) = subst (IsRight key sign mid) (sym e) played_right
         own (inr m) =
-            let s = still v n in
+            let s = still all v n in
             let k = ap length r.same_items in
-            right_same mid t r.same_items v (r.other_best v m) (r.other_facts v m) (s.1 (2 * v) (omega arith)) (s.1 (2 * v + 1) (omega arith)) (h.doubtful.right v big (omega arith) s.0)
+            right_same key sign mid t r.same_items v (r.other_best v m) (r.other_facts v m) (s.1 (2 * v) (omega arith)) (s.1 (2 * v + 1) (omega arith)) (h.doubtful.right v big (omega arith) s.0)
+
+    once_next : (v : ℕ) → 0 < v → v < length mid.items → needs_play false (doubt_in mid.doubts v) ≡ false → IsRightOnce key mid v
+    once_next v big low n = own (cases_eq v node)
+      where
+        own : (v ≡ node) ⊎ (v ≢ node) → IsRightOnce key mid v
+        own (inl e) = subst (IsRightOnce key mid) (sym e) (right_at_one key mid node sign played_right)
+        own (inr m) =
+            let s = still false v n in
+            let k = ap length r.same_items in
+            let was = h.doubtful.once v big (omega arith) s.0 in
+            (was.0, right_same key (λ f. was.0) mid t r.same_items v (r.other_best v m) (r.other_facts v m) (s.1 (2 * v) (omega arith)) (s.1 (2 * v + 1) (omega arith)) was.1)
 
     pub mending_replayed : IsMending start node mid before after
     mending_replayed = record {
@@ -109,6 +123,7 @@ module _ {Item : Type 0} (all : Bool) (key : Key Item) (sign : Form → Sign) wh
         tree = tree;
         leaves = λ i e d. h.doubtful.leaves i (sym (ap (λ l. mark_in l i) r.same_marked) ∙ e) (cleared_was ((length t.items + i) / 2) (ap (λ (l : List (Option Item)). doubt_in mid.doubts ((length l + i) / 2)) (sym r.same_items) ∙ d));
         right = right_next;
+        once = once_next;
         no_root = r.other_facts 0 (omega arith) ∙ h.doubtful.no_root;
       };
       same_size = r.same_size ∙ h.same_size;
@@ -183,6 +198,13 @@ module _ {Item : Type 0} (all : Bool) (key : Key Item) (sign : Form → Sign) wh
         at (inl k) = carried (subst (IsRight key sign t) (sym k.0) own)
         at (inr k) = carried (h.doubtful.right v big (let e = ap length items_are in omega arith) (sym (ap (needs_play all) k.1) ∙ n))
 
+    once_after : (v : ℕ) → 0 < v → v < length next.items → needs_play false (doubt_in next.doubts v) ≡ false → IsRightOnce key next v
+    once_after v big low n = at (doubt_next v)
+      where
+        at : ((v ≡ node) × (doubt_in next.doubts v ≡ Clear)) ⊎ ((v ≢ node) × (doubt_in next.doubts v ≡ doubt_in t.doubts v)) → IsRightOnce key next v
+        at (inl k) = subst (λ (x : Standings Item). IsRightOnce key x v) (sym c.same) (subst (IsRightOnce key t) (sym k.0) (right_at_one key t node sign own))
+        at (inr k) = subst (λ (x : Standings Item). IsRightOnce key x v) (sym c.same) (h.doubtful.once v big (let e = ap length items_are in omega arith) (sym (ap (needs_play false) k.1) ∙ n))
+
     leaves_after : (i : ℕ) → mark_in next.marked i ≡ true → doubt_in next.doubts ((length t.items + i) / 2) ≢ Clear
     leaves_after i e d = at (doubt_next ((length t.items + i) / 2))
       where
@@ -196,6 +218,7 @@ module _ {Item : Type 0} (all : Bool) (key : Key Item) (sign : Form → Sign) wh
         tree = tree;
         leaves = λ i e d. leaves_after i e (ap (λ (l : List (Option Item)). doubt_in next.doubts ((length l + i) / 2)) (sym items_are) ∙ d);
         right = right_after;
+        once = once_after;
         no_root = ap (λ l. fact_in l 0) facts_are ∙ h.doubtful.no_root;
       };
       same_size = ap (λ (x : Standings Item). x.size) c.same ∙ h.same_size;

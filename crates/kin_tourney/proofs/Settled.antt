@@ -1,5 +1,5 @@
 -- A repaired tree of matches is a settled tournament.
-use Rattle.std.proofs.Common.{◌≡◌, ◌≢◌, refl, sym, ap, ◌∙◌, subst, arith, List, ℕ, ◌+◌, ◌^◌, ◌<◌, ◌≤◌, ◌/◌, length, set, Bool, true, false, not}
+use Rattle.std.proofs.Common.{◌≡◌, ◌≢◌, refl, sym, ap, ◌∙◌, subst, arith, List, ℕ, ◌+◌, ◌^◌, ◌<◌, ◌≤◌, length, set, Bool, true, false, not}
 use Rattle.std.proofs.lemmas.Nat.{pow-add}
 use Rattle.kin_tourney.proofs.Vacant.{vacant}
 use Rattle.std.specs.Prelude.{Option, None, Contains, IsTrue, slice_index_or}

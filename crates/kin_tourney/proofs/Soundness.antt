@@ -173,6 +173,7 @@ module _ {Item : Type 0} (key : Key Item) where
           tree = subst IsTree same tree';
           leaves = λ i e d. sound.leaves i e (doubted.kept ((length t.items + i) / 2) d);
           right = right;
+          once = λ v some inside n. sound.consistent v some inside (λ e. not_here false (doubt_in new.doubts v) n (doubted.here_kept v e));
           no_root = sound.no_root;
         })
 

@@ -8,8 +8,9 @@ use Rattle.kin_motion.specs.Deltas.{Change}
 use Rattle.kin_motion.specs.Tournaments.{Key, is_under}
 use Rattle.kin_tourney.specs.declared.doubt.Doubt.{Doubt}
 use Rattle.kin_tourney.specs.declared.doubt.Doubt.TheVariants.{Clear, Below, Here}
+use Rattle.kin_tourney.specs.declared.entry.Entry.{Entry}
 use Rattle.kin_tourney.specs.Tournament.{mark_in}
-use Rattle.kin_tourney.specs.Standings.{Standings, IsTree, doubt_in, doubt_count, best_in, fact_in, named_at, match_at, IsRight, placed_of}
+use Rattle.kin_tourney.specs.Standings.{Standings, IsTree, doubt_in, doubt_count, best_in, fact_in, named_at, entry_at, match_at, IsRight, placed_of}
 
 -- a node and those above it came into a doubt where they were clear
 pub record IsSpread (old new : List Doubt) (doubt : Doubt) (node : ℕ) : Type 0 where
@@ -47,11 +48,25 @@ IsReported v old new before after =
     ((old ≡ new) × (after ≡ before))
     ⊎ ((old ≢ new) × (after ≡ record { dropped = before.dropped ++ placed_of v old; born = before.born ++ placed_of v new }))
 
--- what is known while nodes are in doubt: a node that need not be played again is right
+-- the halves of a node, where both hold an item, meet by this sign
+abbrev pub IsMatchSign : {Item : Type 0} → Key Item → (Form → Sign) → Standings Item → ℕ → Sign → Type 0
+IsMatchSign {Item} key sign t v s = (l r : Entry Item) → entry_at t (2 * v) ≡ Some l → entry_at t (2 * v + 1) ≡ Some r → sign (key.form l.item r.item) ≡ s
+
+-- the node is the match of its halves at some sign
+abbrev pub IsRightOnce : {Item : Type 0} → Key Item → Standings Item → ℕ → Type 0
+IsRightOnce key t v = (sign : Sign) × IsRight key (λ f. sign) t v
+
+-- how many signs a match asks for: none where it is known
+abbrev pub asked_for : Option Sign → ℕ
+asked_for None = 1
+asked_for (Some s) = 0
+
+-- what is known while nodes are in doubt: a node that need not be played again is right, and one that isn't in doubt itself was so once
 pub record IsDoubtful {Item : Type 0} (all : Bool) (key : Key Item) (sign : Form → Sign) (t : Standings Item) : Type 0 where
   pub tree : IsTree t
   pub leaves : (i : ℕ) → mark_in t.marked i ≡ true → doubt_in t.doubts ((length t.items + i) / 2) ≢ Clear
   pub right : (v : ℕ) → 0 < v → v < length t.items → needs_play all (doubt_in t.doubts v) ≡ false → IsRight key sign t v
+  pub once : (v : ℕ) → 0 < v → v < length t.items → needs_play false (doubt_in t.doubts v) ≡ false → IsRightOnce key t v
   pub no_root : fact_in t.facts 0 ≡ None
 
 -- a node was played again; where its winner changed, the node above has to be

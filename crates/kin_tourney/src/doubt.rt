@@ -3,7 +3,7 @@
 ghost use Rattle.std.specs.Prelude.{◌≡◌, ◌≢◌, ◌↔◌, ℕ, ◌<◌, length, slice_index_or, IsTrue};
 ghost use Rattle.kin_motion.specs.declared.fact.Placed.{Placed as Put};
 ghost use Rattle.kin_tourney.specs.Standings.{IsClosed};
-ghost use Rattle.kin_tourney.specs.Repairs.{IsSpread, IsDoubted, needs_play};
+ghost use Rattle.kin_tourney.specs.Repairs.{IsSpread, IsDoubted};
 
 use kin_motion::fact::Placed;
 
@@ -34,18 +34,6 @@ impl Doubt {
         match self {
             Doubt::Here => true,
             Doubt::Clear | Doubt::Below => false,
-        }
-    }
-
-    /// Whether the match has to be played again: each one in doubt, or only that of a node that is in
-    /// doubt itself.
-    pub fn needs_play(self, all: bool) -> bool
-        ensures { result ≡ needs_play all self }
-    {
-        match self {
-            Doubt::Clear => false,
-            Doubt::Below => all,
-            Doubt::Here => true,
         }
     }
 }

@@ -1,13 +1,16 @@
 //! Matches are played again.
 
-ghost use Rattle.std.specs.Prelude.{◌≡◌, ◌≢◌, ℕ, ◌+◌, ◌*◌, ◌/◌, ◌^◌, ◌<◌, ◌≤◌, false, length, slice_set, IfOk, OnOk, MatchOption, Some};
+ghost use Rattle.std.specs.Prelude.{◌≡◌, ◌≢◌, ℕ, ◌+◌, ◌*◌, ◌/◌, ◌^◌, ◌<◌, ◌≤◌, false, length, slice_set, IfOk, OnOk, MatchOption, Some, None};
+ghost use Rattle.kin_algebra.specs.declared.sign.Sign.{Sign as Signum};
+ghost use Rattle.kin_motion.specs.declared.fact.Fact.{Fact as Told};
+ghost use Rattle.kin_motion.specs.Forms.{IsAskable};
 ghost use Rattle.kin_motion.specs.Scene.{Scene};
 ghost use Rattle.kin_motion.specs.Tournaments.{item_in};
 ghost use Rattle.kin_motion.specs.Kinetics.{HasChanged};
 ghost use Rattle.kin_tourney.specs.Names.{AreLive};
 ghost use Rattle.kin_tourney.specs.Standings.{IsTree, entry_at, match_at, match_of, fact_in, doubt_in, doubt_count, placed_facts};
 ghost use Rattle.kin_tourney.specs.Tournament.{mark_in};
-ghost use Rattle.kin_tourney.specs.Repairs.{IsReplayed, IsRenewed, IsReported, IsCleared, IsDoubtful};
+ghost use Rattle.kin_tourney.specs.Repairs.{IsMatchSign, IsRightOnce, asked_for, needs_play, IsReplayed, IsRenewed, IsReported, IsCleared, IsDoubtful};
 
 use crate::doubt::Doubt;
 use crate::entry::Entry;
@@ -16,18 +19,20 @@ use crate::report::{tell, untell};
 use crate::tree::Tree;
 use kin_motion::fact::{Delta, Fact};
 use kin_motion::signs::Signs;
+use kin_num::Sign;
 use kin_num::memory::NoMemory;
 use kin_num::steps::Steps;
 use std::sync::ledger::Ledger;
 
 impl<I: Copy> Tree<I> {
-    /// Plays the match of two entries, the halves of a node, and tells of its fact. The winner's slot
-    /// is the result.
+    /// Plays the match of two entries, the halves of a node, by the sign of their form where it is
+    /// known, and tells of its fact. The winner's slot is the result.
     fn meet<K: Keyed<Item = I>, O: Signs, L: Ledger>(
         &mut self,
         node: usize,
         left: Entry<I>,
         right: Entry<I>,
+        known: Option<Sign>,
         key: &K,
         now: &O,
         out: &mut Delta,
@@ -37,15 +42,19 @@ impl<I: Copy> Tree<I> {
         requires small { length self.old.facts ≤ 2 ^ 15 }
         requires left { AreLive (O.scene now.now).live (K.names left.item) }
         requires right { AreLive (O.scene now.now).live (K.names right.item) }
+        requires known { (s : Signum) → known ≡ Some s → (O.scene now.now).sign ((K.key key.now).form left.item right.item) ≡ s }
         ensures same { self.new ≡ record self.old { facts = self.new.facts } }
         ensures room { length self.new.facts ≡ length self.old.facts }
         ensures value { IfOk result (λ best. (best, fact_in self.new.facts node) ≡ match_of (K.key key.now) (O.scene now.now).sign (Some left) (Some right)) }
         ensures facts { OnOk result (self.new.facts ≡ slice_set self.old.facts node (fact_in self.new.facts node)) }
         ensures reported { OnOk result (IsReported node (fact_in self.old.facts node) (fact_in self.new.facts node) out.old out.new) }
-        ensures cost { steps.new ≤ steps.old + 1 }
+        ensures cost { steps.new ≤ steps.old + asked_for known }
     {
         let form = key.form(&left.item, &right.item);
-        let sign = now.sign(&form, steps);
+        let sign = match known {
+            Some(sign) => sign,
+            None => now.sign(&form, steps),
+        };
         tell(&mut self.facts, node, Fact { form, sign }, out)?;
         if key.left_wins(sign, &left.item, &right.item) {
             Ok(Some(left.slot))
@@ -54,11 +63,12 @@ impl<I: Copy> Tree<I> {
         }
     }
 
-    /// Plays the match of the two halves of a node, and tells of its fact. The winner's slot is the
-    /// result.
+    /// Plays the match of the two halves of a node, by the sign of their form where it is known, and
+    /// tells of its fact. The winner's slot is the result.
     fn play<K: Keyed<Item = I>, O: Signs, L: Ledger>(
         &mut self,
         node: usize,
+        known: Option<Sign>,
         key: &K,
         now: &O,
         out: &mut Delta,
@@ -67,15 +77,16 @@ impl<I: Copy> Tree<I> {
         requires tree { IsTree self.old }
         requires node { node < length self.old.items }
         requires live { (i : ℕ) (a : I) → item_in self.old.items i ≡ Some a → AreLive (O.scene now.now).live (K.names a) }
+        requires known { (s : Signum) → known ≡ Some s → IsMatchSign (K.key key.now) (O.scene now.now).sign self.old node s }
         ensures same { self.new ≡ record self.old { facts = self.new.facts } }
         ensures room { length self.new.facts ≡ length self.old.facts }
         ensures value { IfOk result (λ best. (best, fact_in self.new.facts node) ≡ match_at (K.key key.now) (O.scene now.now).sign self.old node) }
         ensures facts { OnOk result (self.new.facts ≡ slice_set self.old.facts node (fact_in self.new.facts node)) }
         ensures reported { OnOk result (IsReported node (fact_in self.old.facts node) (fact_in self.new.facts node) out.old out.new) }
-        ensures cost { steps.new ≤ steps.old + 1 }
+        ensures cost { steps.new ≤ steps.old + asked_for known }
     {
         match (self.entry(2 * node), self.entry(2 * node + 1)) {
-            (Some(left), Some(right)) => self.meet(node, left, right, key, now, out, steps),
+            (Some(left), Some(right)) => self.meet(node, left, right, known, key, now, out, steps),
             (Some(left), None) => {
                 untell(&mut self.facts, node, out)?;
                 Ok(Some(left.slot))
@@ -91,11 +102,13 @@ impl<I: Copy> Tree<I> {
         }
     }
 
-    /// Plays the match of a node again. Where its winner changes, the node above has to be played
-    /// again too.
+    /// Plays the match of a node again, by the sign of its form where it is known. Where its winner
+    /// changes, the node above has to be played again too.
+    #[inline(always)]
     fn replay<K: Keyed<Item = I>, O: Signs, L: Ledger>(
         &mut self,
         node: usize,
+        known: Option<Sign>,
         key: &K,
         now: &O,
         out: &mut Delta,
@@ -106,11 +119,12 @@ impl<I: Copy> Tree<I> {
         requires inner { node < length self.old.items }
         requires doubted { doubt_in self.old.doubts node ≢ Doubt.Clear }
         requires live { (i : ℕ) (a : I) → item_in self.old.items i ≡ Some a → AreLive (O.scene now.now).live (K.names a) }
+        requires known { (s : Signum) → known ≡ Some s → IsMatchSign (K.key key.now) (O.scene now.now).sign self.old node s }
         ensures tree { IsTree self.new }
         ensures replayed { OnOk result (IsReplayed (K.key key.now) (O.scene now.now).sign node self.old self.new out.old out.new) }
-        ensures cost { OnOk result (steps.new ≤ steps.old + 1) }
+        ensures cost { OnOk result (steps.new ≤ steps.old + asked_for known) }
     {
-        let best = self.play(node, key, now, out, steps)?;
+        let best = self.play(node, known, key, now, out, steps)?;
         if best != self.best[node] {
             self.best[node] = best;
             self.doubts[node / 2] = Doubt::Here;
@@ -118,7 +132,28 @@ impl<I: Copy> Tree<I> {
         Ok(())
     }
 
-    /// Plays the match of a node again where it has to be.
+    /// The sign of the form of a node's fact, where the fact doesn't hold.
+    fn failed_sign<O: Signs, L: Ledger>(
+        &self,
+        node: usize,
+        now: &O,
+        steps: &mut Steps<L>,
+    ) -> Option<Sign>
+        requires node { node < length self.now.facts }
+        requires askable { (f : Told) → fact_in self.now.facts node ≡ Some f → IsAskable (O.scene now.now).live f.form }
+        ensures held { result ≡ None → (f : Told) → fact_in self.now.facts node ≡ Some f → (O.scene now.now).sign f.form ≡ f.sign }
+        ensures failed { (s : Signum) → result ≡ Some s → (f : Told) × (fact_in self.now.facts node ≡ Some f) × ((O.scene now.now).sign f.form ≡ s) }
+        ensures cost { steps.new ≤ steps.old + 1 }
+    {
+        let Some(fact) = &self.facts[node] else {
+            return None;
+        };
+        let sign = now.sign(&fact.form, steps);
+        if sign == fact.sign { None } else { Some(sign) }
+    }
+
+    /// Plays the match of a node in doubt again where it has to be: where the node is in doubt itself,
+    /// or where all are asked for and its fact doesn't hold.
     fn renew<K: Keyed<Item = I>, O: Signs, L: Ledger>(
         &mut self,
         node: usize,
@@ -131,15 +166,23 @@ impl<I: Copy> Tree<I> {
         requires tree { IsTree self.old }
         requires root { 0 < node }
         requires inner { node < length self.old.items }
+        requires doubted { doubt_in self.old.doubts node ≢ Doubt.Clear }
+        requires consistent { needs_play false (doubt_in self.old.doubts node) ≡ false → IsRightOnce (K.key key.now) self.old node }
         requires live { (i : ℕ) (a : I) → item_in self.old.items i ≡ Some a → AreLive (O.scene now.now).live (K.names a) }
         ensures tree { IsTree self.new }
         ensures renewed { OnOk result (IsRenewed all (K.key key.now) (O.scene now.now).sign node self.old self.new out.old out.new) }
         ensures cost { OnOk result (steps.new ≤ steps.old + 1) }
     {
-        if self.needs_play(node, all) {
-            return self.replay(node, key, now, out, steps);
+        if self.is_here(node) {
+            return self.replay(node, None, key, now, out, steps);
         }
-        Ok(())
+        if !all {
+            return Ok(());
+        }
+        let Some(sign) = self.failed_sign(node, now, steps) else {
+            return Ok(());
+        };
+        self.replay(node, Some(sign), key, now, out, steps)
     }
 
     /// Clears a node whose halves are clear, and unmarks the slots right below it.

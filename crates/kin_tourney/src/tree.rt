@@ -116,12 +116,13 @@ impl<I: Copy> Tree<I> {
         self.doubts[node].is_clear()
     }
 
-    pub(crate) fn needs_play(&self, node: usize, all: bool) -> bool
+    /// Whether the match of a node has to be played again.
+    pub(crate) fn is_here(&self, node: usize) -> bool
         requires tree { IsTree self.now }
         requires inner { node < length self.now.items }
-        ensures { result ≡ needs_play all (doubt_in self.now.doubts node) }
+        ensures { IsTrue result ↔ (doubt_in self.now.doubts node ≡ Doubt.Here) }
     {
-        self.doubts[node].needs_play(all)
+        self.doubts[node].is_here()
     }
 
     /// Whether no slot is marked, and no failed fact told.

@@ -142,6 +142,7 @@ impl Orders {
     }
 
     /// Whether q is in an octant of p.
+    #[inline(always)]
     pub fn is_in_octant(&self, octant: Octant, p: u32, q: u32) -> bool
         requires rows { AreRows (rows_of self.now.lists.items) }
         requires parts { IsOfEight (octant_seen octant) }

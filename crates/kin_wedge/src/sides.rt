@@ -74,6 +74,7 @@ impl Orders {
     }
 
     /// The octant of p in which a number lies that stands there, if it lies in one.
+    #[inline(always)]
     pub fn octant_of(&self, p: u32, spot: Spot) -> u32
         requires rows { AreRows (rows_of self.now.lists.items) }
         requires parted { AreParted (rows_of self.now.lists.items) }

@@ -140,6 +140,7 @@ impl Touches {
 
     /// Offers a number, which stands there, to the octant of an apex that it is in, where no candidate
     /// stands before it.
+    #[inline(always)]
     pub fn offer(
         &mut self,
         orders: &Orders,

@@ -1,6 +1,6 @@
 use Rattle.std.proofs.Common.{sym, subst, rules}
 use Rattle.kin_tourney.specs.Tournament.{Tournament, IsReady, CoversAskable}
-use Rattle.kin_tourney.proofs.Settled.{some_slots, parts_low, doubtful_of_told, last}
+use Rattle.kin_tourney.proofs.Settled.{parts_low, doubtful_of_told, last}
 use Rattle.kin_tourney.proofs.tourney.Tourney.settle_told.Goals as goal
 
 pub doubt_failed-requires-clause-inner : goal.doubt_failed-requires-clause-inner
