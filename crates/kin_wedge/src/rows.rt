@@ -102,16 +102,35 @@ impl Row {
         }
     }
 
+    /// Becomes that of a list.
+    fn copy(&mut self, list: &KinList) -> Result<(), NoMemory>
+        ensures { OnOk result (self.new ≡ list.now.items) }
+    {
+        self.numbers.clear();
+        self.numbers.extend_from_slice(list.items())?;
+        Ok(())
+    }
+
     /// Takes in the number of a mark that has entered a list.
     fn take_in(&mut self, mark: Mark, list: &KinList) -> Result<(), NoMemory>
         requires { self.old ≡ lasting mark list.now.items }
         ensures { OnOk result (self.new ≡ list.now.items) }
     {
         if let Mark::Enters(_) = mark {
-            self.numbers.clear();
-            self.numbers.extend_from_slice(list.items())?;
+            return self.copy(list);
         }
         Ok(())
+    }
+
+    /// Follows a list in which nothing was exchanged.
+    fn follow_mark(&mut self, mark: Mark, list: &KinList) -> Result<(), NoMemory>
+        requires { staying mark self.old ≡ lasting mark list.now.items }
+        ensures { OnOk result (self.new ≡ list.now.items) }
+    {
+        match mark {
+            Mark::Rest | Mark::Broken => Ok(()),
+            Mark::Enters(_) | Mark::Leaves(_) => self.copy(list),
+        }
     }
 
     /// Makes the exchanges of a list, and notes the slots that they can have touched.
@@ -133,6 +152,9 @@ impl Row {
         ensures offered { OnOk result ((a b : ℕ) → WereExchanged list.now.swaps (staying mark self.old) a b → HasOfferedBoth (rows_of orders.now.lists.items) table.now part a b touches.new.all.items) }
         ensures touched { OnOk result (HasTouched table.now touches.old.all.items touches.new.all.items) }
     {
+        if list.swaps().is_empty() {
+            return self.follow_mark(mark, list);
+        }
         self.let_go(mark);
         follow_row(
             &mut self.numbers,
