@@ -36,7 +36,7 @@ named_under {Item} t h v i inside e = at (nat_lt v (length t.items)) refl e
         (omega arith, subst (λ u. is_under t.size u i ≡ true) leaf (is_under-leaf t.size i))
 
 -- the winner of a match is an entry of one half
-match_slot : {Item : Type 0} (key : Key Item) (sign : Form → Sign) (l r : Option (Entry Item)) (i : ℕ) → (match_of key sign l r).0 ≡ Some i
+pub match_slot : {Item : Type 0} (key : Key Item) (sign : Form → Sign) (l r : Option (Entry Item)) (i : ℕ) → (match_of key sign l r).0 ≡ Some i
     → ((e : Entry Item) × (l ≡ Some e) × (e.slot ≡ i)) ⊎ ((e : Entry Item) × (r ≡ Some e) × (e.slot ≡ i))
 match_slot {Item} key sign None None i h = absurd cc
 match_slot {Item} key sign (Some l) None i h = inl (l, refl, same_Some _ _ h)

@@ -1,14 +1,17 @@
 -- Doubts above a marked slot: the matches that it had won are to be played again.
-use Rattle.std.proofs.Common.{◌≡◌, ◌≢◌, ◌⊎◌, inl, inr, refl, sym, ap, ◌∙◌, subst, arith, ℕ, zero, suc, ◌+◌, ◌*◌, ◌/◌, ◌<◌, ◌≤◌, length, true, nat_eq, set}
+use Rattle.std.proofs.Common.{◌≡◌, ◌≢◌, ◌⊎◌, inl, inr, refl, sym, ap, ◌∙◌, subst, arith, ℕ, zero, suc, ◌+◌, ◌*◌, ◌/◌, ◌<◌, ◌≤◌, length, true, nat_eq, set, List, ◌-◌, ◌^◌, Bool, false, cond, nat_lt}
 use Rattle.std.specs.Prelude.{Some}
-use Rattle.std.proofs.lemmas.Bool.{or_cases}
+use Rattle.std.proofs.lemmas.Bool.{or_cases, cases_eq}
 use Rattle.std.proofs.lemmas.Bool.Decides.{nat_tests}
 use Rattle.std.proofs.lemmas.List.{get_or-set_same, length-set}
 use Rattle.kin_motion.specs.Tournaments.{comes_to, is_under}
 use Rattle.kin_motion.proofs.NodeLaws.{not_above}
+use Rattle.kin_tourney.specs.declared.doubt.Doubt.{Doubt}
 use Rattle.kin_tourney.specs.declared.doubt.Doubt.TheVariants.{Clear, Below, Here}
-use Rattle.kin_tourney.specs.Standings.{Standings, IsTree, doubt_in, doubt_count, named_at}
-use Rattle.kin_tourney.specs.Repairs.{IsSpread, IsMarkedUp}
+use Rattle.kin_tourney.specs.Standings.{Standings, IsTree, best_in, doubt_in, doubt_count, named_at}
+use Rattle.kin_tourney.specs.Repairs.{IsSpread, IsMarkedUp, IsFed}
+use Rattle.kin_tourney.specs.Under.{is_under-leaf, is_under-left, is_under-right, is_under-one_half}
+use Rattle.kin_tourney.proofs.Entries.{named_under}
 use Rattle.kin_tourney.proofs.AfterWrite.{read_set}
 use Rattle.kin_tourney.proofs.Doubts.{closed_raised, count_kept, here_is_doubt}
 use Rattle.kin_tourney.proofs.Trees.{above_in_doubt}
@@ -37,7 +40,8 @@ pub record IsRaising {Item : Type 0} (slot : ℕ) (start now : Standings Item) (
   pub kept : (v : ℕ) → doubt_in now.doubts v ≡ Clear → doubt_in start.doubts v ≡ Clear
   pub doubted : 1 < node → doubt_in now.doubts (node / 2) ≢ Clear
   pub low : node < 2 * length start.items
-  pub won : (u : ℕ) → is_under start.size u slot ≡ true → (named_at start u ≡ Some slot → doubt_in now.doubts (u / 2) ≡ Here) ⊎ ((k : ℕ) × (comes_to k node u ≡ true))
+  pub under : 0 < node → is_under start.size node slot ≡ true
+  pub won : IsFed start → (u : ℕ) → is_under start.size u slot ≡ true → (named_at start u ≡ Some slot → doubt_in now.doubts (u / 2) ≡ Here) ⊎ ((k : ℕ) × (comes_to k node u ≡ true))
 
 pub raising_starts : {Item : Type 0} (slot : ℕ) (start : Standings Item) → IsTree start → slot < length start.items → doubt_in start.doubts ((length start.items + slot) / 2) ≢ Clear → IsRaising slot start start (length start.items + slot)
 raising_starts {Item} slot start tree inside reached = record {
@@ -49,10 +53,65 @@ raising_starts {Item} slot start tree inside reached = record {
   kept = λ v e. e;
   doubted = λ big. reached;
   low = omega arith;
-  won = λ u e. inr (start.size, subst (λ (n : ℕ). comes_to start.size (n + slot) u ≡ true) (sym tree.items_room) e);
+  under = λ some. subst (λ (n : ℕ). comes_to start.size (2 ^ start.size + slot) (n + slot) ≡ true) (sym tree.items_room) (is_under-leaf start.size slot);
+  won = λ fed u e. inr (start.size, subst (λ (n : ℕ). comes_to start.size (n + slot) u ≡ true) (sym tree.items_room) e);
 }
 
-module _ {Item : Type 0} (slot : ℕ) (start now next : Standings Item) (node : ℕ) (big : 1 < node) (h : IsRaising slot start now node) (tree : IsTree next) where
+same_node : (u v : ℕ) → nat_eq u v ≡ true → u ≡ v
+same_node u v e = grind (arith, nat_tests, e)
+
+-- ---- above a node of which a slot isn't the best it is so nowhere, where nothing was in doubt itself
+half_or_more : (n : ℕ) → (n ≡ 2 * (n / 2)) ⊎ (n ≡ 2 * (n / 2) + 1)
+half_or_more n = at (cases_eq n (2 * (n / 2)))
+  where
+    at : (n ≡ 2 * (n / 2)) ⊎ (n ≢ 2 * (n / 2)) → (n ≡ 2 * (n / 2)) ⊎ (n ≡ 2 * (n / 2) + 1)
+    at (inl e) = inl e
+    at (inr m) = inr (omega arith)
+
+module _ {Item : Type 0} (slot : ℕ) (t : Standings Item) (tree : IsTree t) (inside : slot < length t.items) where
+  low : slot < 2 ^ t.size
+  low = let r = tree.items_room in omega arith
+
+  -- a node above one that stands above a slot stands above it too
+  under_up : (node : ℕ) → 1 < node → node < 2 * length t.items → is_under t.size node slot ≡ true → is_under t.size (node / 2) slot ≡ true
+  under_up node big fits under = at (half_or_more node)
+    where
+      inner : node / 2 < 2 ^ t.size
+      inner = let r = tree.items_room in omega arith
+
+      at : (node ≡ 2 * (node / 2)) ⊎ (node ≡ 2 * (node / 2) + 1) → is_under t.size (node / 2) slot ≡ true
+      at (inl e) = is_under-left t.size (node / 2) slot (omega arith) inner low (subst (λ (v : ℕ). is_under t.size v slot ≡ true) e under)
+      at (inr e) = is_under-right t.size (node / 2) slot (omega arith) inner low (subst (λ (v : ℕ). is_under t.size v slot ≡ true) e under)
+
+  named_inner : (v : ℕ) → v < length t.items → named_at t v ≡ best_in t.best v
+  named_inner v small = at (nat_lt v (length t.items)) refl
+    where
+      at : (b : Bool) → nat_lt v (length t.items) ≡ b → cond b (best_in t.best v) (Some (v - length t.items)) ≡ best_in t.best v
+      at true e = refl
+      at false e = let past : length t.items ≤ v = grind (arith, nat_tests, e) in absurd (omega arith)
+
+  module _ (fed : IsFed t) (none_here : (v : ℕ) → 0 < v → doubt_in t.doubts v ≢ Here) where
+    lost_up : (node : ℕ) → 1 < node → node < 2 * length t.items → is_under t.size node slot ≡ true → (named_at t node ≢ Some slot) → named_at t (node / 2) ≢ Some slot
+    lost_up node big fits under n e = at (fed (node / 2) slot (omega arith) (omega arith) (none_here (node / 2) (omega arith)) (sym (named_inner (node / 2) (omega arith)) ∙ e)) (half_or_more node)
+      where
+        at : (named_at t (2 * (node / 2)) ≡ Some slot) ⊎ (named_at t (2 * (node / 2) + 1) ≡ Some slot) → (node ≡ 2 * (node / 2)) ⊎ (node ≡ 2 * (node / 2) + 1) → ⊥
+        at (inl f) (inl g) = n (ap (named_at t) g ∙ f)
+        at (inr f) (inr g) = n (ap (named_at t) g ∙ f)
+        at (inl f) (inr g) = is_under-one_half t.size (node / 2) slot (omega arith) (named_under t tree (2 * (node / 2)) slot (omega arith) f).1 (subst (λ (v : ℕ). is_under t.size v slot ≡ true) g under)
+        at (inr f) (inl g) = is_under-one_half t.size (node / 2) slot (omega arith) (subst (λ (v : ℕ). is_under t.size v slot ≡ true) g under) (named_under t tree (2 * (node / 2) + 1) slot (omega arith) f).1
+
+    lost_above : (k node u : ℕ) → 1 < u → node < 2 * length t.items → is_under t.size node slot ≡ true → (named_at t node ≢ Some slot) → comes_to k node u ≡ true → named_at t u ≢ Some slot
+    lost_above zero node u big fits under n c e = n (ap (named_at t) (same_node node u c) ∙ e)
+    lost_above (suc k) node u big fits under n c e = at (or_cases (nat_eq node u) (comes_to k (node / 2) u) c) (lost_above k (node / 2) u big)
+      where
+        at : (nat_eq node u ≡ true) ⊎ (comes_to k (node / 2) u ≡ true)
+            → (node / 2 < 2 * length t.items → is_under t.size (node / 2) slot ≡ true → named_at t (node / 2) ≢ Some slot → comes_to k (node / 2) u ≡ true → named_at t u ≢ Some slot) → ⊥
+        at (inl f) rest = n (ap (named_at t) (same_node node u f) ∙ e)
+        at (inr f) rest =
+            let l = not_above k (node / 2) u f in
+            rest (omega arith) (under_up node (omega arith) fits under) (lost_up node (omega arith) fits under n) f e
+
+module _ {Item : Type 0} (slot : ℕ) (start now next : Standings Item) (node : ℕ) (big : 1 < node) (h : IsRaising slot start now node) (tree : IsTree next) (first : IsTree start) (among : slot < length start.items) where
   -- one node further, where no doubt is lost
   raising_on : next ≡ record now { doubts = next.doubts } → length next.doubts ≡ length now.doubts → doubt_count next.doubts ≡ doubt_count now.doubts
       → ((v : ℕ) → doubt_in now.doubts v ≡ Here → doubt_in next.doubts v ≡ Here) → ((v : ℕ) → doubt_in next.doubts v ≡ Clear → doubt_in now.doubts v ≡ Clear)
@@ -66,7 +125,8 @@ module _ {Item : Type 0} (slot : ℕ) (start now next : Standings Item) (node : 
     kept = λ v e. h.kept v (kept v e);
     doubted = λ more. above_in_doubt next.doubts tree.closed (node / 2) (omega arith) (λ e. h.doubted big (kept (node / 2) e));
     low = let l = h.low in omega arith;
-    won = λ u e. on u (h.won u e);
+    under = λ some. under_up slot start first among node big h.low (h.under (omega arith));
+    won = λ fed u e. on u (h.won fed u e);
   }
     where
       own_node : (u : ℕ) → node ≡ u → named_at start u ≡ Some slot → doubt_in next.doubts (u / 2) ≡ Here
@@ -75,11 +135,11 @@ module _ {Item : Type 0} (slot : ℕ) (start now next : Standings Item) (node : 
       on : (u : ℕ) → (named_at start u ≡ Some slot → doubt_in now.doubts (u / 2) ≡ Here) ⊎ ((k : ℕ) × (comes_to k node u ≡ true))
           → (named_at start u ≡ Some slot → doubt_in next.doubts (u / 2) ≡ Here) ⊎ ((k : ℕ) × (comes_to k (node / 2) u ≡ true))
       on u (inl f) = inl (λ e. here_kept (u / 2) (f e))
-      on u (inr (zero, c)) = let same : node ≡ u = grind (arith, nat_tests, c) in inl (own_node u same)
+      on u (inr (zero, c)) = inl (own_node u (same_node node u c))
       on u (inr (suc k, c)) = at (or_cases (nat_eq node u) (comes_to k (node / 2) u) c)
         where
           at : (nat_eq node u ≡ true) ⊎ (comes_to k (node / 2) u ≡ true) → (named_at start u ≡ Some slot → doubt_in next.doubts (u / 2) ≡ Here) ⊎ ((k : ℕ) × (comes_to k (node / 2) u ≡ true))
-          at (inl f) = let same : node ≡ u = grind (arith, nat_tests, f) in inl (own_node u same)
+          at (inl f) = inl (own_node u (same_node node u f))
           at (inr f) = inr (k, f)
 
   inside : node / 2 < length now.doubts
@@ -118,6 +178,40 @@ module _ {Item : Type 0} (slot : ℕ) (start now next : Standings Item) (node : 
   passed_by same n = raising_on (same ∙ ap (λ (t : Standings Item). record now { doubts = t.doubts }) (sym same)) (ap (λ (t : Standings Item). length t.doubts) same) (ap (λ (t : Standings Item). doubt_count t.doubts) same)
       (λ v e. ap (λ (t : Standings Item). doubt_in t.doubts v) same ∙ e) (λ v e. sym (ap (λ (t : Standings Item). doubt_in t.doubts v) same) ∙ e) (λ e. absurd (n (ap (λ (t : Standings Item). named_at t node) h.same ∙ e)))
 
+  -- where nothing was in doubt itself it is the best of no node above
+  pub stopped : next ≡ now → (named_at now node ≢ Some slot) → ((v : ℕ) → 0 < v → doubt_in start.doubts v ≢ Here) → IsRaising slot start next 0
+  stopped same n none_here = record {
+    tree = tree;
+    same = same ∙ h.same ∙ ap (λ (t : Standings Item). record start { doubts = t.doubts }) (sym same);
+    room = ap (λ (t : Standings Item). length t.doubts) same ∙ h.room;
+    count = ap (λ (t : Standings Item). doubt_count t.doubts) same ∙ h.count;
+    here_kept = λ v e. ap (λ (t : Standings Item). doubt_in t.doubts v) same ∙ h.here_kept v e;
+    kept = λ v e. h.kept v (sym (ap (λ (t : Standings Item). doubt_in t.doubts v) same) ∙ e);
+    doubted = λ more. absurd (omega arith);
+    low = let l = h.low in omega arith;
+    under = λ some. absurd (omega arith);
+    won = λ fed u e. inl (on fed u (h.won fed u e));
+  }
+    where
+      lost : named_at start node ≢ Some slot
+      lost e = n (ap (λ (t : Standings Item). named_at t node) h.same ∙ e)
+
+      on : IsFed start → (u : ℕ) → (named_at start u ≡ Some slot → doubt_in now.doubts (u / 2) ≡ Here) ⊎ ((k : ℕ) × (comes_to k node u ≡ true)) → named_at start u ≡ Some slot → doubt_in next.doubts (u / 2) ≡ Here
+      on fed u (inl f) e = ap (λ (t : Standings Item). doubt_in t.doubts (u / 2)) same ∙ f e
+      on fed u (inr (k, c)) e = at (nat_lt 1 u) refl
+        where
+          at : (b : Bool) → nat_lt 1 u ≡ b → doubt_in next.doubts (u / 2) ≡ Here
+          at true f = absurd (lost_above slot start first among fed none_here k node u (grind (arith, nat_tests, f)) h.low (h.under (omega arith)) lost c e)
+          at false f = let small : u ≤ 1 = grind (arith, nat_tests, f) in let z : u / 2 ≡ 0 = omega arith in ap (doubt_in next.doubts) z ∙ tree.closed.top
+
+-- nothing comes into doubt itself where only the way is led
+pub none_here_led : (old mid : List Doubt) (node : ℕ) → IsSpread old mid Below node → ((v : ℕ) → 0 < v → doubt_in old v ≡ Clear) → (v : ℕ) → 0 < v → doubt_in mid v ≢ Here
+none_here_led old mid node spread clear v some e = at (spread.each v)
+  where
+    at : (doubt_in mid v ≡ doubt_in old v) ⊎ ((doubt_in old v ≡ Clear) × (doubt_in mid v ≡ Below)) → ⊥
+    at (inl k) = here_is_doubt (sym e ∙ k ∙ clear v some)
+    at (inr k) = absurd (let z : Here ≡ Below = sym e ∙ k.1 in cc)
+
 -- at the root all is done
 pub raising_ends : {Item : Type 0} (slot : ℕ) (old mid now : Standings Item) (node : ℕ) → IsTree old → slot < length old.items → mid ≡ record old { doubts = mid.doubts } → IsSpread old.doubts mid.doubts Below ((length old.items + slot) / 2)
     → node ≤ 1 → IsRaising slot mid now node → (now ≡ record old { doubts = now.doubts }) × IsMarkedUp slot old now.doubts
@@ -126,7 +220,7 @@ raising_ends {Item} slot old mid now node tree inside same spread ended h = (
   record {
     room = h.room ∙ spread.room;
     reached = λ e. spread.reached (h.kept ((length old.items + slot) / 2) e);
-    won = λ u under best. at u (h.won u (subst (λ (n : ℕ). is_under n u slot ≡ true) (sym size) under)) (names_same u ∙ best);
+    won = λ fed u under best. at u (h.won (fed_first fed) u (subst (λ (n : ℕ). is_under n u slot ≡ true) (sym size) under)) (names_same u ∙ best);
     here_kept = λ v e. h.here_kept v (here_first v e (spread.each v));
     kept = λ v e. clear_first v (h.kept v e) (spread.each v);
     few = let f = spread.few old.size (let r = tree.items_room in omega arith) in let c = h.count in omega arith;
@@ -146,6 +240,9 @@ raising_ends {Item} slot old mid now node tree inside same spread ended h = (
     here_first : (v : ℕ) → doubt_in old.doubts v ≡ Here → (doubt_in mid.doubts v ≡ doubt_in old.doubts v) ⊎ ((doubt_in old.doubts v ≡ Clear) × (doubt_in mid.doubts v ≡ Below)) → doubt_in mid.doubts v ≡ Here
     here_first v e (inl k) = k ∙ e
     here_first v e (inr k) = absurd (here_is_doubt (sym e ∙ k.0))
+
+    fed_first : IsFed old → IsFed mid
+    fed_first fed = subst IsFed (sym same) (λ v i some inside n e. fed v i some inside (λ here. n (here_first v here (spread.each v))) e)
 
     clear_first : (v : ℕ) → doubt_in mid.doubts v ≡ Clear → (doubt_in mid.doubts v ≡ doubt_in old.doubts v) ⊎ ((doubt_in old.doubts v ≡ Clear) × (doubt_in mid.doubts v ≡ Below)) → doubt_in old.doubts v ≡ Clear
     clear_first v e (inl k) = sym k ∙ e

@@ -19,11 +19,11 @@ use Rattle.kin_tourney.specs.declared.entry.Entry.{Entry}
 use Rattle.kin_tourney.specs.Names.{AreLive}
 use Rattle.kin_tourney.specs.Tournament.{mark_in, mark_count, is_above_mark, CoversFailing, CoversAskable}
 use Rattle.kin_tourney.specs.Standings.{Standings, IsTree, IsRight, best_in, fact_in, doubt_in, doubt_count, named_at, entry_at, entry_in, match_of, placed_facts, entry_with}
-use Rattle.kin_tourney.specs.Repairs.{IsMarkedUp, IsDoubted, IsDoubtful, needs_play}
+use Rattle.kin_tourney.specs.Repairs.{IsMarkedUp, IsFed, IsDoubted, IsDoubtful, needs_play}
 use Rattle.kin_tourney.specs.Sound.{IsSound}
 use Rattle.kin_tourney.proofs.AfterWrite.{read_set}
 use Rattle.kin_tourney.proofs.Marks.{leaf_doubt, mark_under, mark_more, mark_again, mark_none, count_of_top, clear_but_top}
-use Rattle.kin_tourney.proofs.Entries.{named_under, entry_in_slot}
+use Rattle.kin_tourney.proofs.Entries.{named_under, entry_in_slot, match_slot}
 use Rattle.kin_tourney.proofs.Placements.{fact_of_placed, placed_of_fact}
 use Rattle.kin_tourney.proofs.Entrants.{right_where_held, right_at_one}
 
@@ -37,6 +37,17 @@ module _ {Item : Type 0} (key : Key Item) where
       → mark_in t.marked i ≡ true → is_under t.size v i ≡ true → doubt_in t.doubts v ≢ Clear
   mark_doubt t tree leaves v i some inside e under =
       leaf_doubt t.doubts tree.closed t.size v i some (let r = tree.items_room in omega arith) (subst (λ n. doubt_in t.doubts ((n + i) / 2) ≢ Clear) tree.items_room (leaves i e)) under
+
+  -- a match has the winner of a half
+  fed_when_sound : (t : Standings Item) → IsSound key t → IsFed t
+  fed_when_sound t sound v i some inside n e = of_match (sound.consistent v some inside n)
+    where
+      of_match : (sign : Sign) × IsRight key (λ f. sign) t v → (named_at t (2 * v) ≡ Some i) ⊎ (named_at t (2 * v + 1) ≡ Some i)
+      of_match (sign, right) = at (match_slot key (λ f. sign) (entry_at t (2 * v)) (entry_at t (2 * v + 1)) i (sym (ap (λ (p : Option ℕ × Option Fact). p.0) right) ∙ e))
+        where
+          at : ((x : Entry Item) × (entry_at t (2 * v) ≡ Some x) × (x.slot ≡ i)) ⊎ ((x : Entry Item) × (entry_at t (2 * v + 1) ≡ Some x) × (x.slot ≡ i)) → (named_at t (2 * v) ≡ Some i) ⊎ (named_at t (2 * v + 1) ≡ Some i)
+          at (inl (x, f, g)) = inl ((entry_in_slot t.items (named_at t (2 * v)) x f).0 ∙ ap Some g)
+          at (inr (x, f, g)) = inr ((entry_in_slot t.items (named_at t (2 * v + 1)) x f).0 ∙ ap Some g)
 
   -- ---- a mark
   entry_elsewhere : (items : List (Option Item)) (slot : ℕ) (item : Option Item) (o : Option ℕ) → (o ≡ Some slot → ⊥) → entry_in (set items slot item) o ≡ entry_in items o
@@ -139,7 +150,7 @@ module _ {Item : Type 0} (key : Key Item) where
           subst (λ n. doubt_count new.doubts ≤ 1 + t.size * n) (sym c) (omega arith))
       at false e =
           let s = spread e in
-          sound_marked t new tree tree' sound slot inside item same s.here_kept s.kept s.reached s.won
+          sound_marked t new tree tree' sound slot inside item same s.here_kept s.kept s.reached (s.won (fed_when_sound t sound))
           (let k = mark_more t.marked slot room e in let c : mark_count new.marked ≡ mark_count t.marked + 1 = marked_are ∙ k in
           let d = s.few in let f = sound.few in
           subst (λ n. doubt_count new.doubts ≤ 1 + t.size * n) (sym c) (enough (doubt_count new.doubts) (doubt_count t.doubts) t.size (mark_count t.marked) d f))

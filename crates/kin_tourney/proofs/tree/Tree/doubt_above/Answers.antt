@@ -1,19 +1,27 @@
-use Rattle.std.proofs.Common.{◌≡◌, ◌∙◌, sym, subst, ◌/◌, ◌+◌, ℕ, true, false}
-use Rattle.kin_tourney.specs.Standings.{Standings, IsTree}
+use Rattle.std.proofs.Common.{◌≡◌, ◌≢◌, ◌∙◌, sym, subst, refl, ◌/◌, ◌+◌, ◌<◌, ℕ, length, Some, true, false}
+use Rattle.kin_tourney.specs.Standings.{Standings, named_at}
 use Rattle.kin_tourney.specs.declared.doubt.Doubt.TheVariants.{Below}
 use Rattle.kin_tourney.specs.Repairs.{IsSpread}
-use Rattle.kin_tourney.proofs.Raising.{IsRaising, raised, passed_by, raising_ends}
+use Rattle.kin_tourney.proofs.Raising.{raised, passed_by, stopped, none_here_led, raising_ends}
 use Rattle.kin_tourney.proofs.tree.Tree.doubt_above.Goals as goal
-use Rattle.kin_tourney.proofs.tree.Tree.doubt_above.Goals.{then-is_best_of, else-is_best_of}
+
+pub loop-node-preserved-then-is_best_of : goal.loop-node-preserved-then-is_best_of
+loop-node-preserved-then-is_best_of g c =
+    let among : c.args.slot < length c.lead_to.new.self.items = subst (λ (t : Standings g.row.I.Denot). c.args.slot < length t.items) (sym c.lead_to.ensures.same) c.requires.slot in
+    raised c.args.slot c.lead_to.new.self c.loop-node.self c.raise.new.self c.loop-node.node c.loop-node-test.true c.loop-node.invariant c.raise.ensures.tree c.lead_to.ensures.tree among c.raise.ensures.same
+
+pub loop-node-preserved-then-was_settled : goal.loop-node-preserved-then-was_settled
+loop-node-preserved-then-was_settled g c =
+    let among : c.args.slot < length c.lead_to.new.self.items = subst (λ (t : Standings g.row.I.Denot). c.args.slot < length t.items) (sym c.lead_to.ensures.same) c.requires.slot in
+    let lost : named_at c.loop-node.self c.loop-node.node ≢ Some c.args.slot = λ e. absurd (let k : false ≡ true = sym c.if-is_best_of.false ∙ c.is_best_of.ensures.1 e in cc) in
+    stopped c.args.slot c.lead_to.new.self c.loop-node.self c.loop-node.self c.loop-node.node c.loop-node-test.true c.loop-node.invariant c.loop-node.invariant.tree c.lead_to.ensures.tree among refl lost
+    (none_here_led c.args.self.now.doubts c.lead_to.new.self.doubts _ c.lead_to.ensures.spread (c.is_settled-was_settled.ensures c.if-was_settled.true))
 
 pub loop-node-preserved : goal.loop-node-preserved
 loop-node-preserved g c =
-    elim c.if-is_best_of.branch [
-      | then-is_best_of w ↦ subst (λ (t : Standings g.row.I.Denot). IsRaising c.args.slot c.lead_to.new.self t (c.loop-node.node / 2)) (sym w.self-is)
-          (raised c.args.slot c.lead_to.new.self c.loop-node.self w.raise.new.self c.loop-node.node c.loop-node-test.true c.loop-node.invariant w.raise.ensures.tree w.raise.ensures.same)
-      | else-is_best_of w ↦ passed_by c.args.slot c.lead_to.new.self c.loop-node.self c.if-is_best_of.self c.loop-node.node c.loop-node-test.true c.loop-node.invariant
-          (subst (λ (t : Standings g.row.I.Denot). IsTree t) (sym w.self-is) c.loop-node.invariant.tree) w.self-is (λ e. absurd (let k : false ≡ true = sym w.if-is_best_of.false ∙ c.is_best_of.ensures.1 e in cc))
-    ]
+    let among : c.args.slot < length c.lead_to.new.self.items = subst (λ (t : Standings g.row.I.Denot). c.args.slot < length t.items) (sym c.lead_to.ensures.same) c.requires.slot in
+    let lost : named_at c.loop-node.self c.loop-node.node ≢ Some c.args.slot = λ e. absurd (let k : false ≡ true = sym c.if-is_best_of.false ∙ c.is_best_of.ensures.1 e in cc) in
+    passed_by c.args.slot c.lead_to.new.self c.loop-node.self c.loop-node.self c.loop-node.node c.loop-node-test.true c.loop-node.invariant c.loop-node.invariant.tree c.lead_to.ensures.tree among refl lost
 
 pub returns-clause-marked : goal.returns-clause-marked
 returns-clause-marked g c =
