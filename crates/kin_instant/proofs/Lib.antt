@@ -15,3 +15,4 @@ pub mod NextExistence
 pub mod KeyOrder
 pub mod Spans
 pub mod LineRoots
+pub mod CurveRoots

@@ -5,7 +5,7 @@ use Rattle.std.proofs.lemmas.Int.{ints}
 use lib.IntN.{neg_ℤ}
 use Rattle.kin_algebra.specs.declared.sign.Sign.{Sign}
 use Rattle.kin_algebra.specs.declared.sign.Sign.TheVariants.{Minus, Zero, Plus}
-use Rattle.kin_algebra.specs.Signs.{sign_of, product_of, first_of}
+use Rattle.kin_algebra.specs.Signs.{sign_of, product_of, first_of, SumMayBe}
 use Rattle.kin_algebra.proofs.Ring.{by_ring, quotes}
 use Rattle.kin_algebra.proofs.Signs.{code}
 use Rattle.kin_algebra.proofs.IntegerSigns.{sign_in, sign_out, zero_of}
@@ -141,23 +141,24 @@ product_sign a b c n d h k z w i After =
 
 -- ---- an irreducible quadratic
 module _ (a b c : ℤ) (i : IsIrreducible a b c) (w : Shape) (form : IsCanonicalForm w) where
-  -- the places to both roots, and their product
-  record Places (v s : Sign) : Type 0 where
-    lower : Sign
-    upper : Sign
-    at_lower : IsAt w (Root a b c false) lower
-    at_upper : IsAt w (Root a b c true) upper
-    value : v ≡ product_of lower upper
-    after : first_of v (first_of s Plus) ≡ product_of (first_of lower Plus) (first_of upper Plus)
+  -- the places to both roots, their product and their sum
+  pub record Places (v s : Sign) : Type 0 where
+    pub lower : Sign
+    pub upper : Sign
+    pub at_lower : IsAt w (Root a b c false) lower
+    pub at_upper : IsAt w (Root a b c true) upper
+    pub value : v ≡ product_of lower upper
+    pub after : first_of v (first_of s Plus) ≡ product_of (first_of lower Plus) (first_of upper Plus)
+    pub slope : SumMayBe lower upper s
 
-  places : (v s : Sign) → sign_at_instant (quadratic a b c) w ≡ v → sign_at_instant (derivative (quadratic a b c)) w ≡ s → Places v s
-  places Minus s e f = record { lower = Plus; upper = Minus; at_lower = above_lower a b c i w form (inr e); at_upper = below_upper a b c i w form (inr e); value = refl; after = refl }
-  places Zero Minus e f = record { lower = Zero; upper = Minus; at_lower = at_lower a b c i w form f e; at_upper = below_upper a b c i w form (inl f); value = refl; after = refl }
+  pub places : (v s : Sign) → sign_at_instant (quadratic a b c) w ≡ v → sign_at_instant (derivative (quadratic a b c)) w ≡ s → Places v s
+  places Minus s e f = record { lower = Plus; upper = Minus; at_lower = above_lower a b c i w form (inr e); at_upper = below_upper a b c i w form (inr e); value = refl; after = refl; slope = tt }
+  places Zero Minus e f = record { lower = Zero; upper = Minus; at_lower = at_lower a b c i w form f e; at_upper = below_upper a b c i w form (inl f); value = refl; after = refl; slope = refl }
   places Zero Zero e f = never_level a b c i w form Zero e (λ x. code x) f
-  places Zero Plus e f = record { lower = Plus; upper = Zero; at_lower = above_lower a b c i w form (inl f); at_upper = at_upper a b c i w form f e; value = refl; after = refl }
-  places Plus Minus e f = record { lower = Minus; upper = Minus; at_lower = below_lower a b c i w form f e; at_upper = below_upper a b c i w form (inl f); value = refl; after = refl }
+  places Zero Plus e f = record { lower = Plus; upper = Zero; at_lower = above_lower a b c i w form (inl f); at_upper = at_upper a b c i w form f e; value = refl; after = refl; slope = refl }
+  places Plus Minus e f = record { lower = Minus; upper = Minus; at_lower = below_lower a b c i w form f e; at_upper = below_upper a b c i w form (inl f); value = refl; after = refl; slope = refl }
   places Plus Zero e f = never_level a b c i w form Plus e (λ x. code x) f
-  places Plus Plus e f = record { lower = Plus; upper = Plus; at_lower = above_lower a b c i w form (inl f); at_upper = above_upper a b c i w form f e; value = refl; after = refl }
+  places Plus Plus e f = record { lower = Plus; upper = Plus; at_lower = above_lower a b c i w form (inl f); at_upper = above_upper a b c i w form f e; value = refl; after = refl; slope = refl }
 
 -- ---- the table
 -- the leading sign
@@ -237,18 +238,11 @@ module _ (a b c : ℤ) (h : pos 0 <ℤ a) (w : Shape) (i : IsCanonicalForm w) (f
       everywhere At = at_at q w ∙ here
       everywhere After = at_after q w i ∙ ap (λ (s : Sign). first_of s (first_of (sign_at_instant (derivative q) w) (sign_of a))) here
 
-  -- a double fraction
-  double_signed : (n d : ℤ) → IsLowest n d → AreRootsOf q (One (Ratio n d)) → IsSigned q (One (Ratio n d)) m
-  double_signed n d j k =
-      let z = (k.exact (Ratio n d) j).1 refl in
-      let s = lift f (sign_at_instant (line n d) w) in (
-        s,
-        (
-          lifted w (Ratio n d) f _ (line_place (Ratio n d) j n d j.positive (line-zero_at n d n d refl) w i _ refl),
-          by_square (sign_of a) (lead_of q) (sign_at q m) s (sign_in Plus a h) (lead-plus q h)
-              (product_sign a b c n d h j.positive z w i f ∙ ap (λ (t : Sign). product_of s (lift f t)) (ap (λ (x : ℤ). sign_at_instant (quadratic (pos 0) (a *ℤ d) x) w) (centre a b n d j.positive (square z)) ∙ ap (λ (x : ℤ). sign_at_instant (quadratic x (a *ℤ d) (a *ℤ neg_ℤ n)) w) (nothing a) ∙ instant-scaled w i a (pos 0) d (neg_ℤ n) h)),
-        ),
-      )
+  -- a double fraction: what is left after division by its line has the line's sign
+  pub double_line : (n d : ℤ) → IsLowest n d → AreRootsOf q (One (Ratio n d)) → sign_at_instant (cofactor a b n d) w ≡ sign_at_instant (line n d) w
+  double_line n d j k =
+      ap (λ (x : ℤ). sign_at_instant (quadratic (pos 0) (a *ℤ d) x) w) (centre a b n d j.positive (square ((k.exact (Ratio n d) j).1 refl)))
+      ∙ ap (λ (x : ℤ). sign_at_instant (quadratic x (a *ℤ d) (a *ℤ neg_ℤ n)) w) (nothing a) ∙ instant-scaled w i a (pos 0) d (neg_ℤ n) h
     where
       nothing : (a : ℤ) → pos 0 ≡ a *ℤ pos 0
       nothing a = by_ring (a ∷ []) _ _ (search quotes depth 16) (search quotes depth 16) refl
@@ -262,8 +256,20 @@ module _ (a b c : ℤ) (h : pos 0 <ℤ a) (w : Shape) (i : IsCanonicalForm w) (f
       square : sign_at_instant q (Ratio n d) ≡ Zero → (pos 2 *ℤ a *ℤ n +ℤ b *ℤ d) *ℤ (pos 2 *ℤ a *ℤ n +ℤ b *ℤ d) ≡ pos 0
       square z = completed a b c n d ∙ ap₂ (λ (x y : ℤ). x *ℤ (d *ℤ d) +ℤ (pos 4 *ℤ a) *ℤ y) flat (on_root a b c n d z) ∙ zeros (d *ℤ d) (pos 4 *ℤ a)
 
+  double_signed : (n d : ℤ) → IsLowest n d → AreRootsOf q (One (Ratio n d)) → IsSigned q (One (Ratio n d)) m
+  double_signed n d j k =
+      let z = (k.exact (Ratio n d) j).1 refl in
+      let s = lift f (sign_at_instant (line n d) w) in (
+        s,
+        (
+          lifted w (Ratio n d) f _ (line_place (Ratio n d) j n d j.positive (line-zero_at n d n d refl) w i _ refl),
+          by_square (sign_of a) (lead_of q) (sign_at q m) s (sign_in Plus a h) (lead-plus q h)
+              (product_sign a b c n d h j.positive z w i f ∙ ap (λ (t : Sign). product_of s (lift f t)) (double_line n d j k)),
+        ),
+      )
+
   -- an irrational root does not stand alone
-  not_single : (a' b' c' : ℤ) (u : Bool) → IsIrreducible a' b' c' → AreRootsOf q (One (Root a' b' c' u)) → ⊥
+  pub not_single : (a' b' c' : ℤ) (u : Bool) → IsIrreducible a' b' c' → AreRootsOf q (One (Root a' b' c' u)) → ⊥
   not_single a' b' c' u j k =
       let z = (k.exact (Root a' b' c' u) j).1 refl in
       let lower = (k.exact (Root a' b' c' false) j).0 (same_value q a' b' c' j u z h (Root a' b' c' false) j ∙ root-zero_at a' b' c' false) in
@@ -274,23 +280,15 @@ module _ (a b c : ℤ) (h : pos 0 <ℤ a) (w : Shape) (i : IsCanonicalForm w) (f
   one_signed (Ratio n d) k = double_signed n d k.canonical.form k
   one_signed (Root a' b' c' u) k = absurd (not_single a' b' c' u k.canonical.form k)
 
-  apart : (r s : Shape) → AreRootsOf q (Two r s) → s ≡ r → ⊥
+  pub apart : (r s : Shape) → AreRootsOf q (Two r s) → s ≡ r → ⊥
   apart r s k e = not_less_itself r (subst (IsLess r) e k.rising)
 
-  -- two fractions
-  rational_signed : (n d : ℤ) (s : Shape) → IsLowest n d → AreRootsOf q (Two (Ratio n d) s) → IsSigned q (Two (Ratio n d) s) m
-  rational_signed n d s j k =
+  -- two fractions: what is left after division by the one's line is a line through the other
+  pub other_line : (n d : ℤ) (s : Shape) → IsLowest n d → AreRootsOf q (Two (Ratio n d) s) → sign_at_instant (cofactor a b n d) s ≡ Zero
+  other_line n d s j k =
       let z = (k.exact (Ratio n d) j).1 (inl refl) in
       let sj = k.canonical.1.form in
-      let factor = other _ _ (sym ((k.exact s sj).1 (inr refl)) ∙ instant-factors s sj a b c n d j.positive z) (λ e. apart (Ratio n d) s k (line-zero s sj n d n d j.positive j refl e)) in (
-        lift f (sign_at_instant (line n d) w),
-        lift f (sign_at_instant (cofactor a b n d) w),
-        (
-          lifted w (Ratio n d) f _ (line_place (Ratio n d) j n d j.positive (line-zero_at n d n d refl) w i _ refl),
-          lifted w s f _ (line_place s sj (neg_ℤ (a *ℤ n +ℤ b *ℤ d)) (a *ℤ d) (positive_product a d h j.positive) factor w i _ refl),
-          by_lead (lead_of q) _ _ (lead-plus q h) (product_sign a b c n d h j.positive z w i f),
-        ),
-      )
+      other _ _ (sym ((k.exact s sj).1 (inr refl)) ∙ instant-factors s sj a b c n d j.positive z) (λ e. apart (Ratio n d) s k (line-zero s sj n d n d j.positive j refl e))
     where
       other : (t u : Sign) → Zero ≡ product_of t u → t ≢ Zero → u ≡ Zero
       other Minus Minus e n = absurd (code e)
@@ -298,6 +296,19 @@ module _ (a b c : ℤ) (h : pos 0 <ℤ a) (w : Shape) (i : IsCanonicalForm w) (f
       other Minus Plus e n = absurd (code e)
       other Zero u e n = absurd (n refl)
       other Plus u e n = sym e
+
+  rational_signed : (n d : ℤ) (s : Shape) → IsLowest n d → AreRootsOf q (Two (Ratio n d) s) → IsSigned q (Two (Ratio n d) s) m
+  rational_signed n d s j k =
+      let z = (k.exact (Ratio n d) j).1 (inl refl) in
+      let sj = k.canonical.1.form in (
+        lift f (sign_at_instant (line n d) w),
+        lift f (sign_at_instant (cofactor a b n d) w),
+        (
+          lifted w (Ratio n d) f _ (line_place (Ratio n d) j n d j.positive (line-zero_at n d n d refl) w i _ refl),
+          lifted w s f _ (line_place s sj (neg_ℤ (a *ℤ n +ℤ b *ℤ d)) (a *ℤ d) (positive_product a d h j.positive) (other_line n d s j k) w i _ refl),
+          by_lead (lead_of q) _ _ (lead-plus q h) (product_sign a b c n d h j.positive z w i f),
+        ),
+      )
 
   -- two irrational roots
   commuted : (s t : Sign) → product_of s t ≡ product_of t s

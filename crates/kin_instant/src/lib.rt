@@ -12,6 +12,7 @@
 //! `Equal` exactly for equal forms; [`next::next_root`] is the least later root. Counted calls raise the count by one.
 #![tactic(auto)]
 
+mod curve;
 pub mod key;
 pub mod laws;
 pub mod next;

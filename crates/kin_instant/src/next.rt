@@ -1,13 +1,20 @@
 //! The next root of a quadratic, after an instant or after a moment at which its sign is known.
 
-ghost use Rattle.std.specs.Prelude.{◌≡◌, ◌≢◌, ◌⊎◌, ◌↔◌, MatchOption, IfSome, IfNone, IsNone, pos};
+ghost use Rattle.std.specs.Prelude.{◌≡◌, ◌≢◌, ◌⊎◌, ◌↔◌, ◌<ℤ◌, MatchOption, None, IfSome, IfNone, IsNone, pos};
 ghost use Rattle.kin_algebra.specs.declared.sign.Sign.TheVariants.{Zero};
+ghost use Rattle.kin_num.specs.Quadratic.{negated};
 ghost use Rattle.kin_num.specs.Instants.{sign_at};
 ghost use Rattle.kin_num.specs.Order.{IsLess};
+ghost use Rattle.kin_instant.specs.declared.roots.Roots.{Roots as Answer};
+ghost use Rattle.kin_instant.specs.Roots.{AreRootsOf};
+ghost use Rattle.kin_instant.specs.Sides.{root_on};
 ghost use Rattle.kin_instant.specs.Places.{IsZeroPolynomial, IsNextRoot, HasNoRootAfter, KeepsSign};
+ghost use Rattle.kin_instant.specs.Laws.{IsNext};
 
+use crate::curve::root_on;
 use crate::order::compare;
 use crate::roots::Roots;
+use crate::sign::slope_sign;
 use crate::solve::roots;
 use kin_algebra::sign::Sign;
 use kin_num::instant::{Instant, Moment};
@@ -44,8 +51,9 @@ pub fn next_root(p: &Poly, w: &Instant) -> Option<Instant>
 
 /// The least root of `p` later than the moment `m`, at which `p` has this sign, which isn't 0.
 ///
-/// A line whose slope has its sign moves away from 0; any other line with a slope comes to its root. So a line takes
-/// no comparison, and its root is made only where it is still to come.
+/// No two instants are compared, and a root is made only where it is still to come. A line whose slope has its sign moves
+/// away from 0; any other line with a slope comes to its root. A curve tells by its sign whether it is between its roots,
+/// and by that of its slope whether it is before them.
 #[inline(never)]
 pub fn next_root_from(p: &Poly, m: &Moment, sign: Sign) -> Option<Instant>
     requires sign { sign_at p.now m.now ≡ sign }
@@ -54,10 +62,53 @@ pub fn next_root_from(p: &Poly, m: &Moment, sign: Sign) -> Option<Instant>
     ensures none { IfNone result (IsZeroPolynomial p.now ⊎ HasNoRootAfter p.now m.now.at) }
     ensures kept { KeepsSign p.now m.now.at result }
 {
-    if p.a() == 0 {
-        line_root_from(p, m, sign)
+    if p.a() > 0 {
+        cup_root_from(p, m, sign)
+    } else if p.a() < 0 {
+        cup_root_from(&negative(p), m, sign.opposite())
     } else {
-        next_root(p, &m.at)
+        line_root_from(p, m, sign)
+    }
+}
+
+/// `-p`.
+fn negative(p: &Poly) -> Poly
+    ensures { result ≡ negated p.now }
+{
+    Poly::new(-p.a(), -p.b(), -p.c())
+}
+
+/// The least root later than the moment `m` of a quadratic whose first coefficient is positive and that has this sign at
+/// `m`, which isn't 0.
+fn cup_root_from(p: &Poly, m: &Moment, sign: Sign) -> Option<Instant>
+    requires cup { pos 0 <ℤ p.now.a }
+    requires sign { sign_at p.now m.now ≡ sign }
+    requires some { sign ≢ Zero }
+    ensures { IsNext p.now m.now.at result }
+{
+    match next_side(p, m, sign) {
+        Some(upper) => root_on(p, upper),
+        None => None,
+    }
+}
+
+/// Which root comes next, the greater one or the lesser one, if there are any: the greater one between them, and the lesser
+/// one before them, where the slope is negative.
+fn next_side(p: &Poly, m: &Moment, sign: Sign) -> Option<bool>
+    requires cup { pos 0 <ℤ p.now.a }
+    requires sign { sign_at p.now m.now ≡ sign }
+    requires some { sign ≢ Zero }
+    ensures next { IfSome result (λ upper. (answer : Answer) → AreRootsOf p.now answer → IsNext p.now m.now.at (root_on upper answer)) }
+    ensures none { IfNone result (IsNext p.now m.now.at None) }
+{
+    p.recall_small();
+    m.at.recall_canonical();
+    if let Sign::Minus = sign {
+        return Some(true);
+    }
+    match slope_sign(p, &m.at) {
+        Sign::Minus => Some(false),
+        _ => None,
     }
 }
 

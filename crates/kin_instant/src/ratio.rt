@@ -14,7 +14,7 @@ pub(crate) fn exact_quotient(x: i64, divisor: i64) -> i64
     requires divides { unsigned_abs divisor ∣ unsigned_abs x }
     ensures { x ≡ result *ℤ divisor }
 {
-    x / divisor
+    if divisor == 1 { x } else { x / divisor }
 }
 
 /// The numerator and the denominator of `n / d` in lowest terms.

@@ -52,7 +52,7 @@ fn rational_roots(a: i64, b: i64, root: i64) -> Roots
 }
 
 /// The greatest common divisor of three numbers, of which the first is positive.
-fn common_divisor(a: i64, b: i64, c: i64) -> i64
+pub(crate) fn common_divisor(a: i64, b: i64, c: i64) -> i64
     requires a_positive { pos 0 <ℤ a }
     requires a_small { unsigned_abs a < 2 ^ 63 }
     ensures positive { pos 0 <ℤ result }

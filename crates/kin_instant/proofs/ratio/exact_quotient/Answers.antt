@@ -9,8 +9,8 @@ use Rattle.kin_instant.proofs.ratio.exact_quotient.Goals as goal
 multiple : (n m : ℕ) → 0 < m → n % m ≡ 0 → n ≡ m * (n / m)
 multiple n m h e = omega (arith, e)
 
-pub returns : goal.returns
-returns c =
+pub returns-else-divisor-eq1 : goal.returns-else-divisor-eq1
+returns-else-divisor-eq1 c =
     let x = c.args.x in
     let g = c.args.divisor in
     let h = c.requires.positive in

@@ -1,0 +1,106 @@
+use Rattle.std.proofs.Common.{◌≡◌, ◌≢◌, ℕ, zero, suc, ◌*◌, ◌<◌, ◌≤◌, ◌^◌, Bool, Option, ℤ, pos, ◌*ℤ◌, unsigned_abs, w64, to_z, of_z, arith, refl, ap, sym, ◌∙◌, subst}
+use Rattle.std.specs.Prelude.{◌<ℤ◌, ◌≤ℤ◌}
+use Rattle.std.proofs.lemmas.Int.{ints, to_z_pos}
+use Rattle.kin_num.specs.declared.instant.Shape.{Shape}
+use Rattle.kin_num.specs.Quadratic.{Quadratic}
+use Rattle.kin_num.specs.Canonical.{discriminant}
+use Rattle.kin_instant.specs.declared.roots.Roots.TheVariants.{Nowhere}
+use Rattle.kin_instant.specs.Roots.{quadratic}
+use Rattle.kin_instant.specs.Sides.{IsRootOn}
+use Rattle.kin_instant.proofs.Widths.{clean, less_out, not_less_out, same_differences}
+use Rattle.kin_instant.proofs.RootsOf.{negative_discriminant}
+use Rattle.kin_instant.proofs.Discriminants.{size, root_size, same_discriminant}
+use Rattle.kin_instant.proofs.curve.root_on.Goals as goal
+
+four : (a' a : ℤ) → a' ≡ a → unsigned_abs a' ≤ 2 ^ 28 → to_z w64 (of_z w64 (pos 4 *ℤ to_z w64 (of_z w64 a'))) ≡ pos 4 *ℤ a
+four a' a e h = read a' h ∙ ap (λ (x : ℤ). pos 4 *ℤ x) e
+  where
+    read : (a : ℤ) → unsigned_abs a ≤ 2 ^ 28 → to_z w64 (of_z w64 (pos 4 *ℤ to_z w64 (of_z w64 a))) ≡ pos 4 *ℤ a
+    read a h = omega (arith, ints)
+
+-- the discriminant, at least 0, and its size s
+not_negative : (d d' : ℤ) (s : ℕ) → d' ≡ d → pos 0 ≤ℤ d' → s ≡ unsigned_abs d' → pos s ≡ d
+not_negative d d' s e h f = omega (arith, ints, e, f)
+
+read : (r : ℕ) → r < 2 ^ 30 → to_z w64 r ≡ pos r
+read r h = to_z_pos w64 r (omega arith)
+
+exact_size : (r s : ℕ) → r * r ≡ s → s ≤ 2 ^ 59 → r < 2 ^ 30
+exact_size r s e h = root_size r s (subst (λ (x : ℕ). r * r ≤ x) e (same (r * r))) h
+  where
+    same : (x : ℕ) → x ≤ x
+    same x = omega arith
+
+positive : (s : ℕ) (d : ℤ) → pos s ≡ d → ((k : ℕ) → k * k ≢ s) → pos 0 <ℤ d
+positive zero d e n = absurd (n 0 refl)
+positive (suc s) d e n = subst (λ (z : ℤ). pos 0 <ℤ z) e (omega (arith, ints))
+
+no_square : (k s : ℕ) (d : ℤ) → pos s ≡ d → pos (k * k) ≡ d → k * k ≡ s
+no_square k s d e f = ap unsigned_abs (f ∙ sym e)
+
+same_polynomial : (p : Quadratic) (a b c : ℤ) (u : Bool) (o : Option Shape) → a ≡ p.a → b ≡ p.b → c ≡ p.c → IsRootOn (quadratic a b c) u o → IsRootOn p u o
+same_polynomial p a b c u o e f g h =
+    subst (λ (x : ℤ). IsRootOn (quadratic x p.b p.c) u o) e (subst (λ (y : ℤ). IsRootOn (quadratic a y p.c) u o) f (subst (λ (z : ℤ). IsRootOn (quadratic a b z) u o) g h))
+
+pub returns-then-discriminant-lt0 : goal.returns-then-discriminant-lt0
+returns-then-discriminant-lt0 c =
+    let p = c.args.p.now in
+    let a = clean w64 c.a-a.result c.a-a.type_inv ∙ c.a-a.ensures.value in
+    let b = clean w64 c.b-b.result c.b-b.type_inv ∙ c.b-b.ensures.value in
+    let k = clean w64 c.c-c.result c.c-c.type_inv ∙ c.c-c.ensures.value in
+    let d = clean w64 c.difference_of_products-discriminant.result c.difference_of_products-discriminant.type_inv ∙ c.difference_of_products-discriminant.ensures.value ∙ same_differences p.b p.b (pos 4 *ℤ p.a) p.c _ _ _ _ b b (four c.a-a.result p.a c.a-a.ensures.value c.a-a.ensures.small) k in
+    record {
+      answer = Nowhere;
+      roots = negative_discriminant p.a p.b p.c c.requires.a_positive (subst (λ (z : ℤ). z <ℤ pos 0) d (less_out _ _ c.if-discriminant-lt0.true));
+      same = refl;
+    }
+
+pub rational_root-requires-clause-root_small : goal.rational_root-requires-clause-root_small
+rational_root-requires-clause-root_small c =
+    let p = c.args.p.now in
+    let b = clean w64 c.b-b.result c.b-b.type_inv ∙ c.b-b.ensures.value in
+    let k = clean w64 c.c-c.result c.c-c.type_inv ∙ c.c-c.ensures.value in
+    let d = clean w64 c.difference_of_products-discriminant.result c.difference_of_products-discriminant.type_inv ∙ c.difference_of_products-discriminant.ensures.value ∙ same_differences p.b p.b (pos 4 *ℤ p.a) p.c _ _ _ _ b b (four c.a-a.result p.a c.a-a.ensures.value c.a-a.ensures.small) k in
+    let s = not_negative (discriminant p.a p.b p.c) _ c.unsigned_abs.result d (not_less_out _ _ c.if-discriminant-lt0.false) c.unsigned_abs.ensures.value in
+    let l = exact_size c.in-Some.root c.unsigned_abs.result c.in-Some.ensures.some (size p.a p.b p.c c.unsigned_abs.result c.recall_small.ensures s) in
+    subst (λ (z : ℤ). unsigned_abs z < 2 ^ 30) (sym (read c.in-Some.root l)) l
+
+pub irrational_root-requires-clause-real : goal.irrational_root-requires-clause-real
+irrational_root-requires-clause-real c =
+    let p = c.args.p.now in
+    let a = clean w64 c.a-a.result c.a-a.type_inv ∙ c.a-a.ensures.value in
+    let b = clean w64 c.b-b.result c.b-b.type_inv ∙ c.b-b.ensures.value in
+    let k = clean w64 c.c-c.result c.c-c.type_inv ∙ c.c-c.ensures.value in
+    let d = clean w64 c.difference_of_products-discriminant.result c.difference_of_products-discriminant.type_inv ∙ c.difference_of_products-discriminant.ensures.value ∙ same_differences p.b p.b (pos 4 *ℤ p.a) p.c _ _ _ _ b b (four c.a-a.result p.a c.a-a.ensures.value c.a-a.ensures.small) k in
+    let s = not_negative (discriminant p.a p.b p.c) _ c.unsigned_abs.result d (not_less_out _ _ c.if-discriminant-lt0.false) c.unsigned_abs.ensures.value in
+    subst (λ (z : ℤ). pos 0 <ℤ z) (sym (same_discriminant p.a p.b p.c _ _ _ a b k)) (positive c.unsigned_abs.result (discriminant p.a p.b p.c) s c.in-None.ensures.none)
+
+pub irrational_root-requires-clause-irrational : goal.irrational_root-requires-clause-irrational
+irrational_root-requires-clause-irrational c = λ n e.
+    let p = c.args.p.now in
+    let a = clean w64 c.a-a.result c.a-a.type_inv ∙ c.a-a.ensures.value in
+    let b = clean w64 c.b-b.result c.b-b.type_inv ∙ c.b-b.ensures.value in
+    let k = clean w64 c.c-c.result c.c-c.type_inv ∙ c.c-c.ensures.value in
+    let d = clean w64 c.difference_of_products-discriminant.result c.difference_of_products-discriminant.type_inv ∙ c.difference_of_products-discriminant.ensures.value ∙ same_differences p.b p.b (pos 4 *ℤ p.a) p.c _ _ _ _ b b (four c.a-a.result p.a c.a-a.ensures.value c.a-a.ensures.small) k in
+    let s = not_negative (discriminant p.a p.b p.c) _ c.unsigned_abs.result d (not_less_out _ _ c.if-discriminant-lt0.false) c.unsigned_abs.ensures.value in
+    c.in-None.ensures.none n (no_square n c.unsigned_abs.result (discriminant p.a p.b p.c) s (e ∙ same_discriminant p.a p.b p.c _ _ _ a b k))
+
+pub returns-in-Some : goal.returns-in-Some
+returns-in-Some c =
+    let p = c.args.p.now in
+    let a = clean w64 c.a-a.result c.a-a.type_inv ∙ c.a-a.ensures.value in
+    let b = clean w64 c.b-b.result c.b-b.type_inv ∙ c.b-b.ensures.value in
+    let k = clean w64 c.c-c.result c.c-c.type_inv ∙ c.c-c.ensures.value in
+    let d = clean w64 c.difference_of_products-discriminant.result c.difference_of_products-discriminant.type_inv ∙ c.difference_of_products-discriminant.ensures.value ∙ same_differences p.b p.b (pos 4 *ℤ p.a) p.c _ _ _ _ b b (four c.a-a.result p.a c.a-a.ensures.value c.a-a.ensures.small) k in
+    let s = not_negative (discriminant p.a p.b p.c) _ c.unsigned_abs.result d (not_less_out _ _ c.if-discriminant-lt0.false) c.unsigned_abs.ensures.value in
+    let l = exact_size c.in-Some.root c.unsigned_abs.result c.in-Some.ensures.some (size p.a p.b p.c c.unsigned_abs.result c.recall_small.ensures s) in
+    same_polynomial p _ _ p.c c.args.upper _ a b refl
+    (c.rational_root.ensures p.c (ap (λ (z : ℤ). z *ℤ z) (read c.in-Some.root l) ∙ ap pos c.in-Some.ensures.some ∙ s ∙ sym (same_discriminant p.a p.b p.c _ _ p.c a b refl)))
+
+pub returns-in-None : goal.returns-in-None
+returns-in-None c =
+    let p = c.args.p.now in
+    let a = clean w64 c.a-a.result c.a-a.type_inv ∙ c.a-a.ensures.value in
+    let b = clean w64 c.b-b.result c.b-b.type_inv ∙ c.b-b.ensures.value in
+    let k = clean w64 c.c-c.result c.c-c.type_inv ∙ c.c-c.ensures.value in
+    same_polynomial p _ _ _ c.args.upper _ a b k c.irrational_root.ensures

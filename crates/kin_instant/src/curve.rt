@@ -1,0 +1,73 @@
+//! The lesser or the greater root of a quadratic, made alone.
+
+ghost use Rattle.std.specs.Prelude.{◌≡◌, ◌≢◌, ◌≤◌, ◌<◌, ◌^◌, ◌*◌, ℕ, ℤ, ◌<ℤ◌, ◌≤ℤ◌, ◌*ℤ◌, pos, unsigned_abs, Some, IfSome, IfNone};
+ghost use Rattle.kin_num.specs.Quadratic.{IsSmall};
+ghost use Rattle.kin_num.specs.Canonical.{discriminant};
+ghost use Rattle.kin_instant.specs.Roots.{quadratic};
+ghost use Rattle.kin_instant.specs.Sides.{IsRootOn};
+
+use crate::product::difference_of_products;
+use crate::ratio::{exact_quotient, ratio};
+use crate::solve::common_divisor;
+use kin_num::instant::{Instant, Shape};
+use kin_num::poly::Poly;
+use kin_num::root::isqrt;
+
+/// One of the two rational roots of a quadratic, or its double one, where `root` is the square root of the discriminant.
+fn rational_root(a: i64, b: i64, root: i64, upper: bool) -> Instant
+    requires a_positive { pos 0 <ℤ a }
+    requires a_small { unsigned_abs a ≤ 2 ^ 28 }
+    requires b_small { unsigned_abs b ≤ 2 ^ 29 }
+    requires root_small { unsigned_abs root < 2 ^ 30 }
+    requires root_positive { pos 0 ≤ℤ root }
+    ensures { (c : ℤ) → root *ℤ root ≡ discriminant a b c → IsRootOn (quadratic a b c) upper (Some result) }
+{
+    if upper {
+        ratio(root - b, 2 * a)
+    } else {
+        ratio(-root - b, 2 * a)
+    }
+}
+
+/// One of the two irrational roots of a quadratic.
+fn irrational_root(a: i64, b: i64, c: i64, upper: bool) -> Instant
+    requires a_positive { pos 0 <ℤ a }
+    requires small { IsSmall (quadratic a b c) }
+    requires real { pos 0 <ℤ discriminant a b c }
+    requires irrational { (k : ℕ) → pos (k * k) ≢ discriminant a b c }
+    ensures { IsRootOn (quadratic a b c) upper (Some result) }
+{
+    let divisor = common_divisor(a, b, c);
+    let (a, b, c) = (
+        exact_quotient(a, divisor),
+        exact_quotient(b, divisor),
+        exact_quotient(c, divisor),
+    );
+    Instant::of(Shape::Root { a, b, c, upper })
+}
+
+/// The square root of `x`, where it is a whole number.
+fn exact_root(x: u64) -> Option<u64>
+    ensures some { IfSome result (λ r. r * r ≡ x) }
+    ensures none { IfNone result ((k : ℕ) → k * k ≢ x) }
+{
+    let root = isqrt(x);
+    if root * root == x { Some(root) } else { None }
+}
+
+/// The greater or the lesser real root of a quadratic whose first coefficient is positive, if it has any.
+pub(crate) fn root_on(p: &Poly, upper: bool) -> Option<Instant>
+    requires a_positive { pos 0 <ℤ p.now.a }
+    ensures { IsRootOn p.now upper result }
+{
+    p.recall_small();
+    let (a, b, c) = (p.a(), p.b(), p.c());
+    let discriminant = difference_of_products(b, b, 4 * a, c);
+    if discriminant < 0 {
+        return None;
+    }
+    match exact_root(discriminant.unsigned_abs()) {
+        Some(root) => Some(rational_root(a, b, root as i64, upper)),
+        None => Some(irrational_root(a, b, c, upper)),
+    }
+}
