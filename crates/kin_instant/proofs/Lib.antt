@@ -16,3 +16,5 @@ pub mod KeyOrder
 pub mod Spans
 pub mod LineRoots
 pub mod CurveRoots
+pub mod LongerRoots
+pub mod Squares

@@ -1,6 +1,6 @@
 //! The lesser or the greater root of a quadratic, made alone.
 
-ghost use Rattle.std.specs.Prelude.{◌≡◌, ◌≢◌, ◌≤◌, ◌<◌, ◌^◌, ◌*◌, ℕ, ℤ, ◌<ℤ◌, ◌≤ℤ◌, ◌*ℤ◌, pos, unsigned_abs, Some, IfSome, IfNone};
+ghost use Rattle.std.specs.Prelude.{◌≡◌, ◌≢◌, ◌≤◌, ◌<◌, ◌^◌, ◌*◌, ◌%◌, ℕ, IsTrue, ℤ, ◌<ℤ◌, ◌≤ℤ◌, ◌*ℤ◌, pos, unsigned_abs, Some, IfSome, IfNone};
 ghost use Rattle.kin_num.specs.Quadratic.{IsSmall};
 ghost use Rattle.kin_num.specs.Canonical.{discriminant};
 ghost use Rattle.kin_instant.specs.Roots.{quadratic};
@@ -51,8 +51,40 @@ fn exact_root(x: u64) -> Option<u64>
     ensures some { IfSome result (λ r. r * r ≡ x) }
     ensures none { IfNone result ((k : ℕ) → k * k ≢ x) }
 {
+    if !may_be_square(x) {
+        return None;
+    }
     let root = isqrt(x);
     if root * root == x { Some(root) } else { None }
+}
+
+/// Whether `x` may be a square, by what it leaves when it is divided by 64 and by 63: of ten other numbers one may.
+fn may_be_square(x: u64) -> bool
+    ensures { (k : ℕ) → k * k ≡ x → IsTrue result }
+{
+    ends_as_square(x % 64) && is_square_by_63(x % 63)
+}
+
+/// What squares leave when they are divided by 64, each as a bit.
+const ENDS: u64 = 144_680_414_395_695_635;
+
+/// Whether a square leaves `rest` when it is divided by 64.
+fn ends_as_square(rest: u64) -> bool
+    requires rest { rest < 64 }
+    ensures { (k : ℕ) → k * k % 64 ≡ rest → IsTrue result }
+{
+    (ENDS >> rest) & 1 == 1
+}
+
+/// What squares leave when they are divided by 63, each as a bit.
+const RESTS: u64 = 288_872_697_407_275_667;
+
+/// Whether a square leaves `rest` when it is divided by 63.
+fn is_square_by_63(rest: u64) -> bool
+    requires rest { rest < 63 }
+    ensures { (k : ℕ) → k * k % 63 ≡ rest → IsTrue result }
+{
+    (RESTS >> rest) & 1 == 1
 }
 
 /// The greater or the lesser real root of a quadratic whose first coefficient is positive, if it has any.

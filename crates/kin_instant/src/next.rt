@@ -2,6 +2,7 @@
 
 ghost use Rattle.std.specs.Prelude.{◌≡◌, ◌≢◌, ◌⊎◌, ◌↔◌, ◌<ℤ◌, MatchOption, None, IfSome, IfNone, IsNone, pos};
 ghost use Rattle.kin_algebra.specs.declared.sign.Sign.TheVariants.{Zero};
+ghost use Rattle.kin_algebra.specs.Signs.{opposite_of};
 ghost use Rattle.kin_num.specs.Quadratic.{negated};
 ghost use Rattle.kin_num.specs.Instants.{sign_at};
 ghost use Rattle.kin_num.specs.Order.{IsLess};
@@ -62,16 +63,29 @@ pub fn next_root_from(p: &Poly, m: &Moment, sign: Sign) -> Option<Instant>
     ensures none { IfNone result (IsZeroPolynomial p.now ⊎ HasNoRootAfter p.now m.now.at) }
     ensures kept { KeepsSign p.now m.now.at result }
 {
+    if p.a() == 0 {
+        return line_root_from(p, m, sign);
+    }
+    let (cup, sign) = as_cup(p, sign);
+    cup_root_from(&cup, m, sign)
+}
+
+/// `p` and its sign, or `-p` and the opposite sign: that of the two whose first coefficient is positive.
+#[inline(always)]
+fn as_cup(p: &Poly, sign: Sign) -> (Poly, Sign)
+    requires curved { p.now.a ≢ pos 0 }
+    ensures cup { pos 0 <ℤ result.0.a }
+    ensures same { ((result.0 ≡ p.now) × (result.1 ≡ sign)) ⊎ ((result.0 ≡ negated p.now) × (result.1 ≡ opposite_of sign)) }
+{
     if p.a() > 0 {
-        cup_root_from(p, m, sign)
-    } else if p.a() < 0 {
-        cup_root_from(&negative(p), m, sign.opposite())
+        (*p, sign)
     } else {
-        line_root_from(p, m, sign)
+        (negative(p), sign.opposite())
     }
 }
 
 /// `-p`.
+#[inline(always)]
 fn negative(p: &Poly) -> Poly
     ensures { result ≡ negated p.now }
 {
@@ -80,6 +94,7 @@ fn negative(p: &Poly) -> Poly
 
 /// The least root later than the moment `m` of a quadratic whose first coefficient is positive and that has this sign at
 /// `m`, which isn't 0.
+#[inline(always)]
 fn cup_root_from(p: &Poly, m: &Moment, sign: Sign) -> Option<Instant>
     requires cup { pos 0 <ℤ p.now.a }
     requires sign { sign_at p.now m.now ≡ sign }

@@ -61,7 +61,11 @@ pub(crate) fn common_divisor(a: i64, b: i64, c: i64) -> i64
     ensures divides_c { unsigned_abs result ∣ unsigned_abs c }
     ensures greatest { (k : ℕ) → k ∣ unsigned_abs a → k ∣ unsigned_abs b → k ∣ unsigned_abs c → k ∣ unsigned_abs result }
 {
-    gcd(gcd(a.unsigned_abs(), b.unsigned_abs()), c.unsigned_abs()) as i64
+    let divisor = gcd(b.unsigned_abs(), a.unsigned_abs());
+    if divisor == 1 {
+        return 1;
+    }
+    gcd(c.unsigned_abs(), divisor) as i64
 }
 
 /// The two irrational roots of a quadratic.
