@@ -32,6 +32,15 @@ place_itself xs = (lists_equiv nat_eq_equiv).refl xs
 place_differs : (xs ys : List ℕ) → (xs ≡ ys → ⊥) → is_place xs ys ≡ false
 place_differs xs ys n = elim (is_place xs ys) as (λ b. is_place xs ys ≡ b → b ≡ false) [ true ↦ λ e. absurd (n (place_same xs ys e)) | false ↦ λ e. refl ] refl
 
+-- a place that was known gets its id back
+pub put-back : (place : List ℕ) (id first : ℕ) (old mid new : List ℕ → Option ℕ) → ((q : List ℕ) → mid q ≡ cond (is_place place q) (Some id) (old q)) → ((q : List ℕ) → new q ≡ cond (is_place place q) (Some first) (mid q)) → old place ≡ Some first
+    → (q : List ℕ) → new q ≡ old q
+put-back place id first old mid new put back known q =
+    back q ∙ elim (is_place place q) as (λ b. is_place place q ≡ b → cond b (Some first) (mid q) ≡ old q) [
+      | true ↦ λ e. sym known ∙ ap old (place_same place q e)
+      | false ↦ λ e. put q ∙ ap (λ (b : Bool). cond b (Some id) (old q)) e
+    ] refl
+
 -- forms of one rank have one place
 pub rank-place : (o p : Owned) → owned_rank o ≡ owned_rank p → owned_place o ≡ owned_place p
 rank-place o p e =

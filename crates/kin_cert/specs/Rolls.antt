@@ -43,10 +43,14 @@ IsIdOf slots firsts others structure part form id = IsFirstAt slots firsts (plac
 abbrev pub HasNoId : {S T : Type 0} → List (Option Entry) → IndexMap (List ℕ) ℕ S → IndexMap (List ℤ) ℕ T → ℕ → ℕ → Form → Type 0
 HasNoId slots firsts others structure part form = HasNoFirstAt slots firsts (place_of structure part form) form × (look_up is_rank others (padded_rank structure part form) ≡ None)
 
+-- the place is gone, and every other one is as it was
+abbrev pub IsStruckOut : {S : Type 0} → IndexMap (List ℕ) ℕ S → List ℕ → IndexMap (List ℕ) ℕ S → Type 0
+IsStruckOut firsts place firsts' = (q : List ℕ) → look_up is_place firsts' q ≡ cond (is_place place q) None (look_up is_place firsts q)
+
 -- the id is no longer known by its place, or no longer among the others
 abbrev pub IsStruck : {S T : Type 0} → List (Option Entry) → IndexMap (List ℕ) ℕ S → IndexMap (List ℤ) ℕ T → ℕ → ℕ → Form → ℕ → IndexMap (List ℕ) ℕ S → IndexMap (List ℤ) ℕ T → Type 0
 IsStruck slots firsts others structure part form id firsts' others' =
-    (IsFirstAt slots firsts (place_of structure part form) form id × ((q : List ℕ) → look_up is_place firsts' q ≡ cond (is_place (place_of structure part form) q) None (look_up is_place firsts q)) × ((q : List ℤ) → look_up is_rank others' q ≡ look_up is_rank others q))
+    (IsFirstAt slots firsts (place_of structure part form) form id × IsStruckOut firsts (place_of structure part form) firsts' × ((q : List ℤ) → look_up is_rank others' q ≡ look_up is_rank others q))
     ⊎ ((look_up is_rank others (padded_rank structure part form) ≡ Some id) × ((q : List ℕ) → look_up is_place firsts' q ≡ look_up is_place firsts q) × ((q : List ℤ) → look_up is_rank others' q ≡ cond (is_rank (padded_rank structure part form) q) None (look_up is_rank others q)))
 
 -- the new fact has the place of the old one, and isn't among the others unless its form is that of the old one

@@ -1,8 +1,8 @@
 //! Guesses of where places stand in their index, which spare most hashes.
 
-ghost use Rattle.std.specs.Prelude.{◌≡◌, Some, IfSome};
+ghost use Rattle.std.specs.Prelude.{◌≡◌, Some, IfSome, slice_get};
 ghost use Rattle.indexmap.specs.IndexMap.{get as look_up};
-ghost use Rattle.kin_cert.specs.Rolls.{is_place};
+ghost use Rattle.kin_cert.specs.Rolls.{is_place, IsStruckOut};
 
 use crate::place::Place;
 use indexmap::IndexMap;
@@ -18,6 +18,13 @@ pub(crate) struct Guesses {
     positions: Vec<u32>,
 }
 
+/// Where a place stands in its index, and the id there.
+#[derive(Clone, Copy)]
+struct Seen {
+    position: usize,
+    id: usize,
+}
+
 impl Guesses {
     /// No guesses.
     pub(crate) fn new(alloc: Global) -> Guesses {
@@ -26,26 +33,51 @@ impl Guesses {
         }
     }
 
-    /// The id of a place, if it has one.
+    /// The id of a place, if it has one. Where it stands is guessed the next time.
     pub(crate) fn id_of(&mut self, firsts: &IndexMap<Place, usize>, place: &Place) -> Option<usize>
         ensures { result ≡ look_up is_place firsts.now place.now }
     {
-        let slot = slot_of(place);
-        if let Some(id) = self.guessed(slot, firsts, place) {
-            return Some(id);
+        if let Some(seen) = self.guessed(firsts, place) {
+            return Some(seen.id);
         }
         let (position, _, id) = firsts.get_full(place)?;
-        self.note(slot, position);
+        self.note(slot_of(place), position);
         Some(*id)
     }
 
-    // The id of a place, if the guess is right.
-    fn guessed(&self, slot: usize, firsts: &IndexMap<Place, usize>, place: &Place) -> Option<usize>
-        ensures { IfSome result (λ id. look_up is_place firsts.now place.now ≡ Some id) }
+    /// The id of a place, if it has one.
+    pub(crate) fn look_up(&self, firsts: &IndexMap<Place, usize>, place: &Place) -> Option<usize>
+        ensures { result ≡ look_up is_place firsts.now place.now }
     {
-        let position = *self.positions.get(slot)?;
-        let (known, id) = firsts.get_index(position as usize)?;
-        if *known == *place { Some(*id) } else { None }
+        match self.guessed(firsts, place) {
+            Some(seen) => Some(seen.id),
+            None => firsts.get(place).copied(),
+        }
+    }
+
+    /// Strikes a place out of its index. The last place there takes its position.
+    pub(crate) fn strike(&self, firsts: &mut IndexMap<Place, usize>, place: &Place)
+        ensures { IsStruckOut firsts.old place.now firsts.new }
+    {
+        if let Some(seen) = self.guessed(firsts, place) {
+            firsts.swap_remove_index(seen.position);
+            return;
+        }
+        firsts.swap_remove(place);
+    }
+
+    // Where a place stands, and its id, if the guess is right.
+    fn guessed(&self, firsts: &IndexMap<Place, usize>, place: &Place) -> Option<Seen>
+        ensures there { IfSome result (λ seen. slice_get firsts.now.entries seen.position ≡ Some (place.now, seen.id)) }
+        ensures known { IfSome result (λ seen. look_up is_place firsts.now place.now ≡ Some seen.id) }
+    {
+        let position = *self.positions.get(slot_of(place))? as usize;
+        let (known, id) = firsts.get_index(position)?;
+        if *known == *place {
+            Some(Seen { position, id: *id })
+        } else {
+            None
+        }
     }
 
     // Notes where a place stands. Without memory there are no guesses.

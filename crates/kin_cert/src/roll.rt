@@ -78,6 +78,7 @@ impl Roll {
             &self.entries,
             &self.firsts,
             &self.others,
+            &self.guesses,
             structure,
             part,
             form,
@@ -113,6 +114,7 @@ impl Roll {
             &self.entries,
             &mut self.firsts,
             &mut self.others,
+            &self.guesses,
             structure,
             part,
             form,
@@ -208,6 +210,7 @@ impl Roll {
 fn first_at(
     entries: &Slab<Entry>,
     firsts: &IndexMap<Place, usize>,
+    guesses: &Guesses,
     structure: u32,
     part: u32,
     form: Form,
@@ -215,7 +218,7 @@ fn first_at(
     ensures some { IfSome result (λ id. IsFirstAt entries.now.slots firsts.now (place_of structure part form) form id) }
     ensures none { IfNone result (HasNoFirstAt entries.now.slots firsts.now (place_of structure part form) form) }
 {
-    let id = *firsts.get(&place(structure, part, form))?;
+    let id = guesses.look_up(firsts, &place(structure, part, form))?;
     if has_form(entries, id, &form) {
         Some(id)
     } else {
@@ -238,6 +241,7 @@ fn id_of(
     entries: &Slab<Entry>,
     firsts: &IndexMap<Place, usize>,
     others: &IndexMap<Rank, usize>,
+    guesses: &Guesses,
     structure: u32,
     part: u32,
     form: Form,
@@ -245,7 +249,7 @@ fn id_of(
     ensures some { IfSome result (λ id. IsIdOf entries.now.slots firsts.now others.now structure part form id) }
     ensures none { IfNone result (HasNoId entries.now.slots firsts.now others.now structure part form) }
 {
-    match first_at(entries, firsts, structure, part, form) {
+    match first_at(entries, firsts, guesses, structure, part, form) {
         Some(id) => Some(id),
         None => others.get(&rank(structure, part, form)).copied(),
     }
@@ -256,6 +260,7 @@ fn strike(
     entries: &Slab<Entry>,
     firsts: &mut IndexMap<Place, usize>,
     others: &mut IndexMap<Rank, usize>,
+    guesses: &Guesses,
     structure: u32,
     part: u32,
     form: Form,
@@ -263,8 +268,8 @@ fn strike(
     ensures some { IfSome result (λ id. IsStruck entries.now.slots firsts.old others.old structure part form id firsts.new others.new) }
     ensures none { IfNone result (HasNoId entries.now.slots firsts.old others.old structure part form) }
 {
-    if let Some(id) = first_at(entries, firsts, structure, part, form) {
-        firsts.swap_remove(&place(structure, part, form));
+    if let Some(id) = first_at(entries, firsts, guesses, structure, part, form) {
+        guesses.strike(firsts, &place(structure, part, form));
         return Some(id);
     }
     others.swap_remove(&rank(structure, part, form))
@@ -299,15 +304,19 @@ fn enrol(
     ensures err { OnErr result (IsSameIndex firsts.old others.old firsts.new others.new) }
 {
     let place = place(owned.structure, owned.part, owned.fact.form);
-    if firsts.contains_key(&place) {
-        let rank = rank(owned.structure, owned.part, owned.fact.form);
-        let Ok(_) = others.insert(rank, id) else {
-            return Err(NoMemory);
-        };
-    } else {
-        let Ok(_) = firsts.insert(place, id) else {
-            return Err(NoMemory);
-        };
-    }
+    let Ok(known) = firsts.insert(place, id) else {
+        return Err(NoMemory);
+    };
+    let Some(first) = known else {
+        return Ok(());
+    };
+    // The place stays known by the fact by which it was.
+    let Ok(_) = firsts.insert(place, first) else {
+        unreachable!()
+    };
+    let rank = rank(owned.structure, owned.part, owned.fact.form);
+    let Ok(_) = others.insert(rank, id) else {
+        return Err(NoMemory);
+    };
     Ok(())
 }

@@ -8,7 +8,7 @@ pub returns-in-Some-clause-some : goal.returns-in-Some-clause-some
 returns-in-Some-clause-some c =
     inl (
       c.in-Some.ensures.some,
-      λ q. c.swap_remove.ensures.updates.0 q ∙ ap (λ (p : List ℕ). cond (is_place p q) None (look_up is_place c.args.firsts.now q)) c.place.ensures,
+      λ q. c.strike.ensures q ∙ ap (λ (p : List ℕ). cond (is_place p q) None (look_up is_place c.args.firsts.now q)) c.place.ensures,
       λ q. refl,
     )
 
@@ -18,9 +18,9 @@ if-some (Some id) p which e f = f id (sym e)
 
 pub returns-clause-some : goal.returns-clause-some
 returns-clause-some c =
-    if-some c.swap_remove-2.result (look_up is_rank c.args.others.now c.rank.result) _ c.swap_remove-2.ensures.value (λ id known.
+    if-some c.swap_remove.result (look_up is_rank c.args.others.now c.rank.result) _ c.swap_remove.ensures.value (λ id known.
     inr (
       ap (look_up is_rank c.args.others.now) (sym c.rank.ensures) ∙ known,
       λ q. refl,
-      λ q. c.swap_remove-2.ensures.updates.0 q ∙ ap (λ (r : List ℤ). cond (is_rank r q) None (look_up is_rank c.args.others.now q)) c.rank.ensures,
+      λ q. c.swap_remove.ensures.updates.0 q ∙ ap (λ (r : List ℤ). cond (is_rank r q) None (look_up is_rank c.args.others.now q)) c.rank.ensures,
     ))
