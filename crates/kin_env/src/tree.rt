@@ -105,8 +105,8 @@ impl Kinetic for EnvTree {
 
     ghost determined = { determined_law };
 
-    /// Repairs the marked slots and the failed facts, from the leaves up. A node is visited only
-    /// where the chain of a half has changed or a fact of it failed.
+    /// Repairs the marked slots and the failed facts, from the leaves up. It is meant to visit a
+    /// node only where the chain of a half has changed or a fact of it failed; no clause says so.
     fn settle<O: Signs, L: Ledger>(
         &mut self,
         now: &O,
