@@ -2,22 +2,13 @@
 use Rattle.std.proofs.Common.{◌≡◌, ◌⊎◌, inl, inr, [], ◌∷◌, sym, refl, ap, ◌∙◌, subst}
 use Rattle.std.specs.Prelude.{pos}
 use Rattle.kin_algebra.specs.declared.sign.Sign.TheVariants.{Plus}
+use Rattle.kin_algebra.proofs.Operations.{operations}
 use Rattle.kin_algebra.proofs.Ring.{by_identity, quotes_in}
 use Rattle.kin_algebra.proofs.OrderedRings.{OrderedRing, positive_sum, nonnegative_sum, sign_twice, positive_product, nonnegative_product, positive_cancel}
 use Rattle.kin_algebra.proofs.Signs.{AtLeast}
 
 module _ {R : Type 0} (o : OrderedRing R) where
-  infixl 20 ◌·◌
-  abbrev ◌·◌ : R → R → R
-  a · b = o.ring.times a b
-
-  infixl 19 ◌⊕◌
-  abbrev ◌⊕◌ : R → R → R
-  a ⊕ b = o.ring.plus a b
-
-  infixl 19 ◌⊖◌
-  abbrev ◌⊖◌ : R → R → R
-  a ⊖ b = o.ring.plus a (o.ring.negative b)
+  open operations o.ring use {◌·◌, ◌⊕◌, ◌⊖◌}
 
   abbrev one : R
   one = o.ring.whole (pos 1)

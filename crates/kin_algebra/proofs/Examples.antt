@@ -3,6 +3,7 @@ use Rattle.std.proofs.Common.{◌≡◌, inl, [], ◌∷◌, sym, refl, ap, ◌�
 use Rattle.std.specs.Prelude.{ℤ, pos, ◌+ℤ◌, ◌*ℤ◌}
 use Rattle.kin_algebra.specs.declared.sign.Sign.TheVariants.{Plus}
 use Rattle.kin_algebra.proofs.Rings.{CommutativeRing}
+use Rattle.kin_algebra.proofs.Operations.{operations}
 use Rattle.kin_algebra.proofs.Ring.{by_ring, quotes, by_identity, quotes_in}
 use Rattle.kin_algebra.proofs.Signs.{AtLeast}
 use Rattle.kin_algebra.proofs.OrderedRings.{OrderedRing, positive_sum, positive_product, nonnegative_product, positive_cancel, sign_square}
@@ -17,17 +18,7 @@ module _ {R : Type 0} (r : CommutativeRing R) where
   square_of_sum_in a b = by_identity r (a ∷ b ∷ []) _ _ (search quotes_in depth 20) (search quotes_in depth 20) refl
 
 module _ {R : Type 0} (o : OrderedRing R) where
-  infixl 20 ◌·◌
-  abbrev ◌·◌ : R → R → R
-  a · b = o.ring.times a b
-
-  infixl 19 ◌⊕◌
-  abbrev ◌⊕◌ : R → R → R
-  a ⊕ b = o.ring.plus a b
-
-  infixl 19 ◌⊖◌
-  abbrev ◌⊖◌ : R → R → R
-  a ⊖ b = o.ring.plus a (o.ring.negative b)
+  open operations o.ring use {◌·◌, ◌⊕◌, ◌⊖◌}
 
   -- ---- slopes fall transitively
   -- positive where the slope b/a is greater than d/c, for positive a and c

@@ -5,6 +5,7 @@ use Rattle.kin_algebra.specs.declared.sign.Sign.{Sign}
 use Rattle.kin_algebra.specs.declared.sign.Sign.TheVariants.{Minus, Zero, Plus}
 use Rattle.kin_algebra.specs.Signs.{opposite_of, product_of, SumMayBe}
 use Rattle.kin_algebra.proofs.Rings.{CommutativeRing}
+use Rattle.kin_algebra.proofs.Operations.{operations}
 use Rattle.kin_algebra.proofs.Ring.{by_identity, quotes_in}
 use Rattle.kin_algebra.proofs.Signs.{AtLeast, code, at_least_product, cancel_sign, same_from_product, square_at_least}
 
@@ -18,17 +19,7 @@ pub record OrderedRing (R : Type 0) : Type 0 where
   pub sign_plus : (s : Sign) (a b : R) → sign a ≡ s → (sign b ≡ s) ⊎ (sign b ≡ Zero) → sign (ring.plus a b) ≡ s
 
 module _ {R : Type 0} (o : OrderedRing R) where
-  infixl 20 ◌·◌
-  abbrev pub ◌·◌ : R → R → R
-  a · b = o.ring.times a b
-
-  infixl 19 ◌⊕◌
-  abbrev pub ◌⊕◌ : R → R → R
-  a ⊕ b = o.ring.plus a b
-
-  infixl 19 ◌⊖◌
-  abbrev pub ◌⊖◌ : R → R → R
-  a ⊖ b = o.ring.plus a (o.ring.negative b)
+  open operations o.ring use {◌·◌, ◌⊕◌, ◌⊖◌}
 
   abbrev pub one : R
   one = o.ring.whole (pos 1)

@@ -1,5 +1,5 @@
 -- The algebra of three signs.
-use Rattle.std.proofs.Common.{◌≡◌, ◌≢◌, ◌⊎◌, inl, inr, sym, refl, ap, ◌∙◌, subst}
+use Rattle.std.proofs.Common.{◌≡◌, ◌≢◌, ◌⊎◌, ◌↔◌, inl, inr, sym, refl, ap, ◌∙◌, subst}
 use Rattle.kin_algebra.specs.declared.sign.Sign.{Sign}
 use Rattle.kin_algebra.specs.declared.sign.Sign.TheVariants.{Minus, Zero, Plus}
 use Rattle.kin_algebra.specs.Signs.{opposite_of, product_of, first_of, sum_sign_of, SumMayBe}
@@ -72,6 +72,37 @@ same_from_product Plus Minus e = absurd (code e)
 same_from_product Plus Zero e = absurd (code e)
 same_from_product Plus Plus e = (refl, λ f. code f)
 
+pub product_commutes : (s t : Sign) → product_of s t ≡ product_of t s
+product_commutes Minus Minus = refl
+product_commutes Minus Zero = refl
+product_commutes Minus Plus = refl
+product_commutes Zero Minus = refl
+product_commutes Zero Zero = refl
+product_commutes Zero Plus = refl
+product_commutes Plus Minus = refl
+product_commutes Plus Zero = refl
+product_commutes Plus Plus = refl
+
+-- a product is of sign 0 where a factor is
+pub product_none : (s t : Sign) → product_of s t ≡ Zero ↔ ((s ≡ Zero) ⊎ (t ≡ Zero))
+product_none s t = (λ e. to s t e, from)
+  where
+    to : (s t : Sign) → product_of s t ≡ Zero → (s ≡ Zero) ⊎ (t ≡ Zero)
+    to Zero t e = inl refl
+    to Plus t e = inr e
+    to Minus Minus e = absurd (code e)
+    to Minus Zero e = inr refl
+    to Minus Plus e = absurd (code e)
+
+    from : (s ≡ Zero) ⊎ (t ≡ Zero) → product_of s t ≡ Zero
+    from (inl e) = ap (λ r. product_of r t) e
+    from (inr e) = ap (product_of s) e ∙ product-Zero s
+
+pub square_none : (s : Sign) → product_of s s ≡ Zero → s ≡ Zero
+square_none Minus e = absurd (code e)
+square_none Zero e = refl
+square_none Plus e = absurd (code e)
+
 pub square_sign : (s : Sign) → s ≢ Zero → product_of s s ≡ Plus
 square_sign Minus n = refl
 square_sign Zero n = absurd (n refl)
@@ -96,18 +127,41 @@ cancel_sign Plus Minus Minus n e = absurd (code e)
 cancel_sign Plus Zero Minus n e = absurd (code e)
 cancel_sign Plus Plus Minus n e = refl
 
+pub minus_left : (s : Sign) → s ≢ Zero → s ≢ Plus → s ≡ Minus
+minus_left Minus n m = refl
+minus_left Zero n m = absurd (n refl)
+minus_left Plus n m = absurd (m refl)
+
 pub is_plus : (s : Sign) → (s ≡ Plus) ⊎ (s ≢ Plus)
 is_plus Minus = inr (λ e. code e)
 is_plus Zero = inr (λ e. code e)
 is_plus Plus = inl refl
 
+-- what is said of a sum by three signs, said by others that equal them
+pub by_signs : {s s' t t' r r' : Sign} → s ≡ s' → t ≡ t' → r ≡ r' → SumMayBe s' t' r' → SumMayBe s t r
+by_signs {s} {s'} {t} {t'} {r} {r'} e f g h = subst (λ x. SumMayBe x t r) (sym e) (subst (λ x. SumMayBe s' x r) (sym f) (subst (λ x. SumMayBe s' t' x) (sym g) h))
+
 -- + or 0
 abbrev pub AtLeast : Sign → Type 0
 AtLeast s = (s ≡ Plus) ⊎ (s ≡ Zero)
 
+pub at_least_of : (s : Sign) → s ≢ Minus → AtLeast s
+at_least_of Minus n = absurd (n refl)
+at_least_of Zero n = inr refl
+at_least_of Plus n = inl refl
+
+pub not_minus : (s : Sign) → AtLeast s → s ≡ Minus → ⊥
+not_minus s (inl p) e = code (sym e ∙ p)
+not_minus s (inr p) e = code (sym e ∙ p)
+
 pub at_least_product : (s t : Sign) → AtLeast s → AtLeast t → AtLeast (product_of s t)
 at_least_product s t (inl e) k = subst (λ x. AtLeast (product_of x t)) (sym e) k
 at_least_product s t (inr e) k = subst (λ x. AtLeast (product_of x t)) (sym e) (inr refl)
+
+pub first_some : (s t : Sign) → s ≢ Zero → first_of s t ≡ s
+first_some Minus t n = refl
+first_some Zero t n = absurd (n refl)
+first_some Plus t n = refl
 
 pub first_of-opposite : (s t : Sign) → first_of (opposite_of s) (opposite_of t) ≡ opposite_of (first_of s t)
 first_of-opposite Minus t = refl

@@ -1,8 +1,9 @@
 -- A whole number between two neighbouring squares is radical.
-use Rattle.std.proofs.Common.{◌≡◌, ℕ, zero, suc, Bool, true, false, ◌+◌, ◌*◌, ◌<◌, ◌≤◌, ℤ, pos, negsuc, ◌*ℤ◌, unsigned_abs, sym, refl, ap, ◌∙◌, arith}
+use Rattle.std.proofs.Common.{◌≡◌, ℕ, zero, suc, Bool, true, false, ◌+◌, ◌*◌, ◌<◌, ◌≤◌, ℤ, pos, ◌*ℤ◌, unsigned_abs, sym, refl, ap, ◌∙◌, arith}
 use Rattle.std.specs.Prelude.{nat_le}
 use Rattle.std.proofs.lemmas.Int.{ints, unsigned_abs-mul}
 use Rattle.std.proofs.lemmas.Bool.Decides.{nat_tests}
+use Rattle.kin_basics.proofs.Integers.{zero_from_size}
 use Rattle.kin_algebra.specs.Signs.{norm_of}
 use Rattle.kin_algebra.proofs.IntegerSigns.{sign_of-pos}
 use Rattle.kin_algebra.proofs.Radicals.{Radical}
@@ -12,10 +13,6 @@ zero_square : (n : ℕ) → n * n ≡ 0 → n ≡ 0
 zero_square zero e = refl
 zero_square (suc n) e = absurd (omega (arith, e))
 
-zero_abs : (z : ℤ) → unsigned_abs z ≡ 0 → z ≡ pos 0
-zero_abs (pos n) e = ap pos e
-zero_abs (negsuc n) e = absurd (omega (arith, e))
-
 radical_from_root : (r E : ℕ) → 0 < E → E ≤ 2 * r → (u v : ℤ) → norm_of u v (pos (r * r + E)) ≡ pos 0 → (u ≡ pos 0) × (v ≡ pos 0)
 radical_from_root r E p q u v e =
     let s : u *ℤ u ≡ (v *ℤ v) *ℤ pos (r * r + E) = omega (arith, ints, e) in
@@ -23,7 +20,7 @@ radical_from_root r E p q u v e =
     sym (unsigned_abs-mul u u) ∙ ap unsigned_abs s ∙ unsigned_abs-mul (v *ℤ v) (pos (r * r + E)) ∙ ap (λ k. k * (r * r + E)) (unsigned_abs-mul v v) in
     let zv : unsigned_abs v ≡ 0 = none r E p q (suc (unsigned_abs v)) (unsigned_abs u) (unsigned_abs v) (omega arith) (omega (arith, t)) in
     let zu : unsigned_abs u * unsigned_abs u ≡ 0 = t ∙ ap (λ k. (k * k) * (r * r + E)) zv ∙ omega arith in
-    (zero_abs u (zero_square (unsigned_abs u) zu), zero_abs v zv)
+    (zero_from_size u (zero_square (unsigned_abs u) zu), zero_from_size v zv)
 
 pub radical_between : (r E : ℕ) → 0 < E → E ≤ 2 * r → Radical (pos (r * r + E))
 radical_between r E p q = record { positive = sign_of-pos (r * r + E) (omega arith); alone = radical_from_root r E p q }

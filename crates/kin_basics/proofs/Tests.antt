@@ -13,6 +13,11 @@ three_parts a b c e = let p = and_parts (a && b) c e in let q = and_parts a b p.
 pub three_from : (a b c : Bool) → a ≡ true → b ≡ true → c ≡ true → a && b && c ≡ true
 three_from a b c e f g = and_from (a && b) c (and_from a b e f) g
 
+-- a test that says what another says as well
+pub and_same : (a b : Bool) → (a ≡ true → b ≡ true) → a ≡ a && b
+and_same true b f = sym (f refl)
+and_same false b f = refl
+
 pub or_none : (a : Bool) → a || false ≡ a
 or_none true = refl
 or_none false = refl

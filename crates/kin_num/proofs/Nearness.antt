@@ -2,6 +2,7 @@
 use Rattle.std.proofs.Common.{◌≡◌, inl, inr, [], ◌∷◌, refl, sym, ap, ◌∙◌, subst}
 use Rattle.std.specs.Prelude.{pos}
 use Rattle.kin_algebra.specs.declared.sign.Sign.TheVariants.{Zero, Plus}
+use Rattle.kin_algebra.proofs.Operations.{operations}
 use Rattle.kin_algebra.proofs.Ring.{by_identity, quotes_in}
 use Rattle.kin_algebra.proofs.OrderedRings.{OrderedRing, positive_sum, nonnegative_sum, positive_product, nonnegative_product, positive_cancel, sign_twice}
 use Rattle.kin_algebra.proofs.Bounds.{Between, product_between, sum_between, gap, IsApart, nearby, value_decides}
@@ -9,17 +10,7 @@ use Rattle.kin_algebra.specs.Signs.{product_of}
 use Rattle.kin_algebra.proofs.Signs.{AtLeast, product-Plus, product-Zero}
 
 module _ {R : Type 0} (o : OrderedRing R) where
-  infixl 20 ◌·◌
-  abbrev ◌·◌ : R → R → R
-  a · b = o.ring.times a b
-
-  infixl 19 ◌⊕◌
-  abbrev ◌⊕◌ : R → R → R
-  a ⊕ b = o.ring.plus a b
-
-  infixl 19 ◌⊖◌
-  abbrev ◌⊖◌ : R → R → R
-  a ⊖ b = o.ring.plus a (o.ring.negative b)
+  open operations o.ring use {◌·◌, ◌⊕◌, ◌⊖◌}
 
   -- the value of a*t^2 + b*t + c at Z/Q, times Q*Q
   abbrev pub value_in : R → R → R → R → R → R
