@@ -4,7 +4,7 @@ use Rattle.std.specs.Prelude.{◌<ℤ◌}
 use Rattle.std.specs.Int.{◌∣◌}
 use Rattle.std.proofs.lemmas.Int.{ints, unsigned_abs-mul}
 use Rattle.std.proofs.lemmas.Nat.Gcd.{dvd_antisymm}
-use Rattle.std.proofs.Math.Nat.{mul-dvd-mul_left, dvd_of_mul-dvd-mul_left, one-dvd}
+use Rattle.std.proofs.Math.Nat.{mul_comm, mul-one, mul-dvd-mul_left, dvd_of_mul-dvd-mul_left, one-dvd}
 use Rattle.kin_basics.proofs.Integers.{size-some}
 use Rattle.kin_num.specs.declared.instant.Shape.TheVariants.{Root}
 use Rattle.kin_num.specs.Quadratic.{IsSmall}
@@ -17,19 +17,13 @@ as_natural (pos n) h = refl
 as_natural (negsuc n) h = absurd (omega (arith, ints))
 
 abs_of : (x q g : ℤ) → x ≡ q *ℤ g → unsigned_abs x ≡ unsigned_abs g * unsigned_abs q
-abs_of x q g e = ap unsigned_abs e ∙ unsigned_abs-mul q g ∙ turned (unsigned_abs q) (unsigned_abs g)
-  where
-    turned : (x y : ℕ) → x * y ≡ y * x
-    turned x y = omega arith
+abs_of x q g e = ap unsigned_abs e ∙ unsigned_abs-mul q g ∙ mul_comm (unsigned_abs q) (unsigned_abs g)
 
 -- after division by the greatest common divisor none is left but 1
 primitive : (a b c a' b' c' g : ℤ) → pos 0 <ℤ g → ((k : ℕ) → k ∣ unsigned_abs a → k ∣ unsigned_abs b → k ∣ unsigned_abs c → k ∣ unsigned_abs g) → a ≡ a' *ℤ g → b ≡ b' *ℤ g → c ≡ c' *ℤ g → HaveNoCommonDivisor a' b' c'
 primitive a b c a' b' c' g h greatest e f l = λ k p q r.
-    dvd_antisymm (dvd_of_mul-dvd-mul_left k (size-some g h) (subst (λ (x : ℕ). unsigned_abs g * k ∣ x) (times_one (unsigned_abs g))
+    dvd_antisymm (dvd_of_mul-dvd-mul_left k (size-some g h) (subst (λ (x : ℕ). unsigned_abs g * k ∣ x) (sym (mul-one (unsigned_abs g)))
     (greatest (unsigned_abs g * k) (subst (λ (x : ℕ). unsigned_abs g * k ∣ x) (sym (abs_of a a' g e)) (mul-dvd-mul_left k (unsigned_abs g) p)) (subst (λ (x : ℕ). unsigned_abs g * k ∣ x) (sym (abs_of b b' g f)) (mul-dvd-mul_left k (unsigned_abs g) q)) (subst (λ (x : ℕ). unsigned_abs g * k ∣ x) (sym (abs_of c c' g l)) (mul-dvd-mul_left k (unsigned_abs g) r))))) (one-dvd k)
-  where
-    times_one : (e : ℕ) → e ≡ e * 1
-    times_one e = omega arith
 
 not_more : (x q g : ℤ) (m : ℕ) → pos 0 <ℤ g → x ≡ q *ℤ g → unsigned_abs x ≤ m → unsigned_abs q ≤ m
 not_more x q g m h e k = at_least (unsigned_abs q) (unsigned_abs g) (unsigned_abs x) m (size-some g h) (abs_of x q g e) k

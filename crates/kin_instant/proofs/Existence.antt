@@ -4,9 +4,9 @@ use Rattle.std.specs.Prelude.{◌<ℤ◌}
 use Rattle.std.specs.Int.{◌∣◌}
 use Rattle.std.proofs.lemmas.Int.{ints}
 use Rattle.std.proofs.lemmas.Nat.Gcd.{dvd_trans}
-use Rattle.std.proofs.Math.Nat.{pos_of_dvd_of_pos}
+use Rattle.std.proofs.Math.Nat.{pos_of_dvd_of_pos, eq-or-lt_of_le}
 use lib.IntN.{neg_ℤ}
-use Rattle.kin_basics.proofs.Integers.{size-some}
+use Rattle.kin_basics.proofs.Integers.{size-some, pos-some, negative-some}
 use Rattle.kin_algebra.proofs.Squares.{square_below}
 use Rattle.kin_num.specs.declared.instant.Shape.{Shape}
 use Rattle.kin_num.specs.declared.instant.Shape.TheVariants.{Ratio, Root}
@@ -25,9 +25,6 @@ use Rattle.kin_instant.proofs.RootsOf.{negated_zeros, count_negated, rising_line
 -- the roots that a polynomial has
 abbrev pub HasRoots : Quadratic → Type 0
 HasRoots p = (answer : Roots) × AreRootsOf p answer
-
-positive : (g : ℕ) → 0 < g → pos 0 <ℤ pos g
-positive g h = omega (arith, ints)
 
 -- ---- fractions
 pub ratio_exists : (n d : ℤ) → unsigned_abs n < 2 ^ 31 → unsigned_abs d < 2 ^ 31 → pos 0 <ℤ d → (r : Shape) × IsFraction n d r × IsCanonical r
@@ -62,16 +59,13 @@ module _ (b c : ℤ) (b_small : unsigned_abs b ≤ 2 ^ 29) (c_small : unsigned_a
       wide b h = omega arith
 
   falling : b <ℤ pos 0 → HasRoots (quadratic (pos 0) b c)
-  falling h = let r = ratio_exists c (neg_ℤ b) (wide c c_small) (turned b b_small) (up b h) in (One r.0, falling_line b c h r.0 r.1 r.2)
+  falling h = let r = ratio_exists c (neg_ℤ b) (wide c c_small) (turned b b_small) (negative-some b h) in (One r.0, falling_line b c h r.0 r.1 r.2)
     where
       turned : (c : ℤ) → unsigned_abs c ≤ 2 ^ 29 → unsigned_abs (neg_ℤ c) < 2 ^ 31
       turned c h = omega (arith, ints)
 
       wide : (b : ℤ) → unsigned_abs b ≤ 2 ^ 28 → unsigned_abs b < 2 ^ 31
       wide b h = omega arith
-
-      up : (b : ℤ) → b <ℤ pos 0 → pos 0 <ℤ neg_ℤ b
-      up b h = omega (arith, ints)
 
   level : b ≡ pos 0 → HasRoots (quadratic (pos 0) b c)
   level e = by_constant c refl
@@ -117,7 +111,7 @@ module _ (a b c : ℤ) (up : pos 0 <ℤ a) (small : IsSmall (quadratic a b c)) w
       by_root (suc n) z =
           let l = ratio_exists (neg_ℤ (pos r) -ℤ b) (pos 2 *ℤ a) (lower_small r b h small.b_small) doubled_small doubled in
           let s = ratio_exists (pos r -ℤ b) (pos 2 *ℤ a) (upper_small r b h small.b_small) doubled_small doubled in
-          (Two l.0 s.0, two_fractions a b c (pos r) up e (positive r (omega (arith, z))) l.0 s.0 l.1 s.1 l.2 s.2)
+          (Two l.0 s.0, two_fractions a b c (pos r) up e (pos-some r (omega (arith, z))) l.0 s.0 l.1 s.1 l.2 s.2)
 
   -- it is positive, and no square
   surds : pos 0 <ℤ discriminant a b c → ((k : ℕ) → pos (k * k) ≢ discriminant a b c) → HasRoots (quadratic a b c)
@@ -131,8 +125,8 @@ module _ (a b c : ℤ) (up : pos 0 <ℤ a) (small : IsSmall (quadratic a b c)) w
       let b' = quotient_of b g.0 some second in
       let c' = quotient_of c g.0 some g.1.1 in (
         Two (Root a'.0 b'.0 c'.0 false) (Root a'.0 b'.0 c'.0 true),
-        two_surds a b c (pos g.0) a'.0 b'.0 c'.0 up real (positive g.0 some) a'.1 b'.1 c'.1
-            (canonical a b c a'.0 b'.0 c'.0 (pos g.0) false (positive g.0 some) up small real no_square (λ k p q r. g.1.2 k (h.1.2 k p q) r) a'.1 b'.1 c'.1),
+        two_surds a b c (pos g.0) a'.0 b'.0 c'.0 up real (pos-some g.0 some) a'.1 b'.1 c'.1
+            (canonical a b c a'.0 b'.0 c'.0 (pos g.0) false (pos-some g.0 some) up small real no_square (λ k p q r. g.1.2 k (h.1.2 k p q) r) a'.1 b'.1 c'.1),
       )
 
   quadratic_roots : HasRoots (quadratic a b c)
@@ -143,14 +137,11 @@ module _ (a b c : ℤ) (up : pos 0 <ℤ a) (small : IsSmall (quadratic a b c)) w
 
       by_root : (s : ℕ) → pos s ≡ discriminant a b c → (q : (r : ℕ) × IsWholeRoot s r) → (q.0 * q.0 ≡ s) ⊎ (q.0 * q.0 < s) → HasRoots (quadratic a b c)
       by_root s e q (inl f) = rational q.0 (root_size q.0 s q.1.at_most (size a b c s small e)) (ap pos f ∙ e)
-      by_root s e q (inr l) = surds (subst (λ (z : ℤ). pos 0 <ℤ z) e (positive s (omega (arith, l)))) (irrational q.0 s (discriminant a b c) q.1 (λ f. absurd (omega (arith, l, f))) e)
-
-      either : (x s : ℕ) → x ≤ s → (x ≡ s) ⊎ (x < s)
-      either x s h = grind (arith, h)
+      by_root s e q (inr l) = surds (subst (λ (z : ℤ). pos 0 <ℤ z) e (pos-some s (omega (arith, l)))) (irrational q.0 s (discriminant a b c) q.1 (λ f. absurd (omega (arith, l, f))) e)
 
       by_discriminant : (d : ℤ) → discriminant a b c ≡ d → HasRoots (quadratic a b c)
       by_discriminant (negsuc n) e = (Nowhere, negative_discriminant a b c up (subst (λ (z : ℤ). z <ℤ pos 0) (sym e) (omega (arith, ints))))
-      by_discriminant (pos s) e = let q = whole_root s in by_root s (sym e) q (either (q.0 * q.0) s q.1.at_most)
+      by_discriminant (pos s) e = let q = whole_root s in by_root s (sym e) q (eq-or-lt_of_le q.1.at_most)
 
 -- ---- all polynomials
 turned_roots : (p : Quadratic) → HasRoots (negated p) → HasRoots p

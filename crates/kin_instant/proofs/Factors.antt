@@ -1,12 +1,14 @@
 -- A quadratic with a rational root is a product of two lines; one with an irrational root is a multiple of its quadratic.
-use Rattle.std.proofs.Common.{◌≡◌, refl, ap, ap₂, sym, ◌∙◌, subst, Bool, [], ◌∷◌, arith, ℤ, pos, ◌+ℤ◌, ◌*ℤ◌}
+use Rattle.std.proofs.Common.{◌≡◌, refl, ap, ap₂, sym, ◌∙◌, Bool, [], ◌∷◌, arith, ℤ, pos, ◌+ℤ◌, ◌*ℤ◌}
 use Rattle.std.specs.Prelude.{◌<ℤ◌}
 use Rattle.std.proofs.lemmas.Int.{ints}
 use lib.IntN.{neg_ℤ}
-use Rattle.kin_algebra.specs.declared.sign.Sign.{Sign}
-use Rattle.kin_algebra.specs.declared.sign.Sign.TheVariants.{Minus, Zero, Plus}
+use Rattle.kin_algebra.specs.declared.sign.Sign.TheVariants.{Zero, Plus}
 use Rattle.kin_algebra.specs.Signs.{product_of, SumMayBe}
+use Rattle.kin_algebra.proofs.Rings.{times_zero}
+use Rattle.kin_algebra.proofs.Integers.{integers}
 use Rattle.kin_algebra.proofs.Ring.{by_ring, quotes}
+use Rattle.kin_algebra.proofs.Signs.{by_signs}
 use Rattle.kin_algebra.proofs.IntegerSigns.{sign_in, zero_of}
 use Rattle.kin_algebra.proofs.OrderedRings.{scale, sum_may_be}
 use Rattle.kin_algebra.proofs.Pairs.{pair, pair_plus, pair_times, Sound, sign_over, sign_over-whole, sign_over-times, ordered}
@@ -24,37 +26,8 @@ use Rattle.kin_instant.proofs.Zeros.{divisor-positive, instant-scaled, positive_
 abbrev pub cofactor : ℤ → ℤ → ℤ → ℤ → Quadratic
 cofactor a b n d = line (neg_ℤ (a *ℤ n +ℤ b *ℤ d)) (a *ℤ d)
 
--- what a sum of two signs is where one is 0
-abbrev pub SumOf : Sign → Sign → Sign → Type 0
-SumOf Zero t r = r ≡ t
-SumOf Minus Zero r = r ≡ Minus
-SumOf Plus Zero r = r ≡ Plus
-SumOf Minus Minus r = Unit {0}
-SumOf Minus Plus r = Unit {0}
-SumOf Plus Minus r = Unit {0}
-SumOf Plus Plus r = Unit {0}
-
-sum_of : (s t r : Sign) → SumMayBe s t r → SumOf s t r
-sum_of Zero t r h = h
-sum_of Minus Zero r h = h
-sum_of Plus Zero r h = h
-sum_of Minus Minus r h = tt
-sum_of Minus Plus r h = tt
-sum_of Plus Minus r h = tt
-sum_of Plus Plus r h = tt
-
 module _ (x : Number) (s : Sound x.radicand) (h : pos 0 <ℤ x.divisor) (a b c n d : ℤ) (k : pos 0 <ℤ d) (on : a *ℤ (n *ℤ n) +ℤ b *ℤ n *ℤ d +ℤ c *ℤ d *ℤ d ≡ pos 0) where
-  abbrev N : ℤ
-  N = x.whole
-
-  abbrev M : ℤ
-  M = x.root
-
-  abbrev R : ℤ
-  R = x.radicand
-
-  abbrev Q : ℤ
-  Q = x.divisor
+  open x use {whole as N, root as M, radicand as R, divisor as Q}
 
   abbrev first : Quadratic
   first = line n d
@@ -98,9 +71,11 @@ module _ (x : Number) (s : Sound x.radicand) (h : pos 0 <ℤ x.divisor) (a b c n
       let ad_plus = sign_over-whole R s (a *ℤ d) ∙ sign_in Plus _ (positive_product a d p k) in
       let dd_plus = sign_over-whole R s (d *ℤ d) ∙ sign_in Plus _ (positive_product d d k k) in
       let may = sum_may_be o (pair_times R (pair d (pos 0)) (value second x)) (pair_times R (pair (a *ℤ d) (pos 0)) (value first x)) in
-      (subst (λ (t : Sign). SumMayBe (sign_at_number second x) (sign_at_number first x) t) (ap (sign_over R) (sym slope_sum) ∙ scale o {a = pair (d *ℤ d) (pos 0)} (value (derivative (quadratic a b c)) x) dd_plus)
-      (subst (λ (t : Sign). SumMayBe (sign_at_number second x) t (sign_over R (pair_plus (pair_times R (pair d (pos 0)) (value second x)) (pair_times R (pair (a *ℤ d) (pos 0)) (value first x))))) (scale o {a = pair (a *ℤ d) (pos 0)} (value first x) ad_plus)
-      (subst (λ (t : Sign). SumMayBe t (sign_over R (pair_times R (pair (a *ℤ d) (pos 0)) (value first x))) (sign_over R (pair_plus (pair_times R (pair d (pos 0)) (value second x)) (pair_times R (pair (a *ℤ d) (pos 0)) (value first x))))) (scale o {a = pair d (pos 0)} (value second x) d_plus) may)))
+      by_signs
+      (sym (scale o {a = pair d (pos 0)} (value second x) d_plus))
+      (sym (scale o {a = pair (a *ℤ d) (pos 0)} (value first x) ad_plus))
+      (sym (scale o {a = pair (d *ℤ d) (pos 0)} (value (derivative (quadratic a b c)) x) dd_plus) ∙ ap (sign_over R) slope_sum)
+      may
 
   pub number-slope : pos 0 <ℤ a → SumOf (sign_at_number second x) (sign_at_number first x) (sign_at_number (derivative (quadratic a b c)) x)
   number-slope p = sum_of _ _ _ (number-slopes p)
@@ -118,7 +93,7 @@ module _ (w : Shape) (i : IsCanonicalForm w) (a b c n d : ℤ) (k : pos 0 <ℤ d
   unfolding sign_at_instant
   instant-factors = number-factors (number_of w) (canonical-sound w i) (divisor-positive w i) a b c n d k (on_root a b c n d z)
 
-  pub instant-slope : pos 0 <ℤ a → SumOf (sign_at_instant (cofactor a b n d) w) (sign_at_instant (line n d) w) (sign_at_instant (derivative (quadratic a b c)) w)
+  pub instant-slope : pos 0 <ℤ a → SumMayBe (sign_at_instant (cofactor a b n d) w) (sign_at_instant (line n d) w) (sign_at_instant (derivative (quadratic a b c)) w)
   unfolding sign_at_instant
   instant-slope p = number-slope (number_of w) (canonical-sound w i) (divisor-positive w i) a b c n d k (on_root a b c n d z) p
 
@@ -131,10 +106,7 @@ module _ (p : Quadratic) (a b c : ℤ) (i : IsIrreducible a b c) (upper : Bool) 
   multiple : quadratic (a *ℤ p.a) (a *ℤ p.b) (a *ℤ p.c) ≡ quadratic (p.a *ℤ a) (p.a *ℤ b) (p.a *ℤ c)
   multiple =
       let m = sign_zero_at_root p a b c i upper z in
-      ap (λ (x : ℤ). quadratic x (a *ℤ p.b) (a *ℤ p.c)) (turned a p.a) ∙ ap (λ (y : ℤ). quadratic (p.a *ℤ a) y (a *ℤ p.c)) m.0 ∙ ap (quadratic (p.a *ℤ a) (p.a *ℤ b)) m.1
-    where
-      turned : (x y : ℤ) → x *ℤ y ≡ y *ℤ x
-      turned x y = by_ring (x ∷ y ∷ []) _ _ (search quotes depth 16) (search quotes depth 16) refl
+      ap (λ (x : ℤ). quadratic x (a *ℤ p.b) (a *ℤ p.c)) (integers.times_comm a p.a) ∙ ap (λ (y : ℤ). quadratic (p.a *ℤ a) y (a *ℤ p.c)) m.0 ∙ ap (quadratic (p.a *ℤ a) (p.a *ℤ b)) m.1
 
   -- the polynomial has the signs of the root's quadratic
   pub same_value : (w : Shape) → IsCanonicalForm w → sign_at_instant p w ≡ sign_at_instant (quadratic a b c) w
@@ -143,11 +115,8 @@ module _ (p : Quadratic) (a b c : ℤ) (i : IsIrreducible a b c) (upper : Bool) 
   slopes : quadratic (a *ℤ pos 0) (a *ℤ (pos 2 *ℤ p.a)) (a *ℤ p.b) ≡ quadratic (p.a *ℤ pos 0) (p.a *ℤ (pos 2 *ℤ a)) (p.a *ℤ b)
   slopes =
       let m = sign_zero_at_root p a b c i upper z in
-      ap (λ (x : ℤ). quadratic x (a *ℤ (pos 2 *ℤ p.a)) (a *ℤ p.b)) (nothing a p.a) ∙ ap (λ (y : ℤ). quadratic (p.a *ℤ pos 0) y (a *ℤ p.b)) (turned a p.a) ∙ ap (quadratic (p.a *ℤ pos 0) (p.a *ℤ (pos 2 *ℤ a))) m.0
+      ap (λ (x : ℤ). quadratic x (a *ℤ (pos 2 *ℤ p.a)) (a *ℤ p.b)) (times_zero integers a ∙ sym (times_zero integers p.a)) ∙ ap (λ (y : ℤ). quadratic (p.a *ℤ pos 0) y (a *ℤ p.b)) (turned a p.a) ∙ ap (quadratic (p.a *ℤ pos 0) (p.a *ℤ (pos 2 *ℤ a))) m.0
     where
-      nothing : (x y : ℤ) → x *ℤ pos 0 ≡ y *ℤ pos 0
-      nothing x y = by_ring (x ∷ y ∷ []) _ _ (search quotes depth 16) (search quotes depth 16) refl
-
       turned : (x y : ℤ) → x *ℤ (pos 2 *ℤ y) ≡ y *ℤ (pos 2 *ℤ x)
       turned x y = by_ring (x ∷ y ∷ []) _ _ (search quotes depth 16) (search quotes depth 16) refl
 

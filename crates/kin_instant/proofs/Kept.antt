@@ -15,6 +15,7 @@ use Rattle.kin_num.specs.Quadratic.{Quadratic}
 use Rattle.kin_num.specs.Canonical.{IsCanonicalForm, discriminant}
 use Rattle.kin_num.specs.Instants.{sign_at_instant, sign_at, derivative}
 use Rattle.kin_num.specs.Order.{IsLess, IsEarlier}
+use Rattle.kin_num.proofs.Constants.{constant_sign}
 use Rattle.kin_num.proofs.Values.{negated}
 use Rattle.kin_num.proofs.SignLaws.{sign_at-neg}
 use Rattle.kin_num.proofs.LowerFractions.{not_less_itself, less_trans, less_asym}
@@ -23,7 +24,7 @@ use Rattle.kin_instant.specs.declared.roots.Roots.{Roots}
 use Rattle.kin_instant.specs.declared.roots.Roots.TheVariants.{Nowhere, One, Two, All}
 use Rattle.kin_instant.specs.Roots.{quadratic, AreRootsOf, count_by_signs, root_count}
 use Rattle.kin_instant.specs.Places.{IsZeroPolynomial, IsNextRoot, HasNoRootAfter, KeepsSign}
-use Rattle.kin_instant.proofs.RootsOf.{constant_sign, negated_zeros, count_negated, line_as}
+use Rattle.kin_instant.proofs.RootsOf.{negated_zeros, count_negated, line_as}
 use Rattle.kin_instant.proofs.Nexts.{count_of_zero}
 use Rattle.kin_instant.proofs.SignTable.{IsPlace, IsSigned, lead_of, by_degree, lift, lifted, line_place, line_sign, by_lead, at_at, at_after, positive_signed}
 

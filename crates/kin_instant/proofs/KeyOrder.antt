@@ -1,86 +1,42 @@
 -- Moments in the order of their keys.
-use Rattle.std.proofs.Common.{◌≡◌, ◌≢◌, ◌⊎◌, inl, inr, ℕ, zero, suc, ◌+◌, ◌*◌, ◌<◌, ◌≤◌, ◌^◌, [], ◌∷◌, refl, sym, ap, ap₂, ◌∙◌, subst, arith, mul-le-mul, true, false}
+use Rattle.std.proofs.Common.{◌≡◌, ◌≢◌, ◌⊎◌, inl, inr, ℕ, zero, suc, ◌+◌, ◌*◌, ◌<◌, ◌≤◌, ◌^◌, refl, sym, ap, ap₂, ◌∙◌, subst, arith, mul-le-mul, true, false}
 use Rattle.std.specs.Prelude.{ℤ, pos, ◌-ℤ◌, ◌*ℤ◌, ◌<ℤ◌}
 use Rattle.std.proofs.lemmas.Int.{ints}
+use Rattle.std.proofs.lemmas.Bool.{cases_lt}
+use Rattle.std.proofs.Math.Nat.{eq-or-lt_of_le}
 use Rattle.kin_basics.proofs.Integers.{difference-turned}
 use Rattle.kin_algebra.specs.declared.sign.Sign.{Sign}
 use Rattle.kin_algebra.specs.declared.sign.Sign.TheVariants.{Minus, Zero, Plus}
 use Rattle.kin_algebra.specs.Signs.{sign_of, opposite_of, product_of}
-use Rattle.kin_algebra.proofs.Ring.{by_ring, quotes}
-use Rattle.kin_algebra.proofs.Signs.{code, AtLeast, product-Plus}
-use Rattle.kin_algebra.proofs.OrderedRings.{positive_cancel, positive_sum, nonnegative_product}
+use Rattle.kin_algebra.proofs.Signs.{code, AtLeast, at_least_of, not_minus}
 use Rattle.kin_algebra.proofs.IntegerSigns.{sign_of-negative, sign_of-times, sign_in, sign_out, sign_of-pos}
-use Rattle.kin_algebra.proofs.Pairs.{pair, pair_plus, pair_times, ordered, sign_over, sign_over-whole}
 use Rattle.kin_num.specs.declared.instant.Shape.{Shape}
 use Rattle.kin_num.specs.declared.instant.Shape.TheVariants.{Ratio, Root}
 use Rattle.kin_num.specs.Canonical.{IsCanonicalForm}
-use Rattle.kin_num.specs.Instants.{Number, number_of, sign_at_instant, line}
+use Rattle.kin_num.specs.Instants.{sign_at_instant, line}
 use Rattle.kin_num.specs.Order.{IsLess}
-use Rattle.kin_num.proofs.Values.{canonical-sound}
-use Rattle.kin_num.proofs.NumberRing.{flat}
-use Rattle.kin_num.proofs.Near.{past, line_sign}
-use Rattle.kin_num.proofs.RootZeros.{divisor-positive}
 use Rattle.kin_num.proofs.Divisors.{same_lowest}
 use Rattle.kin_num.proofs.FractionOrder.{line_at_fraction}
-use Rattle.kin_num.proofs.LowerFractions.{lower_fraction, same_denominator}
+use Rattle.kin_num.proofs.LowerFractions.{lower_fraction, strictly_lower, same_denominator}
 use Rattle.kin_num.proofs.InstantOrder.{total}
 use Rattle.kin_num.specs.declared.instant.Moment.{Moment}
 use Rattle.kin_instant.specs.declared.key.Key.{Key}
 use Rattle.kin_instant.specs.Keys.{IsSpanOf, IsCoarse, IsKeyOf}
-
-at_least_of : (s : Sign) → s ≢ Minus → AtLeast s
-at_least_of Minus n = absurd (n refl)
-at_least_of Zero n = inr refl
-at_least_of Plus n = inl refl
-
-not_minus : (s : Sign) → AtLeast s → s ≡ Minus → ⊥
-not_minus s (inl p) e = code (sym e ∙ p)
-not_minus s (inr p) e = code (sym e ∙ p)
 
 -- ---- fractions of one denominator
 abbrev unit : ℤ
 unit = pos (2 ^ 32)
 
 module _ (w : Shape) (form : IsCanonicalForm w) where
-  abbrev x : Number
-  x = number_of w
-
-  lower-as : (n d m e whole root radicand divisor : ℤ) →
-      pair_times radicand (flat e) (pair (d *ℤ whole -ℤ n *ℤ divisor) (d *ℤ root))
-      ≡ pair_plus (flat ((m *ℤ d -ℤ n *ℤ e) *ℤ divisor)) (pair_times radicand (flat d) (pair (e *ℤ whole -ℤ m *ℤ divisor) (e *ℤ root)))
-  lower-as n d m e whole root radicand divisor =
-      ap₂ pair
-      (by_ring (n ∷ d ∷ m ∷ e ∷ whole ∷ root ∷ radicand ∷ divisor ∷ []) _ _ (search quotes depth 30 fits 40000) (search quotes depth 30 fits 40000) refl)
-      (by_ring (n ∷ d ∷ m ∷ e ∷ whole ∷ root ∷ radicand ∷ divisor ∷ []) _ _ (search quotes depth 30 fits 40000) (search quotes depth 30 fits 40000) refl)
-
-  -- a fraction lies before w where a greater one isn't after w
-  strictly_lower : (n d m e : ℤ) → pos 0 <ℤ d → pos 0 <ℤ e → sign_of (m *ℤ d -ℤ n *ℤ e) ≡ Plus → AtLeast (sign_at_instant (line m e) w) → sign_at_instant (line n d) w ≡ Plus
-  unfolding sign_at_instant
-  strictly_lower n d m e d_positive e_positive more p =
-      let s = canonical-sound w form in
-      let o = ordered x.radicand s in
-      let q = divisor-positive w form in
-      let flat_sign = sign_over-whole x.radicand s in
-      let first : sign_over x.radicand (flat ((m *ℤ d -ℤ n *ℤ e) *ℤ x.divisor)) ≡ Plus =
-      flat_sign ((m *ℤ d -ℤ n *ℤ e) *ℤ x.divisor) ∙ sign_of-times (m *ℤ d -ℤ n *ℤ e) x.divisor ∙ ap (product_of (sign_of (m *ℤ d -ℤ n *ℤ e))) q ∙ product-Plus (sign_of (m *ℤ d -ℤ n *ℤ e)) ∙ more in
-      let rest = nonnegative_product o {a = flat d} {b = past x m e} (inl (flat_sign d ∙ sign_in Plus d d_positive)) (subst AtLeast (line_sign x s q m e) p) in
-      line_sign x s q n d
-      ∙ positive_cancel o {a = flat e} {b = past x n d} (flat_sign e ∙ sign_in Plus e e_positive)
-      (ap (sign_over x.radicand) (lower-as n d m e x.whole x.root x.radicand x.divisor)
-      ∙ positive_sum o {a = flat ((m *ℤ d -ℤ n *ℤ e) *ℤ x.divisor)} {b = pair_times x.radicand (flat d) (past x m e)} first rest)
-
   apart : (s t : ℕ) → s < t → sign_of (pos t *ℤ unit -ℤ pos s *ℤ unit) ≡ Plus
   apart s t h = ap sign_of (same_denominator (pos t) (pos s) unit) ∙ sign_of-times (pos t -ℤ pos s) unit ∙ ap (λ (k : Sign). product_of k Plus) (sign_in Plus (pos t -ℤ pos s) (omega (arith, ints)))
 
   reached : (s t : ℕ) → s ≤ t → AtLeast (sign_at_instant (line (pos t) unit) w) → AtLeast (sign_at_instant (line (pos s) unit) w)
-  reached s t h p = at (split s t h)
+  reached s t h p = at (eq-or-lt_of_le h)
     where
-      split : (s t : ℕ) → s ≤ t → (s ≡ t) ⊎ (s < t)
-      split s t h = grind arith
-
       at : (s ≡ t) ⊎ (s < t) → AtLeast (sign_at_instant (line (pos s) unit) w)
       at (inl e) = subst (λ (k : ℕ). AtLeast (sign_at_instant (line (pos k) unit) w)) (sym e) p
-      at (inr l) = inl (strictly_lower (pos s) unit (pos t) unit (omega (arith, ints)) (omega (arith, ints)) (apart s t l) p)
+      at (inr l) = inl (strictly_lower w form (pos s) unit (pos t) unit (omega (arith, ints)) (omega (arith, ints)) (apart s t l) p)
 
 -- a lesser span lies before
 pub lesser_span : (v w : Shape) → IsCanonicalForm v → IsCanonicalForm w → (s t : ℕ) → IsSpanOf s v → IsSpanOf t w → s < t → IsLess v w
@@ -127,10 +83,7 @@ part_of s m e some h coarse = record {
     under x y h = omega (arith, ints)
 
     not_under : (x y : ℕ) → sign_of (pos x -ℤ pos y) ≢ Minus → y ≤ x
-    not_under x y n = elim (either x y) [ inl l ↦ absurd (n (sign_in Minus (pos x -ℤ pos y) (omega (arith, ints)))) | inr l ↦ l ]
-      where
-        either : (x y : ℕ) → (x < y) ⊎ (y ≤ x)
-        either x y = grind arith
+    not_under x y n = elim (cases_lt x y) [ inl l ↦ absurd (n (sign_in Minus (pos x -ℤ pos y) (omega (arith, ints)))) | inr l ↦ l ]
 
     over : (k : ℕ) → s ≡ k → s * e ≤ 2 ^ 32 * m
     over zero r = rw r (omega arith)

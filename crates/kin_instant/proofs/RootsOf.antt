@@ -1,13 +1,15 @@
 -- What `roots` answers, case by case.
-use Rattle.std.proofs.Common.{◌≡◌, ◌≢◌, ◌⊎◌, ◌↔◌, inl, inr, Some, refl, ap, ap₂, sym, ◌∙◌, subst, true, false, ℕ, [], ◌∷◌, arith, ℤ, pos, negsuc, ◌+ℤ◌, ◌-ℤ◌, ◌*ℤ◌, ◌*◌, ◌<◌}
+use Rattle.std.proofs.Common.{◌≡◌, ◌≢◌, ◌⊎◌, ◌↔◌, inl, inr, Some, refl, ap, ap₂, sym, ◌∙◌, subst, true, false, ℕ, [], ◌∷◌, arith, ℤ, pos, ◌+ℤ◌, ◌-ℤ◌, ◌*ℤ◌, ◌*◌, ◌<◌}
 use Rattle.std.specs.Prelude.{◌<ℤ◌}
 use Rattle.std.proofs.lemmas.Int.{ints}
 use lib.IntN.{neg_ℤ}
+use Rattle.kin_basics.proofs.Integers.{pos-some, negative-some}
 use Rattle.kin_algebra.specs.declared.sign.Sign.{Sign}
 use Rattle.kin_algebra.specs.declared.sign.Sign.TheVariants.{Minus, Zero, Plus}
-use Rattle.kin_algebra.specs.Signs.{sign_of, opposite_of, product_of, pair_sign_of}
+use Rattle.kin_algebra.specs.Signs.{sign_of, opposite_of, product_of}
+use Rattle.kin_algebra.proofs.Integers.{integers}
 use Rattle.kin_algebra.proofs.Ring.{by_ring, quotes}
-use Rattle.kin_algebra.proofs.Signs.{code, same_from_product}
+use Rattle.kin_algebra.proofs.Signs.{code, product_none, same_from_product}
 use Rattle.kin_algebra.proofs.IntegerSigns.{sign_in, sign_out, sign_of-times, sign_of-negative, zero_of}
 use Rattle.kin_num.specs.declared.instant.Shape.{Shape}
 use Rattle.kin_num.specs.declared.instant.Shape.TheVariants.{Ratio, Root}
@@ -17,10 +19,11 @@ use Rattle.kin_num.specs.Instants.{sign_at_instant, line}
 use Rattle.kin_num.specs.Order.{IsLess}
 use Rattle.kin_num.proofs.Values.{negated}
 use Rattle.kin_num.proofs.SignLaws.{sign_at_instant-neg}
-use Rattle.kin_num.proofs.RootSigns.{pair_sign-positive}
+pub use Rattle.kin_num.proofs.Constants.{constant_sign}
+use Rattle.kin_num.proofs.RootZeros.{own_slope}
 use Rattle.kin_instant.specs.declared.roots.Roots.TheVariants.{Nowhere, One, Two, All}
 use Rattle.kin_instant.specs.Roots.{IsFraction, count_by_signs, root_count, quadratic, AreRootsOf}
-use Rattle.kin_instant.proofs.Values.{sign-scaled, pair_sign-scaled}
+use Rattle.kin_instant.proofs.Values.{sign-scaled}
 use Rattle.kin_instant.proofs.Zeros.{line-zero, line-zero_at, quadratic-zero, root-zero_at, instant-negative, instant-split, instant-scaled, doubled_positive}
 
 -- where p is zero, another polynomial is, and the other way round
@@ -71,42 +74,9 @@ negated_zeros p w i = let k = zero_opposite (sign_at_instant (negated p) w) (sig
 
 pub falling_line : (b c : ℤ) → b <ℤ pos 0 → (r : Shape) → IsFraction c (neg_ℤ b) r → IsCanonical r → AreRootsOf (quadratic (pos 0) b c) (One r)
 falling_line b c h r f k =
-    one_root (quadratic (pos 0) b c) c (neg_ℤ b) (turned b h) r f k (negated_zeros (quadratic (pos 0) b c)) (count_line-minus b c (discriminant (pos 0) b c) (sign_in Minus b h))
-  where
-    turned : (b : ℤ) → b <ℤ pos 0 → pos 0 <ℤ neg_ℤ b
-    turned b h = omega (arith, ints)
+    one_root (quadratic (pos 0) b c) c (neg_ℤ b) (negative-some b h) r f k (negated_zeros (quadratic (pos 0) b c)) (count_line-minus b c (discriminant (pos 0) b c) (sign_in Minus b h))
 
 -- ---- constants
-constant_ratio : (c n d : ℤ) → pos 0 *ℤ (n *ℤ n +ℤ pos 0 *ℤ pos 0 *ℤ pos 0) +ℤ pos 0 *ℤ n *ℤ d +ℤ c *ℤ d *ℤ d ≡ d *ℤ (d *ℤ c)
-constant_ratio c n d = by_ring (c ∷ n ∷ d ∷ []) _ _ (search quotes depth 20) (search quotes depth 20) refl
-
-constant_units : (c a b m e : ℤ) → pos 0 *ℤ (neg_ℤ b *ℤ neg_ℤ b +ℤ m *ℤ m *ℤ e) +ℤ pos 0 *ℤ neg_ℤ b *ℤ (pos 2 *ℤ a) +ℤ c *ℤ (pos 2 *ℤ a) *ℤ (pos 2 *ℤ a) ≡ (pos 4 *ℤ a) *ℤ (a *ℤ c)
-constant_units c a b m e = by_ring (c ∷ a ∷ b ∷ m ∷ e ∷ []) _ _ (search quotes depth 24) (search quotes depth 24) refl
-
-constant_surd : (a b m : ℤ) → pos 2 *ℤ pos 0 *ℤ neg_ℤ b *ℤ m +ℤ pos 0 *ℤ m *ℤ (pos 2 *ℤ a) ≡ pos 0
-constant_surd a b m = by_ring (a ∷ b ∷ m ∷ []) _ _ (search quotes depth 24) (search quotes depth 24) refl
-
-pair_sign-single : (u d : ℤ) → pos 0 <ℤ d → pair_sign_of u (pos 0) d ≡ sign_of u
-pair_sign-single u d h = pair_sign-positive u (pos 0) d h ∙ single (sign_of u) _
-  where
-    single : (s n : Sign) → Rattle.kin_algebra.specs.Signs.sum_sign_of s Zero n ≡ s
-    single Minus n = refl
-    single Zero n = refl
-    single Plus n = refl
-
-constant_root : (c a b m e : ℤ) → pos 0 <ℤ a → pos 0 <ℤ e →
-    pair_sign_of (pos 0 *ℤ (neg_ℤ b *ℤ neg_ℤ b +ℤ m *ℤ m *ℤ e) +ℤ pos 0 *ℤ neg_ℤ b *ℤ (pos 2 *ℤ a) +ℤ c *ℤ (pos 2 *ℤ a) *ℤ (pos 2 *ℤ a)) (pos 2 *ℤ pos 0 *ℤ neg_ℤ b *ℤ m +ℤ pos 0 *ℤ m *ℤ (pos 2 *ℤ a)) e ≡ sign_of c
-constant_root c a b m e h real =
-    ap₂ (λ (u v : ℤ). pair_sign_of u v e) (constant_units c a b m e) (constant_surd a b m)
-    ∙ pair_sign-single ((pos 4 *ℤ a) *ℤ (a *ℤ c)) e real ∙ sign-scaled (pos 4 *ℤ a) (a *ℤ c) (omega (arith, ints)) ∙ sign-scaled a c h
-
--- the sign of a constant is the same everywhere
-pub constant_sign : (c : ℤ) (w : Shape) → IsCanonicalForm w → sign_at_instant (quadratic (pos 0) (pos 0) c) w ≡ sign_of c
-unfolding sign_at_instant
-constant_sign c (Ratio n d) i = ap sign_of (constant_ratio c n d) ∙ sign-scaled d (d *ℤ c) i.positive ∙ sign-scaled d c i.positive
-constant_sign c (Root a b e true) i = constant_root c a b (pos 1) (discriminant a b e) i.positive i.real
-constant_sign c (Root a b e false) i = constant_root c a b (negsuc 0) (discriminant a b e) i.positive i.real
-
 pub zero_everywhere : (b c : ℤ) → b ≡ pos 0 → c ≡ pos 0 → AreRootsOf (quadratic (pos 0) b c) All
 zero_everywhere b c e f = subst (λ (x : ℤ). AreRootsOf (quadratic (pos 0) x c) All) (sym e) (subst (λ (y : ℤ). AreRootsOf (quadratic (pos 0) (pos 0) y) All) (sym f) record {
   canonical = tt;
@@ -141,29 +111,7 @@ negative_discriminant a b c h k = record {
 }
 
 zero_factor : (s t u : Sign) → s ≡ product_of t u → (s ≡ Zero) ↔ ((t ≡ Zero) ⊎ (u ≡ Zero))
-zero_factor s Minus Minus e = (λ z. absurd (code (sym z ∙ e)), λ k. absurd (neither k))
-  where
-    neither : (Minus ≡ Zero) ⊎ (Minus ≡ Zero) → ⊥
-    neither (inl e) = code e
-    neither (inr e) = code e
-zero_factor s Minus Zero e = (λ z. inr refl, λ k. e)
-zero_factor s Minus Plus e = (λ z. absurd (code (sym z ∙ e)), λ k. absurd (neither k))
-  where
-    neither : (Minus ≡ Zero) ⊎ (Plus ≡ Zero) → ⊥
-    neither (inl e) = code e
-    neither (inr e) = code e
-zero_factor s Zero u e = (λ z. inl refl, λ k. e)
-zero_factor s Plus Minus e = (λ z. absurd (code (sym z ∙ e)), λ k. absurd (neither k))
-  where
-    neither : (Plus ≡ Zero) ⊎ (Minus ≡ Zero) → ⊥
-    neither (inl e) = code e
-    neither (inr e) = code e
-zero_factor s Plus Zero e = (λ z. inr refl, λ k. e)
-zero_factor s Plus Plus e = (λ z. absurd (code (sym z ∙ e)), λ k. absurd (neither k))
-  where
-    neither : (Plus ≡ Zero) ⊎ (Plus ≡ Zero) → ⊥
-    neither (inl e) = code e
-    neither (inr e) = code e
+zero_factor s t u e = (λ z. (product_none t u).0 (sym e ∙ z), λ k. e ∙ (product_none t u).1 k)
 
 pub double_root : (a b c root : ℤ) → pos 0 <ℤ a → root *ℤ root ≡ discriminant a b c → root ≡ pos 0 → (r : Shape) → IsFraction (root -ℤ b) (pos 2 *ℤ a) r → IsCanonical r → AreRootsOf (quadratic a b c) (One r)
 double_root a b c root h e z r f k =
@@ -227,52 +175,32 @@ two_fractions a b c root h e k r s f g i j = record {
         let z = zero_factor _ _ _ (instant-split w l a b c root h e) in
         let x = fraction_zeros (neg_ℤ root -ℤ b) (pos 2 *ℤ a) (doubled_positive a h) r f i w l in
         let y = fraction_zeros (root -ℤ b) (pos 2 *ℤ a) (doubled_positive a h) s g j w l in
-        (λ t. there (z.0 t) x.0 y.0, λ t. z.1 (back t x.1 y.1))
+        (λ t. either (z.0 t) x.0 y.0, λ t. z.1 (either t x.1 y.1))
       where
-        there : {P P' Q Q' : Type 0} → P ⊎ Q → (P → P') → (Q → Q') → P' ⊎ Q'
-        there (inl p) u v = inl (u p)
-        there (inr q) u v = inr (v q)
-
-        back : {P P' Q Q' : Type 0} → P ⊎ Q → (P → P') → (Q → Q') → P' ⊎ Q'
-        back (inl p) u v = inl (u p)
-        back (inr q) u v = inr (v q)
+        either : {P P' Q Q' : Type 0} → P ⊎ Q → (P → P') → (Q → Q') → P' ⊎ Q'
+        either (inl p) u v = inl (u p)
+        either (inr q) u v = inr (v q)
 
 -- ---- two irrational roots
-middle_units : (a b m e : ℤ) → pos 0 *ℤ (neg_ℤ b *ℤ neg_ℤ b +ℤ m *ℤ m *ℤ e) +ℤ (pos 2 *ℤ a) *ℤ neg_ℤ b *ℤ (pos 2 *ℤ a) +ℤ neg_ℤ (neg_ℤ b) *ℤ (pos 2 *ℤ a) *ℤ (pos 2 *ℤ a) ≡ (pos 2 *ℤ a) *ℤ pos 0
-middle_units a b m e = by_ring (a ∷ b ∷ m ∷ e ∷ []) _ _ (search quotes depth 24) (search quotes depth 24) refl
-
-middle_surd : (a b m : ℤ) → pos 2 *ℤ pos 0 *ℤ neg_ℤ b *ℤ m +ℤ (pos 2 *ℤ a) *ℤ m *ℤ (pos 2 *ℤ a) ≡ (pos 2 *ℤ a) *ℤ ((pos 2 *ℤ a) *ℤ m)
-middle_surd a b m = by_ring (a ∷ b ∷ m ∷ []) _ _ (search quotes depth 24) (search quotes depth 24) refl
-
-pure_surd : (v d : ℤ) → pos 0 <ℤ d → pair_sign_of (pos 0) v d ≡ sign_of v
-pure_surd v d h = pair_sign-positive (pos 0) v d h
-
-middle_sign : (a b m e : ℤ) → pos 0 <ℤ a → pos 0 <ℤ e →
-    pair_sign_of (pos 0 *ℤ (neg_ℤ b *ℤ neg_ℤ b +ℤ m *ℤ m *ℤ e) +ℤ (pos 2 *ℤ a) *ℤ neg_ℤ b *ℤ (pos 2 *ℤ a) +ℤ neg_ℤ (neg_ℤ b) *ℤ (pos 2 *ℤ a) *ℤ (pos 2 *ℤ a)) (pos 2 *ℤ pos 0 *ℤ neg_ℤ b *ℤ m +ℤ (pos 2 *ℤ a) *ℤ m *ℤ (pos 2 *ℤ a)) e ≡ sign_of m
-middle_sign a b m e h real =
-    ap₂ (λ (u v : ℤ). pair_sign_of u v e) (middle_units a b m e) (middle_surd a b m)
-    ∙ pair_sign-scaled (pos 2 *ℤ a) (pos 0) ((pos 2 *ℤ a) *ℤ m) e (doubled_positive a h) real
-    ∙ pure_surd ((pos 2 *ℤ a) *ℤ m) e real ∙ sign-scaled (pos 2 *ℤ a) m (doubled_positive a h)
+-- the line through the middle of the roots is the slope
+middle : (a b : ℤ) (w : Shape) → sign_at_instant (line (neg_ℤ b) (pos 2 *ℤ a)) w ≡ sign_at_instant (quadratic (pos 0) (pos 2 *ℤ a) b) w
+middle a b w = ap (λ (p : Quadratic). sign_at_instant p w) (line_as (pos 2 *ℤ a) b)
 
 -- the middle -b / 2a lies between the two roots
 pub rising_surds : (a b c : ℤ) → IsIrreducible a b c → IsLess (Root a b c false) (Root a b c true)
-unfolding sign_at_instant
 rising_surds a b c i = (
   neg_ℤ b,
   pos 2 *ℤ a,
   record {
     proper = doubled_positive a i.positive;
-    first = λ e. code (sym (middle_sign a b (negsuc 0) (discriminant a b c) i.positive i.real) ∙ e);
-    second = middle_sign a b (pos 1) (discriminant a b c) i.positive i.real;
+    first = λ e. code (sym (middle a b (Root a b c false) ∙ own_slope a b c i false) ∙ e);
+    second = middle a b (Root a b c true) ∙ own_slope a b c i true;
   },
 )
 
 three_scaled : (g a b c a' b' c' : ℤ) → a ≡ a' *ℤ g → b ≡ b' *ℤ g → c ≡ c' *ℤ g → quadratic a b c ≡ quadratic (g *ℤ a') (g *ℤ b') (g *ℤ c')
 three_scaled g a b c a' b' c' e f h =
-    ap (λ (x : ℤ). quadratic x b c) (e ∙ turned a' g) ∙ ap (λ (x : ℤ). quadratic (g *ℤ a') x c) (f ∙ turned b' g) ∙ ap (quadratic (g *ℤ a') (g *ℤ b')) (h ∙ turned c' g)
-  where
-    turned : (x y : ℤ) → x *ℤ y ≡ y *ℤ x
-    turned x y = by_ring (x ∷ y ∷ []) _ _ (search quotes depth 16) (search quotes depth 16) refl
+    ap (λ (x : ℤ). quadratic x b c) (e ∙ integers.times_comm a' g) ∙ ap (λ (x : ℤ). quadratic (g *ℤ a') x c) (f ∙ integers.times_comm b' g) ∙ ap (quadratic (g *ℤ a') (g *ℤ b')) (h ∙ integers.times_comm c' g)
 
 pub two_surds : (a b c g a' b' c' : ℤ) → pos 0 <ℤ a → pos 0 <ℤ discriminant a b c → pos 0 <ℤ g → a ≡ a' *ℤ g → b ≡ b' *ℤ g → c ≡ c' *ℤ g → IsCanonical (Root a' b' c' false) → AreRootsOf (quadratic a b c) (Two (Root a' b' c' false) (Root a' b' c' true))
 two_surds a b c g a' b' c' h real k e f l i = record {
@@ -305,22 +233,19 @@ pub irreducible_after : (a b c a' b' c' : ℤ) (g : ℕ) → 0 < g → pos 0 <�
 irreducible_after a b c a' b' c' g some h real irrational e f l i = record {
   positive = positive_factor a a' (pos g) h e g_positive;
   primitive = i;
-  real = positive_factor (discriminant a b c) (discriminant a' b' c') (pos g *ℤ pos g) real (same ∙ turned (pos g *ℤ pos g) (discriminant a' b' c')) (sign_out Plus _ (sign-scaled (pos g) (pos g) g_positive ∙ sign_in Plus (pos g) g_positive));
+  real = positive_factor (discriminant a b c) (discriminant a' b' c') (pos g *ℤ pos g) real (same ∙ integers.times_comm (pos g *ℤ pos g) (discriminant a' b' c')) (sign_out Plus _ (sign-scaled (pos g) (pos g) g_positive ∙ sign_in Plus (pos g) g_positive));
   irrational = λ k q. irrational (g * k) (sym (square_of g k) ∙ ap (λ (z : ℤ). (pos g *ℤ pos g) *ℤ z) q ∙ sym same);
 }
   where
     same : discriminant a b c ≡ (pos g *ℤ pos g) *ℤ discriminant a' b' c'
     same = discriminant_of (pos g) a b c a' b' c' e f l
 
-    turned : (x y : ℤ) → x *ℤ y ≡ y *ℤ x
-    turned x y = by_ring (x ∷ y ∷ []) _ _ (search quotes depth 16) (search quotes depth 16) refl
-
     -- a positive product with a positive factor
     positive_factor : (x y z : ℤ) → pos 0 <ℤ x → x ≡ y *ℤ z → pos 0 <ℤ z → pos 0 <ℤ y
     positive_factor x y z h e k = sign_out Plus y ((same_from_product _ _ (sym (sign_of-times y z) ∙ ap sign_of (sym e) ∙ sign_in Plus x h)).0 ∙ sign_in Plus z k)
 
     g_positive : pos 0 <ℤ pos g
-    g_positive = omega (arith, ints)
+    g_positive = pos-some g some
 
 -- ---- the number of roots of the negated polynomial
 count_turned : (s t u v : Sign) → count_by_signs (opposite_of s) (opposite_of t) (opposite_of u) v ≡ count_by_signs s t u v

@@ -6,8 +6,10 @@ use lib.IntN.{neg_ℤ}
 use Rattle.kin_algebra.specs.declared.sign.Sign.{Sign}
 use Rattle.kin_algebra.specs.declared.sign.Sign.TheVariants.{Minus, Zero, Plus}
 use Rattle.kin_algebra.specs.Signs.{sign_of, product_of, first_of, SumMayBe}
+use Rattle.kin_algebra.proofs.Rings.{times_zero}
+use Rattle.kin_algebra.proofs.Integers.{integers}
 use Rattle.kin_algebra.proofs.Ring.{by_ring, quotes}
-use Rattle.kin_algebra.proofs.Signs.{code}
+use Rattle.kin_algebra.proofs.Signs.{code, product_commutes}
 use Rattle.kin_algebra.proofs.IntegerSigns.{sign_in, sign_out, zero_of}
 use Rattle.kin_num.specs.declared.instant.Shape.{Shape}
 use Rattle.kin_num.specs.declared.instant.Shape.TheVariants.{Ratio, Root}
@@ -18,16 +20,17 @@ use Rattle.kin_num.specs.Quadratic.{Quadratic}
 use Rattle.kin_num.specs.Canonical.{IsCanonicalForm, IsLowest, IsIrreducible, discriminant}
 use Rattle.kin_num.specs.Instants.{sign_at_instant, sign_at, derivative, line}
 use Rattle.kin_num.specs.Order.{IsLess}
+use Rattle.kin_num.proofs.Constants.{constant_sign, curvature_sign}
+use Rattle.kin_num.proofs.FractionOrder.{on_line, line_at_root}
 use Rattle.kin_num.proofs.RootZeros.{root_itself}
 use Rattle.kin_num.proofs.LowerFractions.{not_less_itself}
 use Rattle.kin_num.proofs.InstantOrder.{below_upper, above_upper, at_upper, below_lower, above_lower, at_lower, above_fraction, below_fraction, never_level}
 use Rattle.kin_instant.specs.declared.roots.Roots.{Roots}
 use Rattle.kin_instant.specs.declared.roots.Roots.TheVariants.{Nowhere, One, Two, All}
 use Rattle.kin_instant.specs.Roots.{quadratic, AreRootsOf, count_by_signs, root_count}
-use Rattle.kin_instant.proofs.Values.{sign_at-curvature}
-use Rattle.kin_instant.proofs.Zeros.{line-zero, line-zero_at, line-never, on_line, root-zero_at, instant-scaled, instant-negative, positive_product, square_zero}
-use Rattle.kin_instant.proofs.RootsOf.{constant_sign, rising_surds}
-use Rattle.kin_instant.proofs.Factors.{SumOf, cofactor, on_root, instant-factors, instant-slope, same_value, same_slope}
+use Rattle.kin_instant.proofs.Zeros.{line-zero, line-zero_at, root-zero_at, instant-scaled, instant-negative, positive_product, square_zero}
+use Rattle.kin_instant.proofs.RootsOf.{rising_surds}
+use Rattle.kin_instant.proofs.Factors.{cofactor, on_root, instant-factors, instant-slope, same_value, same_slope}
 
 -- ---- where a moment lies to an instant that is taken at phase `At`
 abbrev pub IsPlace : Moment → Shape → Sign → Type 0
@@ -58,14 +61,8 @@ lifted w r After Plus h = inl h
 module _ (r : Shape) (j : IsCanonicalForm r) (n d : ℤ) (k : pos 0 <ℤ d) (z : sign_at_instant (line n d) r ≡ Zero) where
   both_lines : (n d n' d' : ℤ) → n' *ℤ d ≡ n *ℤ d' → quadratic (d' *ℤ pos 0) (d' *ℤ d) (d' *ℤ neg_ℤ n) ≡ quadratic (d *ℤ pos 0) (d *ℤ d') (d *ℤ neg_ℤ n')
   both_lines n d n' d' e =
-      ap (λ (x : ℤ). quadratic x (d' *ℤ d) (d' *ℤ neg_ℤ n)) (nothing d' d) ∙ ap (λ (y : ℤ). quadratic (d *ℤ pos 0) y (d' *ℤ neg_ℤ n)) (turned d' d) ∙ ap (quadratic (d *ℤ pos 0) (d *ℤ d')) (left d' n ∙ ap neg_ℤ (sym e) ∙ right d n')
+      ap (λ (x : ℤ). quadratic x (d' *ℤ d) (d' *ℤ neg_ℤ n)) (times_zero integers d' ∙ sym (times_zero integers d)) ∙ ap (λ (y : ℤ). quadratic (d *ℤ pos 0) y (d' *ℤ neg_ℤ n)) (integers.times_comm d' d) ∙ ap (quadratic (d *ℤ pos 0) (d *ℤ d')) (left d' n ∙ ap neg_ℤ (sym e) ∙ right d n')
     where
-      nothing : (x y : ℤ) → x *ℤ pos 0 ≡ y *ℤ pos 0
-      nothing x y = by_ring (x ∷ y ∷ []) _ _ (search quotes depth 16) (search quotes depth 16) refl
-
-      turned : (x y : ℤ) → x *ℤ y ≡ y *ℤ x
-      turned x y = by_ring (x ∷ y ∷ []) _ _ (search quotes depth 16) (search quotes depth 16) refl
-
       left : (x y : ℤ) → x *ℤ neg_ℤ y ≡ neg_ℤ (y *ℤ x)
       left x y = by_ring (x ∷ y ∷ []) _ _ (search quotes depth 16) (search quotes depth 16) refl
 
@@ -82,14 +79,9 @@ module _ (r : Shape) (j : IsCanonicalForm r) (n d : ℤ) (k : pos 0 <ℤ d) (z :
       at (Ratio m l) j z Minus e = below_fraction m l j w i (own m l j.positive (on_line n d m l j.positive z) ∙ e)
       at (Ratio m l) j z Zero e = line-zero w i n d m l k j (on_line n d m l j.positive z) e
       at (Ratio m l) j z Plus e = above_fraction m l j w i (own m l j.positive (on_line n d m l j.positive z) ∙ e)
-      at (Root a b c u) j z s e = absurd (line-never a b c u j n d k z)
+      at (Root a b c u) j z s e = absurd (line_at_root a b c j u n d (sign_in Plus d k) z)
 
 -- ---- the sign at a moment
-first_some : (s t : Sign) → s ≢ Zero → first_of s t ≡ s
-first_some Minus t n = refl
-first_some Zero t n = absurd (n refl)
-first_some Plus t n = refl
-
 is_zero : (s : Sign) → (s ≡ Zero) ⊎ (s ≢ Zero)
 is_zero Minus = inr (λ e. code e)
 is_zero Zero = inl refl
@@ -98,7 +90,7 @@ is_zero Plus = inr (λ e. code e)
 -- just after an instant: the value, or the slope and the curvature
 pub at_after : (p : Quadratic) (w : Shape) → IsCanonicalForm w → sign_at p (record { at = w; phase = After }) ≡ first_of (sign_at_instant p w) (first_of (sign_at_instant (derivative p) w) (sign_of p.a))
 unfolding sign_at
-at_after p w i = ap (λ (s : Sign). first_of (sign_at_instant p w) (first_of (sign_at_instant (derivative p) w) s)) (sign_at-curvature p w i)
+at_after p w i = ap (λ (s : Sign). first_of (sign_at_instant p w) (first_of (sign_at_instant (derivative p) w) s)) (curvature_sign p w i)
 
 pub at_at : (p : Quadratic) (w : Shape) → sign_at p (record { at = w; phase = At }) ≡ sign_at_instant p w
 unfolding sign_at
@@ -110,7 +102,7 @@ line_sign b c h w i At = at_at (quadratic (pos 0) b c) w
 line_sign b c h w i After = at_after (quadratic (pos 0) b c) w i ∙ ap (λ (s : Sign). first_of (sign_at_instant (quadratic (pos 0) b c) w) (first_of s Zero)) (constant_sign b w i ∙ sign_in Plus b h)
 
 -- a product of two lines
-two_lines : (s t u : Sign) → SumOf t s u → first_of (product_of s t) (first_of u Plus) ≡ product_of (first_of s Plus) (first_of t Plus)
+two_lines : (s t u : Sign) → SumMayBe t s u → first_of (product_of s t) (first_of u Plus) ≡ product_of (first_of s Plus) (first_of t Plus)
 two_lines Minus Minus u h = refl
 two_lines Minus Zero Minus h = refl
 two_lines Minus Zero Zero h = absurd (code h)
@@ -242,11 +234,8 @@ module _ (a b c : ℤ) (h : pos 0 <ℤ a) (w : Shape) (i : IsCanonicalForm w) (f
   pub double_line : (n d : ℤ) → IsLowest n d → AreRootsOf q (One (Ratio n d)) → sign_at_instant (cofactor a b n d) w ≡ sign_at_instant (line n d) w
   double_line n d j k =
       ap (λ (x : ℤ). sign_at_instant (quadratic (pos 0) (a *ℤ d) x) w) (centre a b n d j.positive (square ((k.exact (Ratio n d) j).1 refl)))
-      ∙ ap (λ (x : ℤ). sign_at_instant (quadratic x (a *ℤ d) (a *ℤ neg_ℤ n)) w) (nothing a) ∙ instant-scaled w i a (pos 0) d (neg_ℤ n) h
+      ∙ ap (λ (x : ℤ). sign_at_instant (quadratic x (a *ℤ d) (a *ℤ neg_ℤ n)) w) (sym (times_zero integers a)) ∙ instant-scaled w i a (pos 0) d (neg_ℤ n) h
     where
-      nothing : (a : ℤ) → pos 0 ≡ a *ℤ pos 0
-      nothing a = by_ring (a ∷ []) _ _ (search quotes depth 16) (search quotes depth 16) refl
-
       flat : discriminant a b c ≡ pos 0
       flat = zero_of _ (own_counted (sign_of b) (sign_of c) _ (k.number ∙ ap (λ (s : Sign). count_by_signs s (sign_of b) (sign_of c) (sign_of (discriminant a b c))) (sign_in Plus a h)))
 
@@ -311,17 +300,6 @@ module _ (a b c : ℤ) (h : pos 0 <ℤ a) (w : Shape) (i : IsCanonicalForm w) (f
       )
 
   -- two irrational roots
-  commuted : (s t : Sign) → product_of s t ≡ product_of t s
-  commuted Minus Minus = refl
-  commuted Minus Zero = refl
-  commuted Minus Plus = refl
-  commuted Zero Minus = refl
-  commuted Zero Zero = refl
-  commuted Zero Plus = refl
-  commuted Plus Minus = refl
-  commuted Plus Zero = refl
-  commuted Plus Plus = refl
-
   irrational_signed : (a' b' c' : ℤ) (u : Bool) (s : Shape) → IsIrreducible a' b' c' → AreRootsOf q (Two (Root a' b' c' u) s) → IsSigned q (Two (Root a' b' c' u) s) m
   irrational_signed a' b' c' u s j k = by_sides u (root_itself a' b' c' j s sj zero_there) k
     where
@@ -355,7 +333,7 @@ module _ (a b c : ℤ) (h : pos 0 <ℤ a) (w : Shape) (i : IsCanonicalForm w) (f
       by_sides true (true, e) k = absurd (apart (Root a' b' c' true) s k e)
       by_sides false (false, e) k = absurd (apart (Root a' b' c' false) s k e)
       by_sides false (true, e) k = (lift f here.lower, lift f here.upper, (low, subst (λ (x : Shape). IsPlace m x (lift f here.upper)) (sym e) high, by_lead (lead_of q) _ _ (lead-plus q h) (signed f)))
-      by_sides true (false, e) k = (lift f here.upper, lift f here.lower, (high, subst (λ (x : Shape). IsPlace m x (lift f here.lower)) (sym e) low, by_lead (lead_of q) _ _ (lead-plus q h) (signed f ∙ commuted (lift f here.lower) (lift f here.upper))))
+      by_sides true (false, e) k = (lift f here.upper, lift f here.lower, (high, subst (λ (x : Shape). IsPlace m x (lift f here.lower)) (sym e) low, by_lead (lead_of q) _ _ (lead-plus q h) (signed f ∙ product_commutes (lift f here.lower) (lift f here.upper))))
 
   pub positive_signed : (answer : Roots) → AreRootsOf q answer → IsSigned q answer m
   positive_signed Nowhere k = none_signed k

@@ -6,7 +6,7 @@ use lib.IntN.{neg_ℤ}
 use Rattle.kin_algebra.specs.declared.sign.Sign.{Sign}
 use Rattle.kin_algebra.specs.declared.sign.Sign.TheVariants.{Minus, Zero, Plus}
 use Rattle.kin_algebra.specs.Signs.{sign_of, opposite_of, sum_sign_of, norm_of}
-use Rattle.kin_algebra.proofs.Signs.{code}
+use Rattle.kin_algebra.proofs.Signs.{code, minus_left}
 use Rattle.kin_algebra.proofs.IntegerSigns.{sign_in, sign_out, sign_of-pos}
 use Rattle.kin_num.specs.declared.instant.Shape.TheVariants.{Ratio, Root}
 use Rattle.kin_num.specs.Canonical.{IsIrreducible, discriminant}
@@ -94,12 +94,7 @@ module _ (d r : ℕ) (some : 0 < d) (root : IsWholeRoot (d * 2 ^ 64) r) where
 
   lowered_minus : (u : ℤ) → u <ℤ pos (r + 1) → lowered_sign u ≢ Zero → lowered_sign u ≡ Minus
   lowered_minus (pos zero) h some = refl
-  lowered_minus (pos (suc n)) h some = last _ some (norm_not_plus (suc n) (omega (arith, ints)))
-    where
-      last : (s : Sign) → s ≢ Zero → s ≢ Plus → s ≡ Minus
-      last Minus a b = refl
-      last Zero a b = absurd (a refl)
-      last Plus a b = absurd (b refl)
+  lowered_minus (pos (suc n)) h some = minus_left _ some (norm_not_plus (suc n) (omega (arith, ints)))
   lowered_minus (negsuc n) h some = refl
 
   lowered_not_minus : (u : ℤ) → pos (r + 1) ≤ℤ u → lowered_sign u ≢ Minus
@@ -186,6 +181,9 @@ module _ (m d : ℕ) (b c : ℤ) (i : IsIrreducible (pos m) b c) (is : pos d ≡
   }
 
 -- ---- as the code has them
+whole : (d : ℤ) (v : ℕ) → pos 0 <ℤ d → v ≡ unsigned_abs d → pos v ≡ d
+whole d v h e = omega (arith, ints, e)
+
 pub span_of_ratio : (n d : ℤ) (u v : ℕ) → pos 0 <ℤ n → pos 0 <ℤ d → u ≡ unsigned_abs n → v ≡ unsigned_abs d → IsSpanOf (u * 2 ^ 32 / v) (Ratio n d)
 span_of_ratio n d u v h k e f =
     let some : 0 < v = positive d v k f in
@@ -193,9 +191,6 @@ span_of_ratio n d u v h k e f =
   where
     positive : (d : ℤ) (v : ℕ) → pos 0 <ℤ d → v ≡ unsigned_abs d → 0 < v
     positive d v h e = omega (arith, ints, e)
-
-    whole : (d : ℤ) (v : ℕ) → pos 0 <ℤ d → v ≡ unsigned_abs d → pos v ≡ d
-    whole d v h e = omega (arith, ints, e)
 
 pub span_at_root : (a b c : ℤ) (m d r l : ℕ) (upper : Bool) → IsIrreducible a b c → m ≡ unsigned_abs a → pos d ≡ discriminant a b c → IsWholeRoot (d * 2 ^ 64) r → IsCutOff l (numerator_of b r upper) → IsSpanOf (l / (2 * m)) (Root a b c upper)
 span_at_root a b c m d r l upper i e f root cut =
@@ -205,9 +200,6 @@ span_at_root a b c m d r l upper i e f root cut =
     subst (λ (x : ℤ). IsSpanOf (l / (2 * m)) (Root x b c upper)) same
     (span_of_root m d b c j (f ∙ ap (λ (x : ℤ). discriminant x b c) (sym same)) upper r l (l / (2 * m)) root cut (from l (2 * m)) (below l (2 * m) (omega arith)))
   where
-    whole : (d : ℤ) (v : ℕ) → pos 0 <ℤ d → v ≡ unsigned_abs d → pos v ≡ d
-    whole d v h e = omega (arith, ints, e)
-
     positive : (m : ℕ) → pos 0 <ℤ pos m → 0 < m
     positive m h = omega (arith, ints)
 

@@ -7,21 +7,22 @@ use Rattle.kin_algebra.specs.declared.sign.Sign.{Sign}
 use Rattle.kin_algebra.specs.declared.sign.Sign.TheVariants.{Minus, Zero, Plus}
 use Rattle.kin_algebra.specs.Signs.{sign_of, product_of, first_of, sum_sign_of, norm_of, pair_sign_of}
 use Rattle.kin_algebra.proofs.Ring.{by_ring, quotes}
-use Rattle.kin_algebra.proofs.Signs.{code, sum_sign-single}
+use Rattle.kin_algebra.proofs.Signs.{code, first_some}
 use Rattle.kin_algebra.proofs.IntegerSigns.{sign_of-times, sign_in}
 use Rattle.kin_num.specs.declared.instant.Shape.{Shape}
 use Rattle.kin_num.specs.declared.instant.Shape.TheVariants.{Ratio, Root}
 use Rattle.kin_num.specs.Quadratic.{Quadratic}
 use Rattle.kin_num.specs.Canonical.{IsCanonicalForm, discriminant}
-use Rattle.kin_num.specs.Instants.{sign_at_instant, sign_at_phase, sign_at, derivative, number_of}
+use Rattle.kin_num.specs.Instants.{sign_at_instant, sign_at_phase, sign_at, derivative, number_of, side}
 use Rattle.kin_num.specs.declared.instant.Phase.{Phase}
 use Rattle.kin_num.specs.declared.instant.Phase.TheVariants.{At, After}
-use Rattle.kin_num.proofs.RootSigns.{pair_sign-positive}
-use Rattle.kin_instant.specs.Remainders.{remainder_slope_of, remainder_start_of, side}
+use Rattle.kin_num.proofs.Constants.{curvature_sign}
+use Rattle.kin_num.proofs.RootSigns.{pair_sign-positive, times_positive}
+use Rattle.kin_instant.specs.Remainders.{remainder_slope_of, remainder_start_of}
 
 -- ---- positive factors
 pub sign-scaled : (k z : ℤ) → pos 0 <ℤ k → sign_of (k *ℤ z) ≡ sign_of z
-sign-scaled k z h = sign_of-times k z ∙ ap (λ (s : Sign). product_of s (sign_of z)) (sign_in Plus k h)
+sign-scaled k z h = times_positive k z (sign_in Plus k h)
 
 positive-times : (a b : ℤ) → pos 0 <ℤ a → pos 0 <ℤ b → sign_of (a *ℤ b) ≡ Plus
 positive-times a b h k = sign-scaled a b h ∙ sign_in Plus b k
@@ -143,30 +144,6 @@ unfolding sign_at_instant
 sign_at_root-slope p a b c true h real = root_slope p.a p.b p.c a b c (pos 1) refl h real
 sign_at_root-slope p a b c false h real = root_slope p.a p.b p.c a b c (negsuc 0) refl h real
 
--- ---- the curvature
-ratio_curvature : (p n d : ℤ) → pos 0 *ℤ (n *ℤ n +ℤ pos 0 *ℤ pos 0 *ℤ pos 0) +ℤ (pos 2 *ℤ pos 0) *ℤ n *ℤ d +ℤ (pos 2 *ℤ p) *ℤ d *ℤ d ≡ pos 2 *ℤ (d *ℤ (d *ℤ p))
-ratio_curvature p n d = by_ring (p ∷ n ∷ d ∷ []) _ _ (search quotes depth 20) (search quotes depth 20) refl
-
-root_curvature : (p a b m e : ℤ) → pos 0 *ℤ (neg_ℤ b *ℤ neg_ℤ b +ℤ m *ℤ m *ℤ e) +ℤ (pos 2 *ℤ pos 0) *ℤ neg_ℤ b *ℤ (pos 2 *ℤ a) +ℤ (pos 2 *ℤ p) *ℤ (pos 2 *ℤ a) *ℤ (pos 2 *ℤ a) ≡ (pos 8 *ℤ a) *ℤ (a *ℤ p)
-root_curvature p a b m e = by_ring (p ∷ a ∷ b ∷ m ∷ e ∷ []) _ _ (search quotes depth 24) (search quotes depth 24) refl
-
-no_surd : (a b m : ℤ) → pos 2 *ℤ pos 0 *ℤ neg_ℤ b *ℤ m +ℤ (pos 2 *ℤ pos 0) *ℤ m *ℤ (pos 2 *ℤ a) ≡ pos 0
-no_surd a b m = by_ring (a ∷ b ∷ m ∷ []) _ _ (search quotes depth 24) (search quotes depth 24) refl
-
-at_root-curvature : (p a b m e : ℤ) → pos 0 <ℤ a → pos 0 <ℤ e →
-    pair_sign_of (pos 0 *ℤ (neg_ℤ b *ℤ neg_ℤ b +ℤ m *ℤ m *ℤ e) +ℤ (pos 2 *ℤ pos 0) *ℤ neg_ℤ b *ℤ (pos 2 *ℤ a) +ℤ (pos 2 *ℤ p) *ℤ (pos 2 *ℤ a) *ℤ (pos 2 *ℤ a)) (pos 2 *ℤ pos 0 *ℤ neg_ℤ b *ℤ m +ℤ (pos 2 *ℤ pos 0) *ℤ m *ℤ (pos 2 *ℤ a)) e ≡ sign_of p
-at_root-curvature p a b m e h real =
-    ap₂ (λ (u v : ℤ). pair_sign_of u v e) (root_curvature p a b m e) (no_surd a b m)
-    ∙ pair_sign-positive ((pos 8 *ℤ a) *ℤ (a *ℤ p)) (pos 0) e real
-    ∙ sum_sign-single (sign_of ((pos 8 *ℤ a) *ℤ (a *ℤ p))) (sign_of (norm_of ((pos 8 *ℤ a) *ℤ (a *ℤ p)) (pos 0) e))
-    ∙ sign-scaled (pos 8 *ℤ a) (a *ℤ p) (omega (arith, ints)) ∙ sign-scaled a p h
-
-pub sign_at-curvature : (p : Quadratic) (w : Shape) → IsCanonicalForm w → sign_at_instant (derivative (derivative p)) w ≡ sign_of p.a
-unfolding sign_at_instant
-sign_at-curvature p (Ratio n d) i = ap sign_of (ratio_curvature p.a n d) ∙ sign-scaled (pos 2) (d *ℤ (d *ℤ p.a)) (omega (arith, ints)) ∙ sign-scaled d (d *ℤ p.a) i.positive ∙ sign-scaled d p.a i.positive
-sign_at-curvature p (Root a b c true) i = at_root-curvature p.a a b (pos 1) (discriminant a b c) i.positive i.real
-sign_at-curvature p (Root a b c false) i = at_root-curvature p.a a b (negsuc 0) (discriminant a b c) i.positive i.real
-
 -- ---- at a moment
 pub sign_at-At : (p : Quadratic) (w : Shape) (f : Phase) → f ≡ At → sign_at_instant p w ≡ sign_at p (record { at = w; phase = f })
 unfolding sign_at
@@ -176,16 +153,11 @@ pub sign_at-some : (p : Quadratic) (w : Shape) (f : Phase) → sign_at_instant p
 unfolding sign_at
 sign_at-some p w At n = refl
 sign_at-some p w After n = sym (first_some (sign_at_instant p w) _ n)
-  where
-    first_some : (s t : Sign) → s ≢ Zero → first_of s t ≡ s
-    first_some Minus t n = refl
-    first_some Zero t n = absurd (n refl)
-    first_some Plus t n = refl
 
 pub sign_at-After : (p : Quadratic) (w : Shape) (f : Phase) → f ≡ After → sign_at_instant p w ≡ Zero → IsCanonicalForm w → first_of (sign_at_instant (derivative p) w) (sign_of p.a) ≡ sign_at p (record { at = w; phase = f })
 unfolding sign_at
 sign_at-After p w f e z i =
-    sym (ap (sign_at_phase p w) e ∙ ap (λ (s : Sign). first_of s (first_of (sign_at_instant (derivative p) w) (sign_at_instant (derivative (derivative p)) w))) z ∙ ap (first_of (sign_at_instant (derivative p) w)) (sign_at-curvature p w i))
+    sym (ap (sign_at_phase p w) e ∙ ap (λ (s : Sign). first_of s (first_of (sign_at_instant (derivative p) w) (sign_at_instant (derivative (derivative p)) w))) z ∙ ap (first_of (sign_at_instant (derivative p) w)) (curvature_sign p w i))
 
 -- ---- the sign of a sum
 pub sum_sign-opposed : (s t n : Sign) → product_of s t ≡ Minus → sum_sign_of s t n ≡ product_of s n

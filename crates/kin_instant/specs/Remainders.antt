@@ -1,7 +1,5 @@
 -- What a quadratic leaves when a multiple of it is divided by another one.
-use Rattle.std.specs.Prelude.{Bool, true, false, ℤ, ◌-ℤ◌, ◌*ℤ◌}
-use Rattle.kin_algebra.specs.declared.sign.Sign.{Sign}
-use Rattle.kin_algebra.specs.declared.sign.Sign.TheVariants.{Minus, Plus}
+use Rattle.std.specs.Prelude.{ℤ, ◌-ℤ◌, ◌*ℤ◌}
 use Rattle.kin_num.specs.Quadratic.{Quadratic}
 
 -- a times p, less p.a times (a, b, c), is slope * t + start: the slope
@@ -11,8 +9,3 @@ remainder_slope_of p a b = a *ℤ p.b -ℤ b *ℤ p.a
 -- and the start
 abbrev pub remainder_start_of : Quadratic → ℤ → ℤ → ℤ
 remainder_start_of p a c = a *ℤ p.c -ℤ c *ℤ p.a
-
--- the sign before the square root in a root: + in the greater one
-abbrev pub side : Bool → Sign
-side true = Plus
-side false = Minus

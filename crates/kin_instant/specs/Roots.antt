@@ -6,6 +6,7 @@ use Rattle.kin_algebra.specs.Signs.{sign_of}
 use Rattle.kin_num.specs.declared.instant.Shape.{Shape}
 use Rattle.kin_num.specs.declared.instant.Shape.TheVariants.{Ratio, Root}
 use Rattle.kin_num.specs.Quadratic.{Quadratic}
+pub use Rattle.kin_num.specs.Quadratic.{quadratic}
 use Rattle.kin_num.specs.Canonical.{IsCanonical, IsCanonicalForm, discriminant}
 use Rattle.kin_num.specs.Instants.{sign_at_instant}
 use Rattle.kin_num.specs.Order.{IsLess}
@@ -58,10 +59,6 @@ count_by_signs Minus b c Plus = Some 2
 count_by_signs Plus b c Minus = Some 0
 count_by_signs Plus b c Zero = Some 1
 count_by_signs Plus b c Plus = Some 2
-
--- a*t^2 + b*t + c
-abbrev pub quadratic : ℤ → ℤ → ℤ → Quadratic
-quadratic a b c = record { a = a; b = b; c = c }
 
 -- the number of real roots of a quadratic
 abbrev pub root_count : Quadratic → Option ℕ

@@ -9,8 +9,8 @@ ghost use Rattle.std.specs.Prelude.{◌≡◌, ◌≤◌, ◌^◌, ◌<◌, ◌<
 ghost use Rattle.kin_algebra.specs.Signs.{sign_of, product_of};
 ghost use Rattle.kin_num.specs.declared.instant.Shape.TheVariants.{Root};
 ghost use Rattle.kin_num.specs.Canonical.{discriminant};
-ghost use Rattle.kin_num.specs.Instants.{sign_at_instant, derivative};
-ghost use Rattle.kin_instant.specs.Remainders.{remainder_slope_of, remainder_start_of, side};
+ghost use Rattle.kin_num.specs.Instants.{sign_at_instant, derivative, side};
+ghost use Rattle.kin_instant.specs.Remainders.{remainder_slope_of, remainder_start_of};
 
 use crate::product::{difference_of_products, wide_difference_of_products};
 use kin_algebra::sign::Sign;

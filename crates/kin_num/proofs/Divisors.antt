@@ -4,9 +4,12 @@ use Rattle.std.specs.Prelude.{◌<ℤ◌, ◌-ℤ◌}
 use Rattle.std.specs.Int.{IsGcd, ◌∣◌}
 use Rattle.std.proofs.lemmas.Int.{ints, unsigned_abs-mul}
 use Rattle.std.proofs.lemmas.Nat.Gcd.{IsGcd-from_zero, IsGcd-from_mod, same_from_IsGcd, dvd_refl, dvd_trans, dvd_antisymm}
+use Rattle.std.proofs.Math.Nat.{mul-one}
 use native.Mathlib.Nat.{dvd-mod_iff, dvd-sub, dvd-mul_right_of_dvd}
+use Rattle.kin_basics.proofs.Integers.{same_from_difference, difference_of_same}
 use Rattle.kin_algebra.specs.declared.sign.Sign.TheVariants.{Plus}
 use Rattle.kin_algebra.specs.Signs.{sign_of}
+use Rattle.kin_algebra.proofs.Integers.{integers}
 use Rattle.kin_algebra.proofs.Ring.{by_ring, quotes}
 use Rattle.kin_algebra.proofs.OrderedRings.{scale}
 use Rattle.kin_algebra.proofs.IntegerSigns.{ordered_integers, sign_in, zero_of}
@@ -44,16 +47,13 @@ scaled_by (suc fuel) m a (suc b) g k h i p q =
 pub divides_scaled : (m a b g k : ℕ) → IsGcd a b g → k ∣ m * a → k ∣ m * b → k ∣ m * g
 divides_scaled m a b g k = scaled_by (suc b) m a b g k (omega arith)
 
-times_one : (m : ℕ) → m * 1 ≡ m
-times_one m = omega arith
-
 -- the same for three numbers with no common divisor
 pub divides_primitive : (m a b c k : ℕ) → ((j : ℕ) → j ∣ a → j ∣ b → j ∣ c → j ≡ 1) → k ∣ m * a → k ∣ m * b → k ∣ m * c → k ∣ m
 divides_primitive m a b c k alone p q r =
     let two = gcd_of a b in
     let all = gcd_of two.0 c in
     let nothing : all.0 ≡ 1 = alone all.0 (dvd_trans all.0 all.1.0 two.1.0) (dvd_trans all.0 all.1.0 two.1.1) all.1.1 in
-    subst (λ x. k ∣ x) (ap (λ g. m * g) nothing ∙ times_one m)
+    subst (λ x. k ∣ x) (ap (λ g. m * g) nothing ∙ mul-one m)
     (divides_scaled m two.0 c all.0 k all.1 (divides_scaled m a b two.0 k two.1 p q) r)
 
 -- ---- signed numbers
@@ -75,13 +75,7 @@ difference_times k a b = by_ring (k ∷ a ∷ b ∷ []) _ _ (search quotes depth
 pub cancel_factor : (k a b : ℤ) → pos 0 <ℤ k → k *ℤ a ≡ k *ℤ b → a ≡ b
 cancel_factor k a b h e =
     let same : sign_of (k *ℤ (a -ℤ b)) ≡ sign_of (a -ℤ b) = scale ordered_integers (a -ℤ b) (sign_in Plus k h) in
-    equal a b (zero_of (a -ℤ b) (sym same ∙ ap sign_of (difference_times k a b ∙ nothing (k *ℤ a) (k *ℤ b) e)))
-  where
-    nothing : (x y : ℤ) → x ≡ y → x -ℤ y ≡ pos 0
-    nothing x y e = omega (arith, ints)
-
-    equal : (x y : ℤ) → x -ℤ y ≡ pos 0 → x ≡ y
-    equal x y e = omega (arith, ints)
+    same_from_difference a b (zero_of (a -ℤ b) (sym same ∙ ap sign_of (difference_times k a b ∙ difference_of_same (k *ℤ a) (k *ℤ b) e)))
 
 -- ---- one form for one ratio
 divides_leading : (a b c a' b' c' : ℤ) → HaveNoCommonDivisor a' b' c' → a' *ℤ b ≡ a *ℤ b' → a' *ℤ c ≡ a *ℤ c' → unsigned_abs a' ∣ unsigned_abs a
@@ -105,14 +99,11 @@ same_lowest n d n' d' i i' e =
     let down = divides_denominator n d n' d' i'.lowest e in
     let up = divides_denominator n' d' n d i.lowest (sym e) in
     let one : d ≡ d' = same_size d d' i.positive i'.positive (dvd_antisymm up down) in
-    (cancel_factor d' n n' i'.positive (flip d' n ∙ e ∙ ap (λ x. n' *ℤ x) one ∙ flip n' d'), one)
+    (cancel_factor d' n n' i'.positive (integers.times_comm d' n ∙ e ∙ ap (λ x. n' *ℤ x) one ∙ integers.times_comm n' d'), one)
   where
-    flip : (x y : ℤ) → x *ℤ y ≡ y *ℤ x
-    flip x y = by_ring (x ∷ y ∷ []) _ _ (search quotes depth 20) (search quotes depth 20) refl
-
     divides_denominator : (n d n' d' : ℤ) → IsGcd (unsigned_abs n') (unsigned_abs d') 1 → n *ℤ d' ≡ n' *ℤ d → unsigned_abs d' ∣ unsigned_abs d
     divides_denominator n d n' d' lowest e =
-        subst (λ x. unsigned_abs d' ∣ x) (times_one (unsigned_abs d))
+        subst (λ x. unsigned_abs d' ∣ x) (mul-one (unsigned_abs d))
         (divides_scaled (unsigned_abs d) (unsigned_abs n') (unsigned_abs d') 1 (unsigned_abs d') lowest
-        (divides_product (unsigned_abs d') (unsigned_abs d) (unsigned_abs n) (unsigned_abs n') (sizes d' n d n' (flip d' n ∙ e ∙ flip n' d)))
+        (divides_product (unsigned_abs d') (unsigned_abs d) (unsigned_abs n) (unsigned_abs n') (sizes d' n d n' (integers.times_comm d' n ∙ e ∙ integers.times_comm n' d)))
         (divides_product (unsigned_abs d') (unsigned_abs d) (unsigned_abs d) (unsigned_abs d') (omega arith)))

@@ -1,11 +1,12 @@
 -- A canonical instant against a fraction: the sign there of the fraction's line decides.
-use Rattle.std.proofs.Common.{◌≡◌, ◌≢◌, inl, inr, ℕ, Bool, true, false, [], ◌∷◌, refl, sym, ap, ap₂, ◌∙◌, ◌<◌, arith}
-use Rattle.std.specs.Prelude.{ℤ, pos, negsuc, ◌-ℤ◌, ◌*ℤ◌}
-use Rattle.std.proofs.lemmas.Int.{ints}
+use Rattle.std.proofs.Common.{◌≡◌, ◌≢◌, inl, inr, ℕ, Bool, true, false, [], ◌∷◌, refl, sym, ap, ap₂, ◌∙◌, ◌<◌}
+use Rattle.std.specs.Prelude.{ℤ, pos, negsuc, ◌-ℤ◌, ◌*ℤ◌, ◌<ℤ◌}
 use lib.IntN.{neg_ℤ}
+use Rattle.kin_basics.proofs.Integers.{same_from_difference, pos-some}
 use Rattle.kin_algebra.specs.declared.sign.Sign.{Sign}
 use Rattle.kin_algebra.specs.declared.sign.Sign.TheVariants.{Minus, Zero, Plus}
 use Rattle.kin_algebra.specs.Signs.{sign_of, opposite_of, pair_sign_of}
+use Rattle.kin_algebra.proofs.Integers.{integers}
 use Rattle.kin_algebra.proofs.Ring.{by_ring, quotes}
 use Rattle.kin_algebra.proofs.Signs.{code, opposite-opposite}
 use Rattle.kin_algebra.proofs.IntegerSigns.{sign_of-pos, sign_of-negative, sign_in, zero_of}
@@ -20,7 +21,7 @@ use Rattle.kin_num.proofs.Kept.{kept_left, kept_right, t_some}
 use Rattle.kin_num.proofs.Divisors.{same_lowest}
 use Rattle.kin_num.proofs.RootSigns.{pair_sign-positive, times_positive}
 use Rattle.kin_num.proofs.RootZeros.{divisor-positive}
-use Rattle.kin_num.proofs.RootOrder.{SeparatedAt, Compared, positive_of}
+use Rattle.kin_num.proofs.RootOrder.{SeparatedAt, Compared}
 
 without_root : (k d n t : ℤ) → pair_sign_of (t *ℤ n -ℤ k *ℤ d) (t *ℤ pos 0) (pos 0) ≡ sign_of (t *ℤ n -ℤ k *ℤ d)
 without_root k d n t = refl
@@ -41,20 +42,11 @@ line_across n d k t e f =
     ∙ ap opposite_of (sym (sign_of-negative (t *ℤ n -ℤ k *ℤ d)) ∙ sym (times_positive t (neg_ℤ (t *ℤ n -ℤ k *ℤ d)) f) ∙ ap sign_of (sym (turned n d k t)))
 
 -- ---- a line of sign 0
-level_fractions : (n d n' d' : ℤ) → IsLowest n d → IsLowest n' d' → sign_at_instant (line n d) (Ratio n' d') ≡ Zero → Ratio n' d' ≡ Ratio n d
-level_fractions n d n' d' i i' e =
-    let z : d *ℤ n' -ℤ n *ℤ d' ≡ pos 0 = zero_of _ (sym (line_at_fraction n' d' n d (sign_in Plus d' i'.positive)) ∙ e) in
-    let same = same_lowest n' d' n d i' i (crossed d n' n d' z) in
-    ap₂ Ratio same.0 same.1
-  where
-    crossed : (d n' n d' : ℤ) → d *ℤ n' -ℤ n *ℤ d' ≡ pos 0 → n' *ℤ d ≡ n *ℤ d'
-    crossed d n' n d' e = flip n' d ∙ equal (d *ℤ n') (n *ℤ d') e
-      where
-        flip : (x y : ℤ) → x *ℤ y ≡ y *ℤ x
-        flip x y = by_ring (x ∷ y ∷ []) _ _ (search quotes depth 20) (search quotes depth 20) refl
+pub on_line : (n d n' d' : ℤ) → pos 0 <ℤ d' → sign_at_instant (line n d) (Ratio n' d') ≡ Zero → n' *ℤ d ≡ n *ℤ d'
+on_line n d n' d' h e = integers.times_comm n' d ∙ same_from_difference (d *ℤ n') (n *ℤ d') (zero_of _ (sym (line_at_fraction n' d' n d (sign_in Plus d' h)) ∙ e))
 
-        equal : (x y : ℤ) → x -ℤ y ≡ pos 0 → x ≡ y
-        equal x y e = omega (arith, ints)
+level_fractions : (n d n' d' : ℤ) → IsLowest n d → IsLowest n' d' → sign_at_instant (line n d) (Ratio n' d') ≡ Zero → Ratio n' d' ≡ Ratio n d
+level_fractions n d n' d' i i' e = let same = same_lowest n' d' n d i' i (on_line n d n' d' i'.positive e) in ap₂ Ratio same.0 same.1
 
 -- no line with a slope has sign 0 at an irrational root
 pub line_at_root : (a b c : ℤ) → IsIrreducible a b c → (upper : Bool) (n d : ℤ) → sign_of d ≡ Plus → sign_at_instant (line n d) (Root a b c upper) ≢ Zero
@@ -91,7 +83,7 @@ module _ (n d : ℤ) (i : IsLowest n d) (w : Shape) (form : IsCanonicalForm w) (
   above_fraction e = (
     near.k -ℤ pos 1,
     record {
-      proper = positive_of t room;
+      proper = pos-some t room;
       first = λ p. code (sym (across (near.k -ℤ pos 1) ∙ ap opposite_of (kept_left (number_of w) m t h size some fine near (line n d) height Plus (λ z. code z) e)) ∙ p);
       second = line_sign (number_of w) size.sound (divisor-positive w form) (near.k -ℤ pos 1) (pos t) ∙ near.after;
     },
@@ -102,7 +94,7 @@ module _ (n d : ℤ) (i : IsLowest n d) (w : Shape) (form : IsCanonicalForm w) (
   below_fraction e = (
     near.k,
     record {
-      proper = positive_of t room;
+      proper = pos-some t room;
       first = λ p. near.not_after (sym (line_sign (number_of w) size.sound (divisor-positive w form) near.k (pos t)) ∙ p);
       second = across near.k ∙ ap opposite_of (kept_right (number_of w) m t h size some fine near (line n d) height Minus (λ z. code z) e);
     },

@@ -22,7 +22,7 @@ use Rattle.kin_num.proofs.Sizes.{small_is_wide, wide_size}
 use Rattle.kin_num.proofs.LowerFractions.{not_less_itself, less_asym, lower_numerator}
 use Rattle.kin_num.proofs.InstantOrder.{level_same}
 use Rattle.kin_num.proofs.Counts.{count_less}
-use Rattle.kin_num.proofs.LawProofs.{apart}
+use Rattle.kin_num.proofs.LawProofs.{some_grain, apart}
 
 -- ---- the test
 no_plus : (s : Sign) → is_no_plus s ≡ true → s ≢ Plus
@@ -86,9 +86,6 @@ taken n o h = (o - suc n, omega (arith, h), let e : o - suc n + suc n ≡ o = om
 placed : (k : ℤ) (t m o : ℕ) → t * m < o → neg_ℤ (pos t *ℤ pos m +ℤ pos 1) <ℤ k → k <ℤ (pos t *ℤ pos m) → (j : ℕ) × (j < o + o) × (pos j -ℤ pos o ≡ k)
 placed (pos n) t m o h a b = (n + o, omega (arith, ints, h, b), omega (arith, ints))
 placed (negsuc n) t m o h a b = let p = taken n o (omega (arith, ints, h, a)) in (p.0, omega (arith, p.1), p.2)
-
-some_grain : 0 < 2 ^ 200
-some_grain = omega arith
 
 grain_positive : pos 0 <ℤ pos (2 ^ 200)
 grain_positive = omega (arith, ints)

@@ -1,16 +1,16 @@
 -- The order of canonical instants is total: of two different ones one is less.
-use Rattle.std.proofs.Common.{◌≡◌, ◌≢◌, ◌⊎◌, inl, inr, ℕ, true, false, sym, ◌∙◌, subst, ◌+◌, ◌*◌, ◌<◌, ◌^◌, pos, arith}
+use Rattle.std.proofs.Common.{◌≡◌, ◌≢◌, ◌⊎◌, inl, inr, ℕ, true, false, sym, ◌∙◌, subst, ◌<◌, ◌^◌, pos}
 use Rattle.std.specs.Prelude.{ℤ}
 use Rattle.kin_algebra.specs.declared.sign.Sign.{Sign}
 use Rattle.kin_algebra.specs.declared.sign.Sign.TheVariants.{Minus, Zero, Plus}
 use Rattle.kin_num.specs.declared.instant.Shape.{Shape}
 use Rattle.kin_num.specs.declared.instant.Shape.TheVariants.{Ratio, Root}
+use Rattle.kin_num.specs.Quadratic.{quadratic}
 use Rattle.kin_num.specs.Canonical.{IsCanonicalForm, IsIrreducible, IsLowest, IsWideShape}
 use Rattle.kin_num.specs.Instants.{number_of, sign_at_instant, derivative, line}
 use Rattle.kin_num.specs.Order.{IsLess, AreLevel}
-use Rattle.kin_num.proofs.Near.{HasSize, IsFine}
+use Rattle.kin_num.proofs.Near.{HasSize, IsFine, grain, grain-fine}
 use Rattle.kin_num.proofs.Sizes.{HasShapeHeight, size_of, height_of, own_size, own_height, height_some, wide_size, wide_height, wide_some, wide_fine}
-use Rattle.kin_num.proofs.RootSigns.{quadratic}
 use Rattle.kin_num.proofs.RootOrder as Roots
 use Rattle.kin_num.proofs.RootOrder.{SeparatedAt, Compared, root_order}
 use Rattle.kin_num.proofs.FractionOrder as Fractions
@@ -30,20 +30,10 @@ wide_compared v w fv fw bv bw = compared v w fv fw (2 ^ 33) (2 ^ 200) (2 ^ 31) (
 pub less_at : {t : ℕ} {v w : Shape} → SeparatedAt t v w → IsLess v w
 less_at {t} s = (s.0, pos t, s.1)
 
--- fine enough for v against the polynomials of w
-abbrev grain : Shape → Shape → ℕ
-grain v w = 12 * (height_of w * height_of w) * ((size_of v * size_of v) * (size_of v * size_of v)) + 1
-
-grain-fine : (v w : Shape) → IsFine (height_of w) (size_of v) (grain v w)
-grain-fine v w = more (12 * (height_of w * height_of w) * ((size_of v * size_of v) * (size_of v * size_of v)))
-  where
-    more : (n : ℕ) → n < n + 1
-    more n = omega arith
-
 pub total : (v w : Shape) → IsCanonicalForm v → IsCanonicalForm w → IsLess v w ⊎ (IsLess w v ⊎ (v ≡ w))
-total v w fv fw = at (compared v w fv fw (size_of v) (grain v w) (height_of w) (own_size v fv) (height_some w) (grain-fine v w) (own_height w))
+total v w fv fw = at (compared v w fv fw (size_of v) (grain (height_of w) (size_of v)) (height_of w) (own_size v fv) (height_some w) (grain-fine (height_of w) (size_of v)) (own_height w))
   where
-    at : Compared (grain v w) v w → IsLess v w ⊎ (IsLess w v ⊎ (v ≡ w))
+    at : Compared (grain (height_of w) (size_of v)) v w → IsLess v w ⊎ (IsLess w v ⊎ (v ≡ w))
     at (inl s) = inl (less_at s)
     at (inr (inl s)) = inr (inl (less_at s))
     at (inr (inr e)) = inr (inr e)
@@ -72,26 +62,26 @@ module _ (a b c : ℤ) (i : IsIrreducible a b c) (w : Shape) (form : IsCanonical
   slope_sign = sign_at_instant (derivative (quadratic a b c)) w
 
   pub below_upper : (slope_sign ≡ Minus) ⊎ (value_sign ≡ Minus) → IsLess w (Root a b c true)
-  below_upper h = less_at (Roots.below_upper a b c i w form (size_of w) (grain w root) (height_of root) (own_size w form) (height_some root) (grain-fine w root) (own_height root).own (own_height root).slope h)
+  below_upper h = less_at (Roots.below_upper a b c i w form (size_of w) (grain (height_of root) (size_of w)) (height_of root) (own_size w form) (height_some root) (grain-fine (height_of root) (size_of w)) (own_height root).own (own_height root).slope h)
 
   pub above_upper : slope_sign ≡ Plus → value_sign ≡ Plus → IsLess (Root a b c true) w
-  above_upper g h = less_at (Roots.above_upper a b c i w form (size_of w) (grain w root) (height_of root) (own_size w form) (height_some root) (grain-fine w root) (own_height root).own (own_height root).slope g h)
+  above_upper g h = less_at (Roots.above_upper a b c i w form (size_of w) (grain (height_of root) (size_of w)) (height_of root) (own_size w form) (height_some root) (grain-fine (height_of root) (size_of w)) (own_height root).own (own_height root).slope g h)
 
   pub at_upper : slope_sign ≡ Plus → value_sign ≡ Zero → w ≡ Root a b c true
-  at_upper g h = Roots.at_upper a b c i w form (size_of w) (grain w root) (height_of root) (own_size w form) (height_some root) (grain-fine w root) (own_height root).own (own_height root).slope g h
+  at_upper g h = Roots.at_upper a b c i w form (size_of w) (grain (height_of root) (size_of w)) (height_of root) (own_size w form) (height_some root) (grain-fine (height_of root) (size_of w)) (own_height root).own (own_height root).slope g h
 
   pub below_lower : slope_sign ≡ Minus → value_sign ≡ Plus → IsLess w (Root a b c false)
-  below_lower g h = less_at (Roots.below_lower a b c i w form (size_of w) (grain w root) (height_of root) (own_size w form) (height_some root) (grain-fine w root) (own_height root).own (own_height root).slope g h)
+  below_lower g h = less_at (Roots.below_lower a b c i w form (size_of w) (grain (height_of root) (size_of w)) (height_of root) (own_size w form) (height_some root) (grain-fine (height_of root) (size_of w)) (own_height root).own (own_height root).slope g h)
 
   pub above_lower : (slope_sign ≡ Plus) ⊎ (value_sign ≡ Minus) → IsLess (Root a b c false) w
-  above_lower h = less_at (Roots.above_lower a b c i w form (size_of w) (grain w root) (height_of root) (own_size w form) (height_some root) (grain-fine w root) (own_height root).own (own_height root).slope h)
+  above_lower h = less_at (Roots.above_lower a b c i w form (size_of w) (grain (height_of root) (size_of w)) (height_of root) (own_size w form) (height_some root) (grain-fine (height_of root) (size_of w)) (own_height root).own (own_height root).slope h)
 
   pub at_lower : slope_sign ≡ Minus → value_sign ≡ Zero → w ≡ Root a b c false
-  at_lower g h = Roots.at_lower a b c i w form (size_of w) (grain w root) (height_of root) (own_size w form) (height_some root) (grain-fine w root) (own_height root).own (own_height root).slope g h
+  at_lower g h = Roots.at_lower a b c i w form (size_of w) (grain (height_of root) (size_of w)) (height_of root) (own_size w form) (height_some root) (grain-fine (height_of root) (size_of w)) (own_height root).own (own_height root).slope g h
 
   -- a slope of sign 0 comes with a negative value
   pub level_value : slope_sign ≡ Zero → value_sign ≡ Minus
-  level_value e = Roots.level a b c i w form (size_of w) (grain w root) (height_of root) (own_size w form) (height_some root) (grain-fine w root) (own_height root).own (own_height root).slope e
+  level_value e = Roots.level a b c i w form (size_of w) (grain (height_of root) (size_of w)) (height_of root) (own_size w form) (height_some root) (grain-fine (height_of root) (size_of w)) (own_height root).own (own_height root).slope e
 
   pub never_level : {P : Type 0} (v : Sign) → value_sign ≡ v → v ≢ Minus → slope_sign ≡ Zero → P
   never_level v e n f = absurd (n (sym e ∙ level_value f))
@@ -102,7 +92,7 @@ module _ (n d : ℤ) (i : IsLowest n d) (w : Shape) (form : IsCanonicalForm w) w
   fraction = Ratio n d
 
   pub above_fraction : sign_at_instant (line n d) w ≡ Plus → IsLess (Ratio n d) w
-  above_fraction e = less_at (Fractions.above_fraction n d i w form (size_of w) (grain w fraction) (height_of fraction) (own_size w form) (height_some fraction) (grain-fine w fraction) (own_height fraction) e)
+  above_fraction e = less_at (Fractions.above_fraction n d i w form (size_of w) (grain (height_of fraction) (size_of w)) (height_of fraction) (own_size w form) (height_some fraction) (grain-fine (height_of fraction) (size_of w)) (own_height fraction) e)
 
   pub below_fraction : sign_at_instant (line n d) w ≡ Minus → IsLess w (Ratio n d)
-  below_fraction e = less_at (Fractions.below_fraction n d i w form (size_of w) (grain w fraction) (height_of fraction) (own_size w form) (height_some fraction) (grain-fine w fraction) (own_height fraction) e)
+  below_fraction e = less_at (Fractions.below_fraction n d i w form (size_of w) (grain (height_of fraction) (size_of w)) (height_of fraction) (own_size w form) (height_some fraction) (grain-fine (height_of fraction) (size_of w)) (own_height fraction) e)

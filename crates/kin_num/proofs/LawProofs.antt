@@ -86,7 +86,7 @@ moments = record {
   total = earlier_total;
 }
 
-some_grain : 0 < 2 ^ 200
+pub some_grain : 0 < 2 ^ 200
 some_grain = omega arith
 
 by_grain : (v w : Shape) → IsCanonicalForm v → IsCanonicalForm w → IsWideShape v → SeparatedAt (2 ^ 200) v w → IsLessByGrain v w

@@ -8,9 +8,9 @@ use Rattle.kin_algebra.specs.declared.sign.Sign.TheVariants.{Minus, Zero, Plus}
 use Rattle.kin_algebra.specs.Signs.{sign_of, opposite_of, product_of}
 use Rattle.kin_algebra.proofs.Ring.{by_ring, quotes}
 use Rattle.kin_algebra.proofs.Signs.{AtLeast, product-Plus}
-use Rattle.kin_algebra.proofs.OrderedRings.{positive_cancel, positive_product}
+use Rattle.kin_algebra.proofs.OrderedRings.{scale, positive_sum, positive_cancel}
 use Rattle.kin_algebra.proofs.IntegerSigns.{sign_of-negative, sign_of-times, sign_in}
-use Rattle.kin_algebra.proofs.Pairs.{pair, pair_plus, pair_times, ordered, sign_over, sign_over-whole}
+use Rattle.kin_algebra.proofs.Pairs.{Pair, pair, pair_plus, pair_times, ordered, sign_over, sign_over-whole}
 use Rattle.kin_num.specs.declared.instant.Shape.{Shape}
 use Rattle.kin_num.specs.Canonical.{IsCanonicalForm}
 use Rattle.kin_num.specs.Instants.{Number, number_of, sign_at_instant, line}
@@ -32,21 +32,42 @@ module _ (w : Shape) (form : IsCanonicalForm w) where
       (by_ring (n ∷ d ∷ m ∷ e ∷ whole ∷ root ∷ radicand ∷ divisor ∷ []) _ _ (search quotes depth 30 fits 40000) (search quotes depth 30 fits 40000) refl)
       (by_ring (n ∷ d ∷ m ∷ e ∷ whole ∷ root ∷ radicand ∷ divisor ∷ []) _ _ (search quotes depth 30 fits 40000) (search quotes depth 30 fits 40000) refl)
 
-  -- a fraction lies before w where one that is at least it does
-  pub lower_fraction : (n d m e : ℤ) → pos 0 <ℤ d → pos 0 <ℤ e → AtLeast (sign_of (m *ℤ d -ℤ n *ℤ e)) → sign_at_instant (line m e) w ≡ Plus → sign_at_instant (line n d) w ≡ Plus
-  unfolding sign_at_instant
-  lower_fraction n d m e d_positive e_positive most p =
-      let s = canonical-sound w form in
-      let o = ordered x.radicand s in
-      let q = divisor-positive w form in
-      let flat_sign = sign_over-whole x.radicand s in
-      let more : AtLeast (sign_over x.radicand (flat ((m *ℤ d -ℤ n *ℤ e) *ℤ x.divisor))) =
-      subst AtLeast (sym (flat_sign ((m *ℤ d -ℤ n *ℤ e) *ℤ x.divisor) ∙ sign_of-times (m *ℤ d -ℤ n *ℤ e) x.divisor ∙ ap (product_of (sign_of (m *ℤ d -ℤ n *ℤ e))) q ∙ product-Plus (sign_of (m *ℤ d -ℤ n *ℤ e)))) most in
-      let first = positive_product o {a = flat d} {b = past x m e} (flat_sign d ∙ sign_in Plus d d_positive) (sym (line_sign x s q m e) ∙ p) in
-      line_sign x s q n d
-      ∙ positive_cancel o {a = flat e} {b = past x n d} (flat_sign e ∙ sign_in Plus e e_positive)
-      (ap (sign_over x.radicand) (lower-as n d m e x.whole x.root x.radicand x.divisor)
-      ∙ o.sign_plus Plus (pair_times x.radicand (flat d) (past x m e)) (flat ((m *ℤ d -ℤ n *ℤ e) *ℤ x.divisor)) first more)
+  module _ (n d m e : ℤ) (d_positive : pos 0 <ℤ d) (e_positive : pos 0 <ℤ e) where
+    -- how far w is past m/e, and how far m/e is past n/d, both times some divisors
+    abbrev rest : Pair
+    rest = pair_times x.radicand (flat d) (past x m e)
+
+    abbrev step : Pair
+    step = flat ((m *ℤ d -ℤ n *ℤ e) *ℤ x.divisor)
+
+    step_sign : sign_over x.radicand step ≡ sign_of (m *ℤ d -ℤ n *ℤ e)
+    step_sign =
+        sign_over-whole x.radicand (canonical-sound w form) ((m *ℤ d -ℤ n *ℤ e) *ℤ x.divisor) ∙ sign_of-times (m *ℤ d -ℤ n *ℤ e) x.divisor
+        ∙ ap (product_of (sign_of (m *ℤ d -ℤ n *ℤ e))) (divisor-positive w form) ∙ product-Plus (sign_of (m *ℤ d -ℤ n *ℤ e))
+
+    rest_sign : sign_over x.radicand rest ≡ sign_at_instant (line m e) w
+    unfolding sign_at_instant
+    rest_sign =
+        scale (ordered x.radicand (canonical-sound w form)) {a = flat d} (past x m e) (sign_over-whole x.radicand (canonical-sound w form) d ∙ sign_in Plus d d_positive)
+        ∙ sym (line_sign x (canonical-sound w form) (divisor-positive w form) m e)
+
+    by_steps : sign_over x.radicand (pair_plus rest step) ≡ Plus → sign_at_instant (line n d) w ≡ Plus
+    unfolding sign_at_instant
+    by_steps h =
+        let s = canonical-sound w form in
+        line_sign x s (divisor-positive w form) n d
+        ∙ positive_cancel (ordered x.radicand s) {a = flat e} {b = past x n d} (sign_over-whole x.radicand s e ∙ sign_in Plus e e_positive)
+        (ap (sign_over x.radicand) (lower-as n d m e x.whole x.root x.radicand x.divisor) ∙ h)
+
+    -- a fraction lies before w where one that is at least it does
+    pub lower_fraction : AtLeast (sign_of (m *ℤ d -ℤ n *ℤ e)) → sign_at_instant (line m e) w ≡ Plus → sign_at_instant (line n d) w ≡ Plus
+    lower_fraction most p = by_steps (positive_sum (ordered x.radicand (canonical-sound w form)) {a = rest} {b = step} (rest_sign ∙ p) (subst AtLeast (sym step_sign) most))
+
+    -- and where a greater one isn't after w
+    pub strictly_lower : sign_of (m *ℤ d -ℤ n *ℤ e) ≡ Plus → AtLeast (sign_at_instant (line m e) w) → sign_at_instant (line n d) w ≡ Plus
+    strictly_lower more p =
+        let o = ordered x.radicand (canonical-sound w form) in
+        by_steps (ap o.sign (o.ring.plus_comm rest step) ∙ positive_sum o {a = step} {b = rest} (step_sign ∙ more) (subst AtLeast (sym rest_sign) p))
 
 -- n/d lies before v, and m/e at or after v and before w: so n/d lies before w
 lower_of_two : (v w : Shape) → IsCanonicalForm v → IsCanonicalForm w → (n d m e : ℤ) → pos 0 <ℤ d → pos 0 <ℤ e

@@ -50,6 +50,16 @@ pub record HasSize (x : Number) (w : ℕ) : Type 0 where
 abbrev pub IsFine : ℕ → ℕ → ℕ → Type 0
 IsFine h w t = 12 * (h * h) * ((w * w) * (w * w)) < t
 
+-- a denominator that is fine enough for them
+abbrev pub grain : ℕ → ℕ → ℕ
+grain h w = 12 * (h * h) * ((w * w) * (w * w)) + 1
+
+pub grain-fine : (h w : ℕ) → IsFine h w (grain h w)
+grain-fine h w = more (12 * (h * h) * ((w * w) * (w * w)))
+  where
+    more : (n : ℕ) → n < n + 1
+    more n = omega arith
+
 module _ (x : Number) where
   abbrev pub d : ℤ
   d = x.radicand

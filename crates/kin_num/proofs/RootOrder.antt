@@ -1,7 +1,7 @@
 -- A canonical instant against a root: the signs there of the root's quadratic and of its slope decide.
-use Rattle.std.proofs.Common.{◌≡◌, ◌≢◌, ◌⊎◌, inl, inr, ℕ, Bool, true, false, refl, sym, ap, ap₂, ◌∙◌, ◌<◌, arith}
-use Rattle.std.specs.Prelude.{ℤ, pos, ◌-ℤ◌, ◌<ℤ◌}
-use Rattle.std.proofs.lemmas.Int.{ints}
+use Rattle.std.proofs.Common.{◌≡◌, ◌≢◌, ◌⊎◌, inl, inr, ℕ, Bool, true, false, refl, sym, ap, ap₂, ◌∙◌, ◌<◌}
+use Rattle.std.specs.Prelude.{ℤ, pos, ◌-ℤ◌}
+use Rattle.kin_basics.proofs.Integers.{pos-some}
 use Rattle.kin_algebra.specs.declared.sign.Sign.{Sign}
 use Rattle.kin_algebra.specs.declared.sign.Sign.TheVariants.{Minus, Zero, Plus}
 use Rattle.kin_algebra.specs.Signs.{sign_of, opposite_of, sum_sign_of}
@@ -9,13 +9,13 @@ use Rattle.kin_algebra.proofs.IntegerSigns.{sign_of-pos}
 use Rattle.kin_algebra.proofs.Signs.{code}
 use Rattle.kin_num.specs.declared.instant.Shape.{Shape}
 use Rattle.kin_num.specs.declared.instant.Shape.TheVariants.{Root}
-use Rattle.kin_num.specs.Quadratic.{Quadratic}
+use Rattle.kin_num.specs.Quadratic.{Quadratic, quadratic}
 use Rattle.kin_num.specs.Canonical.{IsCanonicalForm, IsIrreducible}
-use Rattle.kin_num.specs.Instants.{number_of, sign_at_instant, derivative}
+use Rattle.kin_num.specs.Instants.{number_of, sign_at_instant, derivative, side}
 use Rattle.kin_num.specs.Order.{Separates}
 use Rattle.kin_num.proofs.Near.{HasHeight, HasSize, IsFine, Bracket, bracket, at_fraction, line_sign}
 use Rattle.kin_num.proofs.Kept.{kept_left, kept_right, t_some}
-use Rattle.kin_num.proofs.RootSigns.{quadratic, side, root_against_fraction}
+use Rattle.kin_num.proofs.RootSigns.{root_against_fraction}
 use Rattle.kin_num.proofs.RootZeros.{divisor-positive, level_below, root_itself, own_slope}
 
 -- a fraction of the denominator t separates the two instants
@@ -45,9 +45,6 @@ lower_after Minus f (inr e) p = code (sym e ∙ p)
 lower_after Zero f h p = code p
 lower_after Plus f h p = code p
 
-pub positive_of : (t : ℕ) → 0 < t → pos 0 <ℤ pos t
-positive_of t h = omega (arith, ints)
-
 module _ (a b c : ℤ) (i : IsIrreducible a b c) (w : Shape) (form : IsCanonicalForm w) (m t h : ℕ) (size : HasSize (number_of w) m) (some : 0 < h) (fine : IsFine h m t)
     (height : HasHeight (quadratic a b c) h) (slope_height : HasHeight (derivative (quadratic a b c)) h) where
   abbrev q : Quadratic
@@ -73,7 +70,7 @@ module _ (a b c : ℤ) (i : IsIrreducible a b c) (w : Shape) (form : IsCanonical
   before_root upper e = (
     near.k,
     record {
-      proper = positive_of t room;
+      proper = pos-some t room;
       first = λ p. near.not_after (sym (line_sign (number_of w) size.sound (divisor-positive w form) near.k (pos t)) ∙ p);
       second = root_against_fraction a b c i near.k (pos t) t_plus upper ∙ e;
     },
@@ -84,7 +81,7 @@ module _ (a b c : ℤ) (i : IsIrreducible a b c) (w : Shape) (form : IsCanonical
   after_root upper n = (
     near.k -ℤ pos 1,
     record {
-      proper = positive_of t room;
+      proper = pos-some t room;
       first = λ p. n (sym (root_against_fraction a b c i (near.k -ℤ pos 1) (pos t) t_plus upper) ∙ p);
       second = line_sign (number_of w) size.sound (divisor-positive w form) (near.k -ℤ pos 1) (pos t) ∙ near.after;
     },

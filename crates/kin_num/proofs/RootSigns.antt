@@ -11,19 +11,11 @@ use Rattle.kin_algebra.proofs.Signs.{opposite-opposite}
 use Rattle.kin_algebra.proofs.OrderedRings.{scale}
 use Rattle.kin_algebra.proofs.IntegerSigns.{ordered_integers, sign_of-negative, sign_in}
 use Rattle.kin_num.specs.declared.instant.Shape.TheVariants.{Root}
-use Rattle.kin_num.specs.Quadratic.{Quadratic}
+use Rattle.kin_num.specs.Quadratic.{Quadratic, quadratic}
 use Rattle.kin_num.specs.Canonical.{IsIrreducible, discriminant}
-use Rattle.kin_num.specs.Instants.{number_of, sign_at_number, line, derivative}
+use Rattle.kin_num.specs.Instants.{number_of, sign_at_number, line, derivative, side}
 use Rattle.kin_num.proofs.Values.{irreducible-sound}
 use Rattle.kin_num.proofs.Near.{at_fraction, line_sign}
-
-abbrev pub quadratic : ℤ → ℤ → ℤ → Quadratic
-quadratic a b c = record { a = a; b = b; c = c }
-
--- + at the greater root, - at the lesser one
-abbrev pub side : Bool → Sign
-side true = Plus
-side false = Minus
 
 pub pair_sign-positive : (u v d : ℤ) → pos 0 <ℤ d → pair_sign_of u v d ≡ sum_sign_of (sign_of u) (sign_of v) (sign_of (norm_of u v d))
 pair_sign-positive u v (pos zero) h = absurd (omega (arith, ints))

@@ -7,6 +7,8 @@ use Rattle.kin_basics.proofs.Integers.{same_from_difference}
 use Rattle.kin_algebra.specs.declared.sign.Sign.{Sign}
 use Rattle.kin_algebra.specs.declared.sign.Sign.TheVariants.{Minus, Zero, Plus}
 use Rattle.kin_algebra.specs.Signs.{sign_of, opposite_of, product_of, sum_sign_of, norm_of, pair_sign_of}
+use Rattle.kin_algebra.proofs.Rings.{times_zero}
+use Rattle.kin_algebra.proofs.Integers.{integers}
 use Rattle.kin_algebra.proofs.Ring.{by_ring, quotes}
 use Rattle.kin_algebra.proofs.Signs.{code}
 use Rattle.kin_algebra.proofs.OrderedRings.{positive_product, scale}
@@ -15,22 +17,19 @@ use Rattle.kin_algebra.proofs.Radicals.{pair_of_zero}
 use Rattle.kin_algebra.proofs.Pairs.{pair, pair_plus, pair_times, Sound, sign_over, sign_over-whole, ordered}
 use Rattle.kin_num.specs.declared.instant.Shape.{Shape}
 use Rattle.kin_num.specs.declared.instant.Shape.TheVariants.{Ratio, Root}
-use Rattle.kin_num.specs.Quadratic.{Quadratic}
+use Rattle.kin_num.specs.Quadratic.{Quadratic, quadratic}
 use Rattle.kin_num.specs.Canonical.{IsCanonicalForm, IsIrreducible, discriminant}
-use Rattle.kin_num.specs.Instants.{Number, number_of, sign_at_number, sign_at_instant, whole_part, root_part, derivative}
+use Rattle.kin_num.specs.Instants.{Number, number_of, sign_at_number, sign_at_instant, whole_part, root_part, derivative, side}
 use Rattle.kin_num.proofs.Values.{value, irreducible-radical, canonical-sound}
 use Rattle.kin_num.proofs.NumberRing.{flat}
 use Rattle.kin_num.proofs.Divisors.{same_primitive}
-use Rattle.kin_num.proofs.RootSigns.{quadratic, side, pair_sign-positive, times_positive, double_plus}
+use Rattle.kin_num.proofs.RootSigns.{pair_sign-positive, times_positive, double_plus}
 
 -- the divisor of a canonical instant is positive
 pub divisor-positive : (w : Shape) → IsCanonicalForm w → sign_of (number_of w).divisor ≡ Plus
 divisor-positive (Ratio n d) i = sign_in Plus d i.positive
 divisor-positive (Root a b c true) i = double_plus a b c i
 divisor-positive (Root a b c false) i = double_plus a b c i
-
-nothing_right : (k : ℤ) → k *ℤ pos 0 ≡ pos 0
-nothing_right k = by_ring (k ∷ []) _ _ (search quotes depth 20) (search quotes depth 20) refl
 
 nothing_times : (k z : ℤ) → sign_of k ≡ Plus → k *ℤ z ≡ pos 0 → z ≡ pos 0
 nothing_times k z e f = zero_of z (sym (times_positive k z e) ∙ ap sign_of f)
@@ -59,7 +58,7 @@ module _ (p : Quadratic) (a b c : ℤ) (i : IsIrreducible a b c) where
   no_negative z e = omega (arith, ints)
 
   without_slope : (x y : ℤ) → x -ℤ b *ℤ y ≡ pos 0 → y ≡ pos 0 → x ≡ pos 0
-  without_slope x y e f = sym (nothing_less x (b *ℤ y) (ap (λ z. b *ℤ z) f ∙ nothing_right b)) ∙ e
+  without_slope x y e f = sym (nothing_less x (b *ℤ y) (ap (λ z. b *ℤ z) f ∙ times_zero integers b)) ∙ e
     where
       nothing_less : (x z : ℤ) → z ≡ pos 0 → x -ℤ z ≡ x
       nothing_less x z e = omega (arith, ints)
@@ -86,6 +85,15 @@ module _ (p : Quadratic) (a b c : ℤ) (i : IsIrreducible a b c) where
       let z = both_zero (whole_part p (number_of (Root a b c false))) (root_part p (number_of (Root a b c false))) e in
       proportional (nothing_times (pos 2) r1 refl (no_negative (pos 2 *ℤ r1) (sym (lower_root p.a p.b p.c a b c) ∙ z.1))) (sym (lower_whole p.a p.b p.c a b c) ∙ z.0)
 
+-- a multiple of a quadratic is the square of its slope, less its discriminant
+pub completed_square : (a b c : ℤ) (x : Number) →
+    pair_times x.radicand (flat (pos 4 *ℤ a *ℤ (x.divisor *ℤ x.divisor))) (value (quadratic a b c) x)
+    ≡ pair_plus (flat (neg_ℤ (discriminant a b c *ℤ ((x.divisor *ℤ x.divisor) *ℤ (x.divisor *ℤ x.divisor))))) (pair_times x.radicand (value (derivative (quadratic a b c)) x) (value (derivative (quadratic a b c)) x))
+completed_square a b c x =
+    ap₂ pair
+    (by_ring (a ∷ b ∷ c ∷ x.whole ∷ x.root ∷ x.radicand ∷ x.divisor ∷ []) _ _ (search quotes depth 40 fits 80000) (search quotes depth 40 fits 80000) refl)
+    (by_ring (a ∷ b ∷ c ∷ x.whole ∷ x.root ∷ x.radicand ∷ x.divisor ∷ []) _ _ (search quotes depth 40 fits 80000) (search quotes depth 40 fits 80000) refl)
+
 module _ (a b c : ℤ) (i : IsIrreducible a b c) where
   abbrev D : ℤ
   D = discriminant a b c
@@ -99,7 +107,7 @@ module _ (a b c : ℤ) (i : IsIrreducible a b c) where
   unfolding sign_at_instant
   sign_zero_at_fraction n d d_plus e =
       let none : whole_part (quadratic a b c) (number_of (Ratio n d)) ≡ pos 0 = zero_of _ e in
-      let norm : norm_of (pos 2 *ℤ a *ℤ n +ℤ b *ℤ d) d D ≡ pos 0 = sym (square_completed a b c n d) ∙ ap (λ z. (pos 4 *ℤ a) *ℤ z) none ∙ nothing_right (pos 4 *ℤ a) in
+      let norm : norm_of (pos 2 *ℤ a *ℤ n +ℤ b *ℤ d) d D ≡ pos 0 = sym (square_completed a b c n d) ∙ ap (λ z. (pos 4 *ℤ a) *ℤ z) none ∙ times_zero integers (pos 4 *ℤ a) in
       code (sym d_plus ∙ ap sign_of ((irreducible-radical a b c i).alone (pos 2 *ℤ a *ℤ n +ℤ b *ℤ d) d norm).1)
 
   -- ---- at its own roots
@@ -128,14 +136,6 @@ module _ (a b c : ℤ) (i : IsIrreducible a b c) where
   own_slope false = only_root _ _ Minus (own_whole' a b c) (ap sign_of (own_root' a b c) ∙ sign_of-negative ((pos 2 *ℤ a) *ℤ (pos 2 *ℤ a)) ∙ ap opposite_of double_square)
 
   -- ---- where the slope is 0 the value is negative
-  level : (a b c : ℤ) (x : Number) →
-      pair_times x.radicand (flat (pos 4 *ℤ a *ℤ (x.divisor *ℤ x.divisor))) (value (quadratic a b c) x)
-      ≡ pair_plus (flat (neg_ℤ (discriminant a b c *ℤ ((x.divisor *ℤ x.divisor) *ℤ (x.divisor *ℤ x.divisor))))) (pair_times x.radicand (value (derivative (quadratic a b c)) x) (value (derivative (quadratic a b c)) x))
-  level a b c x =
-      ap₂ pair
-      (by_ring (a ∷ b ∷ c ∷ x.whole ∷ x.root ∷ x.radicand ∷ x.divisor ∷ []) _ _ (search quotes depth 40 fits 80000) (search quotes depth 40 fits 80000) refl)
-      (by_ring (a ∷ b ∷ c ∷ x.whole ∷ x.root ∷ x.radicand ∷ x.divisor ∷ []) _ _ (search quotes depth 40 fits 80000) (search quotes depth 40 fits 80000) refl)
-
   level_sign : (x : Number) → Sound x.radicand → sign_of x.divisor ≡ Plus → sign_at_number (derivative (quadratic a b c)) x ≡ Zero → sign_at_number (quadratic a b c) x ≡ Minus
   level_sign x s q e =
       let o = ordered x.radicand s in
@@ -143,7 +143,7 @@ module _ (a b c : ℤ) (i : IsIrreducible a b c) where
       let four = positive_product ordered_integers {a = pos 4 *ℤ a} (times_positive (pos 4) a refl ∙ sign_in Plus a i.positive) square in
       let rest : sign_of (discriminant a b c *ℤ ((x.divisor *ℤ x.divisor) *ℤ (x.divisor *ℤ x.divisor))) ≡ Plus = positive_product ordered_integers {a = discriminant a b c} (sign_in Plus _ i.real) (positive_product ordered_integers {a = x.divisor *ℤ x.divisor} square square) in
       sym (scale o {a = flat (pos 4 *ℤ a *ℤ (x.divisor *ℤ x.divisor))} (value (quadratic a b c) x) (sign_over-whole x.radicand s (pos 4 *ℤ a *ℤ (x.divisor *ℤ x.divisor)) ∙ four))
-      ∙ ap (sign_over x.radicand) (level a b c x)
+      ∙ ap (sign_over x.radicand) (completed_square a b c x)
       ∙ o.sign_plus Minus (flat (neg_ℤ (discriminant a b c *ℤ ((x.divisor *ℤ x.divisor) *ℤ (x.divisor *ℤ x.divisor))))) _
       (sign_over-whole x.radicand s _ ∙ sign_of-negative (discriminant a b c *ℤ ((x.divisor *ℤ x.divisor) *ℤ (x.divisor *ℤ x.divisor))) ∙ ap opposite_of rest)
       (inr (o.sign_times (value (derivative (quadratic a b c)) x) (value (derivative (quadratic a b c)) x) ∙ ap₂ product_of e e))

@@ -5,12 +5,11 @@ use Rattle.std.proofs.lemmas.Int.{ints, unsigned_abs-mul}
 use lib.IntN.{neg_ℤ}
 use Rattle.kin_num.specs.declared.instant.Shape.{Shape}
 use Rattle.kin_num.specs.declared.instant.Shape.TheVariants.{Ratio, Root}
-use Rattle.kin_num.specs.Quadratic.{Quadratic}
+use Rattle.kin_num.specs.Quadratic.{Quadratic, quadratic}
 use Rattle.kin_num.specs.Canonical.{IsCanonicalForm, IsSmallShape, IsWideShape, discriminant}
 use Rattle.kin_num.specs.Instants.{number_of, line, derivative}
 use Rattle.kin_num.proofs.Values.{canonical-sound}
 use Rattle.kin_num.proofs.Near.{size_negative, size_double, HasHeight, HasSize, IsFine}
-use Rattle.kin_num.proofs.RootSigns.{quadratic}
 use Rattle.kin_num.proofs.RootZeros.{divisor-positive}
 
 -- ---- heights

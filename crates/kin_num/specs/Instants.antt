@@ -1,7 +1,8 @@
 -- The number that an instant stands for, and signs of polynomials at instants and at moments.
-use Rattle.std.specs.Prelude.{true, false, ◌^◌, ℤ, pos, negsuc, ◌+ℤ◌, ◌*ℤ◌}
+use Rattle.std.specs.Prelude.{Bool, true, false, ◌^◌, ℤ, pos, negsuc, ◌+ℤ◌, ◌*ℤ◌}
 use lib.IntN.{neg_ℤ}
 use Rattle.kin_algebra.specs.declared.sign.Sign.{Sign}
+use Rattle.kin_algebra.specs.declared.sign.Sign.TheVariants.{Minus, Plus}
 use Rattle.kin_algebra.specs.Signs.{pair_sign_of, first_of}
 use Rattle.kin_num.specs.declared.instant.Shape.{Shape}
 use Rattle.kin_num.specs.declared.instant.Shape.TheVariants.{Ratio, Root}
@@ -23,6 +24,11 @@ abbrev pub number_of : Shape → Number
 number_of (Ratio n d) = record { whole = n; root = pos 0; radicand = pos 0; divisor = d }
 number_of (Root a b c true) = record { whole = neg_ℤ b; root = pos 1; radicand = discriminant a b c; divisor = pos 2 *ℤ a }
 number_of (Root a b c false) = record { whole = neg_ℤ b; root = negsuc 0; radicand = discriminant a b c; divisor = pos 2 *ℤ a }
+
+-- the sign before the square root in a root: + in the greater one
+abbrev pub side : Bool → Sign
+side true = Plus
+side false = Minus
 
 -- The value of a polynomial at a number, times the square of the divisor, is whole_part + root_part * sqrt(radicand).
 

@@ -1,9 +1,9 @@
 -- There is a motion to turn to, or there is none.
-use Rattle.std.proofs.Common.{◌≡◌, ◌≢◌, ◌⊎◌, inl, inr, zero, suc, refl, sym, ap, ◌∙◌, [], ◌∷◌}
-use Rattle.std.specs.Prelude.{ℤ, pos, negsuc, ◌+ℤ◌, ◌-ℤ◌, ◌*ℤ◌}
+use Rattle.std.proofs.Common.{◌≡◌, ◌≢◌, ◌⊎◌, inl, inr, refl, sym, ap, ◌∙◌, [], ◌∷◌}
+use Rattle.std.specs.Prelude.{ℤ, pos, ◌+ℤ◌, ◌-ℤ◌, ◌*ℤ◌}
 use Rattle.std.specs.Int.RustNames.{int_div, int_rem}
 use Rattle.std.proofs.lemmas.Int.{quot-rem, rem_below}
-use Rattle.kin_basics.proofs.Integers.{size-some}
+use Rattle.kin_basics.proofs.Integers.{size-some, zero_or_not}
 use Rattle.kin_algebra.proofs.Ring.{by_ring, quotes}
 use Rattle.kin_num.specs.declared.instant.Shape.{Shape}
 use Rattle.kin_num.specs.declared.instant.Shape.TheVariants.{Ratio, Root}
@@ -12,11 +12,6 @@ use Rattle.kin_motion.specs.Course.{Course}
 use Rattle.kin_motion.specs.Turning.{IsNewStart, TurnsTo}
 use Rattle.kin_turn.proofs.Quotients.{remainder_of_multiple}
 use Rattle.kin_turn.proofs.Starts.{same_speed, at_ratio, from_ratio, at_root}
-
-nothing_or_some : (z : ℤ) → (z ≡ pos 0) ⊎ (z ≢ pos 0)
-nothing_or_some (pos zero) = inl refl
-nothing_or_some (pos (suc n)) = inr (λ e. cc)
-nothing_or_some (negsuc n) = inr (λ e. cc)
 
 -- ---- one coordinate
 abbrev HasStart : ℤ → ℤ → ℤ → Shape → Type 0
@@ -29,7 +24,7 @@ whole_gain x q d r z e none = sym e ∙ ap (λ y. q *ℤ d +ℤ y) none ∙ gain
     gained x q d = by_ring (x ∷ q ∷ d ∷ []) _ _ (search quotes depth 20) (search quotes depth 20) refl
 
 start_or_none : (x u v : ℤ) (w : Shape) → IsCanonicalForm w → HasStart x u v w
-start_or_none x u v (Ratio n d) form = by_rest (nothing_or_some (int_rem gain d))
+start_or_none x u v (Ratio n d) form = by_rest (zero_or_not (int_rem gain d))
   where
     gain : ℤ
     gain = n *ℤ (u -ℤ v)
@@ -37,7 +32,7 @@ start_or_none x u v (Ratio n d) form = by_rest (nothing_or_some (int_rem gain d)
     by_rest : (int_rem gain d ≡ pos 0) ⊎ (int_rem gain d ≢ pos 0) → HasStart x u v (Ratio n d)
     by_rest (inl none) = inl (x +ℤ int_div gain d, at_ratio (u -ℤ v) x (x +ℤ int_div gain d) n d (whole_gain x (int_div gain d) d (int_rem gain d) gain (quot-rem gain d) none))
     by_rest (inr some) = inr (λ k new. some (remainder_of_multiple gain (k -ℤ x) d (int_div gain d) (int_rem gain d) (from_ratio (u -ℤ v) x k n d form.positive new) (quot-rem gain d) (rem_below gain d (size-some d form.positive))))
-start_or_none x u v (Root a b c upper) form = by_slope (nothing_or_some (u -ℤ v))
+start_or_none x u v (Root a b c upper) form = by_slope (zero_or_not (u -ℤ v))
   where
     by_slope : (u -ℤ v ≡ pos 0) ⊎ (u -ℤ v ≢ pos 0) → HasStart x u v (Root a b c upper)
     by_slope (inl level) = inl (x, same_speed x u v (Root a b c upper) form level)

@@ -4,7 +4,8 @@ use mir.Syntax.{w128}
 use Rattle.kin_instant.proofs.Widths.{clean, same_differences}
 use Rattle.kin_algebra.specs.Signs.{sign_of, product_of}
 use Rattle.kin_num.specs.Quadratic.{Quadratic}
-use Rattle.kin_instant.specs.Remainders.{remainder_slope_of, remainder_start_of, side}
+use Rattle.kin_num.specs.Instants.{side}
+use Rattle.kin_instant.specs.Remainders.{remainder_slope_of, remainder_start_of}
 use Rattle.kin_instant.proofs.Values.{whole_of, resultant_of, sign_at_root-value, opposed-is, agreeing-is, same_remainder_slope}
 use Rattle.kin_instant.proofs.root_sign.value_at_root.Goals as goal
 
