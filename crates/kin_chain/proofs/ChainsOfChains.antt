@@ -1,8 +1,9 @@
 -- The upper chain of two sets together, and the facts of their merge, are those of their two chains.
-use Rattle.std.proofs.Common.{◌≡◌, refl, sym, ap, ◌∙◌, subst, List, ◌++◌, ℕ, Bool, true, false, not, ◌&&◌}
+use Rattle.std.proofs.Common.{◌≡◌, sym, ap, ◌∙◌, subst, List, ◌++◌, ℕ, Bool, true, false, not}
 use Rattle.std.specs.List.{list_any}
 use Rattle.std.proofs.lemmas.Bool.{and_parts, not-true}
 use Rattle.kin_basics.proofs.Tests.{three_parts, three_from}
+use Rattle.kin_basics.proofs.Tests.{and_same}
 use Rattle.kin_motion.specs.Numbers.{is_in}
 use Rattle.kin_motion.specs.Scene.{Scene, IsReal}
 use Rattle.kin_motion.specs.Chains.{is_double, is_above, is_under_segment, is_bare, IsUpperChain}
@@ -33,11 +34,7 @@ module _ (s : Scene) where
 
   -- an upper chain is that of its own members
   pub chain_of_itself : (set xs : List ℕ) → IsUpperChain s set xs → IsUpperChain s xs xs
-  chain_of_itself set xs u = record { members = λ p. own (is_in p xs) (is_bare s xs p) (λ h. bare_in_part set xs p (chain_within s set xs u) (and_parts (is_in p set) (is_bare s set p) (sym (u.members p) ∙ h)).1); rising = u.rising }
-    where
-      own : (a b : Bool) → (a ≡ true → b ≡ true) → a ≡ a && b
-      own true b f = sym (f refl)
-      own false b f = refl
+  chain_of_itself set xs u = record { members = λ p. and_same (is_in p xs) (is_bare s xs p) (λ h. bare_in_part set xs p (chain_within s set xs u) (and_parts (is_in p set) (is_bare s set p) (sym (u.members p) ∙ h)).1); rising = u.rising }
 
   -- the told chains are those of themselves
   pub told_of_chains : (left right a b : List ℕ) → AreTold s left right a b → AreTold s a b a b

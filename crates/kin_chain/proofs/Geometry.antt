@@ -6,7 +6,8 @@ use Rattle.kin_algebra.specs.Signs.{opposite_of, product_of, SumMayBe}
 use Rattle.kin_algebra.proofs.Signs.{AtLeast, code, product-Plus, product-Zero, zero_from_opposite}
 use Rattle.kin_algebra.proofs.OrderedRings.{OrderedRing, scale, nonnegative_sum, nonnegative_product, sum_may_be}
 use Rattle.kin_chain.proofs.Comparisons.{way, AtMost, Below, Level, level_most, level_turned, both_most}
-use Rattle.kin_chain.proofs.Directions.{Vector, cross, anti, three, two_terms, no_terms}
+use Rattle.kin_algebra.proofs.Vectors.{Vector, cross, anti, three}
+use Rattle.kin_chain.proofs.Directions.{two_terms, no_terms}
 use Rattle.kin_chain.proofs.Planes.{Places, step, height, rise, fall, bend}
 
 module _ {R : Type 0} (o : OrderedRing R) where

@@ -13,10 +13,10 @@ use Rattle.kin_motion.specs.Chains.{is_zero}
 use Rattle.kin_motion.specs.Laws.{HasSlopeLaws}
 use Rattle.kin_motion.specs.Merges.{Half, Half.{A, B}, Breakpoint, is_of, slope_form, goes_first, point_of, IsBreakpointList}
 use Rattle.kin_motion.specs.Cells.{is_narrow}
-use Rattle.kin_motion.proofs.JournalLaws.{first_of_chain}
-use Rattle.kin_motion.proofs.BreakpointLaws.{comes, right_signs, comes_never, comes_through}
+use Rattle.kin_motion.proofs.ListChains.{chain_first}
+use Rattle.kin_motion.proofs.BreakpointLaws.{comes, right_signs, comes_through}
 use Rattle.kin_chain.proofs.Comparisons.{way, AtMost, Below, Level, below_most, level_most, level_turned}
-use Rattle.kin_chain.proofs.Directions.{cross, anti}
+use Rattle.kin_algebra.proofs.Vectors.{cross, anti}
 use Rattle.kin_chain.proofs.Planes.{Places, Shows, step, height, fall}
 use Rattle.kin_chain.proofs.Geometry.{Direction, Steep, Steeper, up, along, steep_along, falls_steeper, level_ends}
 use Rattle.kin_chain.proofs.Outer.{Outer}
@@ -96,7 +96,7 @@ module _ {R : Type 0} (o : OrderedRing R) (ps : Places o) (s : Scene) where
     placed_falls d f c = record { is = subst AtLeast (m.shows.slopes d.left d.right f.left f.right) (not_minus d.half f.half (right_signs s m.slopes d f c).2) }
 
     behind_falls : (d : Breakpoint) (es : List Breakpoint) → IsChain (comes s m.slopes) (d ∷ es) → (f : Breakpoint) → Contains es f → AtMost o (height o ps (step o ps d.left d.right)) f.right f.left
-    behind_falls d es placed f k = placed_falls d f (first_of_chain (comes s m.slopes) (comes_never s m.slopes) (comes_through s m.slopes) d es placed f k)
+    behind_falls d es placed f k = placed_falls d f (chain_first (comes s m.slopes) (comes_through s m.slopes) d es placed f k)
 
     pub own_falls : (e : Breakpoint) (es : List Breakpoint) (r : Below o ps.x e.left e.right) → IsChain (comes s m.slopes) (e ∷ es) → Falls o ps (along o ps e.left e.right r) (e ∷ es)
     own_falls e es r placed f k = at (contains_cases e f es k)

@@ -7,6 +7,7 @@ use Rattle.kin_motion.specs.Scene.{Scene}
 use Rattle.kin_motion.specs.Chains.{is_plus, IsUpperChain}
 use Rattle.kin_motion.specs.Merges.{Half, Half.{A, B}, Breakpoint, is_of, breakpoints_of, slope_form, goes_first, is_placed_before, own_of, IsInterleaving, IsBreakpointList}
 use Rattle.kin_motion.specs.Laws.{HasTurnLaws}
+use Rattle.kin_motion.proofs.BreakpointLaws.{itself}
 use Rattle.kin_motion.proofs.MergeLaws.{Falls, upper_falls}
 use Rattle.kin_motion.proofs.ListChains.{chain_tail}
 use Rattle.kin_chain.specs.Merging.{is_in_place}
@@ -48,10 +49,6 @@ module _ (s : Scene) where
       let second : is_of h f.half ≡ true = ap (is_of h) q ∙ itself h in
       steeper_first e f
       (subst (λ b. IsChain falls (cond b (e ∷ f ∷ own_of h es) (f ∷ own_of h es))) first (subst (λ b. IsChain falls (cond (is_of h e.half) (e ∷ cond b (f ∷ own_of h es) (own_of h es)) (cond b (f ∷ own_of h es) (own_of h es)))) second c)).0
-    where
-      itself : (h : Half) → is_of h h ≡ true
-      itself A = refl
-      itself B = refl
 
   in_place_falls : (es : List Breakpoint) → IsChain falls (own_of A es) → IsChain falls (own_of B es) → IsChain (is_in_place s) es → IsChain (is_placed_before s) es
   in_place_falls [] fa fb c = tt

@@ -1,7 +1,8 @@
 -- Determination: where the facts of a settled merge hold and both told chains are upper chains, it is settled.
-use Rattle.std.proofs.Common.{◌≡◌, refl, subst, List, [], ◌∷◌, ◌++◌, ℕ, Bool, true, false, ◌||◌, map}
+use Rattle.std.proofs.Common.{◌≡◌, subst, List, [], ◌∷◌, ◌++◌, ℕ, map}
 use Rattle.std.specs.Prelude.{Contains, ◌↔◌}
 use Rattle.std.proofs.lemmas.List.Elements.{All-contains}
+use Rattle.std.proofs.lemmas.Bool.{or_right}
 use Rattle.kin_motion.specs.declared.form.Form.{Form}
 use Rattle.kin_motion.specs.declared.fact.Placed.{Placed}
 use Rattle.kin_motion.specs.Numbers.{IsChain}
@@ -23,11 +24,7 @@ use Rattle.kin_chain.proofs.MergeRight.{merge_is_right}
 placed_in_place : (s : Scene) (es : List Breakpoint) → IsChain (is_placed_before s) es → IsChain (is_in_place s) es
 placed_in_place s [] c = tt
 placed_in_place s (e ∷ []) c = tt
-placed_in_place s (e ∷ f ∷ es) c = (by_place (is_of e.half f.half) (is_placed_before s e f) c.0, placed_in_place s (f ∷ es) c.1)
-  where
-    by_place : (a b : Bool) → b ≡ true → a || b ≡ true
-    by_place true b h = refl
-    by_place false b h = h
+placed_in_place s (e ∷ f ∷ es) c = (or_right (is_of e.half f.half) (is_placed_before s e f) c.0, placed_in_place s (f ∷ es) c.1)
 
 -- the told chains of a settled merge
 told_of_settled : (s : Scene) (a b chain : List ℕ) (part : ℕ) (facts : List Placed) → IsSettledMerge s a b chain part facts → AreTold s a b a b

@@ -11,11 +11,10 @@ use Rattle.kin_motion.specs.Merges.{Breakpoint, IsBreakpointList, forms_of_merge
 use Rattle.kin_motion.specs.Laws.{HasLineLaws}
 use Rattle.kin_motion.proofs.ChainLaws.{never_left, left_through, chain_within}
 use Rattle.kin_motion.proofs.HullFactLaws.{AreDisjoint, forms_exact}
-use Rattle.kin_motion.proofs.JournalLaws.{first_of_chain}
 use Rattle.kin_motion.proofs.RealLaws.{real_line_laws}
 use Rattle.kin_motion.proofs.SetLaws.{exactly_in_words, exactly_mapped}
 use Rattle.kin_motion.proofs.Members.{contains_from_in}
-use Rattle.kin_motion.proofs.ListChains.{chain_tail}
+use Rattle.kin_motion.proofs.ListChains.{chain_tail, chain_first}
 use Rattle.kin_chain.specs.Merging.{AreTold}
 
 module _ (s : Scene) where
@@ -31,7 +30,7 @@ module _ (s : Scene) where
       through i j k = left_through _ _ _ (lines.chain (pos 1) (pos 0) i j k)
 
       not_again : (b : Bool) → (b ≡ true → Contains xs x) → b ≡ false
-      not_again true f = absurd (never x (first_of_chain (is_left s) never through x xs c x (f refl)))
+      not_again true f = absurd (never x (chain_first (is_left s) through x xs c x (f refl)))
       not_again false f = refl
 
   told_apart : (left right a b : List ℕ) → AreTold s left right a b → AreDisjoint a b

@@ -7,7 +7,7 @@ use Rattle.kin_algebra.proofs.OrderedRings.{OrderedRing, positive_product, one}
 use Rattle.kin_motion.specs.Numbers.{IsIn}
 use Rattle.kin_motion.proofs.Members.{in_cases}
 use Rattle.kin_chain.proofs.Comparisons.{way, AtMost, Below, not_both, most_or_below}
-use Rattle.kin_chain.proofs.Directions.{cross, anti}
+use Rattle.kin_algebra.proofs.Vectors.{cross, anti}
 use Rattle.kin_chain.proofs.Planes.{Places, height, fall}
 use Rattle.kin_chain.proofs.Geometry.{Direction, Steep, Steeper, steep_steep, steeper_steep, steeper_then, then_steeper, up, along, falls_steeper}
 

@@ -5,7 +5,7 @@ use Rattle.kin_algebra.proofs.OrderedRings.{OrderedRing}
 use Rattle.kin_motion.specs.declared.form.Form.TheVariants.{Turn, Slope}
 use Rattle.kin_motion.specs.Scene.{Scene, x_sign, y_sign}
 use Rattle.kin_chain.proofs.Comparisons.{way}
-use Rattle.kin_chain.proofs.Directions.{Vector, cross}
+use Rattle.kin_algebra.proofs.Vectors.{Vector, cross}
 
 module _ {R : Type 0} (o : OrderedRing R) where
   -- the place of each number

@@ -15,9 +15,9 @@ use Rattle.kin_motion.specs.Forms.{Linear, minus, product, difference, along, x_
 use Rattle.kin_motion.specs.Scene.{Scene, IsReal, x_sign, y_sign}
 use Rattle.kin_motion.proofs.SetLaws.{contains_map}
 use Rattle.kin_motion.proofs.SeenLaws.{SeenAt, seen_at}
-use Rattle.kin_motion.proofs.SlopeLaws.{line_value, line_value-minus, x_sign-value, y_sign-value, slope-value}
+use Rattle.kin_motion.proofs.LineValues.{line_value, line_value-minus, x_sign-value, y_sign-value, products-value}
 use Rattle.kin_chain.proofs.Comparisons.{way}
-use Rattle.kin_chain.proofs.Directions.{cross}
+use Rattle.kin_algebra.proofs.Vectors.{cross}
 use Rattle.kin_chain.proofs.Planes.{Places, Shows, step, height, rise, fall}
 
 -- ---- one list of all polynomials
@@ -142,7 +142,7 @@ module _ (s : Scene) (r : IsReal s) where
       sign_here (Turn i j k)
       (Contains-append_right (two x_line cs) _ _ (Contains-append_right (two y_line cs) _ _ (Contains-append_left (three turn cs) _ _
       (in_three turn cs (motion_of ms i) (motion_of ms j) (motion_of ms k) (motion_in ms i) (motion_in ms j) (motion_in ms k)))))
-      ∙ slope-value (seen).number (seen).sound (seen).positive (x_step ms i j) (y_step ms i k) (y_step ms i j) (x_step ms i k)
+      ∙ products-value (seen).number (seen).sound (seen).positive (x_step ms i j) (y_step ms i k) (y_step ms i j) (x_step ms i k)
       ∙ ap here.sign (same_mixed (x_way i j) (y_way i k) (y_way i j) (x_way i k) ∙ sym (rise here places (step here places i j) i k))
 
   slope_here : (i j k l : ℕ) → s.sign (Slope i j k l) ≡ here.sign (way here (height here places (step here places i j)) l k)
@@ -151,7 +151,7 @@ module _ (s : Scene) (r : IsReal s) where
       sign_here (Slope i j k l)
       (Contains-append_right (two x_line cs) _ _ (Contains-append_right (two y_line cs) _ _ (Contains-append_right (three turn cs) _ _
       (in_four slope cs (motion_of ms i) (motion_of ms j) (motion_of ms k) (motion_of ms l) (motion_in ms i) (motion_in ms j) (motion_in ms k) (motion_in ms l)))))
-      ∙ slope-value (seen).number (seen).sound (seen).positive (y_step ms i j) (x_step ms k l) (y_step ms k l) (x_step ms i j)
+      ∙ products-value (seen).number (seen).sound (seen).positive (y_step ms i j) (x_step ms k l) (y_step ms k l) (x_step ms i j)
       ∙ ap here.sign (same_mixed (y_way i j) (x_way k l) (y_way k l) (x_way i j)
       ∙ ap (λ (z : Pair). here.ring.plus z (here.ring.negative (here.ring.times (way here places.y k l) (way here places.x i j)))) (here.ring.times_comm (way here places.y i j) (way here places.x k l))
       ∙ sym (fall here places (step here places i j) k l))

@@ -1,9 +1,10 @@
 -- One chain beside a place of the breakpoint list: its current point, what is passed and what is to come.
-use Rattle.std.proofs.Common.{◌≡◌, ◌⊎◌, inl, inr, refl, sym, ap, ◌∙◌, subst, List, [], ◌∷◌, ℕ, true, false, cond}
+use Rattle.std.proofs.Common.{◌≡◌, ◌⊎◌, inl, inr, sym, ap, ◌∙◌, subst, List, [], ◌∷◌, ℕ, false, cond}
 use Rattle.std.specs.Prelude.{Contains}
 use Rattle.kin_basics.proofs.Members.{contains_head, contains_tail}
 use Rattle.kin_algebra.proofs.OrderedRings.{OrderedRing}
-use Rattle.kin_motion.specs.Merges.{Half, Half.{A, B}, Breakpoint, is_of, own_of, breakpoints_of}
+use Rattle.kin_motion.specs.Merges.{Half, Breakpoint, is_of, own_of, breakpoints_of}
+use Rattle.kin_motion.proofs.BreakpointLaws.{itself}
 use Rattle.kin_motion.proofs.SetLaws.{filter-sound}
 use Rattle.kin_motion.specs.Numbers.{IsIn}
 use Rattle.kin_motion.proofs.Members.{in_head, in_tail, in_cases}
@@ -92,10 +93,6 @@ module _ {R : Type 0} (o : OrderedRing R) (ps : Places o) where
     where
       e : Breakpoint
       e = record { half = h; left = p; right = j }
-
-      itself : (h : Half) → is_of h h ≡ true
-      itself A = refl
-      itself B = refl
 
       level : AtMost o (up o ps (along o ps p j r)) p j
       level = level_most o (level_ends o ps p j)

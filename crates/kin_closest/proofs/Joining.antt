@@ -1,22 +1,21 @@
 -- What the orders and the tournament report together, and that their facts are bounded.
-use Rattle.std.proofs.Common.{◌≡◌, ◌⊎◌, inl, inr, sym, ap, subst, arith, List, [], ◌++◌, ℕ, ◌+◌, ◌*◌, ◌^◌, ◌<◌, ◌≤◌, length, map}
+use Rattle.std.proofs.Common.{◌≡◌, ◌⊎◌, inl, inr, ap, arith, List, ◌++◌, ℕ, ◌+◌, ◌*◌, ◌^◌, ◌<◌, ◌≤◌, length, map}
 use Rattle.std.specs.Prelude.{Option, Some, Contains}
 use Rattle.std.proofs.Math.Pow.{pow_mono}
 use Rattle.std.proofs.lemmas.Option.{slice_get_within}
 use Rattle.kin_motion.specs.declared.fact.Placed.{Placed}
 use Rattle.kin_motion.specs.Deltas.{Change}
-use Rattle.kin_motion.specs.Kinetics.{HasGained, HasChanged}
+use Rattle.kin_motion.specs.Kinetics.{HasChanged}
 use Rattle.kin_motion.specs.Parts.{moved_by}
 use Rattle.kin_motion.specs.Scene.{Scene}
 use Rattle.kin_motion.specs.Tournaments.{IsNodeFact}
 use Rattle.kin_motion.specs.ClosestPairs.{Near, distance_key}
 use Rattle.kin_motion.proofs.ChangeLaws.{both_changed}
-use Rattle.kin_motion.proofs.PartLaws.{moved_facts_change}
 use Rattle.kin_motion.proofs.SetLaws.{contains_mapped}
 use Rattle.kin_tourney.specs.Tournament.{Tournament, IsSettled}
 use Rattle.kin_tourney.specs.Under.{is_under-le}
 use Rattle.kin_closest.specs.DistanceKey.{pair_names}
-use Rattle.kin_motion.proofs.AskableLaws.{held_slot}
+use Rattle.kin_motion.proofs.NodeLaws.{held_slot}
 
 -- the fact of a node is in the part of an inner node
 pub node_low : (s : Scene) (size : ℕ) (slots : List (Option Near)) (p : Placed) → length slots ≡ 2 ^ size → IsNodeFact s distance_key size slots p → p.part < 2 ^ size
@@ -31,18 +30,6 @@ facts_low {K} t s settled small p c =
     let low = node_low s t.size t.slots p settled.room ((settled.tournament.exact.each p).0 c) in
     let most : 2 ^ t.size ≤ 2 ^ 15 = pow_mono small in
     omega (arith, low, most)
-
--- where these are gained by nothing, they are gained by what was there
-gained_after : (before mine : List Placed) (which : Placed → Type 0) → HasGained [] mine which → HasGained before (before ++ mine) which
-gained_after before mine which h = record { more = h.more; joined = ap (λ (xs : List Placed). before ++ xs) h.joined; exactly = h.exactly }
-
--- what the tournament reports is passed on
-pub passed_on : (pairs pairs' : List Placed) (delta out out' : Change) → HasChanged pairs pairs' (record { dropped = []; born = [] }) delta
-    → out' ≡ record { dropped = out.dropped ++ map (moved_by 8) delta.dropped; born = out.born ++ map (moved_by 8) delta.born } → HasChanged (map (moved_by 8) pairs) (map (moved_by 8) pairs') out out'
-passed_on pairs pairs' delta out out' h e =
-    let m = moved_facts_change 8 pairs pairs' (record { dropped = []; born = [] }) delta h in
-    subst (HasChanged (map (moved_by 8) pairs) (map (moved_by 8) pairs') out) (sym e)
-    (record { dropped = gained_after out.dropped (map (moved_by 8) delta.dropped) _ m.dropped; born = gained_after out.born (map (moved_by 8) delta.born) _ m.born })
 
 -- the reports of the orders and of the tournament are that of both
 pub joined : (orders orders' pairs pairs' : List Placed) (out mid out' : Change) → ((p : Placed) → Contains orders p → p.part < 8) → ((p : Placed) → Contains orders' p → p.part < 8)

@@ -1,13 +1,11 @@
 -- The facts that the tournament has reported are moved to their parts behind the orders.
 use Rattle.std.proofs.Common.{◌≡◌, refl, sym, ap, ap₂, ◌∙◌, subst, arith, List, [], ◌∷◌, ◌++◌, ℕ, zero, suc, ◌+◌, ◌-◌, ◌^◌, ◌<◌, ◌≤◌, length, map, take, drop, set, get_or, add-one}
 use Rattle.std.specs.Prelude.{Contains}
-use Rattle.std.proofs.lemmas.List.{drop_all, drop_at, take_all, take_at, append-nil, get_or-drop, length-drop, length-set}
+use Rattle.std.proofs.lemmas.List.{drop_all, take_all, append-nil, get_or-drop, length-drop, length-set}
 use Rattle.std.proofs.lemmas.List.Elements.{Contains-get_or}
 use Rattle.kin_motion.specs.declared.fact.Placed.{Placed}
-use Rattle.kin_motion.specs.Deltas.{Change}
-use Rattle.kin_motion.specs.Kinetics.{HasGained, HasChanged}
 use Rattle.kin_motion.specs.Parts.{moved_by}
-use Rattle.kin_closest.proofs.Joining.{passed_on}
+use Rattle.kin_wedge.proofs.Posting.{moved_here}
 
 -- the facts before a place are as they are wanted, and those from there on are as they were, still to be moved
 pub record AreMoved (from : ℕ) (first now : List Placed) (k : ℕ) : Type 0 where
@@ -15,11 +13,6 @@ pub record AreMoved (from : ℕ) (first now : List Placed) (k : ℕ) : Type 0 wh
   pub start : from ≤ k
   pub rest : take k now ++ map (moved_by 8) (drop k now) ≡ take from first ++ map (moved_by 8) (drop from first)
   pub left : drop k now ≡ drop k first
-
-moved_here : (xs : List Placed) (k : ℕ) (d : Placed) → k < length xs → take (suc k) (set xs k (moved_by 8 (get_or xs k d))) ++ map (moved_by 8) (drop (suc k) (set xs k (moved_by 8 (get_or xs k d)))) ≡ take k xs ++ map (moved_by 8) (drop k xs)
-moved_here [] k d l = absurd (omega (arith, l))
-moved_here (x ∷ xs) zero d l = refl
-moved_here (x ∷ xs) (suc k) d l = ap (λ (v : List Placed). x ∷ v) (moved_here xs k d (omega (arith, l)))
 
 left_here : (xs ys : List Placed) (k : ℕ) (fact : Placed) → drop k xs ≡ drop k ys → drop (suc k) (set xs k fact) ≡ drop (suc k) ys
 left_here [] [] k fact e = refl
@@ -40,7 +33,7 @@ module _ (from : ℕ) (first : List Placed) where
     start = omega (arith, s);
     rest = ap (λ (x : Placed). take (k + 1) (set now k x) ++ map (moved_by 8) (drop (k + 1) (set now k x))) e
         ∙ ap (λ (n : ℕ). take n (set now k (moved_by 8 (get_or now k d))) ++ map (moved_by 8) (drop n (set now k (moved_by 8 (get_or now k d))))) (add-one k)
-        ∙ moved_here now k d l ∙ a.rest;
+        ∙ moved_here (moved_by 8) now k d l ∙ a.rest;
     left = ap (λ (n : ℕ). drop n (set now k fact)) (add-one k) ∙ left_here now first k fact a.left ∙ ap (λ (n : ℕ). drop n first) (sym (add-one k));
   }
 
@@ -59,24 +52,3 @@ module _ (from : ℕ) (first : List Placed) where
       ap (λ (i : ℕ). get_or now i d) (let e : k ≡ k + 0 = omega arith in e) ∙ sym (get_or-drop k now 0 d) ∙ ap (λ (v : List Placed). get_or v 0 d) a.left ∙ get_or-drop k first 0 d
       ∙ ap (λ (i : ℕ). get_or first i d) (let e : k + 0 ≡ from + (k - from) = omega (arith, s) in e) ∙ sym (get_or-drop from first (k - from) d) in
       subst (λ (p : Placed). p.part < 2 ^ 15) (sym here) (low _ (Contains-get_or (drop from first) (k - from) d (omega (arith, c, s, n, l))))
-
--- what was gained stands behind what was there
-pub gained_behind : (from : ℕ) (x y : List Placed) (which : Placed → Type 0) → from ≡ length x → HasGained x y which → (p : Placed) → Contains (drop from y) p → which p
-gained_behind from x y which n g p c =
-    (g.exactly.each p).0 (subst (λ (v : List Placed). Contains v p) (ap (λ (k : ℕ). drop k y) n ∙ ap (drop (length x)) g.joined ∙ drop_at x g.more (length x) refl) c)
-
-moved_gain : (from : ℕ) (x y z : List Placed) (which : Placed → Type 0) → from ≡ length x → (g : HasGained x y which) → z ≡ take from y ++ map (moved_by 8) (drop from y) → z ≡ x ++ map (moved_by 8) g.more
-moved_gain from x y z which n g e =
-    e ∙ ap (λ (k : ℕ). take k y ++ map (moved_by 8) (drop k y)) n
-    ∙ ap (λ (v : List Placed). take (length x) v ++ map (moved_by 8) (drop (length x) v)) g.joined
-    ∙ ap₂ (λ (u v : List Placed). u ++ map (moved_by 8) v) (take_at x g.more (length x) refl) (drop_at x g.more (length x) refl)
-
--- what the tournament has reported is moved
-pub report_moved : (n m : ℕ) (pairs pairs' : List Placed) (out mid out' : Change) → n ≡ length out.dropped → m ≡ length out.born → HasChanged pairs pairs' out mid
-    → out'.dropped ≡ take n mid.dropped ++ map (moved_by 8) (drop n mid.dropped) → out'.born ≡ take m mid.born ++ map (moved_by 8) (drop m mid.born) → HasChanged (map (moved_by 8) pairs) (map (moved_by 8) pairs') out out'
-report_moved n m pairs pairs' out mid out' dropped born h d b =
-    let x = moved_gain n out.dropped mid.dropped out'.dropped _ dropped h.dropped d in
-    let y = moved_gain m out.born mid.born out'.born _ born h.born b in
-    passed_on pairs pairs' (record { dropped = h.dropped.more; born = h.born.more }) out out'
-    (record { dropped = record { more = h.dropped.more; joined = refl; exactly = h.dropped.exactly }; born = record { more = h.born.more; joined = refl; exactly = h.born.exactly } })
-    (λ t. record { dropped = x t; born = y t })

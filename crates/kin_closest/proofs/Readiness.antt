@@ -11,7 +11,7 @@ use Rattle.kin_motion.specs.Scene.{Scene, IsReal}
 use Rattle.kin_motion.specs.Octants.{AreCandidates}
 use Rattle.kin_motion.specs.ClosestPairs.{Near}
 use Rattle.kin_motion.specs.ClosestFacts.{AreNearSlots}
-use Rattle.kin_motion.proofs.AskableLaws.{held_slot}
+use Rattle.kin_motion.proofs.NodeLaws.{held_slot}
 use Rattle.kin_motion.proofs.Members.{not_in_cons}
 use Rattle.kin_motion.proofs.NearLaws.{own-slot}
 use Rattle.kin_tourney.specs.Tournament.{Tournament, IsReady}

@@ -8,8 +8,7 @@ use Rattle.kin_motion.specs.Forms.{IsAskable}
 use Rattle.kin_motion.specs.Kinetics.{ListsFailing}
 use Rattle.kin_motion.specs.Parts.{moved_by}
 use Rattle.kin_motion.specs.Scene.{Scene}
-use Rattle.kin_motion.proofs.FailureOrder.{distinct_filter}
-use Rattle.kin_motion.proofs.SetLaws.{contains_map, contains_mapped, filter-sound, filter-complete}
+use Rattle.kin_motion.proofs.SetLaws.{contains_map, contains_mapped, filter-sound, filter-complete, distinct_filter}
 use Rattle.kin_tourney.specs.Tournament.{CoversAskable}
 use Rattle.kin_closest.specs.Sorting.{is_of_order, is_of_pair, taken_back}
 

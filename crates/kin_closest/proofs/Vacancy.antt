@@ -5,6 +5,7 @@ use Rattle.std.proofs.lemmas.List.{length-replicate}
 use Rattle.std.proofs.lemmas.Nat.{pow-add}
 use Rattle.std.proofs.lemmas.Option.{none-some, slice_get-get_or}
 use Rattle.std.proofs.Math.Pow.{pow_pos}
+use Rattle.kin_basics.proofs.Places.{get_or-replicate_any}
 use Rattle.kin_algebra.specs.declared.sign.Sign.TheVariants.{Zero}
 use Rattle.kin_basics.proofs.Members.{contains_none}
 use Rattle.kin_motion.specs.declared.fact.Placed.{Placed}
@@ -17,13 +18,12 @@ use Rattle.kin_motion.specs.Parts.{moved_by}
 use Rattle.kin_motion.specs.Scene.{Scene}
 use Rattle.kin_motion.specs.Sets.{ListsExactly}
 use Rattle.kin_motion.specs.Tournaments.{item_in}
-use Rattle.kin_motion.proofs.AskableLaws.{held_slot}
+use Rattle.kin_motion.proofs.NodeLaws.{held_slot}
 use Rattle.kin_motion.proofs.Members.{in_head}
 use Rattle.kin_motion.proofs.NearLaws.{octant_at}
 use Rattle.kin_motion.proofs.SetLaws.{exactly_none}
 use Rattle.kin_list.specs.declared.mark.Mark.TheVariants.{Rest, Enters}
 use Rattle.kin_tourney.specs.Tournament.{Tournament, IsAtRest, IsSettled, winner_at}
-use Rattle.kin_tourney.proofs.Fresh.{same_all}
 use Rattle.kin_wedge.specs.Rows.{AreOrders}
 use Rattle.kin_wedge.specs.Wedging.{Wedging, candidate_told, IsSettledWedging}
 use Rattle.kin_near.specs.BestPairs.{HoldCandidates}
@@ -49,7 +49,7 @@ module _ (k : Closing) (are : AreNone k.wedges k.pairs) (s : Scene) (none : s.li
   empty_order dx dy = record { all = record { once = tt; same = λ i. sym (ap (is_in i) none) }; chain = tt }
 
   ordered : AreOrders s k.wedges.orders
-  ordered = subst (AreOrders s) (sym are.orders) (record { count = refl; order = λ part low. subst (IsOrder s _ _) (sym (same_all 8 part [])) (empty_order _ _) })
+  ordered = subst (AreOrders s) (sym are.orders) (record { count = refl; order = λ part low. subst (IsOrder s _ _) (sym (get_or-replicate_any 8 part [])) (empty_order _ _) })
 
   no_neighbours : (dx dy : ℤ) (part : ℕ) (xs : List ℕ) (p : Placed) → Lists xs [] → ¬ (Contains (neighbour_facts s dx dy part xs) p)
   no_neighbours dx dy part [] p l h = contains_none p h
@@ -59,7 +59,7 @@ module _ (k : Closing) (are : AreNone k.wedges k.pairs) (s : Scene) (none : s.li
   no_wedge_fact p w = no_neighbours w.way.dx w.way.dy p.part w.fact.order p (subst (Lists w.fact.order) none w.fact.ordered.all) w.fact.listed
 
   candidate_none : (p w : ℕ) → candidate_told k.wedges p w ≡ None
-  candidate_none p w = ap (λ c. slice_index_or c (8 * p + w) None) are.candidates ∙ same_all (8 * 2 ^ k.wedges.size) (8 * p + w) None
+  candidate_none p w = ap (λ c. slice_index_or c (8 * p + w) None) are.candidates ∙ get_or-replicate_any (8 * 2 ^ k.wedges.size) (8 * p + w) None
 
   octants : IsSettledWedging k.wedges s
   octants = record {
@@ -71,7 +71,7 @@ module _ (k : Closing) (are : AreNone k.wedges k.pairs) (s : Scene) (none : s.li
   }
 
   slot_none : (i : ℕ) → item_in k.pairs.slots i ≡ None
-  slot_none i = ap (λ xs. item_in xs i) are.slots ∙ same_all (2 ^ (k.wedges.size + 3)) i None
+  slot_none i = ap (λ xs. item_in xs i) are.slots ∙ get_or-replicate_any (2 ^ (k.wedges.size + 3)) i None
 
   held : HoldCandidates k.wedges.size (candidate_told k.wedges) k.pairs.slots
   held = record {

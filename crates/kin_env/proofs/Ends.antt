@@ -1,6 +1,6 @@
 -- A repair begins after failed facts are given to their nodes, and ends where every node is clear.
 use Rattle.std.proofs.Common.{◌≡◌, ◌≢◌, ◌⊎◌, inl, inr, refl, sym, ap, ap₂, ◌∙◌, subst, arith, List, [], ◌∷◌, ◌++◌, ℕ, zero, suc, ◌+◌, ◌-◌, ◌*◌, ◌/◌, ◌^◌, ◌<◌, ◌≤◌, length, Bool, true, false, nat_eq, nat_lt}
-use Rattle.std.specs.Prelude.{Option, Contains, IsFalse, slice_index_or, filter}
+use Rattle.std.specs.Prelude.{Option, Contains, IsFalse, slice_index_or, filter, slice_get}
 use Rattle.std.proofs.lemmas.Bool.{cases_eq}
 use Rattle.std.proofs.lemmas.Bool.Decides.{nat_tests}
 use Rattle.std.proofs.lemmas.Option.{slice_get_within, get_or_from_slice_get}
@@ -13,9 +13,8 @@ use Rattle.kin_motion.specs.Merges.{points_under}
 use Rattle.kin_motion.specs.Numbers.{is_in, IsIn}
 use Rattle.kin_motion.specs.Scene.{Scene, IsReal, Holds}
 use Rattle.kin_motion.proofs.ChainLaws.{one_upper_chain}
-use Rattle.kin_motion.proofs.FailureOrder.{distinct_filter}
 use Rattle.kin_motion.proofs.RealLaws.{real_line_laws}
-use Rattle.kin_motion.proofs.SetLaws.{filter-sound, filter-complete}
+use Rattle.kin_motion.proofs.SetLaws.{filter-sound, filter-complete, distinct_filter}
 use Rattle.kin_overlay.specs.Overlays.{Merge}
 use Rattle.kin_tourney.specs.declared.doubt.Doubt.{Doubt}
 use Rattle.kin_tourney.specs.declared.doubt.Doubt.TheVariants.{Clear, Here}
@@ -158,26 +157,22 @@ module _ (s : Scene) (real : IsReal s) (t x : Branches) (w : IsWalked s t) (root
   clear : (v : ℕ) → 0 < v → doubt_in t.doubts.items v ≡ Clear
   clear = all_clear t.doubts.items w.shape.closed root
 
-  merge_is : (v : ℕ) → merge_at x.nodes.items v ≡ merge_at t.nodes.items v
-  merge_is v = at (cases_eq v 1)
+  -- what is the same at the root is the same at each node
+  same_read : {A : Type 0} (read : Option Node → A) → read (slice_get x.nodes.items 1) ≡ read (slice_get t.nodes.items 1) → (v : ℕ) → read (slice_get x.nodes.items v) ≡ read (slice_get t.nodes.items v)
+  same_read {A} read here v = at (cases_eq v 1)
     where
-      at : (v ≡ 1) ⊎ (v ≢ 1) → merge_at x.nodes.items v ≡ merge_at t.nodes.items v
-      at (inl e) = subst (λ u. merge_at x.nodes.items u ≡ merge_at t.nodes.items u) (sym e) q.root.merge
-      at (inr n) = ap merge_from (q.others v n)
+      at : (v ≡ 1) ⊎ (v ≢ 1) → read (slice_get x.nodes.items v) ≡ read (slice_get t.nodes.items v)
+      at (inl e) = subst (λ u. read (slice_get x.nodes.items u) ≡ read (slice_get t.nodes.items u)) (sym e) here
+      at (inr n) = ap read (q.others v n)
+
+  merge_is : (v : ℕ) → merge_at x.nodes.items v ≡ merge_at t.nodes.items v
+  merge_is = same_read merge_from q.root.merge
 
   passed_is : (v : ℕ) → passed_at x.nodes.items v ≡ passed_at t.nodes.items v
-  passed_is v = at (cases_eq v 1)
-    where
-      at : (v ≡ 1) ⊎ (v ≢ 1) → passed_at x.nodes.items v ≡ passed_at t.nodes.items v
-      at (inl e) = subst (λ u. passed_at x.nodes.items u ≡ passed_at t.nodes.items u) (sym e) q.root.passed
-      at (inr n) = ap passed_from (q.others v n)
+  passed_is = same_read passed_from q.root.passed
 
   failed_same : (v : ℕ) → failed_at x.nodes.items v ≡ failed_at t.nodes.items v
-  failed_same v = at (cases_eq v 1)
-    where
-      at : (v ≡ 1) ⊎ (v ≢ 1) → failed_at x.nodes.items v ≡ failed_at t.nodes.items v
-      at (inl e) = subst (λ u. failed_at x.nodes.items u ≡ failed_at t.nodes.items u) (sym e) q.root.failed
-      at (inr n) = ap failed_from (q.others v n)
+  failed_same = same_read failed_from q.root.failed
 
   chain_is : (v : ℕ) → chain_at x.nodes.items v ≡ chain_at t.nodes.items v
   chain_is v = ap₂ chain_with (merge_is v) (passed_is v)

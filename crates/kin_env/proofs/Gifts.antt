@@ -1,17 +1,18 @@
 -- Facts are given to nodes, slots are marked, and a tree begins without points.
-use Rattle.std.proofs.Common.{◌≡◌, ◌≢◌, ◌⊎◌, inl, inr, refl, sym, ap, ap₂, ◌∙◌, subst, arith, List, [], ◌∷◌, ◌++◌, ℕ, ◌+◌, ◌*◌, ◌^◌, ◌<◌, ◌≤◌, length, Bool, true, false, cond, nat_eq, nat_lt, set, get_or, replicate}
+use Rattle.std.proofs.Common.{◌≡◌, ◌≢◌, ◌⊎◌, inl, inr, refl, sym, ap, ap₂, ◌∙◌, subst, arith, List, [], ◌∷◌, ◌++◌, ℕ, ◌+◌, ◌*◌, ◌^◌, ◌<◌, ◌≤◌, length, Bool, true, false, cond, nat_eq, set, get_or, replicate}
 use Rattle.std.specs.Prelude.{Option, Some, slice_get, filter}
 use Rattle.std.proofs.lemmas.Bool.{cases_eq}
 use Rattle.std.proofs.lemmas.Bool.Decides.{nat_tests}
-use Rattle.std.proofs.lemmas.List.{append_assoc, length-set, length-replicate, get_or-set_other, get_or-set_same, get_or-replicate, get_or_past}
+use Rattle.std.proofs.lemmas.List.{append_assoc, length-set, length-replicate, get_or-set_other, append-nil}
 use Rattle.std.proofs.lemmas.List.Elements.{filter-append}
 use Rattle.std.proofs.Math.Pow.{pow_pos}
-use Rattle.kin_basics.proofs.Places.{get-set_same, get-set_other}
+use Rattle.kin_basics.proofs.Places.{get-set_same, get-set_other, get_or-replicate_any}
 use Rattle.kin_motion.specs.declared.fact.Placed.{Placed}
 use Rattle.kin_tourney.specs.declared.doubt.Doubt.{Doubt}
 use Rattle.kin_tourney.specs.declared.doubt.Doubt.TheVariants.{Clear, Below, Here}
 use Rattle.kin_tourney.specs.Standings.{IsClosed, doubt_in}
 use Rattle.kin_tourney.specs.Repairs.{IsSpread}
+use Rattle.kin_tourney.proofs.Fresh.{fresh_clear, fresh_closed}
 use Rattle.kin_env.specs.declared.node.Node.{Node}
 use Rattle.kin_env.specs.declared.branches.Branches.{Branches}
 use Rattle.kin_env.specs.Nodes.{chain_with, merge_from, passed_from, edits_from, failed_from, passed_at, chain_at, edits_at, failed_at}
@@ -24,11 +25,7 @@ use Rattle.kin_env.proofs.Hearing.{read_there}
 
 -- ---- facts that are given
 pub none_given : (ns : List Node) → AreGiven ns ns []
-none_given ns = record { merge = λ v. refl; passed = λ v. refl; edits = λ v. refl; failed = λ v. sym (append_nil (failed_at ns v)) }
-  where
-    append_nil : (l : List Placed) → l ++ [] ≡ l
-    append_nil [] = refl
-    append_nil (x ∷ xs) = ap (λ q. x ∷ q) (append_nil xs)
+none_given ns = record { merge = λ v. refl; passed = λ v. refl; edits = λ v. refl; failed = λ v. sym (append-nil (failed_at ns v)) }
 
 pub given_more : (old ns : List Node) (facts more : List Placed) (p : Placed) (n n' : Node) → more ≡ facts ++ p ∷ [] → p.part < length ns → n ≡ get_or ns p.part n → n'.merge ≡ n.merge → n'.passed.items ≡ n.passed.items → n'.edits.items ≡ n.edits.items
     → n'.failed.items ≡ n.failed.items ++ p ∷ [] → AreGiven old ns facts → AreGiven old (set ns p.part n') more
@@ -62,11 +59,7 @@ given_more old ns facts more p n n' grown inside there merge passed edits failed
         ∙ ap (λ (l : List Placed). failed_at old v ++ l) (ap (λ (l : List Placed). filter (λ q. nat_eq q.part v) facts ++ l) (sym (one v true (grind (arith, nat_tests, q)))) ∙ sym (filter-append (λ (q : Placed). nat_eq q.part v) facts (p ∷ [])))
     failed_is v (inr m) =
         ap failed_from (get-set_other ns p.part v n' m) ∙ g.failed v
-        ∙ ap (λ (l : List Placed). failed_at old v ++ l) (sym (filter-append (λ (q : Placed). nat_eq q.part v) facts (p ∷ []) ∙ ap (λ (l : List Placed). filter (λ q. nat_eq q.part v) facts ++ l) (one v false (grind (arith, nat_tests, m))) ∙ append_nil (filter (λ q. nat_eq q.part v) facts)))
-      where
-        append_nil : (l : List Placed) → l ++ [] ≡ l
-        append_nil [] = refl
-        append_nil (x ∷ xs) = ap (λ q. x ∷ q) (append_nil xs)
+        ∙ ap (λ (l : List Placed). failed_at old v ++ l) (sym (filter-append (λ (q : Placed). nat_eq q.part v) facts (p ∷ []) ∙ ap (λ (l : List Placed). filter (λ q. nat_eq q.part v) facts ++ l) (one v false (grind (arith, nat_tests, m))) ∙ append-nil (filter (λ q. nat_eq q.part v) facts)))
 
 -- ---- a slot is marked
 pub marked_sound : (t x : Branches) (slot : ℕ) (held : Bool) → IsSound t → slot < 2 ^ t.size → x.size ≡ t.size → x.slots.items ≡ set t.slots.items slot held → x.nodes.items ≡ t.nodes.items → IsClosed x.doubts.items
@@ -100,13 +93,6 @@ marked_sound t x slot held sound low size_is slots_is nodes_is closed spread = r
     leaf i inside e (inr m) (inr both) = absurd (let z : Below ≡ Clear = sym both.1 ∙ e in cc)
 
 -- ---- a tree without points
-pub same_all : {A : Type 0} (n i : ℕ) (a : A) → get_or (replicate n a) i a ≡ a
-same_all {A} n i a = at (nat_lt i n) refl
-  where
-    at : (b : Bool) → nat_lt i n ≡ b → get_or (replicate n a) i a ≡ a
-    at true e = get_or-replicate n i a a (grind (arith, nat_tests, e))
-    at false e = get_or_past (replicate n a) i a (let past : n ≤ i = grind (arith, nat_tests, e) in let k = length-replicate n a in omega arith)
-
 pub blank_sound : (t : Branches) → 1 ≤ t.size → t.size ≤ 15 → t.slots.items ≡ replicate (2 ^ t.size) false → length t.nodes.items ≡ 2 * 2 ^ t.size → AreBlank t.nodes.items → t.doubts.items ≡ set (replicate (2 * 2 ^ t.size) Clear) 0 Here → IsSound t
 blank_sound t some small slots_is room blank doubts_is = record {
   shape = record {
@@ -115,7 +101,7 @@ blank_sound t some small slots_is room blank doubts_is = record {
     slots_room = ap length slots_is ∙ length-replicate (2 ^ t.size) false;
     nodes_room = room;
     doubts_room = ap length doubts_is ∙ length-set (replicate (2 * 2 ^ t.size) Clear) 0 Here ∙ length-replicate (2 * 2 ^ t.size) Clear;
-    closed = subst (λ (l : List Doubt). IsClosed l) (sym doubts_is) (record { top = top; below = λ v big e. clear_set v big });
+    closed = subst (λ (l : List Doubt). IsClosed l) (sym doubts_is) (fresh_closed (2 * 2 ^ t.size) (omega (arith, pow_pos t.size)));
   };
   joined = record {
     under = λ v i big h. absurd (let z : false ≡ true = sym (ap (λ (l : List ℕ). is_in i l) (chain_none v)) ∙ h in cc);
@@ -133,17 +119,11 @@ blank_sound t some small slots_is room blank doubts_is = record {
   quiet = λ v big. blank.edits v;
   unfailed = λ v big. blank.failed v;
   undoubted = λ v big e. absurd (let z : Clear ≡ Here = sym (clear_at v big) ∙ e in cc);
-  clear_leaves = λ i low e. chain_none (2 ^ t.size + i) ∙ ap (own_chain i) (sym (ap (λ (l : List Bool). slot_in l i) slots_is ∙ same_all (2 ^ t.size) i false));
+  clear_leaves = λ i low e. chain_none (2 ^ t.size + i) ∙ ap (own_chain i) (sym (ap (λ (l : List Bool). slot_in l i) slots_is ∙ get_or-replicate_any (2 ^ t.size) i false));
 }
   where
-    top : doubt_in (set (replicate (2 * 2 ^ t.size) Clear) 0 Here) 0 ≡ Here
-    top = get_or-set_same (replicate (2 * 2 ^ t.size) Clear) 0 Here Clear (let k = length-replicate (2 * 2 ^ t.size) Clear in omega (arith, pow_pos t.size))
-
-    clear_set : (v : ℕ) → 0 < v → doubt_in (set (replicate (2 * 2 ^ t.size) Clear) 0 Here) v ≡ Clear
-    clear_set v big = get_or-set_other (replicate (2 * 2 ^ t.size) Clear) 0 v Here Clear (omega arith) ∙ same_all (2 * 2 ^ t.size) v Clear
-
     clear_at : (v : ℕ) → 0 < v → doubt_in t.doubts.items v ≡ Clear
-    clear_at v big = ap (λ l. doubt_in l v) doubts_is ∙ clear_set v big
+    clear_at v big = ap (λ l. doubt_in l v) doubts_is ∙ fresh_clear (2 * 2 ^ t.size) v big
 
     chain_none : (v : ℕ) → chain_at t.nodes.items v ≡ []
     chain_none v = ap₂ chain_with (blank.merge v) (blank.passed v)

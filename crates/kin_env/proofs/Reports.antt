@@ -1,17 +1,17 @@
 -- What a repair reports, node by node.
-use Rattle.std.proofs.Common.{◌≡◌, ◌≢◌, ◌⊎◌, inl, inr, refl, sym, ap, ◌∙◌, subst, arith, List, ◌++◌, ℕ, ◌+◌, ◌-◌, ◌^◌, ◌<◌, ◌≤◌, Bool, true, false, nat_lt}
+use Rattle.std.proofs.Common.{◌≡◌, ◌≢◌, ◌⊎◌, inl, inr, refl, sym, ap, ◌∙◌, subst, arith, List, ℕ, ◌+◌, ◌-◌, ◌^◌, ◌<◌, ◌≤◌, Bool, true, false, nat_lt}
 use Rattle.std.specs.Prelude.{Option, Some, None, Contains, ◌↔◌, flat_map}
 use Rattle.std.proofs.lemmas.Bool.{cases_eq}
 use Rattle.std.proofs.lemmas.Bool.Decides.{nat_tests}
-use Rattle.std.proofs.lemmas.List.{append_assoc}
 use Rattle.kin_basics.proofs.Members.{contains_none}
 use Rattle.kin_motion.specs.declared.fact.Placed.{Placed}
 use Rattle.kin_motion.specs.Deltas.{Change}
-use Rattle.kin_motion.specs.Kinetics.{HasGained, HasChanged}
+use Rattle.kin_motion.specs.Kinetics.{HasChanged}
 use Rattle.kin_motion.specs.Numbers.{numbers_from}
 use Rattle.kin_motion.specs.Sets.{AreDistinct, ListsExactly}
 use Rattle.kin_motion.proofs.ChangeLaws.{IsLost, nothing_changed}
-use Rattle.kin_motion.proofs.SetLaws.{distinct_none, exactly_both, exactly_in_words, exactly_in_turn}
+use Rattle.kin_motion.proofs.Gains.{gained_both, lost_more}
+use Rattle.kin_motion.proofs.SetLaws.{distinct_none, exactly_in_turn}
 use Rattle.kin_overlay.specs.Overlays.{Merge}
 use Rattle.kin_tourney.specs.declared.doubt.Doubt.TheVariants.{Clear}
 use Rattle.kin_tourney.specs.Standings.{doubt_in}
@@ -94,36 +94,22 @@ module _ (first now next old new : List Placed) (v : ℕ)
     (old_part : (p : Placed) → Contains old p → p.part ≡ v) (new_part : (p : Placed) → Contains new p → p.part ≡ v)
     (elsewhere : (p : Placed) → p.part ≢ v → Contains now p ↔ Contains next p)
     (at_first : (p : Placed) → p.part ≡ v → Contains first p ↔ Contains old p) (at_now : (p : Placed) → p.part ≡ v → Contains now p ↔ Contains old p) (at_next : (p : Placed) → p.part ≡ v → Contains next p ↔ Contains new p) where
-  dropped_more : (p : Placed) → (IsLost first now p ⊎ IsLost old new p) ↔ IsLost first next p
-  dropped_more p = (to (cases_eq p.part v), from (cases_eq p.part v))
-    where
-      to : (p.part ≡ v) ⊎ (p.part ≢ v) → IsLost first now p ⊎ IsLost old new p → IsLost first next p
-      to (inl e) (inl w) = absurd (w.1 ((at_now p e).1 ((at_first p e).0 w.0)))
-      to (inr m) (inl w) = (w.0, λ c. w.1 ((elsewhere p m).1 c))
-      to d (inr w) = let e = old_part p w.0 in ((at_first p e).1 w.0, λ c. w.1 ((at_next p e).0 c))
+  at_part : (p : Placed) → (p.part ≡ v) ⊎ ¬ (p.part ≡ v)
+  at_part p = cases_eq p.part v
 
-      from : (p.part ≡ v) ⊎ (p.part ≢ v) → IsLost first next p → IsLost first now p ⊎ IsLost old new p
-      from (inl e) w = inr ((at_first p e).0 w.0, λ c. w.1 ((at_next p e).1 c))
-      from (inr m) w = inl (w.0, λ c. w.1 ((elsewhere p m).0 c))
+  dropped_more : (p : Placed) → (IsLost first now p ⊎ IsLost old new p) ↔ IsLost first next p
+  dropped_more p =
+      lost_more (at_part p) (λ e w. w.1 ((at_now p e).1 ((at_first p e).0 w.0)))
+      (λ m. ((λ w. (w.0, λ c. w.1 ((elsewhere p m).1 c))), (λ w. (w.0, λ c. w.1 ((elsewhere p m).0 c)))))
+      (λ e w. ((at_first p e).0 w.0, λ c. w.1 ((at_next p e).1 c)))
+      (λ w. let e = old_part p w.0 in ((at_first p e).1 w.0, λ c. w.1 ((at_next p e).0 c)))
 
   born_more : (p : Placed) → (IsLost now first p ⊎ IsLost new old p) ↔ IsLost next first p
-  born_more p = (to (cases_eq p.part v), from (cases_eq p.part v))
-    where
-      to : (p.part ≡ v) ⊎ (p.part ≢ v) → IsLost now first p ⊎ IsLost new old p → IsLost next first p
-      to (inl e) (inl w) = absurd (w.1 ((at_first p e).1 ((at_now p e).0 w.0)))
-      to (inr m) (inl w) = ((elsewhere p m).0 w.0, w.1)
-      to d (inr w) = let e = new_part p w.0 in ((at_next p e).1 w.0, λ c. w.1 ((at_first p e).0 c))
-
-      from : (p.part ≡ v) ⊎ (p.part ≢ v) → IsLost next first p → IsLost now first p ⊎ IsLost new old p
-      from (inl e) w = inr ((at_next p e).0 w.0, λ c. w.1 ((at_first p e).1 c))
-      from (inr m) w = inl ((elsewhere p m).1 w.0, w.1)
-
-  gained_both : (before middle after : List Placed) (p q r : Placed → Type 0) → ((x : Placed) → p x → q x → ⊥) → ((x : Placed) → (p x ⊎ q x) ↔ r x) → HasGained before middle p → HasGained middle after q → HasGained before after r
-  gained_both before middle after p q r apart words g h = record {
-    more = g.more ++ h.more;
-    joined = h.joined ∙ ap (λ (l : List Placed). l ++ h.more) g.joined ∙ append_assoc before g.more h.more;
-    exactly = exactly_in_words (g.more ++ h.more) _ r words (exactly_both g.more h.more p q g.exactly h.exactly apart);
-  }
+  born_more p =
+      lost_more (at_part p) (λ e w. w.1 ((at_first p e).1 ((at_now p e).0 w.0)))
+      (λ m. ((λ w. ((elsewhere p m).0 w.0, w.1)), (λ w. ((elsewhere p m).1 w.0, w.1))))
+      (λ e w. ((at_next p e).0 w.0, λ c. w.1 ((at_first p e).1 c)))
+      (λ w. let e = new_part p w.0 in ((at_next p e).1 w.0, λ c. w.1 ((at_first p e).0 c)))
 
   pub changed_part : (before middle after : Change) → HasChanged first now before middle → HasChanged old new middle after → HasChanged first next before after
   changed_part before middle after g h = record {

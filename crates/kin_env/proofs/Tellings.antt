@@ -12,9 +12,8 @@ use Rattle.kin_motion.specs.Merges.{IsMergeFact}
 use Rattle.kin_motion.specs.Numbers.{is_in, IsIn}
 use Rattle.kin_motion.specs.Scene.{Scene, Holds}
 use Rattle.kin_motion.proofs.AskableMerges.{merge_form_askable}
-use Rattle.kin_motion.proofs.SetLaws.{filter-sound, filter-complete}
-use Rattle.kin_motion.proofs.FailureOrder.{distinct_filter}
-use Rattle.std.proofs.lemmas.Bool.{false_from_ne_true}
+use Rattle.kin_motion.proofs.SetLaws.{filter-sound, filter-complete, distinct_filter}
+use Rattle.std.proofs.lemmas.Bool.{false_from_ne_true, both_ways, not-true, or_right}
 use Rattle.kin_motion.proofs.Members.{in_left, in_right, in_either, in_cases}
 use Rattle.kin_overlay.specs.declared.half.Half.TheVariants.{A, B}
 use Rattle.kin_overlay.specs.Overlays.{Merge, names_any, names_gone, told}
@@ -92,18 +91,6 @@ named_any f (x ∷ is) i h k = at (in_cases i x is k) (named_any f is i h)
     at : (i ≡ x) ⊎ (is_in i is ≡ true) → (is_in i is ≡ true → names_any f is ≡ true) → names f x || names_any f is ≡ true
     at (inl e) rest = ap (λ b. b || names_any f is) (ap (names f) (sym e) ∙ h)
     at (inr j) rest = or_right (names f x) (names_any f is) (rest j)
-      where
-        or_right : (a b : Bool) → b ≡ true → a || b ≡ true
-        or_right true b e = refl
-        or_right false b e = e
-
--- a test is not both
-clash : {b : Bool} → b ≡ true → b ≡ false → ⊥
-clash e f = let k : true ≡ false = sym e ∙ f in cc
-
-not_false : (b : Bool) → not b ≡ true → b ≡ false
-not_false true e = absurd cc
-not_false false e = refl
 
 -- ---- which failed facts are left
 module _ (v : ℕ) (s : Scene) (m : Merge) (a b ca cb : List ℕ) (ea eb : List Edit) (spared : Placed → Bool) (of : IsMergeOf v m a b) (left : Leads ea a ca) (right : Leads eb b cb)
@@ -116,12 +103,12 @@ module _ (v : ℕ) (s : Scene) (m : Merge) (a b ca cb : List ℕ) (ea eb : List 
   dropped i gone (inl h) = at (dropped_or_there ea i m.a h)
     where
       at : (is_in i (all_edited ea m.a) ≡ true) ⊎ (is_in i (dropped_by ea m.a) ≡ true) → is_in i after.gone ≡ true
-      at (inl k) = absurd (clash (halves.a_live i (ap (λ (l : List ℕ). is_in i l) (sym left.lead ∙ ap (all_edited ea) (sym of.a_is)) ∙ k)) gone)
+      at (inl k) = absurd (both_ways _ gone (halves.a_live i (ap (λ (l : List ℕ). is_in i l) (sym left.lead ∙ ap (all_edited ea) (sym of.a_is)) ∙ k)))
       at (inr k) = in_left i (m.gone ++ dropped_by ea m.a) (dropped_by eb m.b) (in_right i m.gone (dropped_by ea m.a) k)
   dropped i gone (inr h) = at (dropped_or_there eb i m.b h)
     where
       at : (is_in i (all_edited eb m.b) ≡ true) ⊎ (is_in i (dropped_by eb m.b) ≡ true) → is_in i after.gone ≡ true
-      at (inl k) = absurd (clash (halves.b_live i (ap (λ (l : List ℕ). is_in i l) (sym right.lead ∙ ap (all_edited eb) (sym of.b_is)) ∙ k)) gone)
+      at (inl k) = absurd (both_ways _ gone (halves.b_live i (ap (λ (l : List ℕ). is_in i l) (sym right.lead ∙ ap (all_edited eb) (sym of.b_is)) ∙ k)))
       at (inr k) = in_right i (m.gone ++ dropped_by ea m.a) (dropped_by eb m.b) k
 
   -- a spared fact of the merge names a number that the told edits drop
@@ -140,12 +127,12 @@ module _ (v : ℕ) (s : Scene) (m : Merge) (a b ca cb : List ℕ) (ea eb : List 
       to p h =
           let k = filter-sound (λ p. not (names_gone after p)) failed p h in
           let w = (lists.each p).0 k.0 in
-          (w.0, not_false (names_gone after p) k.1, w.2)
+          (w.0, not-true (names_gone after p) k.1, w.2)
 
       from : (p : Placed) → Contains m.facts p × IsFalse (names_gone after p) × ¬ (Holds s p.fact) → Contains (filter (λ p. not (names_gone after p)) failed) p
       from p (there, stays, fails) =
           filter-complete (λ p. not (names_gone after p)) failed p
-          ((lists.each p).1 (there, false_from_ne_true (spared p) (λ e. clash (spared_is_gone p there e) stays), fails))
+          ((lists.each p).1 (there, false_from_ne_true (spared p) (λ e. both_ways _ stays (spared_is_gone p there e)), fails))
           (ap not stays)
 
 -- the same of a merge that is told what its halves tell

@@ -2,6 +2,7 @@
 use Rattle.std.proofs.Common.{◌≡◌, refl, sym, ap, ◌∙◌, subst, List, [], ◌∷◌, ◌++◌, ℕ, zero, suc, ◌+◌, ◌-◌, ◌*◌, ◌^◌, true, false, replicate, flat_map, length}
 use Rattle.std.specs.Prelude.{filter}
 use Rattle.std.proofs.lemmas.List.{length-replicate}
+use Rattle.kin_basics.proofs.Places.{get_or-replicate_any}
 use Rattle.kin_motion.specs.declared.fact.Placed.{Placed}
 use Rattle.kin_motion.specs.Chains.{IsUpperChain}
 use Rattle.kin_motion.specs.Merges.{IsListedForm, IsTreeFact, points_under}
@@ -16,7 +17,6 @@ use Rattle.kin_env.specs.declared.branches.Branches.{Branches}
 use Rattle.kin_env.specs.Nodes.{chain_with, passed_at, chain_at, facts_with, facts_at}
 use Rattle.kin_env.specs.Trees.{chain_told, IsEnvelopeAtRest, IsSettledEnvelope, seen_as}
 use Rattle.kin_env.specs.Walks.{AreBlank, slot_in, own_chain, tree_facts}
-use Rattle.kin_env.proofs.Gifts.{same_all}
 use Rattle.kin_env.proofs.Trees.{told_is}
 
 nothing_in_turn : (f : ℕ → List Placed) → ((v : ℕ) → f v ≡ []) → (a n : ℕ) → flat_map f (numbers_from a n) ≡ []
@@ -34,7 +34,7 @@ module _ (b : Branches) (blank : AreBlank b.nodes.items) where
   no_facts = nothing_in_turn (facts_at b.nodes.items) (λ v. ap facts_with (blank.merge v)) 1 (2 ^ b.size - 1)
 
   pub blank_rest : b.slots.items ≡ replicate (2 ^ b.size) false → IsEnvelopeAtRest (seen_as b true)
-  blank_rest slots = record { unmarked = λ i low. no_chain (2 ^ b.size + i) ∙ ap (own_chain i) (sym (ap (λ l. slot_in l i) slots ∙ same_all (2 ^ b.size) i false)); room = ap length slots ∙ length-replicate (2 ^ b.size) false; whole = refl }
+  blank_rest slots = record { unmarked = λ i low. no_chain (2 ^ b.size + i) ∙ ap (own_chain i) (sym (ap (λ l. slot_in l i) slots ∙ get_or-replicate_any (2 ^ b.size) i false)); room = ap length slots ∙ length-replicate (2 ^ b.size) false; whole = refl }
 
   module _ (s : Scene) (none : s.live ≡ []) where
     empty_chain : (test : ℕ → _) → IsUpperChain s (filter test s.live) []

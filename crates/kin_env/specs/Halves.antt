@@ -3,6 +3,7 @@ use Rattle.std.proofs.Common.{◌≡◌, ◌⊎◌, inl, inr, refl, sym, ap, ap�
 use Rattle.std.specs.Prelude.{◌↔◌, Option, Some, None}
 use Rattle.std.proofs.lemmas.Bool.{false_from_ne_true, and_parts}
 use Rattle.std.proofs.lemmas.Bool.Decides.{nat_tests}
+use Rattle.kin_basics.proofs.Tests.{and_same}
 use Rattle.kin_algebra.specs.declared.sign.Sign.{Sign}
 use Rattle.kin_algebra.specs.Signs.{opposite_of}
 use Rattle.kin_motion.specs.declared.form.Form.TheVariants.{Turn}
@@ -188,15 +189,11 @@ module _ (s : Scene) (real : IsReal s) where
       under_it = first_false (is_left s i i) (is_left s i i) (not (is_plus (s.sign (Turn i i i)))) (not_plus (x_sign s i i) ((real_line_laws s real).opposite (pos 1) (pos 0) i i))
 
   alone : (i : ℕ) → IsUpperChain s (i ∷ []) (i ∷ [])
-  alone i = record { members = λ p. own (is_in p (i ∷ [])) (is_bare s (i ∷ []) p) (λ h. only p (in_cases p i [] h)); rising = tt }
+  alone i = record { members = λ p. and_same (is_in p (i ∷ [])) (is_bare s (i ∷ []) p) (λ h. only p (in_cases p i [] h)); rising = tt }
     where
       only : (p : ℕ) → (p ≡ i) ⊎ IsIn p [] → is_bare s (i ∷ []) p ≡ true
       only p (inl e) = subst (λ q. is_bare s (i ∷ []) q ≡ true) (sym e) (alone_bare i)
       only p (inr k) = absurd (let z : false ≡ true = k in cc)
-
-      own : (a b : Bool) → (a ≡ true → b ≡ true) → a ≡ a && b
-      own true b f = sym (f refl)
-      own false b f = refl
 
   -- the chain of a slot is the upper chain of the points under it
   pub leaf_right : (size i : ℕ) (held : Bool) → i < 2 ^ size → ((j : ℕ) → IsIn j s.live → j < 2 ^ size) → is_in i s.live ≡ held → IsUpperChain s (points_under size s (2 ^ size + i)) (own_chain i held)

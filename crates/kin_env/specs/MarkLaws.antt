@@ -3,6 +3,7 @@ use Rattle.std.proofs.Common.{◌≡◌, ◌≢◌, ◌⊎◌, inl, inr, refl, s
 use Rattle.std.specs.Prelude.{◌↔◌, Contains}
 use Rattle.std.proofs.lemmas.Bool.{and_parts, not-true, or_cases, or_left, or_right, cases_eq, false_from_ne_true}
 use Rattle.std.proofs.lemmas.List.{get_or-set_same, get_or-set_other}
+use Rattle.kin_basics.proofs.Tests.{same_test, or_none}
 use Rattle.kin_basics.proofs.Members.{contains_none, contains_head, contains_tail, contains_cases}
 use Rattle.kin_motion.specs.declared.fact.Placed.{Placed}
 use Rattle.kin_motion.specs.declared.form.Form.{Form}
@@ -33,12 +34,7 @@ any_named f (j ∷ is) i c e = at (contains_cases j i is c) (any_named f is i)
 
 -- two lists with the same numbers
 pub same_named : (f : Form) (is js : List ℕ) → ((i : ℕ) → Contains is i ↔ Contains js i) → names_any f is ≡ names_any f js
-same_named f is js same = both (names_any f is) (names_any f js) (λ e. let w = some_named f is e in any_named f js w.0 ((same w.0).0 w.1) w.2) (λ e. let w = some_named f js e in any_named f is w.0 ((same w.0).1 w.1) w.2)
-  where
-    both : (a b : Bool) → (a ≡ true → b ≡ true) → (b ≡ true → a ≡ true) → a ≡ b
-    both true b f g = sym (f refl)
-    both false true f g = g refl
-    both false false f g = refl
+same_named f is js same = same_test (names_any f is) (names_any f js) (λ e. let w = some_named f is e in any_named f js w.0 ((same w.0).0 w.1) w.2) (λ e. let w = some_named f js e in any_named f is w.0 ((same w.0).1 w.1) w.2)
 
 -- ---- numbers of slots
 number_low : (a n i : ℕ) → Contains (numbers_from a n) i → i < a + n
@@ -131,7 +127,3 @@ module _ (t : Envelope) (rest : IsEnvelopeAtRest t) where
               at : (slot ≡ i) ⊎ Contains [] i → Contains (leaving_of (record t { slots = left })) i
               at (inl q) = subst (λ j. Contains (leaving_of (record t { slots = left })) j) q slot_leaves
               at (inr k) = absurd (contains_none i k)
-
-          or_none : (a : Bool) → a || false ≡ a
-          or_none true = refl
-          or_none false = refl

@@ -14,10 +14,9 @@ use Rattle.kin_motion.specs.Numbers.{is_in, IsIn}
 use Rattle.kin_motion.specs.Scene.{Scene, IsReal, Holds}
 use Rattle.kin_motion.specs.Sets.{AreDistinct, ListsExactly}
 use Rattle.kin_motion.proofs.ChainLaws.{one_upper_chain}
-use Rattle.kin_motion.proofs.FailureOrder.{distinct_filter}
 use Rattle.kin_motion.proofs.HullFactLaws.{node_is_inner}
 use Rattle.kin_motion.proofs.RealLaws.{real_line_laws}
-use Rattle.kin_motion.proofs.SetLaws.{exactly_in_words, filter-sound, filter-complete}
+use Rattle.kin_motion.proofs.SetLaws.{exactly_in_words, filter-sound, filter-complete, distinct_filter}
 use Rattle.kin_chain.proofs.MergeDetermined.{merge_is_determined}
 use Rattle.kin_env.specs.Halves.{at_root, are_halves, only_left, only_right, of_both, both_of, facts_of_node, none_at_left, none_at_right, leaf_right}
 use Rattle.kin_env.specs.Joints.{AreHalves}

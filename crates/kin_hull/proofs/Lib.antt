@@ -1,6 +1,5 @@
 pub mod Rounds
 pub mod Meetings
-pub mod Mapping
 pub mod Splitting
 pub mod Parts
 pub mod Settling

@@ -6,8 +6,7 @@ use Rattle.kin_motion.specs.declared.fact.Placed.{Placed}
 use Rattle.kin_motion.specs.Kinetics.{ListsFailing}
 use Rattle.kin_motion.specs.Scene.{Scene, IsReal, Holds}
 use Rattle.kin_motion.specs.TurnedFacts.{IsUpright}
-use Rattle.kin_motion.proofs.FailureOrder.{distinct_filter}
-use Rattle.kin_motion.proofs.SetLaws.{contains_map, contains_mapped, distinct_mapped_on, filter-sound, filter-complete}
+use Rattle.kin_motion.proofs.SetLaws.{contains_map, contains_mapped, distinct_mapped_on, filter-sound, filter-complete, distinct_filter}
 use Rattle.kin_hull.specs.declared.side.Side.{Side}
 use Rattle.kin_hull.specs.declared.side.Side.TheVariants.{Upper, Lower}
 use Rattle.kin_hull.specs.SideLaws.{out_and_in, in_and_out, outward_of, not_of_both, holds_outward}

@@ -4,6 +4,7 @@ use Rattle.std.specs.Prelude.{slice_get, ◌⊎◌}
 use Rattle.std.proofs.lemmas.Bool.{cases_eq, cases_lt, cases_order, both_ways}
 use Rattle.std.proofs.lemmas.List.{set_past}
 use Rattle.std.proofs.lemmas.Option.{same_Some}
+use Rattle.kin_algebra.proofs.Signs.{equal_or_not}
 use Rattle.kin_basics.proofs.Places.{get_within, get-set_same, get-set_other}
 use Rattle.kin_motion.specs.Deltas.{Change}
 use Rattle.kin_motion.specs.Kinetics.{HasChanged}
@@ -11,7 +12,6 @@ use Rattle.kin_motion.specs.Numbers.{is_in}
 use Rattle.kin_list.specs.declared.link.Link.{Link}
 use Rattle.kin_list.specs.Links.{link_facts, facts_from}
 use Rattle.kin_list.proofs.ChangeLaws.{changed_at}
-use Rattle.kin_list.proofs.HeldLaws.{same_sign_or_not}
 use Rattle.kin_list.proofs.RowLaws.{is_in_from_get}
 
 same_link_or_not : (o n : Option Link) → (o ≡ n) ⊎ (o ≢ n)
@@ -19,7 +19,7 @@ same_link_or_not None None = inl refl
 same_link_or_not None (Some n) = inr (λ e. absurd cc)
 same_link_or_not (Some o) None = inr (λ e. absurd cc)
 same_link_or_not (Some o) (Some n) = elim (cases_eq o.right n.right) [
-  | inl e ↦ elim (same_sign_or_not o.sign n.sign) [
+  | inl e ↦ elim (equal_or_not o.sign n.sign) [
     | inl f ↦ inl (ap (λ (l : Link). Some l) (λ t. record { right = e t; sign = f t }))
     | inr d ↦ inr (λ g. d (ap (λ (l : Link). l.sign) (same_Some o n g)))
   ]

@@ -2,13 +2,13 @@
 use Rattle.std.proofs.Common.{◌≡◌, refl, sym, ap, ap₂, ◌∙◌, subst, arith, List, [], ◌∷◌, ℕ, zero, suc, ◌+◌, ◌<◌, true, false, length, Some, None, Option, ℤ, pos, add-one, inl, inr}
 use Rattle.std.specs.Prelude.{slice_get, Contains, ◌↔◌}
 use Rattle.std.proofs.lemmas.Option.{slice_get_within, same_Some, none-some}
-use Rattle.std.proofs.lemmas.Bool.{cases_Bool, both_ways}
+use Rattle.std.proofs.lemmas.Bool.{cases_Bool}
 use Rattle.kin_basics.proofs.Members.{contains_from_get, get_from_contains}
 use Rattle.kin_algebra.specs.declared.sign.Sign.{Sign}
 use Rattle.kin_motion.specs.declared.form.Form.TheVariants.{Line}
 use Rattle.kin_motion.specs.declared.fact.Placed.{Placed}
 use Rattle.kin_motion.specs.Contents.{IsSettledList}
-use Rattle.kin_motion.specs.Numbers.{is_in, IsOnce}
+use Rattle.kin_motion.specs.Numbers.{is_in}
 use Rattle.kin_motion.specs.Orders.{IsOrder, neighbour_facts}
 use Rattle.kin_motion.specs.Scene.{Scene, Holds, placed_at}
 use Rattle.kin_motion.specs.Laws.{HasLineLaws}
@@ -17,16 +17,8 @@ use Rattle.kin_list.specs.declared.link.Link.{Link}
 use Rattle.kin_list.specs.Links.{linked, link_for, facts_from}
 use Rattle.kin_list.specs.Repairs.{IsHeld, IsKnown}
 use Rattle.kin_motion.specs.Sets.{AreDistinct}
-use Rattle.kin_list.proofs.RowLaws.{is_in_from_get, get_from_is_in}
+use Rattle.kin_list.proofs.RowLaws.{get_from_is_in}
 use Rattle.kin_list.proofs.LinkLaws.{has_fact, has_link, facts-distinct, link_for-at, link_for-absent}
-
--- an order has no number twice
-pub apart_from_once : (xs : List ℕ) → IsOnce xs → AreDistinct xs
-apart_from_once [] once p q x a b = absurd cc
-apart_from_once (y ∷ ys) once zero zero x a b = refl
-apart_from_once (y ∷ ys) once zero (suc q) x a b = absurd (both_ways _ (ap (λ n. is_in n ys) (sym (same_Some y x a)) ∙ once.0) (is_in_from_get ys q x b))
-apart_from_once (y ∷ ys) once (suc p) zero x a b = absurd (both_ways _ (ap (λ n. is_in n ys) (sym (same_Some y x b)) ∙ once.0) (is_in_from_get ys p x a))
-apart_from_once (y ∷ ys) once (suc p) (suc q) x a b = ap suc (apart_from_once ys once.1 p q x a b)
 
 -- a link has both parts
 linked_some : (r : Option ℕ) (t : Option Sign) (l : Link) → linked r t ≡ Some l → (r ≡ Some l.right) × (t ≡ Some l.sign)

@@ -7,6 +7,7 @@ use Rattle.kin_motion.specs.Kinetics.{ListsFailing}
 use Rattle.kin_motion.specs.Laws.{HasLineLaws}
 use Rattle.kin_motion.specs.Numbers.{Lists}
 use Rattle.kin_motion.specs.Scene.{Scene}
+use Rattle.kin_motion.proofs.SetLaws.{apart_from_once}
 use Rattle.kin_list.specs.declared.link.Link.{Link}
 use Rattle.kin_list.specs.declared.mark.Mark.TheVariants.{Rest}
 use Rattle.kin_list.specs.Links.{facts_from}
@@ -14,7 +15,7 @@ use Rattle.kin_list.specs.Listing.{names_leaving}
 use Rattle.kin_list.specs.Repairs.{IsHeld, IsKnown, AreCovered}
 use Rattle.kin_list.proofs.ArrangeLaws.{known_chain}
 use Rattle.kin_list.proofs.HeldLaws.{known_from_held, listed_failing}
-use Rattle.kin_list.proofs.SettleLaws.{apart_from_once, settled_after}
+use Rattle.kin_list.proofs.SettleLaws.{settled_after}
 
 module _ (s : Scene) (laws : HasLineLaws s) (dx dy : ℤ) (links : List (Option Link)) (items : List ℕ) (signs : List Sign) (held : IsHeld links items signs [] []) (failing : ListsFailing (facts_from dx dy 0 links) (names_leaving Rest) s []) where
   none_covered : AreCovered items [] [] []

@@ -10,6 +10,7 @@ use Rattle.kin_motion.specs.Numbers.{is_in}
 use Rattle.kin_motion.specs.Scene.{Scene}
 use Rattle.kin_motion.specs.Laws.{HasLineLaws}
 use Rattle.kin_motion.proofs.Members.{in_head}
+use Rattle.kin_motion.proofs.SetLaws.{apart_from_once}
 use Rattle.kin_list.specs.declared.link.Link.{Link}
 use Rattle.kin_list.specs.declared.mark.Mark.{Mark}
 use Rattle.kin_list.specs.declared.mark.Mark.TheVariants.{Rest, Enters, Leaves, Broken}
@@ -20,7 +21,7 @@ use Rattle.kin_list.specs.Repairs.{IsHeld}
 use Rattle.kin_list.specs.Rows.{Row}
 use Rattle.kin_list.specs.Sound.{IsMarkable, IsHeldIf}
 use Rattle.kin_list.proofs.ListLaws.{not_in-without}
-use Rattle.kin_list.proofs.SettleLaws.{apart_from_once, held_after, all_hold, settled_after}
+use Rattle.kin_list.proofs.SettleLaws.{held_after, all_hold, settled_after}
 use Rattle.kin_list.proofs.BoundLaws.{failed_dropped, few_tests}
 
 -- a list that is ready isn't broken

@@ -1,6 +1,8 @@
 -- Every live fact may be asked for.
-use Rattle.std.proofs.Common.{◌≡◌, ◌⊎◌, inl, inr, refl, sym, ap, ◌∙◌, subst, List, [], ◌∷◌, ℕ, zero, suc, ◌+◌, ◌*◌, ◌/◌, ◌%◌, ◌<◌, ◌≤◌, Bool, true, false, cond, map, ℤ, pos, unsigned_abs, min, max, arith}
+use Rattle.std.proofs.Common.{◌≡◌, ◌⊎◌, inl, inr, refl, sym, ap, ◌∙◌, subst, List, [], ◌∷◌, ℕ, zero, suc, ◌+◌, ◌*◌, ◌/◌, ◌%◌, ◌≤◌, Bool, true, false, cond, map, ℤ, pos, unsigned_abs, min, max, arith}
 use Rattle.std.specs.Prelude.{Option, Some, None, Contains, slice_get}
+use Rattle.std.proofs.Math.Nat.{div-add-mod}
+use Rattle.std.proofs.lemmas.Nat.{mod_below}
 use Rattle.std.proofs.lemmas.Bool.{and_parts}
 use Rattle.kin_basics.proofs.Members.{contains_none, contains_cases, contains_from_get}
 use Rattle.kin_motion.specs.declared.form.Form.{Form}
@@ -25,6 +27,7 @@ use Rattle.kin_motion.proofs.AgreementLaws.{kept-members}
 use Rattle.kin_motion.proofs.NearLaws.{octant_at}
 use Rattle.kin_motion.proofs.AskableMerges.{AllLive, node_form_askable}
 use Rattle.kin_motion.proofs.Members.{in_head, in_tail}
+use Rattle.kin_motion.proofs.NodeLaws.{held_slot}
 
 -- ---- orders
 neighbours_askable : (live : List ℕ) (dx dy : ℤ) → unsigned_abs dx ≤ 16 → unsigned_abs dy ≤ 16 → (xs : List ℕ) → AllLive live xs → (f : Form) → Contains (neighbour_forms dx dy xs) f → IsAskable live f
@@ -98,24 +101,13 @@ near_live live slot p c x y = (of_two (min p c) (least p c), of_two (max p c) (m
     of_two k (inl e) = subst (λ i. IsIn i live) (sym e) x
     of_two k (inr e) = subst (λ i. IsIn i live) (sym e) y
 
-pub held_slot : (slots : List (Option Near)) (n : ℕ) (a : Near) → item_in slots n ≡ Some a → slice_get slots n ≡ Some (Some a)
-held_slot [] n a e = absurd cc
-held_slot (x ∷ slots) zero a e = ap Some e
-held_slot (x ∷ slots) (suc n) a e = held_slot slots n a e
-
 pair_live : (size : ℕ) (s : Scene) (slots : List (Option Near)) → AreNearSlots size s slots → (n : ℕ) (a : Near) → item_in slots n ≡ Some a → AreLive s.live a
 pair_live size s slots filled n a e =
-    let o = octant_at (n % 8) (low n) in
-    let held : slice_get slots (8 * (n / 8) + n % 8) ≡ Some (Some a) = ap (slice_get slots) (whole n) ∙ held_slot slots n a e in
+    let o = octant_at (n % 8) (mod_below n 8 (omega arith)) in
+    let held : slice_get slots (8 * (n / 8) + n % 8) ≡ Some (Some a) = ap (slice_get slots) (div-add-mod n 8) ∙ held_slot slots n a e in
     let k : HoldsNear s o.0 (n / 8) (8 * (n / 8) + n % 8) (Some a) = filled.each (n / 8) (n % 8) o.0 (Some a) o.1 held in
     subst (AreLive s.live) (sym k.3) (near_live s.live _ (n / 8) k.0 k.1 (member o.0 (n / 8) k.0 k.2))
   where
-    low : (n : ℕ) → n % 8 < 8
-    low n = omega arith
-
-    whole : (n : ℕ) → 8 * (n / 8) + n % 8 ≡ n
-    whole n = omega arith
-
     member : (o : Octant) (p c : ℕ) → IsCandidate s o p c → IsIn c s.live
     member o p c h = (and_parts (is_in c s.live) (is_in_octant s o p c) (sym (kept-members (is_in_octant s o p) s.live c) ∙ h.member)).0
 

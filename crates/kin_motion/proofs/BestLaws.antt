@@ -112,19 +112,19 @@ module _ (s : Scene) (laws : HasLineLaws s) (dx dy : ℤ) where
           let zero_here : s.sign (Line dx dy (pos 0) i j) ≡ Zero = ap (λ k. s.sign (Line dx dy (pos 0) i k)) (sym e) ∙ itself i in
           ((λ f. absurd (let g : Zero ≡ Plus = sym zero_here ∙ f in cc)), (λ h f. absurd (omega (arith, h, e))))
 
+  pub farther-otherwise : (i j : ℕ) → beats s (along_key dx dy) i j ≡ false → (i ≡ j) ⊎ (beats s (along_key dx dy) j i ≡ true)
+  farther-otherwise i j e = turned (farther_otherwise (s.sign (Line dx dy (pos 0) i j)) i j e)
+    where
+      turned : (i ≡ j) ⊎ (left_is_farther (opposite_of (s.sign (Line dx dy (pos 0) i j))) j i ≡ true) → (i ≡ j) ⊎ (beats s (along_key dx dy) j i ≡ true)
+      turned (inl f) = inl f
+      turned (inr f) = inr (ap (λ t. left_is_farther t j i) (laws.opposite dx dy i j) ∙ f)
+
   pub extreme_agrees : IsExtremePoint s dx dy (extreme_of s dx dy)
   unfolding IsTop
   extreme_agrees = at (extreme_of s dx dy) refl
     where
-      otherwise : (i j : ℕ) → beats s (along_key dx dy) i j ≡ false → (i ≡ j) ⊎ (beats s (along_key dx dy) j i ≡ true)
-      otherwise i j e = turned (farther_otherwise (s.sign (Line dx dy (pos 0) i j)) i j e)
-        where
-          turned : (i ≡ j) ⊎ (left_is_farther (opposite_of (s.sign (Line dx dy (pos 0) i j))) j i ≡ true) → (i ≡ j) ⊎ (beats s (along_key dx dy) j i ≡ true)
-          turned (inl f) = inl f
-          turned (inr f) = inr (ap (λ t. left_is_farther t j i) (laws.opposite dx dy i j) ∙ f)
-
       at : (o : Option ℕ) → extreme_of s dx dy ≡ o → MatchOption o (s.live ≡ []) (λ i. IsExtreme s dx dy s.live i)
-      at None e = none_there s (along_key dx dy) otherwise (λ i j k. farther_through _ _ _ i j k (laws.chain dx dy i j k)) s.live e
+      at None e = none_there s (along_key dx dy) farther-otherwise (λ i j k. farther_through _ _ _ i j k (laws.chain dx dy i j k)) s.live e
       at (Some i) e =
-          let top = best_is_top s (along_key dx dy) otherwise (λ i j k. farther_through _ _ _ i j k (laws.chain dx dy i j k)) s.live i e in
+          let top = best_is_top s (along_key dx dy) farther-otherwise (λ i j k. farther_through _ _ _ i j k (laws.chain dx dy i j k)) s.live i e in
           extreme_from_top i top.0 top.1

@@ -12,8 +12,8 @@ use Rattle.kin_motion.specs.Scene.{Scene, x_sign}
 use Rattle.kin_motion.specs.Chains.{is_plus, is_left, IsUpperChain}
 use Rattle.kin_motion.specs.Merges.{Half.{A, B}, Half, Breakpoint, is_of, breakpoints_of, slope_form, goes_first, is_placed_before, IsBreakpointList, put_before, merged, breakpoint_list, own_of}
 use Rattle.kin_motion.specs.Laws.{HasSlopeLaws, HasTurnLaws}
-use Rattle.kin_motion.proofs.SetLaws.{distinct_cons, distinct_none, filter-sound, filter-complete}
-use Rattle.kin_motion.proofs.JournalLaws.{first_of_chain, same_list}
+use Rattle.kin_motion.proofs.SetLaws.{filter-sound, filter-complete}
+use Rattle.kin_motion.proofs.ListChains.{chain_tail, chain_first, chain_distinct, same_list}
 use Rattle.kin_motion.proofs.MergeLaws.{Falls, upper_falls}
 use Rattle.kin_motion.proofs.ChainLaws.{plus_from}
 
@@ -50,7 +50,7 @@ own_half h (i ∷ j ∷ ps) e c = at (contains_cases (record { half = h; left = 
     at (inl f) rest = sym (ap (λ (x : Breakpoint). x.half) f)
     at (inr k) rest = rest k
 
-itself : (h : Half) → is_of h h ≡ true
+pub itself : (h : Half) → is_of h h ≡ true
 itself A = refl
 itself B = refl
 
@@ -186,15 +186,11 @@ module _ (s : Scene) (slopes : HasSlopeLaws s) where
       → IsChain (is_placed_before s) (merged s es fs) × (own_of A (merged s es fs) ≡ es) × (own_of B (merged s es fs) ≡ fs)
   merged_right [] fs all_a all_b c d = (d, own_none A B fs refl all_b, own_all B fs all_b)
   merged_right (e ∷ es) fs all_a all_b c d =
-      let rest = merged_right es fs (λ f k. all_a f (contains_tail e f es k)) all_b (tail_of_chain es c) d in
+      let rest = merged_right es fs (λ f k. all_a f (contains_tail e f es k)) all_b (chain_tail comes e es c) d in
       let of_a = all_a e (contains_head e es) in
-      let first : IsFirst e of_a (merged s es fs) = λ f k h. (right_signs e f (first_of_chain comes comes_never comes_through e es c f (in_rest rest.1 f k h))).2 in
+      let first : IsFirst e of_a (merged s es fs) = λ f k h. (right_signs e f (chain_first comes comes_through e es c f (in_rest rest.1 f k h))).2 in
       (put_chain e of_a (merged s es fs) first rest.0, put_own_a e of_a (merged s es fs) first ∙ ap (λ (gs : List Breakpoint). e ∷ gs) rest.1, put_own_b e of_a (merged s es fs) first ∙ rest.2)
     where
-      tail_of_chain : (es : List Breakpoint) → IsChain comes (e ∷ es) → IsChain comes es
-      tail_of_chain [] c = tt
-      tail_of_chain (f ∷ fs) c = c.1
-
       in_rest : own_of A (merged s es fs) ≡ es → (f : Breakpoint) → Contains (merged s es fs) f → f.half ≡ A → Contains es f
       in_rest q f k h = subst (λ (gs : List Breakpoint). Contains gs f) q (own_has A (merged s es fs) f k h)
 
@@ -240,10 +236,4 @@ module _ (s : Scene) (slopes : HasSlopeLaws s) where
 
   -- no breakpoint stands twice
   pub list_distinct : (es : List Breakpoint) → IsChain comes es → AreDistinct es
-  list_distinct [] c = distinct_none
-  list_distinct (e ∷ es) c =
-      distinct_cons e es (λ k. comes_never e (first_of_chain comes comes_never comes_through e es c e k)) (list_distinct es (rest es c))
-    where
-      rest : (es : List Breakpoint) → IsChain comes (e ∷ es) → IsChain comes es
-      rest [] c = tt
-      rest (f ∷ fs) c = c.1
+  list_distinct = chain_distinct comes comes_through comes_never

@@ -7,7 +7,7 @@ use Rattle.kin_algebra.specs.Signs.{opposite_of, SumMayBe}
 use Rattle.kin_motion.specs.Scene.{Scene, x_sign}
 use Rattle.kin_motion.specs.Chains.{is_plus, is_zero, is_left, is_bare, IsUpperChain}
 use Rattle.kin_motion.specs.Laws.{HasLineLaws}
-use Rattle.kin_motion.proofs.Chains.{same_chain}
+use Rattle.kin_motion.proofs.ListChains.{same_chain}
 use Rattle.kin_motion.specs.Numbers.{is_in}
 
 -- ---- what the tests of signs say

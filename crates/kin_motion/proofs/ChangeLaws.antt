@@ -1,24 +1,21 @@
 -- What structures report: nothing, one fact in the place of another, and the reports of two parts together.
-use Rattle.std.proofs.Common.{◌≡◌, ◌≢◌, ◌⊎◌, inl, inr, refl, sym, ap, ◌∙◌, List, [], ◌∷◌, ◌++◌}
+use Rattle.std.proofs.Common.{◌≡◌, ◌≢◌, ◌⊎◌, inl, inr, refl, sym, List, [], ◌∷◌, ◌++◌}
 use Rattle.std.specs.Prelude.{Contains}
-use Rattle.std.proofs.lemmas.List.{append-nil, append_assoc}
 use Rattle.std.proofs.lemmas.List.Elements.{Contains-append_left, Contains-append_right, Contains-append_cases}
 use Rattle.kin_basics.proofs.Members.{contains_none, contains_head, contains_cases}
 use Rattle.kin_motion.specs.declared.fact.Placed.{Placed}
 use Rattle.kin_motion.specs.Deltas.{Change}
 use Rattle.kin_motion.specs.Kinetics.{HasGained, HasChanged}
-use Rattle.kin_motion.proofs.SetLaws.{exactly_none, exactly_one, exactly_both, exactly_in_words}
+use Rattle.kin_motion.proofs.Gains.{gained_none, gained_both}
+use Rattle.kin_motion.proofs.SetLaws.{exactly_one}
 
 -- the facts that were there and are not
 abbrev pub IsLost : List Placed → List Placed → Placed → Type 0
 IsLost old new p = Contains old p × ¬ (Contains new p)
 
-nothing_gained : (xs fs : List Placed) → HasGained xs xs (IsLost fs fs)
-nothing_gained xs fs = record { more = []; joined = sym (append-nil xs); exactly = exactly_none _ (λ p w. w.1 w.0) }
-
 -- where the facts are the same, nothing is reported
 pub nothing_changed : (fs : List Placed) (d : Change) → HasChanged fs fs d d
-nothing_changed fs d = record { dropped = nothing_gained d.dropped fs; born = nothing_gained d.born fs }
+nothing_changed fs d = record { dropped = gained_none d.dropped (IsLost fs fs) (λ p w. w.1 w.0); born = gained_none d.born (IsLost fs fs) (λ p w. w.1 w.0) }
 
 one_gained : (xs : List Placed) (p q : Placed) → p ≢ q → HasGained xs (xs ++ p ∷ []) (IsLost (p ∷ []) (q ∷ []))
 one_gained xs p q n = record {
@@ -60,13 +57,7 @@ module _ (xs xs' ys ys' : List Placed) (apart : (p : Placed) → Contains xs p �
       from w (inr h) = inr (h, λ k. w.1 (Contains-append_right xs' ys' p k))
 
   pub both_gained : (first second third : List Placed) → HasGained first second (IsLost xs xs') → HasGained second third (IsLost ys ys') → HasGained first third (IsLost (xs ++ ys) (xs' ++ ys'))
-  both_gained first second third g h = record {
-    more = g.more ++ h.more;
-    joined = h.joined ∙ ap (λ l. l ++ h.more) g.joined ∙ append_assoc first g.more h.more;
-    exactly =
-        exactly_in_words (g.more ++ h.more) (λ p. IsLost xs xs' p ⊎ IsLost ys ys' p) (IsLost (xs ++ ys) (xs' ++ ys')) lost-words
-        (exactly_both g.more h.more (IsLost xs xs') (IsLost ys ys') g.exactly h.exactly (λ p w v. apart p (inl w.0) (inl v.0)));
-  }
+  both_gained first second third = gained_both first second third (IsLost xs xs') (IsLost ys ys') (IsLost (xs ++ ys) (xs' ++ ys')) (λ p w v. apart p (inl w.0) (inl v.0)) lost-words
 
 -- the reports of two parts, one after the other, are the report of both
 pub both_changed : (xs xs' ys ys' : List Placed) (c d e : Change) → ((p : Placed) → Contains xs p ⊎ Contains xs' p → Contains ys p ⊎ Contains ys' p → ⊥)

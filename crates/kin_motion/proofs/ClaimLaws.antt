@@ -26,7 +26,8 @@ use Rattle.kin_motion.specs.Scene.{Scene, x_sign, y_sign}
 use Rattle.kin_motion.specs.Boxes.{is_not_minus, is_at_least, is_inside}
 use Rattle.kin_motion.specs.Chains.{is_plus, is_zero, is_left, is_double, is_above, is_under_segment, is_bare, IsUpperChain}
 use Rattle.kin_motion.specs.Claims.{WrongRectIsEmpty, ChainIsStrict, ChainHasLeast}
-use Rattle.kin_motion.proofs.TurningLaws.{constant_sign}
+use Rattle.kin_motion.proofs.MergeLaws.{plus_again}
+use Rattle.kin_num.proofs.Constants.{constant_sign}
 use Rattle.kin_motion.proofs.AgreementLaws.{none_passes}
 
 -- ---- rectangles
@@ -105,11 +106,6 @@ wrong_rect_is_empty ms m r canonical wrong = none_left (is_inside ms m r) (fille
 -- ---- chains
 bare_of : (s : Scene) (set xs : List ℕ) (p : ℕ) → IsUpperChain s set xs → IsIn p xs → is_bare s set p ≡ true
 bare_of s set xs p u h = (and_parts (is_in p set) (is_bare s set p) (sym (u.members p) ∙ h)).1
-
-plus_again : (t : Sign) → not (is_plus t) ≡ false → t ≡ Plus
-plus_again Plus e = refl
-plus_again Zero e = absurd cc
-plus_again Minus e = absurd cc
 
 left_by : (s : Scene) (p q : ℕ) → x_sign s p q ≡ Plus → is_left s p q ≡ true
 left_by s p q e = ap is_plus e

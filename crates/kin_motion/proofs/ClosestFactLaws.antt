@@ -1,6 +1,6 @@
 -- The computed facts of the closest pair are its facts.
-use Rattle.std.proofs.Common.{◌≡◌, ◌⊎◌, inl, inr, refl, sym, ap, ◌∙◌, subst, arith, List, [], ◌∷◌, ◌++◌, ℕ, zero, suc, ◌+◌, ◌<◌, ◌≤◌, true, false, not, map, ℤ}
-use Rattle.std.specs.Prelude.{Option, Some, slice_get}
+use Rattle.std.proofs.Common.{◌≡◌, ◌⊎◌, inl, inr, refl, sym, ap, ◌∙◌, subst, arith, List, [], ◌∷◌, ◌++◌, ℕ, zero, suc, ◌+◌, ◌<◌, ◌≤◌, true, map, ℤ}
+use Rattle.std.specs.Prelude.{Some, slice_get}
 use Rattle.std.proofs.lemmas.Option.{slice_get_within}
 use Rattle.kin_algebra.specs.declared.sign.Sign.{Sign}
 use Rattle.kin_algebra.specs.declared.sign.Sign.TheVariants.{Minus, Zero, Plus}
@@ -10,7 +10,7 @@ use Rattle.kin_motion.specs.declared.fact.Placed.{Placed}
 use Rattle.kin_motion.specs.Sets.{ListsExactly}
 use Rattle.kin_motion.specs.Scene.{Scene, IsReal, placed_at}
 use Rattle.kin_motion.specs.Orders.{IsOrderFact, neighbour_forms, order_of, order_facts}
-use Rattle.kin_motion.specs.Tournaments.{beats, item_in, IsNodeFact, tournament_facts}
+use Rattle.kin_motion.specs.Tournaments.{beats, IsNodeFact, tournament_facts}
 use Rattle.kin_motion.specs.Octants.{Direction, eight_directions}
 use Rattle.kin_motion.specs.ClosestPairs.{Near, left_is_nearer, distance_key}
 use Rattle.kin_motion.specs.ClosestFacts.{near_slots, IsWedgeFact, IsPairFact, wedge_facts_from}
@@ -19,11 +19,12 @@ use Rattle.kin_motion.specs.Agreements.{OrderFactsAgree, ClosestFactsAgree}
 use Rattle.kin_motion.proofs.SetLaws.{contains_mapped, exactly_none, exactly_both, exactly_in_words, exactly_mapped}
 use Rattle.kin_motion.proofs.FactLaws.{neighbour_facts-exact}
 use Rattle.kin_motion.proofs.RealLaws.{real_line_laws}
-use Rattle.kin_motion.proofs.DistanceLaws.{LessPair, less_from, not_both, same_or_less, nearer_total, nearer_transitive, real_distance_laws}
+use Rattle.kin_motion.proofs.DistanceLaws.{less_from, not_both, nearer_transitive, real_distance_laws}
+use Rattle.kin_motion.proofs.ClosestLaws.{nearer-otherwise}
 use Rattle.kin_motion.proofs.NearLaws.{near_agrees, one_near, own-slot}
 use Rattle.kin_motion.specs.Parts.{moved_by}
 use Rattle.kin_motion.proofs.PartLaws.{moved_one}
-use Rattle.kin_motion.proofs.NodeLaws.{tournament_agrees}
+use Rattle.kin_motion.proofs.NodeLaws.{held_slot, tournament_agrees}
 use Rattle.kin_motion.proofs.Proved.{order_proved}
 
 pub order_facts_agree : OrderFactsAgree
@@ -73,17 +74,6 @@ module _ (s : Scene) (real : IsReal s) where
 
 -- ---- the tournament of pairs
 module _ (s : Scene) (laws : HasDistanceLaws s) where
-  pub nearer-otherwise : (p q : Near) → beats s distance_key p q ≡ false → (p ≡ q) ⊎ (beats s distance_key q p ≡ true)
-  nearer-otherwise p q e = at (same_or_less p q)
-    where
-      at : (p ≡ q) ⊎ (LessPair p q ⊎ LessPair q p) → (p ≡ q) ⊎ (beats s distance_key q p ≡ true)
-      at (inl f) = inl f
-      at (inr less) = inr (nearer_total s laws p q (λ f. different f less) ∙ ap not e)
-        where
-          different : p ≡ q → LessPair p q ⊎ LessPair q p → ⊥
-          different f (inl h) = let g : LessPair q q = subst (λ (x : Near). LessPair x q) f h in not_both q q g g
-          different f (inr h) = let g : LessPair q q = subst (λ (x : Near). LessPair q x) f h in not_both q q g g
-
   pub nearer-never : (p : Near) → beats s distance_key p p ≡ true → ⊥
   nearer-never p e = at (s.sign (Dist p.i p.j p.i p.j)) (laws.opposite p.i p.j p.i p.j) e
     where
@@ -91,11 +81,6 @@ module _ (s : Scene) (laws : HasDistanceLaws s) where
       at Minus o f = absurd cc
       at Plus o f = absurd cc
       at Zero o f = let g = less_from p p f in not_both p p g g
-
-held_item : {A : Type 0} (slots : List (Option A)) (i : ℕ) (a : A) → item_in slots i ≡ Some a → slice_get slots i ≡ Some (Some a)
-held_item {A} [] i a e = absurd cc
-held_item {A} (x ∷ xs) zero a e = ap (λ (y : Option A). Some y) e
-held_item {A} (x ∷ xs) (suc i) a e = held_item xs i a e
 
 module _ (size : ℕ) (s : Scene) (real : IsReal s) where
   laws : HasDistanceLaws s
@@ -106,8 +91,8 @@ module _ (size : ℕ) (s : Scene) (real : IsReal s) where
       let slots = near_agrees s real size in
       tournament_agrees s distance_key (nearer-otherwise s laws) (nearer_transitive s laws) (nearer-never s laws) (size + 3) (near_slots size s)
       (λ i j a e f.
-      let g = own-slot s real size i (near_slots size s) a slots (held_item (near_slots size s) i a e) in
-      let h = own-slot s real size j (near_slots size s) a slots (held_item (near_slots size s) j a f) in
+      let g = own-slot s real size i (near_slots size s) a slots (held_slot (near_slots size s) i a e) in
+      let h = own-slot s real size j (near_slots size s) a slots (held_slot (near_slots size s) j a f) in
       sym g ∙ h)
       (let c = slots.count in omega (arith, c))
 

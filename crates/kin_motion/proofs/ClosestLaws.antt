@@ -7,6 +7,7 @@ use Rattle.kin_basics.proofs.Members.{contains_cases, contains_tail}
 use Rattle.kin_algebra.specs.declared.sign.Sign.{Sign}
 use Rattle.kin_algebra.specs.declared.sign.Sign.TheVariants.{Minus, Zero, Plus}
 use Rattle.kin_algebra.specs.Signs.{opposite_of}
+use Rattle.kin_algebra.proofs.Signs.{zero_from_opposite}
 use Rattle.kin_motion.specs.declared.form.Form.TheVariants.{Dist}
 use Rattle.kin_motion.specs.Numbers.{is_in, IsIn, filled_from}
 use Rattle.kin_motion.specs.Scene.{Scene}
@@ -95,14 +96,16 @@ not_closer Minus p q e = absurd cc
 not_closer Zero p q e = ((λ f. absurd cc), (λ h f. not_both p q (less_from p q e) h))
 not_closer Plus p q e = ((λ f. absurd cc), (λ h f. absurd cc))
 
+pub nearer-otherwise : (s : Scene) → HasDistanceLaws s → (p q : Near) → beats s distance_key p q ≡ false → (p ≡ q) ⊎ (beats s distance_key q p ≡ true)
+nearer-otherwise s laws p q e = turned (nearer_otherwise (s.sign (Dist p.i p.j q.i q.j)) p q e)
+  where
+    turned : (p ≡ q) ⊎ (left_is_nearer (opposite_of (s.sign (Dist p.i p.j q.i q.j))) q p ≡ true) → (p ≡ q) ⊎ (beats s distance_key q p ≡ true)
+    turned (inl f) = inl f
+    turned (inr f) = inr (ap (λ t. left_is_nearer t q p) (laws.opposite p.i p.j q.i q.j) ∙ f)
+
 module _ (s : Scene) (laws : HasDistanceLaws s) (rises : Rises s.live) where
   itself : (i j : ℕ) → s.sign (Dist i j i j) ≡ Zero
-  itself i j = own (s.sign (Dist i j i j)) (laws.opposite i j i j)
-    where
-      own : (t : Sign) → t ≡ opposite_of t → t ≡ Zero
-      own Minus e = absurd cc
-      own Zero e = refl
-      own Plus e = absurd cc
+  itself i j = zero_from_opposite (s.sign (Dist i j i j)) (laws.opposite i j i j)
 
   no_self : (p : Near) → LessPair p p → ⊥
   no_self p h = not_both p p h h
@@ -147,17 +150,10 @@ module _ (s : Scene) (laws : HasDistanceLaws s) (rises : Rises s.live) where
   unfolding IsTop
   closest_agrees = at (best_of s distance_key (pairs_of s.live)) refl
     where
-      otherwise : (p q : Near) → beats s distance_key p q ≡ false → (p ≡ q) ⊎ (beats s distance_key q p ≡ true)
-      otherwise p q e = turned (nearer_otherwise (s.sign (Dist p.i p.j q.i q.j)) p q e)
-        where
-          turned : (p ≡ q) ⊎ (left_is_nearer (opposite_of (s.sign (Dist p.i p.j q.i q.j))) q p ≡ true) → (p ≡ q) ⊎ (beats s distance_key q p ≡ true)
-          turned (inl f) = inl f
-          turned (inr f) = inr (ap (λ t. left_is_nearer t q p) (laws.opposite p.i p.j q.i q.j) ∙ f)
-
       at : (o : Option Near) → best_of s distance_key (pairs_of s.live) ≡ o → IsClosest s (pair_in o)
-      at None e = one_alone (none_there s distance_key otherwise (nearer_transitive s laws) (pairs_of s.live) e)
+      at None e = one_alone (none_there s distance_key (nearer-otherwise s laws) (nearer_transitive s laws) (pairs_of s.live) e)
       at (Some p) e =
-          let top = best_is_top s distance_key otherwise (nearer_transitive s laws) (pairs_of s.live) p e in
+          let top = best_is_top s distance_key (nearer-otherwise s laws) (nearer_transitive s laws) (pairs_of s.live) p e in
           from_top p top.0 top.1
 
 pub closest_proved : ClosestAgrees

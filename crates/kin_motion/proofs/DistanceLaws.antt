@@ -7,6 +7,7 @@ use Rattle.kin_basics.proofs.Integers.{difference-turned}
 use Rattle.kin_algebra.proofs.Ring.{by_ring, quotes}
 use Rattle.kin_algebra.specs.declared.sign.Sign.{Sign}
 use Rattle.kin_algebra.specs.declared.sign.Sign.TheVariants.{Minus, Zero, Plus}
+use Rattle.kin_algebra.proofs.Signs.{by_signs}
 use Rattle.kin_num.specs.Quadratic.{Quadratic}
 use Rattle.kin_algebra.specs.Signs.{opposite_of, SumMayBe}
 use Rattle.kin_num.proofs.SignLaws.{negated}
@@ -18,7 +19,7 @@ use Rattle.kin_motion.specs.Scene.{Scene, IsReal}
 use Rattle.kin_motion.specs.Tournaments.{beats}
 use Rattle.kin_motion.specs.ClosestPairs.{Near, is_less_pair, left_is_nearer, distance_key}
 use Rattle.kin_motion.specs.Laws.{HasDistanceLaws}
-use Rattle.kin_motion.proofs.RealLaws.{by_signs, line_sum, opposite_forms}
+use Rattle.kin_motion.proofs.RealLaws.{line_sum, opposite_forms}
 
 in_between : (a b c : ℤ) → c -ℤ a ≡ (b -ℤ a) +ℤ (c -ℤ b)
 in_between a b c = by_ring (a ∷ b ∷ c ∷ []) _ _ (search quotes depth 20) (search quotes depth 20) refl

@@ -1,5 +1,5 @@
 -- The computed facts of an extreme point are its facts.
-use Rattle.std.proofs.Common.{◌≡◌, ◌⊎◌, inl, inr, refl, ap, ◌∙◌, arith, List, ℕ, zero, suc, ◌+◌, ◌^◌, Bool, true, false, cond, map, length, ℤ, pos, nat_lt}
+use Rattle.std.proofs.Common.{◌≡◌, refl, arith, List, ℕ, zero, suc, ◌+◌, ◌^◌, Bool, true, false, cond, map, length, ℤ, pos, nat_lt}
 use Rattle.std.specs.Prelude.{Some, None}
 use Rattle.std.proofs.lemmas.Bool.Decides.{nat_tests}
 use Rattle.kin_algebra.specs.declared.sign.Sign.{Sign}
@@ -13,7 +13,7 @@ use Rattle.kin_motion.specs.Extremes.{left_is_farther, along_key, slot_of_point,
 use Rattle.kin_motion.specs.Laws.{HasLineLaws}
 use Rattle.kin_motion.specs.Agreements.{ExtremeFactsAgree}
 use Rattle.kin_motion.proofs.RealLaws.{real_line_laws}
-use Rattle.kin_motion.proofs.BestLaws.{farther_through, farther_otherwise}
+use Rattle.kin_motion.proofs.BestLaws.{farther_through, farther-otherwise}
 use Rattle.kin_motion.proofs.NodeLaws.{tournament_agrees}
 
 number_in : (live : List ℕ) (j a : ℕ) → slot_of_point live j ≡ Some a → j ≡ a
@@ -34,13 +34,6 @@ slot_count live n zero = refl
 slot_count live n (suc k) = let f = slot_count live (n + 1) k in omega (arith, f)
 
 module _ (s : Scene) (laws : HasLineLaws s) (dx dy : ℤ) where
-  pub farther-otherwise : (i j : ℕ) → beats s (along_key dx dy) i j ≡ false → (i ≡ j) ⊎ (beats s (along_key dx dy) j i ≡ true)
-  farther-otherwise i j e = turned (farther_otherwise (s.sign (Line dx dy (pos 0) i j)) i j e)
-    where
-      turned : (i ≡ j) ⊎ (left_is_farther (opposite_of (s.sign (Line dx dy (pos 0) i j))) j i ≡ true) → (i ≡ j) ⊎ (beats s (along_key dx dy) j i ≡ true)
-      turned (inl f) = inl f
-      turned (inr f) = inr (ap (λ t. left_is_farther t j i) (laws.opposite dx dy i j) ∙ f)
-
   pub farther-through : (i j k : ℕ) → beats s (along_key dx dy) i j ≡ true → beats s (along_key dx dy) j k ≡ true → beats s (along_key dx dy) i k ≡ true
   farther-through i j k = farther_through _ _ _ i j k (laws.chain dx dy i j k)
 

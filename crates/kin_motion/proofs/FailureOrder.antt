@@ -1,53 +1,20 @@
 -- The computed failures are in the journal's order.
-use Rattle.std.proofs.Common.{◌≡◌, ◌≢◌, ◌⊎◌, inl, inr, refl, sym, ap, ◌∙◌, subst, arith, List, [], ◌∷◌, Bool, true, false, cond, ℤ, map}
+use Rattle.std.proofs.Common.{◌≡◌, ◌≢◌, ◌⊎◌, inl, inr, refl, sym, ap, ◌∙◌, arith, List, [], ◌∷◌, Bool, true, false, ℤ, map}
 use Rattle.std.specs.Prelude.{Contains, int_lt, int_le, filter}
 use Rattle.std.proofs.lemmas.Int.{ints}
-use Rattle.kin_basics.proofs.Members.{contains_head, contains_tail}
 use Rattle.kin_num.specs.declared.instant.Moment.{Moment}
 use Rattle.kin_motion.specs.declared.form.Form.{Form}
 use Rattle.kin_motion.specs.declared.form.Form.TheVariants.{Line, Turn, Slope, Dist}
-use Rattle.kin_motion.specs.Numbers.{IsChain, put_in, sorted_by}
-use Rattle.kin_motion.specs.Sets.{AreDistinct}
+use Rattle.kin_motion.specs.Numbers.{IsChain}
 use Rattle.kin_motion.specs.Scene.{IsReal}
 use Rattle.kin_motion.specs.Live.{Certificate, live_facts}
 use Rattle.kin_motion.specs.Journal.{Setting, Failure, IsFailure, failures_at, seen_in, has_failed, is_less_rank, form_rank, rank_of, is_listed_before}
 use Rattle.kin_motion.specs.Agreements.{FitsSize}
-use Rattle.kin_motion.proofs.SetLaws.{distinct_cons, distinct_head, distinct_tail, distinct_none, distinct_mapped, filter-sound}
+use Rattle.kin_motion.proofs.SetLaws.{distinct_filter, distinct_mapped}
 use Rattle.kin_motion.proofs.JournalLaws.{by_first, by_rest}
-use Rattle.kin_motion.proofs.LiveFactLaws.{live_facts_agree, failures_agree, sorted-has}
+use Rattle.kin_motion.proofs.LiveFactLaws.{live_facts_agree, failures_agree}
+use Rattle.kin_motion.proofs.Sorting.{sorted-has, sorted-in_order}
 use Rattle.kin_motion.proofs.LiveFactsHold.{live_fact_holds}
-
--- ---- sorting a list of which any two different members are one before the other
-module _ {A : Type 0} (lt : A → A → Bool) where
-  put-in_order : (x : A) (ys : List A) → ((y : A) → Contains ys y → lt x y ≡ false → lt y x ≡ true) → IsChain lt ys → IsChain lt (put_in lt x ys)
-  put-in_order x [] total c = tt
-  put-in_order x (y ∷ []) total c = at (lt x y) refl
-    where
-      at : (b : Bool) → lt x y ≡ b → IsChain lt (cond b (x ∷ y ∷ []) (y ∷ x ∷ []))
-      at true e = (e, tt)
-      at false e = (total y (contains_head y []) e, tt)
-  put-in_order x (y ∷ z ∷ ys) total c = at (lt x y) refl (lt x z) refl (put-in_order x (z ∷ ys) (λ w h. total w (contains_tail y w (z ∷ ys) h)) c.1)
-    where
-      at : (b : Bool) → lt x y ≡ b → (d : Bool) → lt x z ≡ d → IsChain lt (cond d (x ∷ z ∷ ys) (z ∷ put_in lt x ys)) → IsChain lt (cond b (x ∷ y ∷ z ∷ ys) (y ∷ cond d (x ∷ z ∷ ys) (z ∷ put_in lt x ys)))
-      at true e d f r = (e, c)
-      at false e true f r = (total y (contains_head y (z ∷ ys)) e, r)
-      at false e false f r = (c.0, r)
-
-  sorted-in_order : (xs : List A) → AreDistinct xs → ((x y : A) → Contains xs x → Contains xs y → x ≢ y → lt x y ≡ false → lt y x ≡ true) → IsChain lt (sorted_by lt xs)
-  sorted-in_order [] d total = tt
-  sorted-in_order (x ∷ xs) d total =
-      put-in_order x (sorted_by lt xs)
-      (λ y h. let there : Contains xs y = (sorted-has lt xs y).0 h in
-      total x y (contains_head x xs) (contains_tail x y xs there) (λ e. distinct_head x xs d (subst (Contains xs) (sym e) there)))
-      (sorted-in_order xs (distinct_tail x xs d) (λ y z h k. total y z (contains_tail x y xs h) (contains_tail x z xs k)))
-
-pub distinct_filter : {A : Type 0} (test : A → Bool) (xs : List A) → AreDistinct xs → AreDistinct (filter test xs)
-distinct_filter {A} test [] d = distinct_none
-distinct_filter {A} test (x ∷ xs) d = at (test x) (distinct_filter test xs (distinct_tail x xs d))
-  where
-    at : (b : Bool) → AreDistinct (filter test xs) → AreDistinct (cond b (x ∷ filter test xs) (filter test xs))
-    at true rest = distinct_cons x (filter test xs) (λ h. distinct_head x xs d (filter-sound test xs x h).0) rest
-    at false rest = rest
 
 -- ---- ranks
 -- the same numbers as far as both go

@@ -32,9 +32,9 @@ use Rattle.kin_motion.proofs.ClaimLaws.{chain_is_strict, chain_has_least}
 use Rattle.kin_motion.proofs.AgreementLaws.{kept-members}
 use Rattle.kin_motion.proofs.CandidateLaws.{candidate_agrees}
 use Rattle.kin_motion.proofs.ClosestLaws.{closest_proved}
-use Rattle.kin_motion.proofs.BestLaws.{none_there}
+use Rattle.kin_motion.proofs.BestLaws.{none_there, farther-otherwise}
 use Rattle.kin_motion.proofs.NodeLaws.{best_agrees, under-complete}
-use Rattle.kin_motion.proofs.ExtremeFactLaws.{held_number, extreme_facts_agree, farther-otherwise, farther-through, farther-never}
+use Rattle.kin_motion.proofs.ExtremeFactLaws.{held_number, extreme_facts_agree, farther-through, farther-never}
 use Rattle.kin_motion.proofs.ClosestFactLaws.{order_facts_agree, closest_facts_agree, part_of_order, wedge_exact}
 use Rattle.kin_motion.proofs.HullFactLaws.{hull_facts_agree, node_exact, node_is_inner, one_form, part_of}
 use Rattle.kin_motion.proofs.Proved.{order_proved, chain_proved, cycle_proved, live-once}

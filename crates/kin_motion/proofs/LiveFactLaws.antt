@@ -1,20 +1,19 @@
 -- The computed live facts are the live facts, and the computed failures are the failures.
-use Rattle.std.proofs.Common.{◌≡◌, ◌≢◌, ◌⊎◌, inl, inr, refl, sym, ap, ◌∙◌, subst, arith, List, [], ◌∷◌, ◌++◌, ℕ, zero, suc, ◌+◌, Bool, true, false, cond, not, map, pos}
-use Rattle.std.specs.Prelude.{Some, slice_get, Contains, ◌↔◌, filter}
-use Rattle.kin_basics.proofs.Members.{contains_head, contains_tail, contains_cases}
+use Rattle.std.proofs.Common.{◌≡◌, ◌≢◌, ◌⊎◌, inl, inr, refl, sym, ap, ◌∙◌, subst, arith, List, [], ◌∷◌, ◌++◌, ℕ, zero, suc, ◌+◌, Bool, true, false, not, map, pos}
+use Rattle.std.specs.Prelude.{Some, slice_get, Contains, filter}
 use Rattle.kin_algebra.specs.declared.sign.Sign.{Sign}
 use Rattle.kin_algebra.specs.declared.sign.Sign.TheVariants.{Minus, Zero, Plus}
 use Rattle.kin_num.specs.declared.instant.Moment.{Moment}
 use Rattle.kin_motion.specs.declared.fact.Placed.{Placed}
 use Rattle.kin_motion.specs.declared.keep.Keep.{Keep}
 use Rattle.kin_motion.specs.declared.keep.Keep.TheVariants.{Order, Extreme, Hull, Closest, Range}
-use Rattle.kin_motion.specs.Numbers.{put_in, sorted_by}
 use Rattle.kin_motion.specs.Sets.{ListsExactly}
 use Rattle.kin_motion.specs.Scene.{Scene, IsReal}
 use Rattle.kin_motion.specs.Orders.{IsOrderFact, order_facts}
 use Rattle.kin_motion.specs.Live.{Certificate, IsKeepFact, IsLiveFact, ListsLive, keep_facts, owned_by, live_facts_from, live_facts}
 use Rattle.kin_motion.specs.Journal.{Setting, Failure, IsFailure, failures_at, seen_in, has_failed, is_listed_before, same_sign}
 use Rattle.kin_motion.specs.Agreements.{FitsSize, LiveFactsAgree, FailuresAgree}
+use Rattle.kin_motion.proofs.Sorting.{sorted-has}
 use Rattle.kin_motion.proofs.SetLaws.{contains_mapped, contains_map, exactly_none, exactly_both, exactly_in_words, exactly_mapped, filter-sound, filter-complete}
 use Rattle.kin_motion.proofs.HullFactLaws.{hull_facts_agree}
 use Rattle.kin_motion.proofs.ExtremeFactLaws.{extreme_facts_agree}
@@ -72,47 +71,6 @@ live_facts_agree size keeps s real fits = exactly_in_words (live_facts size keep
 
     from : (c : Certificate) → IsLiveFact size keeps s c → IsFactOf size s real fits 0 keeps c
     from c w = (c.structure, w.keep, w.kept, omega arith, w.fact)
-
--- ---- sorting keeps what is there
-module _ {A : Type 0} (lt : A → A → Bool) where
-  put-has : (x : A) (xs : List A) (z : A) → Contains (put_in lt x xs) z ↔ Contains (x ∷ xs) z
-  put-has x [] z = ((λ h. h), (λ h. h))
-  put-has x (y ∷ ys) z = at (lt x y) (put-has x ys z)
-    where
-      forth : (Contains (put_in lt x ys) z ↔ Contains (x ∷ ys) z) → (y ≡ z) ⊎ Contains (put_in lt x ys) z → Contains (x ∷ y ∷ ys) z
-      forth r (inl e) = contains_tail x z (y ∷ ys) (subst (λ (v : A). Contains (y ∷ ys) v) e (contains_head y ys))
-      forth r (inr h) = further (contains_cases x z ys (r.0 h))
-        where
-          further : (x ≡ z) ⊎ Contains ys z → Contains (x ∷ y ∷ ys) z
-          further (inl e) = subst (λ (v : A). Contains (x ∷ y ∷ ys) v) e (contains_head x (y ∷ ys))
-          further (inr k) = contains_tail x z (y ∷ ys) (contains_tail y z ys k)
-
-      back : (Contains (put_in lt x ys) z ↔ Contains (x ∷ ys) z) → (x ≡ z) ⊎ Contains (y ∷ ys) z → Contains (y ∷ put_in lt x ys) z
-      back r (inl e) = contains_tail y z (put_in lt x ys) (r.1 (subst (λ (v : A). Contains (x ∷ ys) v) e (contains_head x ys)))
-      back r (inr h) = further (contains_cases y z ys h)
-        where
-          further : (y ≡ z) ⊎ Contains ys z → Contains (y ∷ put_in lt x ys) z
-          further (inl e) = subst (λ (v : A). Contains (y ∷ put_in lt x ys) v) e (contains_head y (put_in lt x ys))
-          further (inr k) = contains_tail y z (put_in lt x ys) (r.1 (contains_tail x z ys k))
-
-      at : (b : Bool) → (Contains (put_in lt x ys) z ↔ Contains (x ∷ ys) z) → Contains (cond b (x ∷ y ∷ ys) (y ∷ put_in lt x ys)) z ↔ Contains (x ∷ y ∷ ys) z
-      at true r = ((λ h. h), (λ h. h))
-      at false r = ((λ h. forth r (contains_cases y z (put_in lt x ys) h)), (λ h. back r (contains_cases x z (y ∷ ys) h)))
-
-  pub sorted-has : (xs : List A) (z : A) → Contains (sorted_by lt xs) z ↔ Contains xs z
-  sorted-has [] z = ((λ h. h), (λ h. h))
-  sorted-has (x ∷ xs) z =
-      let p = put-has x (sorted_by lt xs) z in
-      let r = sorted-has xs z in
-      ((λ h. forth r (contains_cases x z (sorted_by lt xs) (p.0 h))), (λ h. p.1 (back r (contains_cases x z xs h))))
-    where
-      forth : (Contains (sorted_by lt xs) z ↔ Contains xs z) → (x ≡ z) ⊎ Contains (sorted_by lt xs) z → Contains (x ∷ xs) z
-      forth r (inl e) = subst (λ (v : A). Contains (x ∷ xs) v) e (contains_head x xs)
-      forth r (inr h) = contains_tail x z xs (r.0 h)
-
-      back : (Contains (sorted_by lt xs) z ↔ Contains xs z) → (x ≡ z) ⊎ Contains xs z → Contains (x ∷ sorted_by lt xs) z
-      back r (inl e) = subst (λ (v : A). Contains (x ∷ sorted_by lt xs) v) e (contains_head x (sorted_by lt xs))
-      back r (inr h) = contains_tail x z (sorted_by lt xs) (r.1 h)
 
 -- ---- failures
 same_signs : (a b : Sign) → same_sign a b ≡ true → a ≡ b

@@ -27,17 +27,17 @@ third a b true h = absurd (no (not a && not b) h)
     no false e = absurd cc
 third a b false h = refl
 
+pub plus_again : (t : Sign) → not (is_plus t) ≡ false → t ≡ Plus
+plus_again Plus h = refl
+plus_again Zero h = absurd cc
+plus_again Minus h = absurd cc
+
 pub turns_right : (s : Scene) → HasTurnLaws s → (set : List ℕ) (i j k : ℕ) → is_in i set ≡ true → is_in k set ≡ true → is_bare s set j ≡ true → is_left s i j ≡ true → is_left s j k ≡ true → s.sign (Slope i j j k) ≡ Plus
 turns_right s laws set i j k in_i in_k bare left right =
     let none = third (list_any (is_double s j) set) (list_any (is_above s j) set) (list_any (λ q. list_any (is_under_segment s j q) set) set) bare in
     let free : is_under_segment s j i k ≡ false = none_passes (is_under_segment s j i) set k (none_passes (λ q. list_any (is_under_segment s j q) set) set i none in_i) in_k in
     let plain : not (is_plus (s.sign (Turn i k j))) ≡ false = ap₂ (λ a b. a && b && not (is_plus (s.sign (Turn i k j)))) (sym left) (sym right) ∙ free in
-    laws.slope i j k ∙ sym (laws.exchanged i j k) ∙ above (s.sign (Turn i k j)) plain
-  where
-    above : (t : Sign) → not (is_plus t) ≡ false → t ≡ Plus
-    above Plus h = refl
-    above Zero h = absurd cc
-    above Minus h = absurd cc
+    laws.slope i j k ∙ sym (laws.exchanged i j k) ∙ plus_again (s.sign (Turn i k j)) plain
 
 chain_falls : (s : Scene) → HasTurnLaws s → (set xs : List ℕ) → ((p : ℕ) → is_in p xs ≡ true → is_in p set && is_bare s set p ≡ true) → IsChain (is_left s) xs → Falls s xs
 chain_falls s laws set [] m c = tt

@@ -1,9 +1,9 @@
 -- The computed facts of a tournament are the facts of its nodes.
 use Rattle.std.proofs.Common.{◌≡◌, ◌≢◌, ◌⊎◌, inl, inr, refl, sym, ap, ◌∙◌, subst, arith, List, [], ◌∷◌, ℕ, zero, suc, ◌+◌, ◌*◌, ◌-◌, ◌/◌, ◌^◌, ◌<◌, ◌≤◌, Bool, true, false, cond, nat_eq, IsTrue, length}
-use Rattle.std.specs.Prelude.{Option, Some, None, Contains}
+use Rattle.std.specs.Prelude.{Option, Some, None, Contains, slice_get}
 use Rattle.std.proofs.lemmas.Bool.Decides.{nat_tests}
 use Rattle.std.proofs.lemmas.Nat.{pow-add}
-use Rattle.std.proofs.lemmas.Bool.{or_cases}
+use Rattle.std.proofs.lemmas.Bool.{cases_eq, or_cases}
 use Rattle.std.proofs.lemmas.Option.{same_Some}
 use Rattle.kin_basics.proofs.Members.{contains_none, contains_head, contains_tail, contains_cases}
 use Rattle.kin_motion.specs.declared.fact.Placed.{Placed}
@@ -88,7 +88,23 @@ module _ {Item : Type 0} (size v : ℕ) where
   pub under-complete : (slots : List (Option Item)) (k : ℕ) (a : Item) → is_under size v k ≡ true → item_in slots k ≡ Some a → Contains (items_under size v slots) a
   under-complete slots k a u e = items_from-complete 0 slots k a (ap (is_under size v) (omega arith) ∙ u) e
 
+-- the item of a slot stands there
+pub held_slot : {A : Type 0} (slots : List (Option A)) (i : ℕ) (a : A) → item_in slots i ≡ Some a → slice_get slots i ≡ Some (Some a)
+held_slot {A} [] i a e = absurd cc
+held_slot {A} (x ∷ xs) zero a e = ap (λ (y : Option A). Some y) e
+held_slot {A} (x ∷ xs) (suc i) a e = held_slot xs i a e
+
 -- ---- bests
+-- where no two slots beat each other, a set of them has one best item at most
+pub one_best_of : {Item : Type 0} (s : Scene) (key : Key Item) (slots : List (Option Item))
+    → ((i j : ℕ) (a b : Item) → i ≢ j → item_in slots i ≡ Some a → item_in slots j ≡ Some b → beats s key a b ≡ true → beats s key b a ≡ true → ⊥)
+    → (among : ℕ → Bool) (a b : Item) → IsBest s key slots among a → IsBest s key slots among b → a ≡ b
+one_best_of s key slots not_both among a b p q = at (cases_eq p.slot q.slot)
+  where
+    at : (p.slot ≡ q.slot) ⊎ (p.slot ≢ q.slot) → a ≡ b
+    at (inl e) = same_Some _ _ (sym p.held ∙ ap (item_in slots) e ∙ q.held)
+    at (inr n) = absurd (not_both p.slot q.slot a b n p.held q.held (p.beats_others q.slot b (λ f. n (sym f)) q.among q.held) (q.beats_others p.slot a n p.among p.held))
+
 module _ {Item : Type 0} (s : Scene) (key : Key Item)
     (otherwise : (a b : Item) → beats s key a b ≡ false → (a ≡ b) ⊎ (beats s key b a ≡ true))
     (through : (a b c : Item) → beats s key a b ≡ true → beats s key b c ≡ true → beats s key a c ≡ true)
@@ -96,16 +112,8 @@ module _ {Item : Type 0} (s : Scene) (key : Key Item)
     (size : ℕ) (slots : List (Option Item))
     (apart : (i j : ℕ) (a : Item) → item_in slots i ≡ Some a → item_in slots j ≡ Some a → i ≡ j) where
   -- a node has one best item at most
-  pub one_best : (among : ℕ → Bool) (a b : Item) → IsBest s key slots among a → IsBest s key slots among b → a ≡ b
-  one_best among a b p q = at (nat_eq p.slot q.slot) refl
-    where
-      at : (t : Bool) → nat_eq p.slot q.slot ≡ t → a ≡ b
-      at true e = let f : p.slot ≡ q.slot = grind (arith, nat_tests, e) in same_Some _ _ (sym p.held ∙ ap (item_in slots) f ∙ q.held)
-      at false e =
-          let n : p.slot ≢ q.slot = grind (arith, nat_tests, e) in
-          let ab = p.beats_others q.slot b (λ f. n (sym f)) q.among q.held in
-          let ba = q.beats_others p.slot a n p.among p.held in
-          absurd (never a (through a b a ab ba))
+  one_best : (among : ℕ → Bool) (a b : Item) → IsBest s key slots among a → IsBest s key slots among b → a ≡ b
+  one_best = one_best_of s key slots (λ i j a b n e f h k. never a (through a b a h k))
 
   best_from_top : (v : ℕ) (a : Item) → IsTop s key otherwise through (items_under size v slots) a → IsBest s key slots (is_under size v) a
   unfolding IsTop

@@ -13,7 +13,7 @@ use Rattle.kin_motion.specs.Scene.{Scene, Holds}
 use Rattle.kin_motion.specs.Orders.{leads, is_before, IsOrder, neighbour_facts}
 use Rattle.kin_motion.specs.Kinetics.{AllHold}
 use Rattle.kin_motion.specs.Laws.{HasLineLaws}
-use Rattle.kin_motion.proofs.Chains.{same_chain}
+use Rattle.kin_motion.proofs.ListChains.{same_chain}
 
 never_leads : (t : Sign) (i : ℕ) → t ≡ Zero → leads t i i ≡ true → ⊥
 never_leads Minus i e h = absurd cc

@@ -8,6 +8,7 @@ use Rattle.kin_motion.specs.Scene.{Scene, Holds, placed_at}
 use Rattle.kin_motion.specs.Orders.{IsOrderFact, neighbour_forms, neighbour_facts}
 use Rattle.kin_motion.specs.Kinetics.{HasGained}
 use Rattle.kin_motion.specs.Parts.{moved_by, MovedFactsChange, MovedFactsFail, MovedOrderFacts}
+use Rattle.kin_motion.proofs.Gains.{mapped_there, there_and_not}
 use Rattle.kin_motion.proofs.SetLaws.{contains_map, contains_mapped, exactly_in_words, exactly_mapped}
 
 pub moved_one : (n : ℕ) (p q : Placed) → moved_by n p ≡ moved_by n q → p ≡ q
@@ -18,9 +19,6 @@ moved_one n p q e =
     λ t. record { part = f t; fact = g t }
 
 module _ (n : ℕ) where
-  moved_there : (xs : List Placed) (p : Placed) → Contains (map (moved_by n) xs) (moved_by n p) → Contains xs p
-  moved_there xs p c = let m = contains_mapped (moved_by n) xs (moved_by n p) c in subst (Contains xs) (sym (moved_one n p m.0 m.2)) m.1
-
   gained : (before after : List Placed) (which moved_which : Placed → Type 0) → ((z : Placed) → ((x : Placed) × which x × (z ≡ moved_by n x)) ↔ moved_which z)
       → HasGained before after which → HasGained (map (moved_by n) before) (map (moved_by n) after) moved_which
   gained before after which moved_which same g = record {
@@ -28,13 +26,6 @@ module _ (n : ℕ) where
     joined = ap (map (moved_by n)) g.joined ∙ map-append (moved_by n) before g.more;
     exactly = exactly_in_words (map (moved_by n) g.more) _ _ same (exactly_mapped (moved_by n) g.more which (moved_one n) g.exactly);
   }
-
-  there_and_not : (xs ys : List Placed) (z : Placed)
-      → ((x : Placed) × (Contains xs x × ¬ (Contains ys x)) × (z ≡ moved_by n x)) ↔ (Contains (map (moved_by n) xs) z × ¬ (Contains (map (moved_by n) ys) z))
-  there_and_not xs ys z = (
-    λ h. (subst (Contains (map (moved_by n) xs)) (sym h.2) (contains_map (moved_by n) xs h.0 h.1.0), λ c. h.1.1 (moved_there ys h.0 (subst (Contains (map (moved_by n) ys)) h.2 c))),
-    λ h. let m = contains_mapped (moved_by n) xs z h.0 in (m.0, (m.1, λ c. h.1 (subst (Contains (map (moved_by n) ys)) (sym m.2) (contains_map (moved_by n) ys m.0 c))), m.2),
-  )
 
   failing : (facts : List Placed) (is_spared : Placed → Bool) (s : Scene) (z : Placed)
       → ((x : Placed) × (Contains facts x × IsFalse (is_spared (moved_by n x)) × ¬ (Holds s x.fact)) × (z ≡ moved_by n x)) ↔ (Contains (map (moved_by n) facts) z × IsFalse (is_spared z) × ¬ (Holds s z.fact))
@@ -54,8 +45,8 @@ module _ (n : ℕ) where
 
 pub moved_facts_change : MovedFactsChange
 moved_facts_change n old new before after h = record {
-  dropped = gained n before.dropped after.dropped _ _ (there_and_not n old new) h.dropped;
-  born = gained n before.born after.born _ _ (there_and_not n new old) h.born;
+  dropped = gained n before.dropped after.dropped _ _ (there_and_not (moved_by n) (moved_one n) old new) h.dropped;
+  born = gained n before.born after.born _ _ (there_and_not (moved_by n) (moved_one n) new old) h.born;
 }
 
 pub moved_facts_fail : MovedFactsFail
@@ -64,8 +55,8 @@ moved_facts_fail n facts failed is_spared s = (
   λ h. record {
     once = λ i j p e f. h.once i j (moved_by n p) (same_places n failed i p e) (same_places n failed j p f);
     each = λ p. (
-      λ c. let k = (h.each (moved_by n p)).0 (contains_map (moved_by n) failed p c) in (moved_there n facts p k.0, k.1, k.2),
-      λ k. moved_there n failed p ((h.each (moved_by n p)).1 (contains_map (moved_by n) facts p k.0, k.1, k.2)),
+      λ c. let k = (h.each (moved_by n p)).0 (contains_map (moved_by n) failed p c) in (mapped_there (moved_by n) (moved_one n) facts p k.0, k.1, k.2),
+      λ k. mapped_there (moved_by n) (moved_one n) failed p ((h.each (moved_by n p)).1 (contains_map (moved_by n) facts p k.0, k.1, k.2)),
     );
   },
 )

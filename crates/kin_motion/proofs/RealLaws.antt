@@ -3,7 +3,7 @@ use Rattle.std.proofs.Common.{◌≡◌, refl, ap, sym, ◌∙◌, subst, List, 
 use Rattle.std.specs.Prelude.{ℤ, pos, ◌+ℤ◌, ◌-ℤ◌, ◌*ℤ◌, Option}
 use lib.IntN.{neg_ℤ}
 use Rattle.kin_algebra.proofs.Ring.{by_ring, quotes}
-use Rattle.kin_algebra.specs.declared.sign.Sign.{Sign}
+use Rattle.kin_algebra.proofs.Signs.{by_signs}
 use Rattle.kin_num.specs.declared.instant.Moment.{Moment}
 use Rattle.kin_num.specs.Quadratic.{Quadratic}
 use Rattle.kin_num.specs.Canonical.{IsCanonical}
@@ -44,9 +44,6 @@ direction_line ms dx dy ex ey i j =
     let first = ways_add dx dy ex ey (x_of ms i).slope (y_of ms i).slope (x_of ms j).slope (y_of ms j).slope in
     let second = ways_add_zero dx dy ex ey (x_of ms i).start (y_of ms i).start (x_of ms j).start (y_of ms j).start in
     λ t. record { a = pos 0; b = first t; c = second t }
-
-pub by_signs : {s s' t t' r r' : Sign} → s ≡ s' → t ≡ t' → r ≡ r' → SumMayBe s' t' r' → SumMayBe s t r
-by_signs {s} {s'} {t} {t'} {r} {r'} e f g h = subst (λ x. SumMayBe x t r) (sym e) (subst (λ x. SumMayBe s' x r) (sym f) (subst (λ x. SumMayBe s' t' x) (sym g) h))
 
 pub line_sum : (ms : List (Option Course)) (m : Moment) → IsCanonical m.at → (f g h : Form) → polynomial_of ms h ≡ quadratic_sum (polynomial_of ms f) (polynomial_of ms g) → SumMayBe (sign_of_form ms f m) (sign_of_form ms g m) (sign_of_form ms h m)
 unfolding sign_of_form

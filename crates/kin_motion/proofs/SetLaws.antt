@@ -1,11 +1,13 @@
 -- Lists that have exactly what is asked, each once: joined, mapped, and sorted into one list.
 use Rattle.std.proofs.Common.{◌≡◌, ◌⊎◌, inl, inr, refl, sym, ap, ◌∙◌, subst, arith, List, [], ◌∷◌, ◌++◌, ℕ, zero, suc, ◌+◌, ◌<◌, ◌≤◌, map, true, false, cond, Bool}
 use Rattle.std.specs.Prelude.{Contains, ◌↔◌, flat_map, filter}
+use Rattle.std.proofs.lemmas.Bool.{both_ways}
 use Rattle.std.proofs.lemmas.List.Elements.{Contains-append_left, Contains-append_right, Contains-append_cases}
 pub use Rattle.kin_basics.proofs.Members.{contains_none, contains_head, contains_tail, contains_cases}
 use Rattle.kin_basics.proofs.Members.{contains_from_get, get_from_contains}
-use Rattle.kin_motion.specs.Numbers.{numbers_from}
+use Rattle.kin_motion.specs.Numbers.{numbers_from, is_in, IsOnce}
 use Rattle.kin_motion.specs.Sets.{AreDistinct, ListsExactly}
+use Rattle.kin_motion.proofs.Members.{in_from_contains}
 
 -- an item in front that isn't behind
 pub distinct_cons : {A : Type 0} (x : A) (xs : List A) → ¬ (Contains xs x) → AreDistinct xs → AreDistinct (x ∷ xs)
@@ -160,3 +162,17 @@ distinct_mapped_on {A} {B} f (x ∷ xs) one d =
     distinct_cons (f x) (map f xs)
     (λ h. let r = contains_mapped f xs (f x) h in distinct_head x xs d (subst (λ (y : A). Contains xs y) (sym (one x r.0 (contains_head x xs) (contains_tail x r.0 xs r.1) r.2)) r.1))
     (distinct_mapped_on f xs (λ y z h k e. one y z (contains_tail x y xs h) (contains_tail x z xs k) e) (distinct_tail x xs d))
+
+-- what passes a test, each once still
+pub distinct_filter : {A : Type 0} (test : A → Bool) (xs : List A) → AreDistinct xs → AreDistinct (filter test xs)
+distinct_filter {A} test [] d = distinct_none
+distinct_filter {A} test (x ∷ xs) d = at (test x) (distinct_filter test xs (distinct_tail x xs d))
+  where
+    at : (b : Bool) → AreDistinct (filter test xs) → AreDistinct (cond b (x ∷ filter test xs) (filter test xs))
+    at true rest = distinct_cons x (filter test xs) (λ h. distinct_head x xs d (filter-sound test xs x h).0) rest
+    at false rest = rest
+
+-- no number stands twice
+pub apart_from_once : (xs : List ℕ) → IsOnce xs → AreDistinct xs
+apart_from_once [] once = distinct_none
+apart_from_once (x ∷ xs) once = distinct_cons x xs (λ c. both_ways (is_in x xs) once.0 (in_from_contains xs x c)) (apart_from_once xs once.1)

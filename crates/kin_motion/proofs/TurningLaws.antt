@@ -1,46 +1,26 @@
 -- A turn leaves all that is seen at its instant, and there is one motion to turn to at most.
-use Rattle.std.proofs.Common.{◌≡◌, refl, sym, ap, ap₂, ◌∙◌, subst, arith, List, [], ◌∷◌, ℕ, zero, suc, ◌+◌, ◌<◌, Bool, true, false, length, nat_eq}
-use Rattle.std.specs.Prelude.{ℤ, pos, ◌+ℤ◌, ◌-ℤ◌, ◌*ℤ◌, Option, Some, None, slice_index_or, slice_set}
+use Rattle.std.proofs.Common.{◌≡◌, refl, sym, ap, ◌∙◌, subst, arith, List, [], ◌∷◌, ℕ, zero, suc, ◌+◌, ◌<◌, Bool, true, false, length, nat_eq}
+use Rattle.std.specs.Prelude.{ℤ, pos, ◌+ℤ◌, ◌-ℤ◌, Option, Some, None, slice_index_or, slice_set}
 use Rattle.std.proofs.lemmas.Bool.Decides.{nat_tests}
 use Rattle.std.proofs.lemmas.List.{get_or-set_same, get_or-set_other}
 use lib.IntN.{neg_ℤ}
+use Rattle.kin_basics.proofs.Integers.{difference_of_same}
 use Rattle.kin_algebra.proofs.Ring.{by_ring, quotes}
-use Rattle.kin_algebra.proofs.IntegerSigns.{sign_of-times, zero_of}
-use Rattle.kin_algebra.proofs.Pairs.{sign_over-whole}
+use Rattle.kin_algebra.proofs.IntegerSigns.{zero_of}
 use Rattle.kin_algebra.specs.declared.sign.Sign.TheVariants.{Zero}
-use Rattle.kin_algebra.specs.Signs.{sign_of, opposite_of, product_of, pair_sign_of}
+use Rattle.kin_algebra.specs.Signs.{opposite_of}
 use Rattle.kin_num.specs.declared.instant.Shape.{Shape}
 use Rattle.kin_num.specs.Quadratic.{Quadratic, quadratic_sum, negated, linear}
 use Rattle.kin_num.specs.Canonical.{IsCanonicalForm}
-use Rattle.kin_num.specs.Instants.{number_of, sign_at_instant}
-use Rattle.kin_num.proofs.RootZeros.{divisor-positive}
+use Rattle.kin_num.specs.Instants.{sign_at_instant}
+use Rattle.kin_num.proofs.Constants.{constant_sign}
 use Rattle.kin_num.proofs.SignLaws.{sign_at_instant-neg}
 use Rattle.kin_num.proofs.InstantLaws.{instant_sum}
-use Rattle.kin_num.proofs.Values.{canonical-sound}
 use Rattle.kin_motion.specs.Course.{Course, motion_of}
 use Rattle.kin_motion.specs.Forms.{Linear, x_of_course, y_of_course}
 use Rattle.kin_motion.specs.Numbers.{filled_from}
 use Rattle.kin_motion.specs.Turning.{AreEqualAt, HaveSamePlaces, TurnKeepsScene, OneTurn}
 use Rattle.kin_motion.proofs.PlaceLaws.{sum_of_zeros, scene_is_by_places}
-
--- ---- constants
-constant_whole : (c n m d q : ℤ) → pos 0 *ℤ (n *ℤ n +ℤ m *ℤ m *ℤ d) +ℤ pos 0 *ℤ n *ℤ q +ℤ c *ℤ q *ℤ q ≡ q *ℤ (q *ℤ c)
-constant_whole c n m d q = by_ring (c ∷ n ∷ m ∷ d ∷ q ∷ []) _ _ (search quotes depth 24 fits 20000) (search quotes depth 24 fits 20000) refl
-
-constant_root : (n m q : ℤ) → pos 2 *ℤ pos 0 *ℤ n *ℤ m +ℤ pos 0 *ℤ m *ℤ q ≡ pos 0
-constant_root n m q = by_ring (n ∷ m ∷ q ∷ []) _ _ (search quotes depth 20) (search quotes depth 20) refl
-
-pub constant_sign : (c : ℤ) (w : Shape) → IsCanonicalForm w → sign_at_instant (linear (pos 0) c) w ≡ sign_of c
-unfolding sign_at_instant
-constant_sign c w form =
-    let x = number_of w in
-    let q = divisor-positive w form in
-    ap₂ (λ u v. pair_sign_of u v x.radicand) (constant_whole c x.whole x.root x.radicand x.divisor) (constant_root x.whole x.root x.divisor)
-    ∙ sign_over-whole x.radicand (canonical-sound w form) (x.divisor *ℤ (x.divisor *ℤ c))
-    ∙ sign_of-times x.divisor (x.divisor *ℤ c) ∙ ap₂ product_of q (sign_of-times x.divisor c ∙ ap (λ s. product_of s (sign_of c)) q)
-
-nothing : (k : ℤ) → k -ℤ k ≡ pos 0
-nothing k = by_ring (k ∷ []) _ _ (search quotes depth 20) (search quotes depth 20) refl
 
 -- ---- one turn
 between_starts : (x k l : ℤ) → (x -ℤ k) +ℤ neg_ℤ (x -ℤ l) ≡ l -ℤ k
@@ -77,8 +57,8 @@ one_turn w u v old a b canonical ta tb =
 -- ---- what is seen
 equal_itself : (w : Shape) (p q : Linear) → IsCanonicalForm w → p ≡ q → AreEqualAt w p q
 equal_itself w p q form e =
-    let b = nothing p.slope in
-    let c = nothing p.start in
+    let b = difference_of_same p.slope p.slope refl in
+    let c = difference_of_same p.start p.start refl in
     subst (AreEqualAt w p) e (ap (λ (r : Quadratic). sign_at_instant r w) (λ t. linear (b t) (c t)) ∙ constant_sign (pos 0) w form)
 
 same_filled : {A : Type 0} (k n : ℕ) (cs : List (Option A)) (old new : A) → slice_index_or cs n None ≡ Some old → filled_from k cs ≡ filled_from k (slice_set cs n (Some new))

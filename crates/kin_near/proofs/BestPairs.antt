@@ -17,7 +17,7 @@ use Rattle.kin_motion.specs.Tournaments.{beats, IsBest, item_in}
 use Rattle.kin_motion.specs.ClosestPairs.{Near, left_is_nearer, distance_key, pair_in, IsClosestPair, IsClosest, closest_of}
 use Rattle.kin_motion.specs.ClosestFacts.{near, HoldsNear, AreNearSlots}
 use Rattle.kin_motion.proofs.AgreementLaws.{kept-members}
-use Rattle.kin_motion.proofs.AskableLaws.{held_slot}
+use Rattle.kin_motion.proofs.NodeLaws.{held_slot}
 use Rattle.kin_motion.proofs.CandidateLaws.{one_candidate, never_after_itself}
 use Rattle.kin_motion.proofs.ClosestLaws.{closest_proved}
 use Rattle.kin_motion.proofs.DistanceLaws.{LessPair, less_from, three_ways, real_distance_laws}

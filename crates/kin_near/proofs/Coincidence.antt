@@ -4,8 +4,9 @@ use Rattle.kin_algebra.specs.declared.sign.Sign.TheVariants.{Minus, Zero}
 use Rattle.kin_algebra.specs.Signs.{opposite_of}
 use Rattle.kin_algebra.proofs.Ring.{by_identity, quotes_in}
 use Rattle.kin_algebra.proofs.Signs.{AtLeast}
+use Rattle.kin_algebra.proofs.Vectors.{Vector as Step, along_way}
 use Rattle.kin_algebra.proofs.OrderedRings.{OrderedRing, nonnegative_sum, sign_square}
-use Rattle.kin_near.proofs.Coordinates.{Step, between, square, along_way}
+use Rattle.kin_near.proofs.Coordinates.{between, square}
 use Rattle.kin_near.proofs.Nearness.{AreNone, times_none, sum_none, no_length}
 
 module _ {R : Type 0} (o : OrderedRing R) where

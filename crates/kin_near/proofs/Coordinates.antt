@@ -1,32 +1,19 @@
 -- The coordinates of an octant: its two orders as they are read, by which its third order and the length of a step are written.
-use Rattle.std.proofs.Common.{◌≡◌, ◌⊎◌, inl, inr, [], ◌∷◌, ℕ, zero, suc, ℤ, pos, Bool, true, false, cond, refl, subst}
+use Rattle.std.proofs.Common.{◌≡◌, ◌⊎◌, inl, inr, [], ◌∷◌, ℕ, zero, suc, pos, Bool, true, false, cond, refl, subst}
 use Rattle.std.specs.Prelude.{Some, slice_get}
+use Rattle.kin_algebra.proofs.Operations.{operations}
 use Rattle.kin_algebra.proofs.Ring.{by_identity, quotes_in}
+use Rattle.kin_algebra.proofs.Vectors.{Vector as Step, along_way}
 use Rattle.kin_algebra.proofs.OrderedRings.{OrderedRing}
 use Rattle.kin_motion.specs.Octants.{Reading, Octant, octants, direction_of}
 
--- the way from one point to another
-pub record Step (R : Type 0) : Type 0 where
-  pub x : R
-  pub y : R
-
 module _ {R : Type 0} (o : OrderedRing R) where
-  infixl 20 ◌·◌
-  abbrev ◌·◌ : R → R → R
-  a · b = o.ring.times a b
+  open operations o.ring use {◌·◌, ◌⊕◌, ◌⊖◌}
 
-  infixl 19 ◌⊕◌
-  abbrev ◌⊕◌ : R → R → R
-  a ⊕ b = o.ring.plus a b
-
-  infixl 19 ◌⊖◌
-  abbrev ◌⊖◌ : R → R → R
-  a ⊖ b = o.ring.plus a (o.ring.negative b)
-
-  abbrev two : R
+  abbrev pub two : R
   two = o.ring.whole (pos 2)
 
-  abbrev three : R
+  abbrev pub three : R
   three = o.ring.whole (pos 3)
 
   -- the second step, less the first
@@ -37,13 +24,9 @@ module _ {R : Type 0} (o : OrderedRing R) where
   abbrev pub square : Step R → R
   square v = (v.x · v.x) ⊕ (v.y · v.y)
 
-  -- how far a step goes along a direction
-  abbrev pub along_way : ℤ → ℤ → Step R → R
-  along_way dx dy v = (o.ring.whole dx · v.x) ⊕ (o.ring.whole dy · v.y)
-
   -- how far a step goes in an order as it is read
   abbrev pub as_read : Reading → Step R → R
-  as_read r v = cond r.from_end (o.ring.negative (along_way (direction_of r.part).dx (direction_of r.part).dy v)) (along_way (direction_of r.part).dx (direction_of r.part).dy v)
+  as_read r v = cond r.from_end (o.ring.negative (along_way o (direction_of r.part).dx (direction_of r.part).dy v)) (along_way o (direction_of r.part).dx (direction_of r.part).dy v)
 
   pub as_read-between : (r : Reading) (u v : Step R) → as_read r (between u v) ≡ as_read r v ⊖ as_read r u
   as_read-between r u v = at r.from_end (o.ring.whole (direction_of r.part).dx) (o.ring.whole (direction_of r.part).dy)

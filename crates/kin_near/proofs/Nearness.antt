@@ -1,50 +1,35 @@
 -- Of two steps into an octant the one that goes less far along the third order ends nearer to the end of the other than the apex is.
 use Rattle.std.proofs.Common.{◌≡◌, ◌⊎◌, inl, inr, [], ◌∷◌, pos, refl, sym, ap, ap₂, ◌∙◌, subst}
-use Rattle.kin_algebra.specs.declared.sign.Sign.{Sign}
-use Rattle.kin_algebra.specs.declared.sign.Sign.TheVariants.{Minus, Zero, Plus}
+use Rattle.kin_algebra.specs.declared.sign.Sign.TheVariants.{Zero, Plus}
 use Rattle.kin_algebra.specs.Signs.{product_of}
+use Rattle.kin_algebra.proofs.Operations.{operations}
 use Rattle.kin_algebra.proofs.Ring.{by_identity, quotes_in}
-use Rattle.kin_algebra.proofs.Signs.{AtLeast, product-Zero}
+use Rattle.kin_algebra.proofs.Signs.{AtLeast, product-Zero, square_none}
+use Rattle.kin_algebra.proofs.Vectors.{Vector as Step}
 use Rattle.kin_algebra.proofs.OrderedRings.{OrderedRing, sign_twice, positive_sum, nonnegative_sum, sum_zero, positive_product, nonnegative_product, sign_square, positive_cancel}
 use Rattle.kin_motion.specs.Octants.{Octant}
-use Rattle.kin_near.proofs.Coordinates.{Step, between, square, as_read, as_read-between, rank, norm, Frame}
+use Rattle.kin_near.proofs.Coordinates.{two, three, between, square, as_read, as_read-between, rank, norm, Frame}
 
 module _ {R : Type 0} (o : OrderedRing R) where
-  infixl 20 ◌·◌
-  abbrev ◌·◌ : R → R → R
-  a · b = o.ring.times a b
-
-  infixl 19 ◌⊕◌
-  abbrev ◌⊕◌ : R → R → R
-  a ⊕ b = o.ring.plus a b
-
-  infixl 19 ◌⊖◌
-  abbrev ◌⊖◌ : R → R → R
-  a ⊖ b = o.ring.plus a (o.ring.negative b)
-
-  abbrev two : R
-  two = o.ring.whole (pos 2)
-
-  abbrev three : R
-  three = o.ring.whole (pos 3)
+  open operations o.ring use {◌·◌, ◌⊕◌, ◌⊖◌}
 
   abbrev six : R
   six = o.ring.whole (pos 6)
 
   -- three times how much nearer the end of the step (c, d) is to that of (a, b) than to the apex
-  identity : (a b c d : R) → three · (norm o c d ⊖ norm o (c ⊖ a) (d ⊖ b))
-      ≡ ((((three · (a · c)) ⊕ (two · (b · d))) ⊕ (rank o a b · (rank o c d ⊖ rank o a b))) ⊕ (six · (a · b))) ⊕ ((three · (a · a)) ⊕ (b · b))
+  identity : (a b c d : R) → three o · (norm o c d ⊖ norm o (c ⊖ a) (d ⊖ b))
+      ≡ ((((three o · (a · c)) ⊕ (two o · (b · d))) ⊕ (rank o a b · (rank o c d ⊖ rank o a b))) ⊕ (six · (a · b))) ⊕ ((three o · (a · a)) ⊕ (b · b))
   identity a b c d = by_identity o.ring (a ∷ b ∷ c ∷ d ∷ []) _ _ (search quotes_in depth 30 fits 40000) (search quotes_in depth 30 fits 40000) refl
 
   -- ---- signs
-  positive_two : o.sign two ≡ Plus
+  positive_two : o.sign (two o) ≡ Plus
   positive_two = ap o.sign (o.ring.whole_plus (pos 1) (pos 1)) ∙ sign_twice o (o.ring.whole (pos 1)) ∙ o.sign_one
 
-  positive_three : o.sign three ≡ Plus
+  positive_three : o.sign (three o) ≡ Plus
   positive_three = ap o.sign (o.ring.whole_plus (pos 2) (pos 1)) ∙ positive_sum o positive_two (inl o.sign_one)
 
   positive_six : o.sign six ≡ Plus
-  positive_six = ap o.sign (o.ring.whole_plus (pos 3) (pos 3)) ∙ sign_twice o three ∙ positive_three
+  positive_six = ap o.sign (o.ring.whole_plus (pos 3) (pos 3)) ∙ sign_twice o (three o) ∙ positive_three
 
   -- a second summand that is positive
   sum_positive : {a b : R} → AtLeast (o.sign a) → o.sign b ≡ Plus → o.sign (a ⊕ b) ≡ Plus
@@ -59,7 +44,7 @@ module _ {R : Type 0} (o : OrderedRing R) where
 
   -- ---- in coordinates
   module _ {a b c d : R} (a_some : AtLeast (o.sign a)) (b_some : AtLeast (o.sign b)) (c_some : AtLeast (o.sign c)) (d_some : AtLeast (o.sign d)) (later : AtLeast (o.sign (rank o c d ⊖ rank o a b))) where
-    products : AtLeast (o.sign ((((three · (a · c)) ⊕ (two · (b · d))) ⊕ (rank o a b · (rank o c d ⊖ rank o a b))) ⊕ (six · (a · b))))
+    products : AtLeast (o.sign ((((three o · (a · c)) ⊕ (two o · (b · d))) ⊕ (rank o a b · (rank o c d ⊖ rank o a b))) ⊕ (six · (a · b))))
     products =
         nonnegative_sum o
         (nonnegative_sum o
@@ -70,7 +55,7 @@ module _ {R : Type 0} (o : OrderedRing R) where
         scaled : {k x : R} → o.sign k ≡ Plus → AtLeast (o.sign x) → AtLeast (o.sign (k · x))
         scaled {k} {x} e h = nonnegative_product o (inl e) h
 
-    from_squares : o.sign ((three · (a · a)) ⊕ (b · b)) ≡ Plus → o.sign (norm o c d ⊖ norm o (c ⊖ a) (d ⊖ b)) ≡ Plus
+    from_squares : o.sign ((three o · (a · a)) ⊕ (b · b)) ≡ Plus → o.sign (norm o c d ⊖ norm o (c ⊖ a) (d ⊖ b)) ≡ Plus
     from_squares e = positive_cancel o positive_three (ap o.sign (identity a b c d) ∙ sum_positive products e)
 
     pub nearer : (o.sign (norm o c d ⊖ norm o (c ⊖ a) (d ⊖ b)) ≡ Plus) ⊎ AreNone a b
@@ -86,15 +71,10 @@ module _ {R : Type 0} (o : OrderedRing R) where
   sum_none {a} {b} k = o.sign_plus Zero a b k.0 (inr k.1)
 
   norm_none : {a b : R} → AreNone a b → o.sign (norm o a b) ≡ Zero
-  norm_none {a} {b} (e, f) = sum_none (sum_none (times_none two (times_none a e), times_none two (times_none a f)), times_none b f)
+  norm_none {a} {b} (e, f) = sum_none (sum_none (times_none (two o) (times_none a e), times_none (two o) (times_none a f)), times_none b f)
 
   root_none : (a : R) → o.sign (a · a) ≡ Zero → o.sign a ≡ Zero
-  root_none a e = own (o.sign a) (sym (o.sign_times a a) ∙ e)
-    where
-      own : (t : Sign) → product_of t t ≡ Zero → t ≡ Zero
-      own Minus e = absurd cc
-      own Zero e = refl
-      own Plus e = absurd cc
+  root_none a e = square_none (o.sign a) (sym (o.sign_times a a) ∙ e)
 
   -- ---- in steps
   -- a step of no length goes nowhere

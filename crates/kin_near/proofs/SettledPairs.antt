@@ -19,7 +19,7 @@ use Rattle.kin_motion.proofs.PartLaws.{moved_one}
 use Rattle.kin_motion.proofs.SetLaws.{exactly_both, exactly_in_words, exactly_mapped}
 use Rattle.kin_tourney.proofs.ExtremePoints.{under_root}
 use Rattle.kin_near.specs.BestPairs.{IsBestPair, HoldCandidates, ClosestIsSettled}
-use Rattle.kin_motion.proofs.AskableLaws.{held_slot}
+use Rattle.kin_motion.proofs.NodeLaws.{held_slot}
 use Rattle.kin_near.proofs.BestPairs.{best_pair_is_closest}
 
 module _ (size : ℕ) (s : Scene) (candidate : ℕ → ℕ → Option ℕ) (told : AreCandidates size s candidate) (slots : List (Option Near)) (h : HoldCandidates size candidate slots) where

@@ -8,6 +8,7 @@ use Rattle.kin_algebra.specs.declared.sign.Sign.TheVariants.{Minus, Zero, Plus}
 use Rattle.kin_algebra.specs.Signs.{opposite_of}
 use Rattle.kin_algebra.proofs.Ring.{by_identity, quotes_in}
 use Rattle.kin_algebra.proofs.Signs.{AtLeast}
+use Rattle.kin_algebra.proofs.Vectors.{Vector as Step, along_way}
 use Rattle.kin_algebra.proofs.OrderedRings.{OrderedRing}
 use Rattle.kin_algebra.proofs.Pairs.{Pair}
 use Rattle.kin_num.specs.Instants.{sign_at_number}
@@ -22,12 +23,12 @@ use Rattle.kin_motion.specs.Scene.{Scene, IsReal}
 use Rattle.kin_motion.proofs.RealLaws.{real_line_laws}
 use Rattle.kin_motion.proofs.SetLaws.{contains_map}
 use Rattle.kin_motion.proofs.SeenLaws.{SeenAt, seen_at}
-use Rattle.kin_motion.proofs.SlopeLaws.{line_value, line_value-minus}
+use Rattle.kin_motion.proofs.LineValues.{step_at, line_value, line_value-minus, line_sign}
 use Rattle.kin_near.specs.Candidates.{AreCoincident, FirstIsNearer}
-use Rattle.kin_near.proofs.Coordinates.{Step, between, square, along_way, as_read, frame_of}
+use Rattle.kin_near.proofs.Coordinates.{between, square, as_read, frame_of}
 use Rattle.kin_near.proofs.Nearness.{AreNone, step_nearer}
 use Rattle.kin_near.proofs.Coincidence.{along_x, along_y, IsNone, way_none, between_none, length_none, length_less, not_longer}
-use Rattle.kin_near.proofs.Numbers.{step_at, line_sign, distance_sign}
+use Rattle.kin_near.proofs.Numbers.{distance_sign}
 
 -- the way from c to q is that from the apex to q, less that from the apex to c
 by_apex : {R : Type 0} (o : OrderedRing R) (p c q : R) → o.ring.plus q (o.ring.negative c) ≡ o.ring.plus (o.ring.plus q (o.ring.negative p)) (o.ring.negative (o.ring.plus c (o.ring.negative p)))

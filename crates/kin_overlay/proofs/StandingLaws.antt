@@ -2,8 +2,7 @@
 use Rattle.std.proofs.Common.{◌≡◌, ◌⊎◌, inl, inr, refl, sym, ap, ◌∙◌, subst, List, [], ℕ, pos, ◌+◌, ◌<◌, arith, get_or, Bool, true, false, Some, Contains}
 use Rattle.std.specs.Prelude.{slice_get, IsTrue, ◌↔◌}
 use Rattle.std.proofs.lemmas.Option.{get_or_from_slice_get}
-use Rattle.kin_algebra.specs.declared.sign.Sign.{Sign}
-use Rattle.kin_algebra.specs.declared.sign.Sign.TheVariants.{Minus, Zero, Plus}
+use Rattle.kin_algebra.proofs.Signs.{equal_or_not}
 use Rattle.kin_basics.proofs.Members.{contains_head, contains_from_get, get_from_contains}
 use Rattle.kin_motion.specs.declared.fact.Fact.{Fact}
 use Rattle.kin_motion.specs.declared.form.Form.TheVariants.{Line}
@@ -23,21 +22,10 @@ use Rattle.kin_overlay.specs.Seen.{seen}
 use Rattle.kin_overlay.specs.Standings.{IsUnfailed, StandIn}
 use Rattle.kin_overlay.proofs.HasLaws.{is-turn, is-slope, in-record, has-end}
 
-same-sign : (a b : Sign) → (a ≡ b) ⊎ (a ≡ b → ⊥)
-same-sign Minus Minus = inl refl
-same-sign Minus Zero = inr (λ e. absurd cc)
-same-sign Minus Plus = inr (λ e. absurd cc)
-same-sign Zero Minus = inr (λ e. absurd cc)
-same-sign Zero Zero = inl refl
-same-sign Zero Plus = inr (λ e. absurd cc)
-same-sign Plus Minus = inr (λ e. absurd cc)
-same-sign Plus Zero = inr (λ e. absurd cc)
-same-sign Plus Plus = inl refl
-
 -- a fact that isn't listed as failed holds, unless it is spared
 pub still-stand : (s : Scene) (part : ℕ) (m : Remembered) (failed : List Placed) (gone : List ℕ) → ListsFailing (all_placed part (facts_of m)) (λ p. names_any p.fact.form gone) s failed
     → (f : Fact) → Contains (facts_of m) f → IsUnfailed failed gone f → Holds s f
-still-stand s part m failed gone listed f there u = at (same-sign (s.sign f.form) f.sign)
+still-stand s part m failed gone listed f there u = at (equal_or_not (s.sign f.form) f.sign)
   where
     at : (s.sign f.form ≡ f.sign) ⊎ (s.sign f.form ≡ f.sign → ⊥) → Holds s f
     at (inl h) = h

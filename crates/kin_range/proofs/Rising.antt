@@ -10,7 +10,7 @@ use Rattle.std.proofs.lemmas.Option.{slice_get_within, get_or_from_slice_get}
 use Rattle.kin_motion.specs.Course.{Course, live_of}
 use Rattle.kin_motion.specs.Numbers.{is_in, IsOnce, IsChain, Lists, filled_from}
 use Rattle.kin_motion.proofs.AgreementLaws.{kept-members, kept-once}
-use Rattle.kin_motion.proofs.Chains.{same_chain}
+use Rattle.kin_motion.proofs.ListChains.{same_chain}
 use Rattle.kin_motion.proofs.Members.{in_from_contains, contains_from_in, not_in_tail}
 use Rattle.kin_list.proofs.OrderingLaws.{chain_from_neighbours}
 

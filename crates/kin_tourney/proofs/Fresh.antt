@@ -3,6 +3,7 @@ use Rattle.std.proofs.Common.{◌≡◌, refl, sym, ap, ◌∙◌, subst, arith,
 use Rattle.std.specs.Prelude.{Option, Some, None, Contains}
 use Rattle.std.proofs.lemmas.List.{length-set, length-replicate, get_or-set_same, get_or-set_other}
 use Rattle.std.proofs.Math.Pow.{pow_pos}
+use Rattle.kin_basics.proofs.Places.{get_or-replicate_any}
 use Rattle.kin_basics.proofs.Options.{none_or_some}
 use Rattle.kin_algebra.specs.declared.sign.Sign.TheVariants.{Zero}
 use Rattle.kin_motion.specs.declared.fact.Fact.{Fact}
@@ -21,22 +22,14 @@ use Rattle.kin_tourney.proofs.Entrants.{winner_seen}
 abbrev pub fresh : (Item : Type 0) → ℕ → Standings Item
 fresh Item size = record { size = size; items = replicate (2 ^ size) None; marked = replicate (2 ^ size) false; best = replicate (2 ^ size) None; facts = replicate (2 ^ size) None; doubts = set (replicate (2 ^ size) Clear) 0 Here }
 
--- a list of one value has it at each place, and it is what stands for none past the end
-pub same_all : {A : Type 0} (n i : ℕ) (a : A) → get_or (replicate n a) i a ≡ a
-same_all {A} zero i a = refl
-same_all {A} (suc n) zero a = refl
-same_all {A} (suc n) (suc i) a = same_all n i a
+-- no node but the root is in doubt
+pub fresh_clear : (n v : ℕ) → 0 < v → doubt_in (set (replicate n Clear) 0 Here) v ≡ Clear
+fresh_clear n v some = get_or-set_other (replicate n Clear) 0 v Here Clear (omega arith) ∙ get_or-replicate_any n v Clear
+
+pub fresh_closed : (n : ℕ) → 0 < n → IsClosed (set (replicate n Clear) 0 Here)
+fresh_closed n some = record { top = get_or-set_same (replicate n Clear) 0 Here Clear (let k = length-replicate n Clear in omega arith); below = λ v big e. fresh_clear n v big }
 
 module _ (Item : Type 0) (size : ℕ) where
-  top_set : doubt_in (set (replicate (2 ^ size) Clear) 0 Here) 0 ≡ Here
-  top_set = get_or-set_same (replicate (2 ^ size) Clear) 0 Here Clear (let k = length-replicate (2 ^ size) Clear in let p = pow_pos size in omega arith)
-
-  others_clear : (v : ℕ) → 0 < v → doubt_in (set (replicate (2 ^ size) Clear) 0 Here) v ≡ Clear
-  others_clear v some = get_or-set_other (replicate (2 ^ size) Clear) 0 v Here Clear (omega arith) ∙ same_all (2 ^ size) v Clear
-
-  closed : IsClosed (set (replicate (2 ^ size) Clear) 0 Here)
-  closed = record { top = top_set; below = λ v some e. others_clear v some }
-
   items_len : length (replicate {A = Option Item} (2 ^ size) None) ≡ 2 ^ size
   items_len = length-replicate (2 ^ size) None
 
@@ -51,13 +44,13 @@ module _ (Item : Type 0) (size : ℕ) where
     best_room = len None;
     facts_room = len None;
     doubts_room = length-set (replicate (2 ^ size) Clear) 0 Here ∙ len Clear;
-    best_low = λ v i e. absurd (none_or_some (same_all (2 ^ size) v None) e);
-    best_under = λ v i e. absurd (none_or_some (same_all (2 ^ size) v None) e);
-    closed = closed;
+    best_low = λ v i e. absurd (none_or_some (get_or-replicate_any (2 ^ size) v None) e);
+    best_under = λ v i e. absurd (none_or_some (get_or-replicate_any (2 ^ size) v None) e);
+    closed = fresh_closed (2 ^ size) (pow_pos size);
   }
 
   no_item : (i : ℕ) → item_in (replicate {A = Option Item} (2 ^ size) None) i ≡ None
-  no_item i = same_all (2 ^ size) i None
+  no_item i = get_or-replicate_any (2 ^ size) i None
 
   no_entry : (o : Option ℕ) → entry_in (replicate {A = Option Item} (2 ^ size) None) o ≡ None
   no_entry None = refl
@@ -66,16 +59,16 @@ module _ (Item : Type 0) (size : ℕ) where
   pub fresh_sound : 1 ≤ size → (key : Key Item) → IsSound key (fresh Item size)
   fresh_sound some key = record {
     some = some;
-    leaves = λ i e. absurd (let k : false ≡ true = sym (same_all (2 ^ size) i false) ∙ e in cc);
-    won = λ i u e. absurd (let k : false ≡ true = sym (same_all (2 ^ size) i false) ∙ e in cc);
+    leaves = λ i e. absurd (let k : false ≡ true = sym (get_or-replicate_any (2 ^ size) i false) ∙ e in cc);
+    won = λ i u e. absurd (let k : false ≡ true = sym (get_or-replicate_any (2 ^ size) i false) ∙ e in cc);
     consistent = λ v some inside e. (Zero, right v);
-    no_root = same_all (2 ^ size) 0 None;
-    few = let k = count_of_top (set (replicate (2 ^ size) Clear) 0 Here) closed others_clear in omega arith;
+    no_root = get_or-replicate_any (2 ^ size) 0 None;
+    few = let k = count_of_top (set (replicate (2 ^ size) Clear) 0 Here) (fresh_closed (2 ^ size) (pow_pos size)) (fresh_clear (2 ^ size)) in omega arith;
   }
     where
       right : (v : ℕ) → IsRight key (λ f. Zero) (fresh Item size) v
       right v =
-          ap (λ (o : Option ℕ). (o, fact_in (fresh Item size).facts v)) (same_all (2 ^ size) v None) ∙ ap (λ (o : Option Fact). (None, o)) (same_all (2 ^ size) v None)
+          ap (λ (o : Option ℕ). (o, fact_in (fresh Item size).facts v)) (get_or-replicate_any (2 ^ size) v None) ∙ ap (λ (o : Option Fact). (None, o)) (get_or-replicate_any (2 ^ size) v None)
           ∙ sym (ap (λ x. match_of key (λ f. Zero) x (entry_at (fresh Item size) (2 * v + 1))) (no_entry (named_at (fresh Item size) (2 * v))) ∙ ap (λ x. match_of key (λ f. Zero) None x) (no_entry (named_at (fresh Item size) (2 * v + 1))))
 
   pub no_facts : (n m : ℕ) → placed_from n (replicate m None) ≡ []
@@ -100,4 +93,4 @@ module _ (Item : Type 0) (size : ℕ) where
   }
     where
       nothing : (p : Placed) → Contains (placed_from 0 (replicate (2 ^ size) None)) p → ⊥
-      nothing p there = none_or_some (same_all (2 ^ size) p.part None) (fact_of_placed (fresh Item size).facts p there)
+      nothing p there = none_or_some (get_or-replicate_any (2 ^ size) p.part None) (fact_of_placed (fresh Item size).facts p there)

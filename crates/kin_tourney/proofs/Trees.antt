@@ -32,6 +32,15 @@ right_inside {Item} t h v some inside = at (cases_eq (length t.items) (2 * v + 1
 pub above_in_doubt : (ds : List Doubt) → IsClosed ds → (v : ℕ) → 0 < v → doubt_in ds v ≢ Clear → doubt_in ds (v / 2) ≢ Clear
 above_in_doubt ds h v some n e = n (h.below v some e)
 
+-- where a repair begins: at the first node if it is in doubt, and else it has ended
+pub place_first : (ds : List Doubt) (n node : ℕ) → 1 < n → (node ≡ 0) × (doubt_in ds 1 ≡ Clear) ⊎ (node ≡ 1) × (doubt_in ds 1 ≢ Clear) → 0 < node → (node < n) × (doubt_in ds node ≢ Clear)
+place_first ds n node many (inl k) some = absurd (omega arith)
+place_first ds n node many (inr k) some = (omega arith, λ e. k.1 (sym (ap (doubt_in ds) k.0) ∙ e))
+
+pub ended_first : (ds : List Doubt) (node : ℕ) → (node ≡ 0) × (doubt_in ds 1 ≡ Clear) ⊎ (node ≡ 1) × (doubt_in ds 1 ≢ Clear) → node ≡ 0 → doubt_in ds 1 ≡ Clear
+ended_first ds node (inl k) none = k.1
+ended_first ds node (inr k) none = absurd (omega arith)
+
 -- a node got another best slot, its fact may have changed, and the node above it has to be played again
 pub tree_replayed : {Item : Type 0} (t : Standings Item) → IsTree t → (node : ℕ) → 0 < node → node < length t.items → doubt_in t.doubts node ≢ Clear
     → (best : Option ℕ) (facts : List (Option Fact)) → length facts ≡ length t.facts → ((i : ℕ) → best ≡ Some i → (i < length t.items) × (is_under t.size node i ≡ true))

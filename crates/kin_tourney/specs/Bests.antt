@@ -6,6 +6,7 @@ use Rattle.std.proofs.lemmas.Option.{same_Some}
 use Rattle.kin_basics.proofs.Options.{none_or_some}
 use Rattle.kin_motion.specs.Scene.{Scene}
 use Rattle.kin_motion.specs.Tournaments.{Key, beats, IsBest, item_in}
+use Rattle.kin_motion.proofs.NodeLaws.{one_best_of}
 use Rattle.kin_tourney.specs.Fair.{IsFair}
 
 pub other_false : (a b : Bool) → b ≡ not a → a ≡ false → b ≡ true
@@ -17,14 +18,7 @@ both_true a b e f g = let k : true ≡ false = sym g ∙ e ∙ ap not f in cc
 module _ {Item : Type 0} (s : Scene) (key : Key Item) (slots : List (Option Item)) (fair : IsFair s key slots) where
   -- one item at most is the best
   pub one_best : (among : ℕ → Bool) (a b : Item) → IsBest s key slots among a → IsBest s key slots among b → a ≡ b
-  one_best among a b p q = at (nat_eq p.slot q.slot) refl
-    where
-      at : (t : Bool) → nat_eq p.slot q.slot ≡ t → a ≡ b
-      at true f = let e : p.slot ≡ q.slot = grind (arith, nat_tests, f) in same_Some _ _ (sym p.held ∙ ap (item_in slots) e ∙ q.held)
-      at false f =
-          let n : p.slot ≢ q.slot = grind (arith, nat_tests, f) in
-          let m : q.slot ≢ p.slot = grind (arith, nat_tests, f) in
-          absurd (both_true (beats s key a b) (beats s key b a) (fair.total p.slot q.slot a b n p.held q.held) (p.beats_others q.slot b m q.among q.held) (q.beats_others p.slot a n p.among p.held))
+  one_best = one_best_of s key slots (λ i j a b n e f h k. both_true (beats s key a b) (beats s key b a) (fair.total i j a b n e f) h k)
 
   -- an item that beats the best of a set beats all of it
   beats_all : (among : ℕ → Bool) (x : ℕ) (a b : Item) → item_in slots x ≡ Some a → IsBest s key slots among b → beats s key a b ≡ true → (i : ℕ) (c : Item) → IsTrue (among i) → item_in slots i ≡ Some c → beats s key a c ≡ true

@@ -1,8 +1,8 @@
 -- Which slots stand under a node.
-use Rattle.std.proofs.Common.{◌≡◌, ◌⊎◌, inl, inr, sym, ◌∙◌, arith, ℕ, zero, suc, ◌+◌, ◌*◌, ◌/◌, ◌^◌, ◌<◌, ◌≤◌, true, nat_eq}
+use Rattle.std.proofs.Common.{refl, ◌≡◌, ◌⊎◌, inl, inr, sym, ◌∙◌, arith, ℕ, zero, suc, ◌+◌, ◌*◌, ◌/◌, ◌^◌, ◌<◌, ◌≤◌, true, nat_eq}
 use Rattle.std.proofs.lemmas.Bool.Decides.{nat_tests}
 use Rattle.std.proofs.Math.Pow.{pow_pos}
-use Rattle.std.proofs.lemmas.Bool.{or_cases, or_left, or_right}
+use Rattle.std.proofs.lemmas.Bool.{or_cases, or_left, or_right, eq-eqb}
 use Rattle.std.proofs.Math.Nat.{pow-succ'}
 use Rattle.kin_motion.specs.Tournaments.{comes_to, is_under}
 use Rattle.kin_motion.proofs.TournamentLaws.{is_under-halves}
@@ -17,12 +17,9 @@ comes_to-own (suc h) u v low e = at (or_cases (nat_eq u v) (comes_to h (u / 2) v
     at (inl f) = grind (arith, nat_tests, f)
     at (inr f) = let k = not_above h (u / 2) v f in absurd (omega arith)
 
-own_test : (u : ℕ) → nat_eq u u ≡ true
-own_test u = grind (arith, nat_tests)
-
 comes_to-itself : (h u : ℕ) → comes_to h u u ≡ true
-comes_to-itself zero u = own_test u
-comes_to-itself (suc h) u = or_left (nat_eq u u) (comes_to h (u / 2) u) (own_test u)
+comes_to-itself zero u = eq-eqb u u refl
+comes_to-itself (suc h) u = or_left (nat_eq u u) (comes_to h (u / 2) u) (eq-eqb u u refl)
 
 never_none : (h u : ℕ) → 2 ^ h ≤ u → comes_to h u 0 ≡ true → ⊥
 never_none zero u big e = let same : u ≡ 0 = grind (arith, nat_tests, e) in absurd (omega arith)

@@ -3,7 +3,7 @@ use Rattle.std.proofs.Common.{◌≡◌, ◌≢◌, refl, sym, ap, ap₂, ◌∙
 use Rattle.std.specs.Prelude.{slice_get}
 use Rattle.std.proofs.lemmas.Bool.{cases_eq}
 use Rattle.std.proofs.lemmas.Bool.Decides.{nat_tests}
-use Rattle.std.proofs.lemmas.List.{length-set, length-map}
+use Rattle.std.proofs.lemmas.List.{length-set, length-map, get_or-set_same, get_or-set_other}
 use Rattle.std.proofs.lemmas.Option.{same_Some}
 use Rattle.kin_list.specs.declared.mark.Mark.{Mark}
 use Rattle.kin_list.specs.Listing.{Listing, staying, without}
@@ -78,18 +78,6 @@ same_rows [] (y ∷ ys) l h = absurd (omega (arith, l))
 same_rows (x ∷ xs) [] l h = absurd (omega (arith, l))
 same_rows (x ∷ xs) (y ∷ ys) l h = ap₂ (λ (r : List ℕ) (rs : List (List ℕ)). r ∷ rs) (h 0 (omega arith)) (same_rows xs ys (omega (arith, l)) (λ k w. h (suc k) (omega (arith, w))))
 
-get-set_here : (rows : List (List ℕ)) (i : ℕ) (r : List ℕ) → i < length rows → row_of (set rows i r) i ≡ r
-get-set_here [] i r h = absurd (omega (arith, h))
-get-set_here (x ∷ xs) zero r h = refl
-get-set_here (x ∷ xs) (suc i) r h = get-set_here xs i r (omega (arith, h))
-
-get-set_there : (rows : List (List ℕ)) (i k : ℕ) (r : List ℕ) → k ≢ i → row_of (set rows i r) k ≡ row_of rows k
-get-set_there [] i k r n = refl
-get-set_there (x ∷ xs) zero zero r n = absurd (n refl)
-get-set_there (x ∷ xs) zero (suc k) r n = refl
-get-set_there (x ∷ xs) (suc i) zero r n = refl
-get-set_there (x ∷ xs) (suc i) (suc k) r n = get-set_there xs i k r (λ e. n (ap suc e))
-
 -- the first i rows are those of their lists
 pub record AreFollowed (mark : Mark) (lists : List Listing) (candidates : List (Option ℕ)) (old now : List (List ℕ)) (first ts : List Touch) (i : ℕ) : Type 0 where
   pub count : length now ≡ length old
@@ -107,14 +95,14 @@ module _ (mark : Mark) (lists : List Listing) (candidates : List (Option ℕ)) (
   followed_more now row ts us i l here w a e o t = record {
     count = length-set now i row ∙ a.count;
     done = λ part h. done part h (cases_eq part i);
-    left = λ part h. get-set_there now i part row (λ s. omega (arith, s, h)) ∙ a.left part (omega (arith, h));
+    left = λ part h. get_or-set_other now i part row [] (λ s. omega (arith, s, h)) ∙ a.left part (omega (arith, h));
     offered = λ part x y h k. offered part x y h k (cases_eq part i);
     touched = touched_through candidates first ts us a.touched t;
   }
     where
       done : (part : ℕ) → part < i + 1 → (part ≡ i) ⊎ (part ≢ i) → row_of (set now i row) part ≡ row_of (rows_of lists) part
-      done part h (inl s) = ap (row_of (set now i row)) s ∙ get-set_here now i row w ∙ e ∙ sym (items_there lists i l here) ∙ ap (row_of (rows_of lists)) (sym s)
-      done part h (inr n) = get-set_there now i part row n ∙ a.done part (omega (arith, h, n))
+      done part h (inl s) = ap (row_of (set now i row)) s ∙ get_or-set_same now i row [] w ∙ e ∙ sym (items_there lists i l here) ∙ ap (row_of (rows_of lists)) (sym s)
+      done part h (inr n) = get_or-set_other now i part row [] n ∙ a.done part (omega (arith, h, n))
 
       own : (x y : ℕ) → WereExchanged (row_of (swaps_of lists) i) (staying mark (row_of old i)) x y → HasOfferedBoth (rows_of lists) candidates i x y us
       own x y k = o x y (subst (λ (sw : List ℕ). WereExchanged sw (staying mark (row_of now i)) x y) (swaps_there lists i l here) (subst (λ (r : List ℕ). WereExchanged (row_of (swaps_of lists) i) (staying mark r) x y) (sym (a.left i (omega arith))) k))

@@ -2,6 +2,8 @@
 use Rattle.std.proofs.Common.{◌≡◌, refl, sym, ap, ◌∙◌, subst, arith, List, [], ◌∷◌, ℕ, zero, suc, ◌+◌, ◌*◌, ◌/◌, ◌%◌, ◌<◌, length, Some, None, Option, ◌≤◌}
 use Rattle.std.specs.Prelude.{slice_get, Contains}
 use Rattle.std.proofs.lemmas.Option.{same_Some, slice_get_within}
+use Rattle.std.proofs.Math.Nat.{div-add-mod}
+use Rattle.std.proofs.lemmas.Nat.{mod_below}
 use Rattle.kin_basics.proofs.Members.{contains_none, get_from_contains}
 use Rattle.kin_motion.proofs.SetLaws.{distinct_none}
 use Rattle.kin_links.specs.Family.{Linked, AreApart}
@@ -10,7 +12,6 @@ use Rattle.kin_wedge.specs.Cursors.{pair_of, pairs_of, list_of}
 use Rattle.kin_wedge.specs.Tables.{candidates_of, AreMirrored, AreHits}
 use Rattle.kin_wedge.proofs.Cursors.{list_there}
 use Rattle.kin_wedge.proofs.Mirrors.{candidate-get}
-use Rattle.kin_wedge.proofs.Slots.{slot_of, octant_small}
 
 -- what stands at a place of the pairs
 pair_from : (xs : List (Linked ℕ)) (i : ℕ) (h : ℕ × ℕ) → slice_get (pairs_of xs) i ≡ Some h → (x : Linked ℕ) × (slice_get xs i ≡ Some x) × (pair_of x ≡ h)
@@ -51,8 +52,8 @@ module _ (held : List (Option Hit)) (lists : List (List (Linked ℕ))) (mirrored
           let f = get_from_contains (pairs_of (list_of lists c)) h k in
           let x = pair_from (list_of lists c) f.0 h f.1 in
           let m = mirrored.back c f.0 (list_of lists c) x.0 listed x.1 in
-          let slot : 8 * h.0 + h.1 ≡ x.0.item = ap (λ (p : ℕ × ℕ). 8 * p.0 + p.1) (sym x.2) ∙ slot_of x.0.item in (
-            subst (λ (p : ℕ × ℕ). p.1 < 8) x.2 (octant_small x.0.item),
+          let slot : 8 * h.0 + h.1 ≡ x.0.item = ap (λ (p : ℕ × ℕ). 8 * p.0 + p.1) (sym x.2) ∙ div-add-mod x.0.item 8 in (
+            subst (λ (p : ℕ × ℕ). p.1 < 8) x.2 (mod_below x.0.item 8 (omega arith)),
             ap (slice_get (candidates_of held)) slot ∙ candidate-get held x.0.item (Some m.hit) m.here ∙ ap (λ (n : ℕ). Some (Some n)) m.candidate,
           )
 
@@ -62,7 +63,7 @@ module _ (held : List (Option Hit)) (lists : List (List (Linked ℕ))) (mirrored
           let y = pair_from (list_of lists c) j h b in
           let m = mirrored.back c i (list_of lists c) x.0 listed x.1 in
           let n = mirrored.back c j (list_of lists c) y.0 listed y.1 in
-          let slot : x.0.item ≡ y.0.item = sym (slot_of x.0.item) ∙ ap (λ (p : ℕ × ℕ). 8 * p.0 + p.1) (x.2 ∙ sym y.2) ∙ slot_of y.0.item in
+          let slot : x.0.item ≡ y.0.item = sym (div-add-mod x.0.item 8) ∙ ap (λ (p : ℕ × ℕ). 8 * p.0 + p.1) (x.2 ∙ sym y.2) ∙ div-add-mod y.0.item 8 in
           let hit : m.hit ≡ n.hit = same_Some _ _ (same_Some _ _ (sym m.here ∙ ap (slice_get held) slot ∙ n.here)) in
           let node : x.0.node ≡ y.0.node = sym m.same ∙ ap (λ (v : Hit). v.node.0) hit ∙ n.same in
           (apart x.0.node

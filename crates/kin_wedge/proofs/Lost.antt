@@ -2,12 +2,13 @@
 use Rattle.std.proofs.Common.{◌≡◌, refl, sym, ap, ◌∙◌, subst, arith, List, [], ◌∷◌, ℕ, ◌+◌, ◌*◌, ◌/◌, ◌%◌, ◌<◌, length, Some, Option, inl, inr, ◌⊎◌}
 use Rattle.std.specs.Prelude.{slice_get, Contains}
 use Rattle.std.proofs.lemmas.Option.{slice_get_within}
+use Rattle.std.proofs.Math.Nat.{div-add-mod}
 use Rattle.kin_basics.proofs.Members.{contains_tail, contains_cases}
 use Rattle.kin_motion.specs.Octants.{Octant, octants}
 use Rattle.kin_wedge.specs.declared.touch.Touch.{Touch}
 use Rattle.kin_wedge.specs.Tables.{AreHits}
 use Rattle.kin_wedge.specs.Touched.{IsOffered, HasPassedBy, HasTouched}
-use Rattle.kin_wedge.proofs.Slots.{slot_of, octant_again}
+use Rattle.kin_wedge.proofs.Slots.{octant_again}
 use Rattle.kin_wedge.proofs.Touching.{touched_none, touched_through}
 
 -- x is offered to each wanted slot whose candidate c is, but for those that are left
@@ -39,7 +40,7 @@ module _ (candidates : List (Option ℕ)) (c : ℕ) (Wanted : ℕ → Type 0) (x
     where
       here : (slot : ℕ) → Wanted slot → (h ≡ (slot / 8, slot % 8)) ⊎ Contains rest (slot / 8, slot % 8) → Contains rest (slot / 8, slot % 8) ⊎ IsOffered next slot x
       here slot w (inl s) =
-          let same : 8 * h.0 + h.1 ≡ slot = ap (λ (p : ℕ × ℕ). 8 * p.0 + p.1) s ∙ slot_of slot in
+          let same : 8 * h.0 + h.1 ≡ slot = ap (λ (p : ℕ × ℕ). 8 * p.0 + p.1) s ∙ div-add-mod slot 8 in
           inr (subst (λ (n : ℕ). IsOffered next n x) same (o (subst Wanted (sym same) w)))
       here slot w (inr k) = inl k
 

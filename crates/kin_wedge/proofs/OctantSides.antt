@@ -1,7 +1,7 @@
 -- Where the lists are the orders of a scene, who lies in an octant lies in the one that its sides tell.
 use Rattle.std.proofs.Common.{◌≡◌, ◌≢◌, refl, sym, ap, ◌∙◌, arith, List, ℕ, zero, suc, ◌<◌, Bool, true, false, not, cond, Some, pos, negsuc}
 use Rattle.std.specs.Prelude.{slice_get}
-use Rattle.std.proofs.lemmas.Bool.{and_parts}
+use Rattle.std.proofs.lemmas.Bool.{and_parts, not-true}
 use Rattle.std.proofs.lemmas.Option.{same_Some}
 use Rattle.kin_motion.specs.Scene.{Scene}
 use Rattle.kin_motion.specs.Orders.{is_before}
@@ -70,10 +70,6 @@ at-7 false false true t a b e f = never true refl (a refl refl)
 at-7 false true true true a b e f = refl
 at-7 false true true false a b e f = absurd cc
 
-not_true : (b : Bool) → not b ≡ true → b ≡ false
-not_true true e = absurd cc
-not_true false e = refl
-
 module _ (s : Scene) (laws : HasLineLaws s) (p q : ℕ) (n : p ≢ q) where
   y : Bool
   y = is_before s (pos 0) (pos 1) p q
@@ -97,11 +93,11 @@ module _ (s : Scene) (laws : HasLineLaws s) (p q : ℕ) (n : p ≢ q) where
 
   a3 : y ≡ false → d ≡ false → x ≡ false
   unfolding y d x
-  a3 e f = not_true _ (sym (before_turned s laws (pos 1) (pos 0) p q n) ∙ sum_of s laws (pos 0) (pos 1) (pos 1) (negsuc 0) q p (before_turned s laws (pos 0) (pos 1) p q n ∙ ap not e) (before_turned s laws (pos 1) (negsuc 0) p q n ∙ ap not f))
+  a3 e f = not-true _ (sym (before_turned s laws (pos 1) (pos 0) p q n) ∙ sum_of s laws (pos 0) (pos 1) (pos 1) (negsuc 0) q p (before_turned s laws (pos 0) (pos 1) p q n ∙ ap not e) (before_turned s laws (pos 1) (negsuc 0) p q n ∙ ap not f))
 
   a4 : y ≡ false → x ≡ false → t ≡ false
   unfolding y x t
-  a4 e f = not_true _ (sym (before_turned s laws (pos 1) (pos 1) p q n) ∙ sum_of s laws (pos 0) (pos 1) (pos 1) (pos 0) q p (before_turned s laws (pos 0) (pos 1) p q n ∙ ap not e) (before_turned s laws (pos 1) (pos 0) p q n ∙ ap not f))
+  a4 e f = not-true _ (sym (before_turned s laws (pos 1) (pos 1) p q n) ∙ sum_of s laws (pos 0) (pos 1) (pos 1) (pos 0) q p (before_turned s laws (pos 0) (pos 1) p q n ∙ ap not e) (before_turned s laws (pos 1) (pos 0) p q n ∙ ap not f))
 
   there : (o r : Octant) (w : ℕ) → Some r ≡ Some o → (is_in_octant s r p q ≡ true → tree y d x t ≡ w) → is_in_octant s o p q ≡ true → tree y d x t ≡ w
   there o r w e f h = f (ap (λ (v : Octant). is_in_octant s v p q) (same_Some r o e) ∙ h)
@@ -109,13 +105,13 @@ module _ (s : Scene) (laws : HasLineLaws s) (p q : ℕ) (n : p ≢ q) where
   octant_told : (w : ℕ) (o : Octant) → slice_get octants w ≡ Some o → is_in_octant s o p q ≡ true → tree y d x t ≡ w
   unfolding y d x t
   octant_told zero o e = there o _ _ e (λ h. at-0 y d x t (and_parts _ _ h).0 (and_parts _ _ h).1)
-  octant_told (suc zero) o e = there o _ _ e (λ h. at-1 y d x t a3 (not_true _ (sym (before_turned s laws (pos 1) (negsuc 0) p q n) ∙ (and_parts _ _ h).0)) (and_parts _ _ h).1)
-  octant_told (suc (suc zero)) o e = there o _ _ e (λ h. at-2 y d x t a1 a4 (not_true _ (sym (before_turned s laws (pos 1) (pos 0) p q n) ∙ (and_parts _ _ h).0)) (and_parts _ _ h).1)
-  octant_told (suc (suc (suc zero))) o e = there o _ _ e (λ h. at-3 y d x t a1 a2 (not_true _ (sym (before_turned s laws (pos 1) (pos 1) p q n) ∙ (and_parts _ _ h).0)) (and_parts _ _ h).1)
-  octant_told (suc (suc (suc (suc zero)))) o e = there o _ _ e (λ h. at-4 y d x t (not_true _ (sym (before_turned s laws (pos 0) (pos 1) p q n) ∙ (and_parts _ _ h).0)) (not_true _ (sym (before_turned s laws (pos 1) (negsuc 0) p q n) ∙ (and_parts _ _ h).1)))
-  octant_told (suc (suc (suc (suc (suc zero))))) o e = there o _ _ e (λ h. at-5 y d x t a1 (and_parts _ _ h).0 (not_true _ (sym (before_turned s laws (pos 1) (pos 0) p q n) ∙ (and_parts _ _ h).1)))
-  octant_told (suc (suc (suc (suc (suc (suc zero)))))) o e = there o _ _ e (λ h. at-6 y d x t a2 a3 (and_parts _ _ h).0 (not_true _ (sym (before_turned s laws (pos 1) (pos 1) p q n) ∙ (and_parts _ _ h).1)))
-  octant_told (suc (suc (suc (suc (suc (suc (suc zero))))))) o e = there o _ _ e (λ h. at-7 y d x t a3 a4 (and_parts _ _ h).0 (not_true _ (sym (before_turned s laws (pos 0) (pos 1) p q n) ∙ (and_parts _ _ h).1)))
+  octant_told (suc zero) o e = there o _ _ e (λ h. at-1 y d x t a3 (not-true _ (sym (before_turned s laws (pos 1) (negsuc 0) p q n) ∙ (and_parts _ _ h).0)) (and_parts _ _ h).1)
+  octant_told (suc (suc zero)) o e = there o _ _ e (λ h. at-2 y d x t a1 a4 (not-true _ (sym (before_turned s laws (pos 1) (pos 0) p q n) ∙ (and_parts _ _ h).0)) (and_parts _ _ h).1)
+  octant_told (suc (suc (suc zero))) o e = there o _ _ e (λ h. at-3 y d x t a1 a2 (not-true _ (sym (before_turned s laws (pos 1) (pos 1) p q n) ∙ (and_parts _ _ h).0)) (and_parts _ _ h).1)
+  octant_told (suc (suc (suc (suc zero)))) o e = there o _ _ e (λ h. at-4 y d x t (not-true _ (sym (before_turned s laws (pos 0) (pos 1) p q n) ∙ (and_parts _ _ h).0)) (not-true _ (sym (before_turned s laws (pos 1) (negsuc 0) p q n) ∙ (and_parts _ _ h).1)))
+  octant_told (suc (suc (suc (suc (suc zero))))) o e = there o _ _ e (λ h. at-5 y d x t a1 (and_parts _ _ h).0 (not-true _ (sym (before_turned s laws (pos 1) (pos 0) p q n) ∙ (and_parts _ _ h).1)))
+  octant_told (suc (suc (suc (suc (suc (suc zero)))))) o e = there o _ _ e (λ h. at-6 y d x t a2 a3 (and_parts _ _ h).0 (not-true _ (sym (before_turned s laws (pos 1) (pos 1) p q n) ∙ (and_parts _ _ h).1)))
+  octant_told (suc (suc (suc (suc (suc (suc (suc zero))))))) o e = there o _ _ e (λ h. at-7 y d x t a3 a4 (and_parts _ _ h).0 (not-true _ (sym (before_turned s laws (pos 0) (pos 1) p q n) ∙ (and_parts _ _ h).1)))
   octant_told (suc (suc (suc (suc (suc (suc (suc (suc w)))))))) o e = absurd cc
 
 module _ (s : Scene) (laws : HasLineLaws s) (rows : List (List ℕ)) (orders : AreOrders s rows) where

@@ -1,18 +1,17 @@
 -- The facts of the eight lists, by their parts.
-use Rattle.std.proofs.Common.{◌≡◌, ◌≢◌, ◌⊎◌, inl, inr, refl, sym, ap, ◌∙◌, subst, arith, List, [], ◌∷◌, ◌++◌, ℕ, zero, suc, ◌+◌, ◌<◌, ◌≤◌, Bool, true, map, filter, length, Some, append_assoc}
-use Rattle.std.specs.Prelude.{Contains, slice_get, ◌↔◌}
+use Rattle.std.proofs.Common.{◌≡◌, ◌≢◌, ◌⊎◌, inl, inr, refl, sym, ap, ◌∙◌, subst, arith, List, [], ◌∷◌, ℕ, zero, suc, ◌+◌, ◌<◌, ◌≤◌, Bool, true, map, filter, length, Some}
+use Rattle.std.specs.Prelude.{Contains, slice_get}
 use Rattle.std.proofs.lemmas.Bool.{cases_eq}
 use Rattle.std.proofs.lemmas.Bool.Decides.{nat_tests}
 use Rattle.std.proofs.lemmas.List.Elements.{Contains-append_left, Contains-append_right, Contains-append_cases}
 use Rattle.std.proofs.lemmas.Option.{same_Some, slice_get_within}
-use Rattle.std.proofs.lemmas.List.{append-nil}
-use Rattle.kin_motion.proofs.FailureOrder.{distinct_filter}
 use Rattle.kin_basics.proofs.Members.{contains_none}
 use Rattle.kin_motion.specs.declared.fact.Placed.{Placed}
 use Rattle.kin_motion.specs.Kinetics.{ListsFailing, HasGained}
 use Rattle.kin_motion.specs.Parts.{moved_by}
 use Rattle.kin_motion.specs.Scene.{Scene}
-use Rattle.kin_motion.proofs.SetLaws.{contains_map, contains_mapped, exactly_both, exactly_in_words, exactly_none, filter-sound, filter-complete}
+use Rattle.kin_motion.proofs.Gains.{gained_in_words, gained_both}
+use Rattle.kin_motion.proofs.SetLaws.{contains_map, contains_mapped, filter-sound, filter-complete, distinct_filter}
 use Rattle.kin_list.specs.Listing.{Listing}
 use Rattle.kin_wedge.specs.Parts.{in_part, is_of_part, facts_from, AreAtNought}
 
@@ -107,20 +106,6 @@ failing_of_part lists i l spared s failed nought e h = record {
     of_part : (p : Placed) → p.part ≡ i → is_of_part i p ≡ true
     of_part p f = grind (arith, nat_tests, f)
 
--- gained first these and then those
-pub gained_both : (a b c : List Placed) (P Q : Placed → Type 0) → ((p : Placed) → P p → Q p → ⊥) → HasGained a b P → HasGained b c Q → HasGained a c (λ p. P p ⊎ Q p)
-gained_both a b c P Q apart g h = record {
-  more = g.more ++ h.more;
-  joined = h.joined ∙ ap (λ (v : List Placed). v ++ h.more) g.joined ∙ append_assoc {A = Placed} a g.more h.more;
-  exactly = exactly_both g.more h.more P Q g.exactly h.exactly apart;
-}
-
-pub gained_in_words : (a b : List Placed) (P Q : Placed → Type 0) → ((p : Placed) → P p ↔ Q p) → HasGained a b P → HasGained a b Q
-gained_in_words a b P Q same g = record { more = g.more; joined = g.joined; exactly = exactly_in_words g.more P Q same g.exactly }
-
-pub gained_none : (a : List Placed) (P : Placed → Type 0) → ((p : Placed) → ¬ (P p)) → HasGained a a P
-gained_none a P n = record { more = []; joined = sym (append-nil a); exactly = exactly_none P n }
-
 -- in a part below i one family has the fact and the other has not
 abbrev pub IsOnlyIn : List Listing → List Listing → ℕ → Placed → Type 0
 IsOnlyIn as' bs i p = (p.part < i) × HasFact as' p × ¬ (HasFact bs p)
@@ -152,8 +137,7 @@ module _ (as' as'' bs bs' : List Listing) (i : ℕ) (a b : Listing) (a_same : (k
 
   pub gained_more : (x y z : List Placed) → HasGained x y (IsOnlyIn as' bs i) → HasGained y z (λ p. Contains (map (moved_by i) a.facts) p × ¬ (Contains (map (moved_by i) b.facts) p)) → HasGained x z (IsOnlyIn as'' bs' (i + 1))
   gained_more x y z g h =
-      gained_in_words x z (λ p. IsOnlyIn as' bs i p ⊎ (Contains (map (moved_by i) a.facts) p × ¬ (Contains (map (moved_by i) b.facts) p))) (IsOnlyIn as'' bs' (i + 1)) (λ p. (to p, λ k. from p k (cases_eq p.part i)))
-      (gained_both x y z (IsOnlyIn as' bs i) (λ p. Contains (map (moved_by i) a.facts) p × ¬ (Contains (map (moved_by i) b.facts) p)) apart g h)
+      gained_both x y z (IsOnlyIn as' bs i) (λ p. Contains (map (moved_by i) a.facts) p × ¬ (Contains (map (moved_by i) b.facts) p)) (IsOnlyIn as'' bs' (i + 1)) apart (λ p. (to p, λ k. from p k (cases_eq p.part i))) g h
 
 -- all parts are told of
 pub gained_all : (as' bs : List Listing) (x y : List Placed) (i : ℕ) → length as' ≤ i → AllAtNought as' → AllAtNought bs → HasGained x y (IsOnlyIn as' bs i) → HasGained x y (λ p. Contains (facts_from 0 as') p × ¬ (Contains (facts_from 0 bs) p))

@@ -1,23 +1,21 @@
 -- The failed facts of a part are those that its list is told, and its report is that of its part.
-use Rattle.std.proofs.Common.{◌≡◌, refl, sym, ap, ap₂, ◌∙◌, subst, arith, List, [], ◌∷◌, ◌++◌, ℕ, ◌+◌, Bool, true, false, cond, nat_eq, length, map, filter, take, drop}
-use Rattle.std.specs.Prelude.{Contains}
+use Rattle.std.proofs.Common.{◌≡◌, refl, sym, ap, ◌∙◌, subst, arith, List, [], ◌∷◌, ◌++◌, ℕ, ◌+◌, Bool, true, false, cond, nat_eq, length, map, filter, take, drop}
 use Rattle.std.proofs.lemmas.Bool.{eqb-true}
 use Rattle.std.proofs.lemmas.Bool.Decides.{nat_tests}
-use Rattle.std.proofs.lemmas.List.{take_at, drop_at}
 use Rattle.kin_basics.proofs.Members.{contains_head, contains_tail}
 use Rattle.kin_motion.specs.declared.fact.Placed.{Placed}
 use Rattle.kin_motion.specs.Deltas.{Change}
-use Rattle.kin_motion.specs.Kinetics.{ListsFailing, HasGained, HasChanged}
+use Rattle.kin_motion.specs.Kinetics.{ListsFailing, HasChanged}
 use Rattle.kin_motion.specs.Parts.{moved_by}
 use Rattle.kin_motion.specs.Scene.{Scene}
+use Rattle.kin_motion.proofs.Gains.{gained_behind, mapped_report}
 use Rattle.kin_motion.proofs.ClosestFactLaws.{part_of_order}
-use Rattle.kin_motion.proofs.PartLaws.{moved_facts_change, moved_facts_fail}
+use Rattle.kin_motion.proofs.PartLaws.{moved_one, moved_facts_fail}
 use Rattle.kin_list.specs.declared.mark.Mark.{Mark}
 use Rattle.kin_list.specs.declared.mark.Mark.TheVariants.{Rest, Enters, Leaves, Broken}
 use Rattle.kin_list.specs.Listing.{Listing, IsSettledListing, names_leaving, staying, lasting}
 use Rattle.kin_list.specs.Rows.{exchanged}
 use Rattle.kin_wedge.specs.Parts.{in_part, is_of_part, AreAtNought, IsResettled}
-use Rattle.kin_wedge.proofs.Parting.{gained_none}
 
 -- a fact that was moved to part 0 and back
 moved_back : (part : ℕ) (p : Placed) → p.part ≡ part → moved_by part (in_part 0 p) ≡ p
@@ -64,39 +62,13 @@ same_move part (x ∷ xs) h =
     let rest = same_move part xs (λ p c. h p (contains_tail x p xs c)) in
     λ t. record { part = e t; fact = x.fact } ∷ rest t
 
-none : Change
-none = record { dropped = []; born = [] }
-
--- one side of the report
-side : (part : ℕ) (mine : List Placed) (which : Placed → Type 0) (before after : List Placed) (moved_which : Placed → Type 0) → ((p : Placed) → which p → p.part ≡ 0) → HasGained [] mine which
-    → HasGained [] (map (moved_by part) mine) moved_which → after ≡ before ++ map (in_part part) mine → HasGained before after moved_which
-side part mine which before after moved_which nought g h e = record {
-  more = h.more;
-  joined = e ∙ ap (λ (v : List Placed). before ++ v) (same_move part mine (λ p c. nought p ((g.exactly.each p).0 (subst (λ (v : List Placed). Contains v p) g.joined c))) ∙ h.joined);
-  exactly = h.exactly;
-}
-
--- what was gained is moved
-moved_gain : (part from : ℕ) (x y z : List Placed) (which : Placed → Type 0) → from ≡ length x → (g : HasGained x y which) → z ≡ take from y ++ map (in_part part) (drop from y) → z ≡ x ++ map (in_part part) g.more
-moved_gain part from x y z which n g e =
-    e ∙ ap (λ (k : ℕ). take k y ++ map (in_part part) (drop k y)) n
-    ∙ ap (λ (v : List Placed). take (length x) v ++ map (in_part part) (drop (length x) v)) g.joined
-    ∙ ap₂ (λ (u v : List Placed). u ++ map (in_part part) v) (take_at x g.more (length x) refl) (drop_at x g.more (length x) refl)
-
 pub report_moved : (part n m : ℕ) (old new : List Placed) (out mid out' : Change) → AreAtNought old → AreAtNought new → n ≡ length out.dropped → m ≡ length out.born → HasChanged old new out mid
     → out'.dropped ≡ take n mid.dropped ++ map (in_part part) (drop n mid.dropped) → out'.born ≡ take m mid.born ++ map (in_part part) (drop m mid.born)
     → HasChanged (map (moved_by part) old) (map (moved_by part) new) out out'
-unfolding none
 report_moved part n m old new out mid out' old_nought new_nought dropped born h d b =
-    let fresh : HasChanged old new none (record { dropped = h.dropped.more; born = h.born.more }) = record {
-      dropped = record { more = h.dropped.more; joined = refl; exactly = h.dropped.exactly };
-      born = record { more = h.born.more; joined = refl; exactly = h.born.exactly };
-    } in
-    let moved = moved_facts_change part old new none (record { dropped = h.dropped.more; born = h.born.more }) fresh in
-    record {
-      dropped = side part h.dropped.more _ out.dropped out'.dropped _ (λ p w. old_nought p w.0) fresh.dropped moved.dropped (moved_gain part n out.dropped mid.dropped out'.dropped _ dropped h.dropped d);
-      born = side part h.born.more _ out.born out'.born _ (λ p w. new_nought p w.0) fresh.born moved.born (moved_gain part m out.born mid.born out'.born _ born h.born b);
-    }
+    mapped_report (moved_by part) (moved_one part) old new out mid out' n m dropped born h
+    (d ∙ ap (λ (l : List Placed). take n mid.dropped ++ l) (same_move part (drop n mid.dropped) (λ p c. old_nought p (gained_behind n out.dropped mid.dropped _ dropped h.dropped p c).0)))
+    (b ∙ ap (λ (l : List Placed). take m mid.born ++ l) (same_move part (drop m mid.born) (λ p c. new_nought p (gained_behind m out.born mid.born _ born h.born p c).0)))
 
 pub none_told : (facts : List Placed) → nat_eq (length facts) 0 ≡ true → facts ≡ []
 none_told [] e = refl
@@ -110,7 +82,3 @@ stood_still s l m e r settled = record {
   exchanges = subst (λ (k : Listing). exchanged k.swaps (staying l.mark l.items) ≡ lasting l.mark k.items) (sym e) (subst (λ (mark : Mark). staying mark l.items ≡ lasting mark l.items) (sym r) refl);
   same = (ap (λ (k : Listing). k.dx) e, ap (λ (k : Listing). k.dy) e, ap (λ (k : Listing). k.room) e);
 }
-
--- nothing has changed
-pub unchanged : (facts : List Placed) (out : Change) → HasChanged facts facts out out
-unchanged facts out = record { dropped = gained_none out.dropped _ (λ p h. h.1 h.0); born = gained_none out.born _ (λ p h. h.1 h.0) }

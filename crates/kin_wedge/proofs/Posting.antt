@@ -1,7 +1,7 @@
 -- What one list is told, and what it reports.
 use Rattle.std.proofs.Common.{◌≡◌, ◌≢◌, ◌⊎◌, inl, inr, refl, sym, ap, ap₂, ◌∙◌, arith, List, [], ◌∷◌, ◌++◌, ℕ, zero, suc, ◌+◌, ◌<◌, ◌≤◌, Bool, true, false, cond, length, map, filter, take, drop, set, get_or, append_assoc, add-one}
 use Rattle.std.proofs.lemmas.Bool.{cases_eq, cases_lt}
-use Rattle.std.proofs.lemmas.List.{drop_more, drop_all, take_all, append-nil, length-set}
+use Rattle.std.proofs.lemmas.List.{drop_more, drop_all, take_all, append-nil, length-set, get_or-set_same, get_or-set_other, get_or_past}
 use Rattle.kin_motion.specs.declared.fact.Placed.{Placed}
 use Rattle.kin_wedge.specs.Parts.{in_part, is_of_part, told_to}
 
@@ -33,18 +33,6 @@ pub record AreEmptied (first now : List (List Placed)) (i : ℕ) : Type 0 where
   pub count : length now ≡ length first
   pub empty : (part : ℕ) → part < i → told_to now part ≡ []
 
-told-set_same : (boxes : List (List Placed)) (i : ℕ) (facts : List Placed) → i < length boxes → told_to (set boxes i facts) i ≡ facts
-told-set_same [] i facts h = absurd (omega (arith, h))
-told-set_same (b ∷ bs) zero facts h = refl
-told-set_same (b ∷ bs) (suc i) facts h = told-set_same bs i facts (omega (arith, h))
-
-told-set_other : (boxes : List (List Placed)) (i part : ℕ) (facts : List Placed) → part ≢ i → told_to (set boxes i facts) part ≡ told_to boxes part
-told-set_other [] i part facts n = refl
-told-set_other (b ∷ bs) zero zero facts n = absurd (n refl)
-told-set_other (b ∷ bs) zero (suc part) facts n = refl
-told-set_other (b ∷ bs) (suc i) zero facts n = refl
-told-set_other (b ∷ bs) (suc i) (suc part) facts n = told-set_other bs i part facts (λ e. n (ap suc e))
-
 pub emptied_more : (first now : List (List Placed)) (i : ℕ) (facts : List Placed) → i < length now → AreEmptied first now i → facts ≡ [] → AreEmptied first (set now i facts) (i + 1)
 emptied_more first now i facts l a e = record {
   count = length-set now i facts ∙ a.count;
@@ -52,20 +40,15 @@ emptied_more first now i facts l a e = record {
 }
   where
     at : (part : ℕ) → (part ≡ i) ⊎ (part ≢ i) → part < i + 1 → told_to (set now i facts) part ≡ []
-    at part (inl s) h = ap (told_to (set now i facts)) s ∙ told-set_same now i facts l ∙ e
-    at part (inr n) h = told-set_other now i part facts n ∙ a.empty part (omega (arith, h, n))
-
-told_past : (boxes : List (List Placed)) (part : ℕ) → length boxes ≤ part → told_to boxes part ≡ []
-told_past [] part h = refl
-told_past (b ∷ bs) zero h = absurd (omega (arith, h))
-told_past (b ∷ bs) (suc part) h = told_past bs part (omega (arith, h))
+    at part (inl s) h = ap (told_to (set now i facts)) s ∙ get_or-set_same now i facts [] l ∙ e
+    at part (inr n) h = get_or-set_other now i part facts [] n ∙ a.empty part (omega (arith, h, n))
 
 pub emptied_all : (first now : List (List Placed)) (i part : ℕ) → length first ≤ i → AreEmptied first now i → told_to now part ≡ []
 emptied_all first now i part l a = at (cases_lt part i)
   where
     at : (part < i) ⊎ (i ≤ part) → told_to now part ≡ []
     at (inl h) = a.empty part h
-    at (inr h) = let c = a.count in told_past now part (omega (arith, l, h, c))
+    at (inr h) = let c = a.count in get_or_past now part [] (omega (arith, l, h, c))
 
 -- so many of the facts are sorted out among as many boxes
 pub record AreSorted (failed : List Placed) (first now : List (List Placed)) (i : ℕ) : Type 0 where
@@ -91,7 +74,7 @@ pub record AreMoved (part from : ℕ) (first now : List Placed) (k : ℕ) : Type
   pub count : length now ≡ length first
   pub rest : take k now ++ map (in_part part) (drop k now) ≡ take from first ++ map (in_part part) (drop from first)
 
-moved_here : (f : Placed → Placed) (xs : List Placed) (k : ℕ) (d : Placed) → k < length xs → take (suc k) (set xs k (f (get_or xs k d))) ++ map f (drop (suc k) (set xs k (f (get_or xs k d)))) ≡ take k xs ++ map f (drop k xs)
+pub moved_here : (f : Placed → Placed) (xs : List Placed) (k : ℕ) (d : Placed) → k < length xs → take (suc k) (set xs k (f (get_or xs k d))) ++ map f (drop (suc k) (set xs k (f (get_or xs k d)))) ≡ take k xs ++ map f (drop k xs)
 moved_here f [] k d l = absurd (omega (arith, l))
 moved_here f (x ∷ xs) zero d l = refl
 moved_here f (x ∷ xs) (suc k) d l = ap (λ (v : List Placed). x ∷ v) (moved_here f xs k d (omega (arith, l)))

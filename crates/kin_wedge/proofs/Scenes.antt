@@ -11,8 +11,8 @@ use Rattle.kin_motion.specs.Laws.{HasLineLaws}
 use Rattle.kin_motion.proofs.AgreementLaws.{kept-members}
 use Rattle.kin_motion.proofs.CandidateLaws.{never_after_itself}
 use Rattle.kin_motion.specs.Sets.{AreDistinct}
+use Rattle.kin_motion.proofs.SetLaws.{apart_from_once}
 use Rattle.kin_list.proofs.OrderingLaws.{stands_in_order}
-use Rattle.kin_list.proofs.SettleLaws.{apart_from_once}
 use Rattle.kin_wedge.specs.Seen.{IsOfEight}
 use Rattle.kin_wedge.specs.EightLaws.{of_eight}
 use Rattle.kin_wedge.specs.Rows.{row_of, stands_after, is_in_wedge, IsFirstAnswer, AreOrders}

@@ -8,6 +8,7 @@ use Rattle.kin_motion.specs.Deltas.{Change}
 use Rattle.kin_motion.specs.Kinetics.{HasGained, HasChanged}
 use Rattle.kin_motion.specs.Parts.{moved_by}
 use Rattle.kin_motion.specs.Scene.{Scene}
+use Rattle.kin_motion.proofs.Gains.{gained_none}
 use Rattle.kin_list.specs.declared.mark.Mark.{Mark}
 use Rattle.kin_list.specs.Listing.{Listing, AreHalvings, AreFewTests}
 use Rattle.kin_wedge.specs.Costs.{moved_below, AreFewBelow}
@@ -15,7 +16,7 @@ use Rattle.kin_wedge.specs.Parts.{facts_from, EachTo, IsResettled}
 use Rattle.kin_wedge.specs.Rows.{row_of}
 use Rattle.kin_wedge.specs.Seen.{rows_of}
 use Rattle.kin_wedge.proofs.AllRows.{items_there, items_same}
-use Rattle.kin_wedge.proofs.Parting.{AllAtNought, IsOnlyIn, gained_none, gained_more, gained_all}
+use Rattle.kin_wedge.proofs.Parting.{AllAtNought, IsOnlyIn, gained_more, gained_all}
 use Rattle.kin_wedge.proofs.Posted.{nought_settled}
 use Rattle.kin_wedge.proofs.Stepwise.{AreMade, made_none, made_more, made_all}
 

@@ -1,14 +1,8 @@
 -- A slot is eight times its apex, and its octant.
-use Rattle.std.proofs.Common.{◌≡◌, arith, ℕ, ◌+◌, ◌*◌, ◌/◌, ◌%◌, ◌<◌, Some}
+use Rattle.std.proofs.Common.{◌≡◌, arith, ℕ, ◌+◌, ◌*◌, ◌%◌, ◌<◌, Some}
 use Rattle.std.specs.Prelude.{slice_get}
 use Rattle.std.proofs.lemmas.Option.{slice_get_within}
 use Rattle.kin_motion.specs.Octants.{Octant, octants}
-
-pub slot_of : (slot : ℕ) → 8 * (slot / 8) + slot % 8 ≡ slot
-slot_of slot = omega arith
-
-pub octant_small : (slot : ℕ) → slot % 8 < 8
-octant_small slot = omega arith
 
 pub octant_again : (apex w : ℕ) → w < 8 → (8 * apex + w) % 8 ≡ w
 octant_again apex w h = omega (arith, h)

@@ -1,5 +1,5 @@
 use Rattle.std.proofs.Common.{sym, arith}
-use Rattle.kin_hull.proofs.Mapping.{behind_start}
+use Rattle.kin_motion.proofs.Gains.{behind_start}
 use Rattle.kin_hull.proofs.sorting.put_outward.Goals as goal
 
 pub outward-requires : goal.outward-requires

@@ -2,8 +2,9 @@ use Rattle.std.proofs.Common.{◌≡◌, sym, ap, ◌∙◌, subst, List, [], ma
 use Rattle.kin_motion.specs.declared.fact.Placed.{Placed}
 use Rattle.kin_motion.specs.Kinetics.{ListsFailing, HasChanged}
 use Rattle.kin_motion.specs.Parts.{moved_by}
+use Rattle.kin_motion.proofs.ChangeLaws.{nothing_changed}
 use Rattle.kin_list.specs.Listing.{Listing, names_leaving}
-use Rattle.kin_wedge.proofs.Posted.{none_told, stood_still, unchanged}
+use Rattle.kin_wedge.proofs.Posted.{none_told, stood_still}
 use Rattle.kin_wedge.proofs.part.settle_list.Goals as goal
 
 pub returns-then-is_at_rest-clause-resettled : goal.returns-then-is_at_rest-clause-resettled
@@ -18,4 +19,4 @@ returns-then-is_at_rest-clause-resettled g c =
 pub returns-then-is_at_rest-clause-delta : goal.returns-then-is_at_rest-clause-delta
 returns-then-is_at_rest-clause-delta g c =
     subst (λ (fs : List Placed). HasChanged (map (moved_by c.args.part) c.args.list.now.facts) (map (moved_by c.args.part) fs) c.args.out.now c.args.out.now) (sym (ap (λ (l : Listing). l.facts) c.stand_still.ensures.same))
-    (unchanged (map (moved_by c.args.part) c.args.list.now.facts) c.args.out.now)
+    (nothing_changed (map (moved_by c.args.part) c.args.list.now.facts) c.args.out.now)

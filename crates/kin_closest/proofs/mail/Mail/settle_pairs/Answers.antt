@@ -3,10 +3,11 @@ use Rattle.std.specs.Prelude.{Contains}
 use Rattle.kin_motion.specs.ClosestPairs.{Near}
 use Rattle.kin_motion.specs.Deltas.{Change}
 use Rattle.kin_motion.specs.Parts.{moved_by}
+use Rattle.kin_motion.proofs.Gains.{gained_behind, mapped_report}
+use Rattle.kin_motion.proofs.PartLaws.{moved_one}
 use Rattle.kin_tourney.specs.Tournament.{Tournament}
 use Rattle.kin_closest.specs.declared.distance.Distance.{Distance}
 use Rattle.kin_closest.proofs.Joining.{facts_low}
-use Rattle.kin_closest.proofs.Moving.{gained_behind, report_moved}
 use Rattle.kin_closest.proofs.mail.Mail.settle_pairs.Goals as goal
 
 pub move_from-requires : goal.move_from-requires
@@ -25,7 +26,7 @@ move_from-requires-2 g c = λ p h.
 
 pub returns-clause-delta : goal.returns-clause-delta
 returns-clause-delta g c =
-    report_moved c.len-dropped.result c.len-born.result c.args.pairs.now.facts c.settle_told.new.self.facts c.args.out.now c.settle_told.new.out _
+    mapped_report (moved_by 8) (moved_one 8) c.args.pairs.now.facts c.settle_told.new.self.facts c.args.out.now c.settle_told.new.out _ c.len-dropped.result c.len-born.result
     (c.len-dropped.ensures ∙ c.out.inside.dropped.ok.0 ∙ ap (λ (d : Change). length d.dropped) c.out.view_is) (c.len-born.ensures ∙ c.out.inside.born.ok.0 ∙ ap (λ (d : Change). length d.born) c.out.view_is)
     c.in_ok-settle_told.ensures.delta
     (c.move_from.ensures ∙ ap (λ (d : Change). take c.len-dropped.result d.dropped ++ map (moved_by 8) (drop c.len-dropped.result d.dropped)) c.out-2.view_is)

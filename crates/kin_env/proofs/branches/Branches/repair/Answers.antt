@@ -1,24 +1,14 @@
-use Rattle.std.proofs.Common.{◌≡◌, ◌≢◌, ◌⊎◌, inl, inr, sym, ap, ◌∙◌, subst, arith, ◌<◌, ◌*◌, ◌/◌, ◌^◌, ℕ, List}
+use Rattle.std.proofs.Common.{◌≡◌, sym, ap, ◌∙◌, subst, arith, ◌<◌, ◌*◌, ◌/◌, ◌^◌, List}
 use Rattle.std.proofs.Math.Pow.{pow_pos}
 use Rattle.kin_motion.specs.declared.fact.Placed.{Placed}
 use Rattle.kin_motion.specs.Kinetics.{HasChanged}
-use Rattle.kin_tourney.specs.declared.doubt.Doubt.{Doubt}
-use Rattle.kin_tourney.specs.declared.doubt.Doubt.TheVariants.{Clear}
 use Rattle.kin_tourney.specs.Standings.{doubt_in}
-use Rattle.kin_tourney.proofs.Trees.{above_in_doubt}
+use Rattle.kin_tourney.proofs.Trees.{above_in_doubt, place_first, ended_first}
 use Rattle.kin_env.specs.declared.branches.Branches.{Branches}
 use Rattle.kin_env.specs.Walks.{tree_facts}
 use Rattle.kin_env.proofs.Reports.{reporting_starts, reporting_on}
 use Rattle.kin_env.proofs.Ends.{all_sound, all_right, facts_stay}
 use Rattle.kin_env.proofs.branches.Branches.repair.Goals as goal
-
-place_first : (ds : List Doubt) (n node : ℕ) → 1 < n → (node ≡ 0) × (doubt_in ds 1 ≡ Clear) ⊎ (node ≡ 1) × (doubt_in ds 1 ≢ Clear) → 0 < node → (node < n) × (doubt_in ds node ≢ Clear)
-place_first ds n node many (inl k) some = absurd (omega arith)
-place_first ds n node many (inr k) some = (omega arith, λ e. k.1 (sym (ap (doubt_in ds) k.0) ∙ e))
-
-ended_first : (ds : List Doubt) (node : ℕ) → (node ≡ 0) × (doubt_in ds 1 ≡ Clear) ⊎ (node ≡ 1) × (doubt_in ds 1 ≢ Clear) → node ≡ 0 → doubt_in ds 1 ≡ Clear
-ended_first ds node (inl k) none = k.1
-ended_first ds node (inr k) none = absurd (omega arith)
 
 pub loop-node-init : goal.loop-node-init
 loop-node-init g c =

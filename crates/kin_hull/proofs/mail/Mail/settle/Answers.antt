@@ -3,10 +3,10 @@ use Rattle.std.specs.Prelude.{vec_len}
 use Rattle.kin_motion.specs.declared.fact.Placed.{Placed}
 use Rattle.kin_motion.specs.Deltas.{Change}
 use Rattle.kin_motion.specs.Kinetics.{HasChanged}
+use Rattle.kin_motion.proofs.Gains.{gained_behind, mapped_report}
 use Rattle.kin_env.specs.Trees.{Envelope}
 use Rattle.kin_hull.specs.SideLaws.{one_outward}
 use Rattle.kin_hull.specs.Sides.{outward}
-use Rattle.kin_hull.proofs.Mapping.{mapped_report, told_dropped, told_born}
 use Rattle.kin_hull.proofs.Parts.{facts_low}
 use Rattle.kin_hull.proofs.mail.Mail.settle.Goals as goal
 
@@ -17,7 +17,7 @@ so_many n v is = omega (arith, is, v.ok.0)
 pub put_outward-requires : goal.put_outward-requires
 put_outward-requires g c =
     let delta = subst (HasChanged c.args.tree.now.facts c.settle.new.self.facts c.args.out.now) (sym c.out-2.view_is) c.in_ok-settle.ensures.delta in
-    record { low = λ p h. c.requires.low p (told_dropped c.args.tree.now.facts c.settle.new.self.facts c.args.out.now _ c.len-dropped.result (so_many c.len-dropped.result c.out.inside.dropped c.len-dropped.ensures ∙ ap (λ (d : Change). length d.dropped) c.out.view_is) delta p h) }
+    record { low = λ p h. c.requires.low p (gained_behind c.len-dropped.result c.args.out.now.dropped _ _ (so_many c.len-dropped.result c.out.inside.dropped c.len-dropped.ensures ∙ ap (λ (d : Change). length d.dropped) c.out.view_is) delta.dropped p h).0 }
 
 pub put_outward-requires-2 : goal.put_outward-requires-2
 put_outward-requires-2 g c =
@@ -26,7 +26,7 @@ put_outward-requires-2 g c =
       low = λ p h.
           facts_low c.settle.new.self (g.O.Signs.scene c.args.now.now) c.in_ok-settle.ensures.settled
           (subst (λ (n : ℕ). n ≤ 12) (sym (ap (λ (t : Envelope). t.size) c.in_ok-settle.ensures.same)) c.requires.small) p
-          (told_born c.args.tree.now.facts c.settle.new.self.facts c.args.out.now _ c.len-born.result (so_many c.len-born.result c.out.inside.born c.len-born.ensures ∙ ap (λ (d : Change). length d.born) c.out.view_is) delta p h);
+          (gained_behind c.len-born.result c.args.out.now.born _ _ (so_many c.len-born.result c.out.inside.born c.len-born.ensures ∙ ap (λ (d : Change). length d.born) c.out.view_is) delta.born p h).0;
     }
 
 pub returns-clause-delta : goal.returns-clause-delta
