@@ -1,5 +1,5 @@
 -- The live facts of a list, each found by the number on its left.
-use Rattle.std.specs.Prelude.{ℕ, ◌+◌, ℤ, pos, cond, nat_eq, slice_get, List, [], ◌∷◌, Option, Some, None}
+use Rattle.std.specs.Prelude.{◌≡◌, ◌≢◌, ◌++◌, ℕ, ◌+◌, ℤ, pos, cond, nat_eq, slice_get, List, [], ◌∷◌, Option, Some, None}
 use Rattle.kin_algebra.specs.declared.sign.Sign.{Sign}
 use Rattle.kin_motion.specs.declared.form.Form.TheVariants.{Line}
 use Rattle.kin_motion.specs.declared.fact.Placed.{Placed}
@@ -30,3 +30,8 @@ link_for (x ∷ xs) signs i = cond (nat_eq i x) (linked (slice_get xs 0) (slice_
 abbrev pub link_facts : ℤ → ℤ → ℕ → Option Link → List Placed
 link_facts dx dy i None = []
 link_facts dx dy i (Some l) = fact_of dx dy i l ∷ []
+
+-- the fact of one link took the place of another's, where they differ
+pub record IsTold (dx dy : ℤ) (i : ℕ) (old new : Option Link) (dropped born dropped' born' : List Placed) : Type 0 where
+  pub same : old ≡ new → (dropped' ≡ dropped) × (born' ≡ born)
+  pub changed : old ≢ new → (dropped' ≡ dropped ++ link_facts dx dy i old) × (born' ≡ born ++ link_facts dx dy i new)

@@ -1,19 +1,21 @@
 //! The links of the touched numbers are brought up to date, and the change of the facts is told.
 
-ghost use Rattle.std.specs.Prelude.{◌≡◌, ◌≢◌, ℕ, ◌<◌, ◌≤◌, ◌++◌, ◌↔◌, IsTrue, List, Option, Some, None, true, false, length, slice_get, slice_set, OnOk};
+ghost use Rattle.std.specs.Prelude.{◌≡◌, ℕ, ◌+◌, ◌<◌, ◌≤◌, List, Option, Some, None, true, false, length, slice_get, slice_set, vec_len, vec_capacity, OnOk};
+ghost use Rattle.kin_motion.specs.declared.fact.Placed.{Placed as Put};
 ghost use Rattle.kin_motion.specs.Kinetics.{HasChanged};
 ghost use Rattle.kin_motion.specs.Numbers.{is_in};
 ghost use Rattle.kin_list.specs.declared.link.Link.{Link as LinkValue};
 ghost use Rattle.kin_algebra.specs.declared.sign.Sign.{Sign as Signum};
-ghost use Rattle.kin_list.specs.Links.{linked, link_for, link_facts, facts_from};
+ghost use Rattle.kin_list.specs.Links.{linked, link_for, facts_from, IsTold};
 
 use crate::direction::Direction;
 use crate::lineup::Lineup;
 use crate::link::Link;
 use crate::row::Row;
-use kin_motion::fact::Delta;
+use kin_motion::fact::{Delta, Placed};
 use kin_num::Sign;
 use kin_num::memory::NoMemory;
+use std::alloc::AllocError;
 
 /// The right neighbour of a number, if it has one.
 fn right_of(row: &Row, no: u32) -> Option<u32>
@@ -35,39 +37,37 @@ fn link_to(
     no: u32,
     right: u32,
     sign: Sign,
-    out: &mut Delta,
-) -> Result<(), NoMemory>
-    ensures told { OnOk result (told.new ≡ Some (record { right = right; sign = sign })) }
-    ensures same { OnOk result (told.old ≡ Some (record { right = right; sign = sign }) → out.new ≡ out.old) }
-    ensures changed { OnOk result (told.old ≢ Some (record { right = right; sign = sign }) → out.new ≡ record { dropped = out.old.dropped ++ link_facts along.dx along.dy no told.old; born = out.old.born ++ link_facts along.dx along.dy no (Some (record { right = right; sign = sign })) }) }
+    dropped: &mut Vec<Placed>,
+    born: &mut Vec<Placed>,
+)
+    requires dropped_room { vec_len dropped.old < vec_capacity dropped.old }
+    requires born_room { vec_len born.old < vec_capacity born.old }
+    ensures told { told.new ≡ Some (record { right = right; sign = sign }) }
+    ensures tells { IsTold along.dx along.dy no told.old (Some (record { right = right; sign = sign })) dropped.old.items born.old.items dropped.new.items born.new.items }
+    ensures dropped_fits { (vec_len dropped.new ≤ vec_len dropped.old + 1) × (vec_capacity dropped.new ≡ vec_capacity dropped.old) }
+    ensures born_fits { (vec_len born.new ≤ vec_len born.old + 1) × (vec_capacity born.new ≡ vec_capacity born.old) }
 {
     if let Some(old) = told {
         if old.right == right && old.sign == sign {
-            return Ok(());
+            return;
         }
-        out.report_dropped(along.fact(no, old.right, old.sign))?;
+        dropped.push_reserved(along.fact(no, old.right, old.sign));
     }
-    out.report_born(along.fact(no, right, sign))?;
+    born.push_reserved(along.fact(no, right, sign));
     *told = Some(Link { right, sign });
-    Ok(())
 }
 
 /// Takes a number's link away, and tells it where there was one.
-fn unlink(
-    told: &mut Option<Link>,
-    along: Direction,
-    no: u32,
-    out: &mut Delta,
-) -> Result<(), NoMemory>
-    ensures told { OnOk result (told.new ≡ None) }
-    ensures same { OnOk result (told.old ≡ None → out.new ≡ out.old) }
-    ensures changed { OnOk result (told.old ≢ None → out.new ≡ record { dropped = out.old.dropped ++ link_facts along.dx along.dy no told.old; born = out.old.born ++ link_facts along.dx along.dy no None }) }
+fn unlink(told: &mut Option<Link>, along: Direction, no: u32, dropped: &mut Vec<Placed>)
+    requires dropped_room { vec_len dropped.old < vec_capacity dropped.old }
+    ensures told { told.new ≡ None }
+    ensures tells { (born : List Put) → IsTold along.dx along.dy no told.old None dropped.old.items born dropped.new.items born }
+    ensures dropped_fits { (vec_len dropped.new ≤ vec_len dropped.old + 1) × (vec_capacity dropped.new ≡ vec_capacity dropped.old) }
 {
     if let Some(link) = told {
-        out.report_dropped(along.fact(no, link.right, link.sign))?;
+        dropped.push_reserved(along.fact(no, link.right, link.sign));
         *told = None;
     }
-    Ok(())
 }
 
 /// Writes the link of a number as its neighbour and its sign now are, and tells the change.
@@ -76,30 +76,51 @@ fn renew(
     lineup: &Lineup,
     along: Direction,
     no: u32,
-    out: &mut Delta,
-) -> Result<(), NoMemory>
+    dropped: &mut Vec<Placed>,
+    born: &mut Vec<Placed>,
+)
     requires fits { length links.old.items ≡ lineup.now.row.room }
+    requires dropped_room { vec_len dropped.old < vec_capacity dropped.old }
+    requires born_room { vec_len born.old < vec_capacity born.old }
     ensures length { length links.new.items ≡ length links.old.items }
-    ensures links { OnOk result (links.new.items ≡ slice_set links.old.items no (link_for lineup.now.row.items lineup.now.signs.items no)) }
-    ensures past { OnOk result (length links.old.items ≤ no → out.new ≡ out.old) }
-    ensures kept { OnOk result (slice_get links.old.items no ≡ Some (link_for lineup.now.row.items lineup.now.signs.items no) → out.new ≡ out.old) }
-    ensures changed { OnOk result ((old : Option LinkValue) → slice_get links.old.items no ≡ Some old → old ≢ link_for lineup.now.row.items lineup.now.signs.items no → out.new ≡ record { dropped = out.old.dropped ++ link_facts along.dx along.dy no old; born = out.old.born ++ link_facts along.dx along.dy no (link_for lineup.now.row.items lineup.now.signs.items no) }) }
+    ensures links { links.new.items ≡ slice_set links.old.items no (link_for lineup.now.row.items lineup.now.signs.items no) }
+    ensures past { length links.old.items ≤ no → (dropped.new.items ≡ dropped.old.items) × (born.new.items ≡ born.old.items) }
+    ensures tells { (old : Option LinkValue) → slice_get links.old.items no ≡ Some old → IsTold along.dx along.dy no old (link_for lineup.now.row.items lineup.now.signs.items no) dropped.old.items born.old.items dropped.new.items born.new.items }
+    ensures dropped_fits { (vec_len dropped.new ≤ vec_len dropped.old + 1) × (vec_capacity dropped.new ≡ vec_capacity dropped.old) }
+    ensures born_fits { (vec_len born.new ≤ vec_len born.old + 1) × (vec_capacity born.new ≡ vec_capacity born.old) }
 {
     let place = no as usize;
     if place >= links.len() {
-        return Ok(());
+        return;
     }
+    let told = &mut links[place];
     match right_of(&lineup.row, no) {
-        Some(right) => link_to(
-            &mut links[place],
-            along,
-            no,
-            right,
-            lineup.signs[place],
-            out,
-        ),
-        None => unlink(&mut links[place], along, no, out),
+        Some(right) => link_to(told, along, no, right, lineup.signs[place], dropped, born),
+        None => unlink(told, along, no, dropped),
     }
+}
+
+/// Brings the links of the touched numbers up to date. There is room for what the facts may lose and
+/// gain before any of it is told.
+fn renew_touched(
+    lineup: &Lineup,
+    along: Direction,
+    links: &mut Vec<Option<Link>>,
+    dropped: &mut Vec<Placed>,
+    born: &mut Vec<Placed>,
+) -> Result<(), AllocError>
+    requires fits { length links.old.items ≡ lineup.now.row.room }
+    ensures length { length links.new.items ≡ length links.old.items }
+    ensures touched { OnOk result ((i : ℕ) → i < length links.old.items → is_in i lineup.now.touched.items ≡ true → slice_get links.new.items i ≡ Some (link_for lineup.now.row.items lineup.now.signs.items i)) }
+    ensures others { OnOk result ((i : ℕ) → is_in i lineup.now.touched.items ≡ false → slice_get links.new.items i ≡ slice_get links.old.items i) }
+    ensures changed { OnOk result (HasChanged (facts_from along.dx along.dy 0 links.old.items) (facts_from along.dx along.dy 0 links.new.items) (record { dropped = dropped.old.items; born = born.old.items }) (record { dropped = dropped.new.items; born = born.new.items })) }
+{
+    dropped.reserve(lineup.touched.len())?;
+    born.reserve(lineup.touched.len())?;
+    for no in &lineup.touched {
+        renew(links, lineup, along, *no, dropped, born);
+    }
+    Ok(())
 }
 
 /// Brings the links of the touched numbers up to date. What the facts have lost and gained is told
@@ -116,8 +137,6 @@ pub fn report(
     ensures others { OnOk result ((i : ℕ) → is_in i lineup.now.touched.items ≡ false → slice_get links.new.items i ≡ slice_get links.old.items i) }
     ensures changed { OnOk result (HasChanged (facts_from along.dx along.dy 0 links.old.items) (facts_from along.dx along.dy 0 links.new.items) out.old out.new) }
 {
-    for no in &lineup.touched {
-        renew(links, lineup, along, *no, out)?;
-    }
+    renew_touched(lineup, along, links, &mut out.dropped, &mut out.born)?;
     Ok(())
 }
