@@ -1,7 +1,8 @@
 -- Failed facts are gathered structure by structure, from the least one on.
-use Rattle.std.proofs.Common.{◌≡◌, ◌≢◌, ◌⊎◌, inl, inr, refl, sym, ap, ap₂, ◌∙◌, subst, arith, ℕ, ◌+◌, ◌-◌, ◌<◌, ◌≤◌, Bool, true, false, cond, List, [], ◌∷◌, ◌++◌, map, length, Option, Some, None}
+use Rattle.std.proofs.Common.{◌≡◌, ◌≢◌, ◌⊎◌, inl, inr, refl, sym, ap, ap₂, ◌∙◌, subst, arith, ℕ, ◌+◌, ◌-◌, ◌<◌, ◌≤◌, Bool, true, false, cond, List, [], ◌∷◌, ◌++◌, map, length, suc, Option, Some, None}
 use Rattle.std.specs.Prelude.{Contains, IsTrue, filter, nat_eq, MatchOption}
 use Rattle.std.proofs.lemmas.Bool.Decides.{nat_tests}
+use Rattle.std.proofs.lemmas.List.{length-map}
 use Rattle.std.proofs.lemmas.List.Elements.{Contains-append_left, Contains-append_right, Contains-append_cases}
 use Rattle.kin_motion.specs.declared.fact.Placed.{Placed}
 use Rattle.kin_motion.specs.Live.{Certificate, owned_by}
@@ -135,6 +136,30 @@ gathers_less k failed all rest tail o h here is_not =
 pub gathers_all : (k : ℕ) (failed all : List Placed) (rest : List Owned) → failed ++ gathered k rest ≡ all → length rest ≡ 0 → failed ≡ all
 gathers_all k failed all [] h none = sym (none_behind failed [] refl) ∙ h
 gathers_all k failed all (o ∷ os) h none = absurd (omega (arith, none))
+
+no_longer : (test : Owned → Bool) (os : List Owned) → length (filter test os) ≤ length os
+no_longer test [] = omega arith
+no_longer test (o ∷ os) = at (test o) (no_longer test os)
+  where
+    at : (b : Bool) → length (filter test os) ≤ length os → length (cond b (o ∷ filter test os) (filter test os)) ≤ suc (length os)
+    at true l = omega (arith, l)
+    at false l = omega (arith, l)
+
+all_pass : (test : Owned → Bool) (os : List Owned) (p : Owned) → length (filter test os) ≡ length os → Contains os p → test p ≡ true
+all_pass test [] p e there = absurd (contains_none p there)
+all_pass test (o ∷ os) p e there = at (test o) refl e (all_pass test os p) (contains_cases o p os there)
+  where
+    at : (b : Bool) → test o ≡ b → length (cond b (o ∷ filter test os) (filter test os)) ≡ suc (length os) → (length (filter test os) ≡ length os → Contains os p → test p ≡ true) → (o ≡ p) ⊎ Contains os p → test p ≡ true
+    at true is e later (inl same) = ap test (sym same) ∙ is
+    at true is e later (inr rest) = later (omega (arith, e)) rest
+    at false is e later side = absurd (let l = no_longer test os in omega (arith, l, e))
+
+-- where as many are of one structure as there are, none is of a later one
+pub all_of_one : (k : ℕ) (taken : List Owned) → length (gathered k taken) ≡ length taken → NoneFrom (k + 1) taken
+all_of_one k taken e o there more =
+    let own = all_pass (is_of k) taken o (sym (length-map (filter (is_of k) taken) placed_of) ∙ e) there in
+    let same : o.structure ≡ k = grind (arith, nat_tests, own) in
+    absurd (omega (arith, same, more))
 
 distinct_filtered : (test : Owned → Bool) (os : List Owned) → AreDistinct os → AreDistinct (filter test os)
 distinct_filtered test [] d = distinct_none

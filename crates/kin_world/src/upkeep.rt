@@ -1,6 +1,6 @@
 //! All that a world is made of, in one piece, and its repair.
 
-ghost use Rattle.std.specs.Prelude.{◌≡◌, ◌<◌, ◌≤◌, ℕ, true, length, All, OnOk, IfOk};
+ghost use Rattle.std.specs.Prelude.{◌≡◌, ◌<◌, ◌≤◌, ◌+◌, ◌^◌, ℕ, true, length, All, OnOk, IfOk};
 ghost use Rattle.kin_motion.specs.Journal.{Block as Listed, IsNextBlock};
 ghost use Rattle.kin_cert.specs.Taken.{IsLeastFailure};
 ghost use Rattle.kin_world.specs.Structures.{AreVacant};
@@ -97,8 +97,9 @@ impl Upkeep {
         let mut turn = next_structure(taken, 0);
         while let Some(k) = turn {
             gather(&mut self.failed, k, taken)?;
+            let own = self.failed.len();
             self.repair(k, steps)?;
-            turn = next_structure(taken, k + 1);
+            turn = next_behind(taken, k, own);
         }
         Ok(())
     }
@@ -226,6 +227,18 @@ fn next_structure(taken: &[Owned], k: u32) -> Option<u32>
     turn
 }
 
+// The least structure behind `k` that one of these facts is of, where so many of them are of `k`.
+fn next_behind(taken: &[Owned], k: u32, own: usize) -> Option<u32>
+    requires own { own ≡ length (gathered k taken.now) }
+    requires small { k + 1 < 2 ^ 32 }
+    ensures { IsTurn (k + 1) taken.now result }
+{
+    if own == taken.len() {
+        return None;
+    }
+    next_structure(taken, k + 1)
+}
+
 // The lesser one of two structures from `k` on.
 fn sooner(k: u32, s: u32, turn: Option<u32>) -> Option<u32>
     ensures { IsSooner k s turn result }
@@ -244,6 +257,7 @@ fn gather(failed: &mut Vec<Placed>, k: u32, taken: &[Owned]) -> Result<(), NoMem
     ensures { OnOk result (failed.new.items ≡ gathered k taken.now) }
 {
     failed.clear();
+    failed.reserve(taken.len())?;
     let mut rest = taken;
     while let Some((owned, tail)) = rest.split_first() {
         if owned.structure == k {
@@ -251,7 +265,7 @@ fn gather(failed: &mut Vec<Placed>, k: u32, taken: &[Owned]) -> Result<(), NoMem
                 part: owned.part,
                 fact: owned.fact,
             };
-            failed.push(placed).map_err(|_| NoMemory)?;
+            failed.push_reserved(placed);
         }
         rest = tail;
     }

@@ -394,6 +394,7 @@ impl World {
 }
 
 // The moment, where it isn't after the limit.
+#[inline(always)]
 fn if_within<L: Ledger>(due: Option<Moment>, limit: &Moment, steps: &mut Steps<L>) -> Option<Moment>
     ensures { MatchOption result (IfSome due (IsEarlier limit.now)) (λ m. (due ≡ Some m) × ¬ (IsEarlier limit.now m)) }
 {

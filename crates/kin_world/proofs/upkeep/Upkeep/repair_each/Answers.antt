@@ -30,8 +30,8 @@ repair-requires-clause-failed g c =
     let next : IsNextFrom inv.reached c.args.taken.now c.in-Some.k = subst (λ (t : Option ℕ). IsTurn inv.reached c.args.taken.now t) c.in-Some.is inv.turn_is in
     subst (λ (ps : List Placed). ListsWaiting c.in-Some.k c.loop-turn.self.table.live ps) (sym c.in_ok-gather.ensures) (turn_failed inv.repairing c.in-Some.k next)
 
-pub overflow_add-k : goal.overflow_add-k
-overflow_add-k g c =
+pub next_behind-turn-requires-clause-small : goal.next_behind-turn-requires-clause-small
+next_behind-turn-requires-clause-small g c =
     let inv = c.loop-turn.invariant in
     let next : IsNextFrom inv.reached c.args.taken.now c.in-Some.k = subst (λ (t : Option ℕ). IsTurn inv.reached c.args.taken.now t) c.in-Some.is inv.turn_is in
     let within = turn_within inv.repairing c.in-Some.k next in
@@ -42,8 +42,8 @@ pub loop-turn-smaller : goal.loop-turn-smaller
 loop-turn-smaller g c =
     let inv = c.loop-turn.invariant in
     let next : IsNextFrom inv.reached c.args.taken.now c.in-Some.k = subst (λ (t : Option ℕ). IsTurn inv.reached c.args.taken.now t) c.in-Some.is inv.turn_is in
-    subst (λ (t : Option ℕ). turns_left (length c.repair.new.self.structures.items) c.next_structure-turn-in-Some.result < turns_left (length c.loop-turn.self.structures.items) t) (sym c.in-Some.is)
-    (turn_shorter inv.repairing c.in-Some.k next c.in_ok-repair.ensures.repaired c.repair.ensures.frame c.next_structure-turn-in-Some.result c.next_structure-turn-in-Some.ensures)
+    subst (λ (t : Option ℕ). turns_left (length c.repair.new.self.structures.items) c.next_behind-turn.result < turns_left (length c.loop-turn.self.structures.items) t) (sym c.in-Some.is)
+    (turn_shorter inv.repairing c.in-Some.k next c.in_ok-repair.ensures.repaired c.repair.ensures.frame c.next_behind-turn.result c.next_behind-turn.ensures)
 
 pub loop-turn-preserved : goal.loop-turn-preserved
 loop-turn-preserved g c =
@@ -52,7 +52,7 @@ loop-turn-preserved g c =
     record {
       reached = c.in-Some.k + 1;
       repairing = turn_repaired inv.repairing c.in-Some.k next c.in_ok-repair.ensures.repaired c.repair.ensures.frame;
-      turn_is = c.next_structure-turn-in-Some.ensures;
+      turn_is = c.next_behind-turn.ensures;
     }
 
 pub returns-clause-settled : goal.returns-clause-settled
