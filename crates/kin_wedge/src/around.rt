@@ -32,7 +32,7 @@ fn offer_to_all(
 {
     let spot = orders.spot(no);
     for apex in orders.list(0).items() {
-        touches.offer(orders, table, *apex, no, spot)?;
+        touches.offer(orders, table, *apex, orders.spot(*apex), no, spot)?;
     }
     Ok(())
 }

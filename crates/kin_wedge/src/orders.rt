@@ -66,16 +66,26 @@ impl Orders {
         self.list(part).place_of(no)
     }
 
+    /// Whether the number that has the first place stands before the one that has the second in the
+    /// order of a part.
+    pub fn places_rise(&self, part: u32, first: Option<u32>, second: Option<u32>) -> bool
+        requires rows { AreRows (rows_of self.now.lists.items) }
+        requires part { part < 8 }
+        ensures { (p q : ℕ) → IsPlace (row_of (rows_of self.now.lists.items) part) p first → IsPlace (row_of (rows_of self.now.lists.items) part) q second → result ≡ stands_before (row_of (rows_of self.now.lists.items) part) p q }
+    {
+        match (first, second) {
+            (Some(i), Some(j)) => i < j,
+            _ => false,
+        }
+    }
+
     /// Whether a number stands before the one that has this place in the order of a part.
     pub fn stands_before_place(&self, part: u32, first: u32, place: Option<u32>) -> bool
         requires rows { AreRows (rows_of self.now.lists.items) }
         requires part { part < 8 }
         ensures { (second : ℕ) → IsPlace (row_of (rows_of self.now.lists.items) part) second place → result ≡ stands_before (row_of (rows_of self.now.lists.items) part) first second }
     {
-        match (self.place_in(part, first), place) {
-            (Some(i), Some(j)) => i < j,
-            _ => false,
-        }
+        self.places_rise(part, self.place_in(part, first), place)
     }
 
     /// Whether the number that has this place stands before another in the order of a part.
@@ -84,10 +94,7 @@ impl Orders {
         requires part { part < 8 }
         ensures { (first : ℕ) → IsPlace (row_of (rows_of self.now.lists.items) part) first place → result ≡ stands_before (row_of (rows_of self.now.lists.items) part) first second }
     {
-        match (place, self.place_in(part, second)) {
-            (Some(i), Some(j)) => i < j,
-            _ => false,
-        }
+        self.places_rise(part, place, self.place_in(part, second))
     }
 
     /// Whether a number stands before another in the order of a part.

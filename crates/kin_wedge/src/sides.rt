@@ -60,28 +60,28 @@ impl Orders {
         }
     }
 
-    /// On which sides of p a number lies that stands there.
-    fn sides(&self, p: u32, spot: Spot) -> Sides
+    /// On which sides of a number another one lies, by where they stand.
+    fn sides(&self, apex: Spot, other: Spot) -> Sides
         requires { AreRows (rows_of self.now.lists.items) }
-        ensures { (q : ℕ) → IsSpot (rows_of self.now.lists.items) q spot → AreSides (rows_of self.now.lists.items) p q result }
+        ensures { (p q : ℕ) → IsSpot (rows_of self.now.lists.items) p apex → IsSpot (rows_of self.now.lists.items) q other → AreSides (rows_of self.now.lists.items) p q result }
     {
         Sides {
-            y: self.stands_before_place(0, p, spot.y),
-            difference: self.stands_before_place(1, p, spot.difference),
-            x: self.stands_before_place(2, p, spot.x),
-            sum: self.stands_before_place(3, p, spot.sum),
+            y: self.places_rise(0, apex.y, other.y),
+            difference: self.places_rise(1, apex.difference, other.difference),
+            x: self.places_rise(2, apex.x, other.x),
+            sum: self.places_rise(3, apex.sum, other.sum),
         }
     }
 
-    /// The octant of p in which a number lies that stands there, if it lies in one.
+    /// The octant of a number in which another one lies, if it lies in one, by where they stand.
     #[inline(always)]
-    pub fn octant_of(&self, p: u32, spot: Spot) -> u32
+    pub fn octant_of(&self, apex: Spot, other: Spot) -> u32
         requires rows { AreRows (rows_of self.now.lists.items) }
         requires parted { AreParted (rows_of self.now.lists.items) }
         ensures small { result < 8 }
-        ensures octant { (q w : ℕ) (o : Bounds) → IsSpot (rows_of self.now.lists.items) q spot → slice_get octants w ≡ Some o → is_in_wedge (rows_of self.now.lists.items) o p q ≡ true → result ≡ w }
+        ensures octant { (p q w : ℕ) (o : Bounds) → IsSpot (rows_of self.now.lists.items) p apex → IsSpot (rows_of self.now.lists.items) q other → slice_get octants w ≡ Some o → is_in_wedge (rows_of self.now.lists.items) o p q ≡ true → result ≡ w }
     {
-        let sides = self.sides(p, spot);
+        let sides = self.sides(apex, other);
         sides.octant()
     }
 }

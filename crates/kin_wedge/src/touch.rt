@@ -138,26 +138,28 @@ impl Touches {
         Ok(())
     }
 
-    /// Offers a number, which stands there, to the octant of an apex that it is in, where no candidate
-    /// stands before it.
+    /// Offers a number to the octant of an apex that it is in, where no candidate stands before it. Both
+    /// stand at these spots.
     #[inline(always)]
     pub fn offer(
         &mut self,
         orders: &Orders,
         table: &Table,
         apex: u32,
+        at: Spot,
         no: u32,
         spot: Spot,
     ) -> Result<(), NoMemory>
         requires rows { AreRows (rows_of orders.now.lists.items) }
         requires parted { AreParted (rows_of orders.now.lists.items) }
+        requires at { IsSpot (rows_of orders.now.lists.items) apex at }
         requires spot { IsSpot (rows_of orders.now.lists.items) no spot }
         requires slot { 8 * apex + 7 < length table.now }
         requires small { length table.now < 2 ^ 32 }
         ensures offered { OnOk result ((w : ℕ) (o : Bounds) → slice_get octants w ≡ Some o → ComesFirst (rows_of orders.now.lists.items) table.now o apex w no → IsOffered self.new.all.items (8 * apex + w) (Some no)) }
         ensures touched { OnOk result (HasTouched table.now self.old.all.items self.new.all.items) }
     {
-        let w = orders.octant_of(apex, spot);
+        let w = orders.octant_of(at, spot);
         let wanted = leads(orders, table, apex, w, no);
         self.add_if(wanted, table, apex, w, no)?;
         Ok(())
@@ -177,22 +179,27 @@ impl Touches {
         Ok(())
     }
 
-    /// Offers a number to the slots of another where it comes or goes.
+    /// Offers a number to the slots of another where it comes or goes. Both stand at these
+    /// spots.
     fn offer_within(
         &mut self,
         orders: &Orders,
         table: &Table,
         apex: u32,
+        at: Spot,
         no: u32,
+        spot: Spot,
     ) -> Result<(), NoMemory>
         requires rows { AreRows (rows_of orders.now.lists.items) }
         requires parted { AreParted (rows_of orders.now.lists.items) }
+        requires at { IsSpot (rows_of orders.now.lists.items) apex at }
+        requires spot { IsSpot (rows_of orders.now.lists.items) no spot }
         requires slot { 8 * apex + 7 < length table.now }
         requires small { length table.now < 2 ^ 32 }
         ensures offered { OnOk result ((w : ℕ) (o : Bounds) → slice_get octants w ≡ Some o → ComesOrGoes (rows_of orders.now.lists.items) table.now o apex w no → IsOffered self.new.all.items (8 * apex + w) (Some no)) }
         ensures touched { OnOk result (HasTouched table.now self.old.all.items self.new.all.items) }
     {
-        self.offer(orders, table, apex, no, orders.spot(no))?;
+        self.offer(orders, table, apex, at, no, spot)?;
         self.offer_again(table, apex, no)?;
         Ok(())
     }
@@ -216,8 +223,10 @@ impl Touches {
         ensures touched { OnOk result (HasTouched table.now self.old.all.items self.new.all.items) }
     {
         if part < 4 {
-            self.offer_within(orders, table, a, b)?;
-            self.offer_within(orders, table, b, a)?;
+            let at = orders.spot(a);
+            let spot = orders.spot(b);
+            self.offer_within(orders, table, a, at, b, spot)?;
+            self.offer_within(orders, table, b, spot, a, at)?;
             return Ok(());
         }
         self.offer_beside(orders, table, part, a, b)?;
