@@ -1,6 +1,6 @@
 //! Which facts are of the orders, and which of the tournament of pairs.
 
-ghost use Rattle.std.specs.Prelude.{◌≡◌, ◌<◌, ◌^◌, [], ◌∷◌, ◌++◌, cond, drop, filter, map, take, Contains, OnOk};
+ghost use Rattle.std.specs.Prelude.{true, ◌≡◌, ◌<◌, ◌^◌, [], ◌∷◌, ◌++◌, cond, drop, filter, map, take, Contains, OnOk};
 ghost use Rattle.kin_motion.specs.declared.fact.Placed.{Placed as Put};
 ghost use Rattle.kin_motion.specs.Parts.{moved_by};
 ghost use Rattle.kin_closest.specs.Sorting.{is_of_order, is_of_pair, taken_back};
@@ -29,6 +29,19 @@ fn sort_one(
     }
 }
 
+/// Whether all facts are of the orders.
+fn are_of_orders(facts: &[Placed]) -> bool
+    ensures orders { result ≡ true → filter is_of_order facts.now ≡ facts.now }
+    ensures pairs { result ≡ true → filter is_of_pair facts.now ≡ [] }
+{
+    for placed in facts {
+        if placed.part >= ORDERS {
+            return false;
+        }
+    }
+    true
+}
+
 /// Sorts facts out: those of the orders, and those of the tournament in its own parts.
 pub(crate) fn sort_out(
     facts: &[Placed],
@@ -40,6 +53,10 @@ pub(crate) fn sort_out(
 {
     orders.clear();
     pairs.clear();
+    if are_of_orders(facts) {
+        orders.extend_from_slice(facts)?;
+        return Ok(());
+    }
     for placed in facts {
         sort_one(*placed, orders, pairs)?;
     }
