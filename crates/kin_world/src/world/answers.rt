@@ -1,0 +1,93 @@
+//! What a world answers of each kind of structure that it keeps.
+
+ghost use Rattle.std.specs.Prelude.{◌≡◌, ℕ, ℤ, Some, slice_get, IsTrue, IfOk};
+ghost use Rattle.kin_motion.specs.declared.keep.Keep.{Keep as Kind};
+ghost use Rattle.kin_motion.specs.declared.keep.Keep.TheVariants as keep;
+ghost use Rattle.kin_motion.specs.Boxes.{IsRectInRange, box_of};
+ghost use Rattle.kin_motion.specs.Chains.{IsHullCycle};
+ghost use Rattle.kin_motion.specs.ClosestPairs.{IsClosest};
+ghost use Rattle.kin_motion.specs.Extremes.{IsExtremePoint};
+ghost use Rattle.kin_motion.specs.Orders.{IsOrder};
+ghost use Rattle.kin_world.specs.Kinds.{IsAtRest};
+ghost use Rattle.kin_world.specs.Structures.{IsKept};
+ghost use Rattle.kin_world.specs.Worlds.{scene_of};
+
+use crate::places::place_of;
+use crate::structure::Structure;
+use crate::world::World;
+use kin_motion::{Keep, Rect};
+use kin_num::NoMemory;
+
+impl World {
+    /// The live numbers in the order that structure `s` keeps. Want of memory changes nothing.
+    pub fn order(&self, s: u32) -> Result<Vec<u32>, NoMemory>
+        requires whole { IsTrue self.now.whole }
+        requires kept { (dx : ℤ) × (dy : ℤ) × (slice_get self.now.keeps s ≡ Some (keep.Order dx dy)) }
+        ensures order { IfOk result (λ list. (dx dy : ℤ) → slice_get self.now.keeps s ≡ Some (keep.Order dx dy) → IsOrder (scene_of self.now) dx dy list.items) }
+    {
+        let Ok(list) = Vec::from_slice(self.alloc, self.structure(s).order()) else {
+            return Err(NoMemory);
+        };
+        Ok(list)
+    }
+
+    /// The extreme point that structure `s` keeps, or `None` exactly with no point.
+    pub fn extreme(&self, s: u32) -> Option<u32>
+        requires whole { IsTrue self.now.whole }
+        requires kept { (dx : ℤ) × (dy : ℤ) × (slice_get self.now.keeps s ≡ Some (keep.Extreme dx dy)) }
+        ensures extreme { (dx dy : ℤ) → slice_get self.now.keeps s ≡ Some (keep.Extreme dx dy) → IsExtremePoint (scene_of self.now) dx dy result }
+    {
+        self.structure(s).extreme()
+    }
+
+    /// The hull cycle: the points of the lower chain from left to right, then those of the upper chain
+    /// that are left, from right to left. Want of memory changes nothing.
+    pub fn hull(&self) -> Result<Vec<u32>, NoMemory>
+        requires whole { IsTrue self.now.whole }
+        requires kept { (k : ℕ) × (slice_get self.now.keeps k ≡ Some keep.Hull) }
+        ensures hull { IfOk result (λ list. IsHullCycle (scene_of self.now) list.items) }
+    {
+        self.structure(self.place_of(&Keep::Hull)).hull()
+    }
+
+    /// The closest pair, the lesser number first, or `None` exactly below two points. Of pairs that
+    /// are as close it is the one with the least first number, then with the least second one.
+    pub fn closest(&self) -> Option<(u32, u32)>
+        requires whole { IsTrue self.now.whole }
+        requires kept { (k : ℕ) × (slice_get self.now.keeps k ≡ Some keep.Closest) }
+        ensures closest { IsClosest (scene_of self.now) result }
+    {
+        self.structure(self.place_of(&Keep::Closest)).closest()
+    }
+
+    /// The live numbers in a rectangle, its border included, rising. Looks at each of them. Want of
+    /// memory changes nothing.
+    pub fn inside(&self, rect: &Rect) -> Result<Vec<u32>, NoMemory>
+        requires whole { IsTrue self.now.whole }
+        requires kept { (k : ℕ) × (slice_get self.now.keeps k ≡ Some keep.Range) }
+        requires rect { IsRectInRange rect.now }
+        ensures inside { IfOk result (λ list. list.items ≡ box_of self.now.motions self.now.moment rect.now) }
+    {
+        let lists = self.structure(self.place_of(&Keep::Range));
+        lists.inside(&self.upkeep.motions, &self.upkeep.moment, rect)
+    }
+
+    // Where a structure is kept. There are at most 19.
+    fn place_of(&self, keep: &Keep) -> u32
+        requires whole { IsTrue self.now.whole }
+        requires kept { (k : ℕ) × (slice_get self.now.keeps k ≡ Some keep.now) }
+        ensures { slice_get self.now.keeps result ≡ Some keep.now }
+    {
+        place_of(keep, &self.upkeep.keeps)
+    }
+
+    // The structure of that number, settled now.
+    fn structure(&self, s: u32) -> &Structure
+        requires whole { IsTrue self.now.whole }
+        requires kept { (keep : Kind) × (slice_get self.now.keeps s ≡ Some keep) }
+        ensures rest { IsAtRest result.now }
+        ensures kept { (keep : Kind) → slice_get self.now.keeps s ≡ Some keep → IsKept self.now.size keep (scene_of self.now) result.now }
+    {
+        &self.upkeep.structures[s as usize]
+    }
+}
