@@ -1,6 +1,7 @@
 -- Failed facts are gathered structure by structure, from the least one on.
 use Rattle.std.proofs.Common.{◌≡◌, ◌≢◌, ◌⊎◌, inl, inr, refl, sym, ap, ap₂, ◌∙◌, subst, arith, ℕ, ◌+◌, ◌-◌, ◌<◌, ◌≤◌, Bool, true, false, cond, List, [], ◌∷◌, ◌++◌, map, length, suc, Option, Some, None}
 use Rattle.std.specs.Prelude.{Contains, IsTrue, filter, nat_eq, MatchOption}
+use Rattle.std.proofs.lemmas.Bool.{cases_lt}
 use Rattle.std.proofs.lemmas.Bool.Decides.{nat_tests}
 use Rattle.std.proofs.lemmas.List.{length-map}
 use Rattle.std.proofs.lemmas.List.Elements.{Contains-append_left, Contains-append_right, Contains-append_cases}
@@ -12,7 +13,7 @@ use Rattle.kin_motion.proofs.SetLaws.{contains_map, contains_mapped, distinct_ma
 use Rattle.kin_cert.specs.declared.owned.Owned.{Owned}
 use Rattle.kin_cert.specs.Facts.{LiveFact, certificate_of}
 use Rattle.kin_world.specs.Upkeep.{Stage, HasSameFrame, HasSettled, HasRepaired, ListsWaiting, AreWaiting, IsRepairing, IsAtTurn, NoneFrom, IsNextFrom, IsTurn, IsSooner, gathered, is_of, placed_of, turns_left}
-use Rattle.kin_world.proofs.MadeLaws.{come_first, come_on}
+use Rattle.kin_world.proofs.MadeLaws.{come_on}
 use Rattle.kin_world.proofs.RepairLaws.{sound_when_none_waits}
 
 joined : {A : Type 0} (xs : List A) (y : A) (zs : List A) → (xs ++ y ∷ []) ++ zs ≡ xs ++ y ∷ zs
@@ -28,14 +29,11 @@ pub frame_through : (a b c : Stage) → HasSameFrame a b → HasSameFrame b c �
 frame_through a b c first second = second ∙ ap (λ (x : Stage). record x { structures = c.structures; table = c.table }) first
 
 -- ---- whose turn it is
-low_or_high : (s k : ℕ) → (s < k) ⊎ (k ≤ s)
-low_or_high s k = grind arith
-
 pub turn_of_none : (k : ℕ) → IsTurn k [] None
 turn_of_none k = λ o there. absurd (contains_none o there)
 
 pub turn_more : (k : ℕ) (front : List Owned) (turn turn' : Option ℕ) (o : Owned) → IsTurn k front turn → IsSooner k o.structure turn turn' → IsTurn k (front ++ o ∷ []) turn'
-turn_more k front turn turn' o was is = at turn refl was (low_or_high o.structure k)
+turn_more k front turn turn' o was is = at turn refl was (cases_lt o.structure k)
   where
     among : (p : Owned) → Contains (front ++ o ∷ []) p → Contains front p ⊎ (o ≡ p)
     among p there = near (Contains-append_cases front (o ∷ []) p there)
@@ -72,7 +70,7 @@ turn_more k front turn turn' o was is = at turn refl was (low_or_high o.structur
         by p (inl old) from = none p old from
         by p (inr same) from = let e : o.structure ≡ p.structure = ap (λ (x : Owned). x.structure) same in absurd (omega (arith, e, low, from))
     at None e none (inr high) = becomes (is.first high e) (this_first high (λ p old from. absurd (none p old from)))
-    at (Some j) e next side = by_side side (low_or_high o.structure j)
+    at (Some j) e next side = by_side side (cases_lt o.structure j)
       where
         stays : turn' ≡ turn → (k ≤ o.structure → j ≤ o.structure) → IsTurn k (front ++ o ∷ []) turn'
         stays f more = becomes (f ∙ e) (record {

@@ -8,13 +8,11 @@ use Rattle.std.proofs.lemmas.Option.{slice_get_within}
 use Rattle.kin_motion.specs.declared.fact.Placed.{Placed}
 use Rattle.kin_motion.specs.declared.keep.Keep.{Keep}
 use Rattle.kin_motion.specs.Course.{Course, IsSlow, AreSlow, motion_of, is_live, live_of}
-use Rattle.kin_motion.specs.Deltas.{Change}
 use Rattle.kin_motion.specs.Forms.{IsAskable, names}
-use Rattle.kin_motion.specs.Kinetics.{HasChanged}
 use Rattle.kin_motion.specs.Live.{owned_by}
 use Rattle.kin_motion.specs.Scene.{Holds, scene_at}
 use Rattle.kin_cert.specs.Facts.{LiveFact, Facts}
-use Rattle.kin_cert.specs.Told.{HasFactsOf, IsTimed, IsTold, nothing}
+use Rattle.kin_cert.specs.Told.{IsTimed}
 use Rattle.kin_world.specs.declared.structure.Structure.{Structure}
 use Rattle.kin_world.specs.declared.structure.Mark.{Mark}
 use Rattle.kin_world.specs.declared.structure.Mark.TheVariants.{Enters, Leaves}
@@ -25,7 +23,7 @@ use Rattle.kin_world.specs.Worlds.{World, HasRemoved}
 use Rattle.kin_world.proofs.InOrder.{all_hold, owner, restated, timed, timed_new, timely_from_timed}
 use Rattle.kin_world.proofs.OneMore.{askable_without, one_more, same_room, sign_alike, timed_with, timed_without}
 use Rattle.kin_world.proofs.OverLaws.{gone_over, none_waits_after}
-use Rattle.kin_world.proofs.SoundLaws.{live_askable, first_failure}
+use Rattle.kin_world.proofs.SoundLaws.{live_askable}
 use Rattle.kin_world.proofs.StructureLaws.{settled_holds, settled_askable}
 
 -- a number that is live has a motion

@@ -4,7 +4,7 @@ use Rattle.std.specs.Prelude.{Contains}
 use Rattle.std.proofs.lemmas.Bool.{cases_eq}
 use Rattle.kin_motion.specs.declared.keep.Keep.{Keep}
 use Rattle.kin_motion.specs.Scene.{Scene, scene_at}
-use Rattle.kin_cert.specs.Facts.{LiveFact, Facts}
+use Rattle.kin_cert.specs.Facts.{Facts}
 use Rattle.kin_cert.specs.Taken.{NoneWaits}
 use Rattle.kin_cert.specs.Told.{IsTimed}
 use Rattle.kin_world.specs.declared.structure.Structure.{Structure}

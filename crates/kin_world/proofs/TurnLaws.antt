@@ -1,5 +1,5 @@
 -- A number turns: what is seen now is as before, so every structure stays settled, and the facts that don't name it fail as before.
-use Rattle.std.proofs.Common.{◌≡◌, ◌⊎◌, inl, inr, refl, sym, ap, ap₂, ◌∙◌, subst, arith, ℕ, ◌+◌, ◌-◌, ◌^◌, ◌<◌, true, false, cond, List, [], ◌∷◌, length, slice_set}
+use Rattle.std.proofs.Common.{◌≡◌, ◌⊎◌, inl, inr, refl, sym, ap, ◌∙◌, subst, arith, ℕ, ◌+◌, ◌-◌, ◌^◌, ◌<◌, true, false, cond, List, [], ◌∷◌, length, slice_set}
 use Rattle.std.specs.Prelude.{Bool, Result, Ok, Err, IfOk, Option, Some, ℤ, min, count_by, Contains, ◌↔◌, IsTrue, IsFalse}
 use Rattle.std.proofs.lemmas.List.{length-set}
 use Rattle.std.proofs.lemmas.List.Sums.{sum_by-cons}

@@ -1,9 +1,6 @@
-use Rattle.std.proofs.Common.{refl, sym, ap, subst, ◌∙◌}
-use Rattle.std.specs.Prelude.{IfSome}
-use Rattle.kin_num.specs.Instants.{sign_at}
+use Rattle.std.proofs.Common.{refl, subst}
 use Rattle.kin_cert.specs.Failures.{IsFirstFailure, seen_by}
-use Rattle.kin_world.specs.Approach.{IsFirstWithin}
-use Rattle.kin_world.proofs.ApproachLaws.{comes_within, is_within}
+use Rattle.kin_world.proofs.ApproachLaws.{comes_within}
 use Rattle.kin_world.proofs.approach.first_within.Goals as goal
 
 pub returns-in-Plus-clause-some : goal.returns-in-Plus-clause-some

@@ -1,4 +1,4 @@
-use Rattle.std.proofs.Common.{◌≡◌, ◌<◌, ℕ, ◌+◌, Option, List, length, refl, sym, subst, arith}
+use Rattle.std.proofs.Common.{◌<◌, ℕ, ◌+◌, Option, List, length, refl, sym, subst, arith}
 use Rattle.kin_motion.specs.declared.fact.Placed.{Placed}
 use Rattle.kin_motion.proofs.KeepLaws.{few_at_most}
 use Rattle.kin_world.specs.Upkeep.{stage_of, IsAtTurn, IsTurn, IsNextFrom, ListsWaiting, turns_left}

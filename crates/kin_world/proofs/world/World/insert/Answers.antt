@@ -1,8 +1,6 @@
-use Rattle.std.proofs.Common.{◌≡◌, sym, ap, ◌∙◌, subst, ◌<◌, ◌^◌, true, false, length}
-use Rattle.std.specs.Prelude.{Some}
-use Rattle.std.proofs.lemmas.List.{length-set}
+use Rattle.std.proofs.Common.{◌≡◌, sym, ap, ◌∙◌, subst, ◌<◌, ◌^◌, true, false}
 use Rattle.kin_motion.specs.Course.{is_live}
-use Rattle.kin_world.specs.Upkeep.{meaning, sight, stage_of}
+use Rattle.kin_world.specs.Upkeep.{meaning, stage_of}
 use Rattle.kin_world.specs.Worlds.{World, HasInserted}
 use Rattle.kin_world.proofs.MarkLaws.{may_insert}
 use Rattle.kin_world.proofs.SoundLaws.{sound_inside, seen_inside, has_inserted}
