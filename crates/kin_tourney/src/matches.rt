@@ -65,6 +65,7 @@ impl<I: Copy> Tree<I> {
 
     /// Plays the match of the two halves of a node, by the sign of their form where it is known, and
     /// tells of its fact. The winner's slot is the result.
+    #[inline(always)]
     fn play<K: Keyed<Item = I>, O: Signs, L: Ledger>(
         &mut self,
         node: usize,
@@ -220,8 +221,8 @@ impl<I: Copy> Tree<I> {
         None
     }
 
-    /// Plays the matches in doubt again, all or only those that are in doubt themselves, the halves of
-    /// a node before the node. The doubts lead the way down, and only nodes in doubt are visited.
+    /// Plays the matches again that are in doubt themselves, and with `all` those in doubt whose facts
+    /// don't hold, the halves of a node before the node. The doubts lead the way down, and only nodes in doubt are visited.
     pub fn repair<K: Keyed<Item = I>, O: Signs, L: Ledger>(
         &mut self,
         all: bool,

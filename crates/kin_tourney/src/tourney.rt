@@ -164,7 +164,7 @@ impl<K: Keyed> Kinetic for Tourney<K> {
         ensures cost { OnOk result (steps.new ≤ steps.old + self.old.size * (mark_count self.old.marked + length failed.now)) }
     {
         self.whole = false;
-        // A fact above a marked slot may be left out of `failed`, so each match there is played again.
+        // A fact above a marked slot may be left out of `failed`, so each fact there is looked at.
         let all = !self.tree.is_untouched();
         self.tree.doubt_failed(failed);
         self.tree.repair(all, &self.key, now, out, steps)?;
