@@ -1,10 +1,12 @@
 -- Heron's method on whole numbers.
-use Rattle.std.proofs.Common.{◌≡◌, ◌⊎◌, inl, inr, ℕ, zero, suc, ◌+◌, ◌-◌, ◌*◌, ◌/◌, ◌<◌, ◌≤◌, ◌^◌, arith, subst, mul-le-mul, lt_of_not-le, ap, sym, ◌∙◌, ◌%◌}
+use Rattle.std.proofs.Common.{◌≡◌, ◌⊎◌, inl, inr, ℕ, suc, ◌+◌, ◌-◌, ◌*◌, ◌/◌, ◌<◌, ◌≤◌, ◌^◌, arith, refl, subst, mul-le-mul, lt_of_not-le, ap, sym, ◌∙◌, ◌%◌}
 use Rattle.std.specs.Int.Count.{count_leading_zeros}
 use Rattle.std.proofs.lemmas.Nat.{leading_top, shl_whole, pow-add, pow_pos}
 use Rattle.std.proofs.Math.Pow.{pow_mono}
+use Rattle.std.proofs.Math.Nat.{le_of_mul-le-mul_left}
 use Rattle.kin_num.specs.Roots.{IsWholeRoot}
 use Rattle.kin_algebra.proofs.Descent.{root_below}
+use Rattle.kin_algebra.proofs.Squares.{square_below}
 
 -- the geometric mean is at most the arithmetic one
 means : (x y : ℕ) → 4 * (x * y) ≤ (x + y) * (x + y)
@@ -33,29 +35,11 @@ not_below x g b some e =
     last : (x p q b : ℕ) → x < p → 4 * p ≤ q → q ≤ (2 * (b + 1)) * (2 * (b + 1)) → x < (b + 1) * (b + 1)
     last x p q b h i j = omega arith
 
-pub at_most : (x g : ℕ) → 0 < g → g ≤ (g + x / g) / 2 → g * g ≤ x
-at_most x g some h =
-    let less : g ≤ x / g = omega arith in
-    let square : g * g ≤ g * (x / g) = mul-le-mul (let l : g ≤ g = omega arith in l) less in
-    let part : g * (x / g) ≤ x = omega arith in
-    omega arith
-
--- the guess for 2^64 times a number whose whole root is r
-pub fine_guess : (d r : ℕ) → d < (r + 1) * (r + 1) → d * 2 ^ 64 < ((r + 1) * 2 ^ 32 + 1) * ((r + 1) * 2 ^ 32 + 1)
-fine_guess d r h = at d ((r + 1) * (r + 1)) h (omega arith)
-  where
-    at : (d q : ℕ) → d < q → q * 2 ^ 64 ≤ ((r + 1) * 2 ^ 32 + 1) * ((r + 1) * 2 ^ 32 + 1) → d * 2 ^ 64 < ((r + 1) * 2 ^ 32 + 1) * ((r + 1) * 2 ^ 32 + 1)
-    at d q h k = omega arith
-
 pub small_root : (d r : ℕ) → d < 2 ^ 63 → r * r ≤ d → r < 2 ^ 32
 small_root d r h k = root_below r (2 ^ 32) (omega arith)
 
 pub fine_small : (d r : ℕ) → d < 2 ^ 63 → r * r ≤ d * 2 ^ 64 → r < 7 * 2 ^ 61
 fine_small d r h k = root_below r (7 * 2 ^ 61) (omega arith)
-
-pub some_left : (x b : ℕ) → 0 < x → x < (b + 1) * (b + 1) → 0 < b
-some_left x zero h k = absurd (omega arith)
-some_left x (suc b) h k = omega arith
 
 -- the line that touches the parabola where x is a ninth of 2^66 lies above it everywhere
 pub tangent : (x h : ℕ) → h ≡ x / 2 ^ 34 → x < (h * 3 + 1431655768 + 1) * (h * 3 + 1431655768 + 1)
@@ -102,6 +86,132 @@ narrowed x k r some h = record {
 
     less : (x y : ℕ) → (y ≤ x → ⊥) → x < y
     less x y h = lt_of_not-le h
+
+-- a step of Heron's method squares the part of the root by which the guess is greater
+module _ (x r : ℕ) (root : IsWholeRoot x r) (some : 0 < r) where
+  -- with the distances d and f of the guesses from the root
+  product : (d f q : ℕ) → q * (r + d) ≤ x → 2 * (r + f) ≤ r + d + q → 2 * (r * f) ≤ d * d + 2 * r
+  product d f q over twice =
+      let first : (2 * (r + f)) * (r + d) ≤ (r + d + q) * (r + d) = mul-le-mul twice (let m : r + d ≤ r + d = omega arith in m) in
+      let most : x ≤ r * r + 2 * r = omega (arith, root.greatest) in
+      last (r * r) (r * d) (r * f) (f * d) (d * d) (q * (r + d)) (let e : (2 * (r + f)) * (r + d) ≡ 2 * (r * r) + 2 * (r * d) + 2 * (r * f) + 2 * (f * d) = omega arith in e) (let e : (r + d + q) * (r + d) ≡ r * r + 2 * (r * d) + d * d + q * (r + d) = omega arith in e) ((2 * (r + f)) * (r + d)) ((r + d + q) * (r + d)) refl refl first over most
+    where
+      last : (rr rd rf fd dd n : ℕ) → (2 * (r + f)) * (r + d) ≡ 2 * rr + 2 * rd + 2 * rf + 2 * fd → (r + d + q) * (r + d) ≡ rr + 2 * rd + dd + n → (u v : ℕ) → u ≡ (2 * (r + f)) * (r + d) → v ≡ (r + d + q) * (r + d) → u ≤ v → n ≤ x → x ≤ rr + 2 * r → 2 * rf ≤ dd + 2 * r
+      last rr rd rf fd dd n e e' u v p p' h k l = small (p ∙ e) (p' ∙ e')
+        where
+          small : u ≡ 2 * rr + 2 * rd + 2 * rf + 2 * fd → v ≡ rr + 2 * rd + dd + n → 2 * rf ≤ dd + 2 * r
+          small a b = omega (arith, a, b, h, k, l)
+
+  pub closer : (k g d b : ℕ) → g ≡ r + d → k * d ≤ r → b ≡ (g + x / g) / 2 → (f : ℕ) × (b ≡ r + f) × (2 * (k * k) * f ≤ r + 2 * (k * k))
+  closer k g d b e near h =
+      let positive : 0 < g = omega (arith, e, some) in
+      let f = b - r in
+      let above : b ≡ r + f = place b (not_below x g b positive h) in
+      let twice : 2 * (r + f) ≤ r + d + x / g = subst (λ (z : ℕ). 2 * z ≤ r + d + x / g) above (subst (λ (z : ℕ). 2 * b ≤ z + x / g) e (omega (arith, h))) in
+      let part : x / g * g ≤ x = omega (arith, positive) in
+      let over : x / g * (r + d) ≤ x = subst (λ (z : ℕ). x / g * z ≤ x) e part in
+      let pair : 2 * (r * f) ≤ d * d + 2 * r = product d f (x / g) over twice in
+      let square : (k * d) * (k * d) ≤ r * r = mul-le-mul near near in
+      let scaled : (k * k) * (2 * (r * f)) ≤ (k * k) * (d * d + 2 * r) = mul-le-mul (let m : k * k ≤ k * k = omega arith in m) pair in
+      (f, above, le_of_mul-le-mul_left (joined (k * k) f (r * f) (d * d) ((k * d) * (k * d)) (r * r) (let m : (k * d) * (k * d) ≡ (k * k) * (d * d) = omega arith in m) square scaled (let m : r * (2 * (k * k) * f) ≡ (k * k) * (2 * (r * f)) = omega arith in m) (let m : r * (r + 2 * (k * k)) ≡ r * r + (k * k) * (2 * r) = omega arith in m) (let m : (k * k) * (d * d + 2 * r) ≡ (k * k) * (d * d) + (k * k) * (2 * r) = omega arith in m)) some)
+    where
+      place : (b : ℕ) → x < (b + 1) * (b + 1) → b ≡ r + (b - r)
+      place b l =
+          let less : r < b + 1 = root_below r (b + 1) (between (r * r) ((b + 1) * (b + 1)) root.at_most l) in
+          omega (arith, less)
+        where
+          between : (m n : ℕ) → m ≤ x → x < n → m < n
+          between m n h k = omega (arith, h, k)
+
+      joined : (n f rf dd s rr : ℕ) → s ≡ n * dd → s ≤ rr → n * (2 * rf) ≤ n * (dd + 2 * r) → r * (2 * n * f) ≡ n * (2 * rf) → r * (r + 2 * n) ≡ rr + n * (2 * r) → n * (dd + 2 * r) ≡ n * dd + n * (2 * r) → r * (2 * n * f) ≤ r * (r + 2 * n)
+      joined n f rf dd s rr p l m a b e =
+          at (r * (2 * n * f)) (r * (r + 2 * n)) (n * (2 * rf)) (n * (dd + 2 * r)) (n * dd) (n * (2 * r)) p a b e m
+        where
+          at : (u v w y z t : ℕ) → s ≡ z → u ≡ w → v ≡ rr + t → y ≡ z + t → w ≤ y → u ≤ v
+          at u v w y z t p a b e m = omega (arith, p, a, b, e, m, l)
+
+-- the product of the distances from two bounds
+between_bounds : (r lo hi : ℕ) → lo ≤ r → r ≤ hi → r * r + lo * hi ≤ (lo + hi) * r
+between_bounds r lo hi h k = subst (λ (z : ℕ). z * z + lo * hi ≤ (lo + hi) * z) (let e : lo + (r - lo) ≡ r = omega (arith, h) in e)
+    (subst (λ (z : ℕ). (lo + (r - lo)) * (lo + (r - lo)) + lo * z ≤ (lo + z) * (lo + (r - lo))) (let e : lo + (r - lo) + (hi - r) ≡ hi = omega (arith, h, k) in e) (at lo (r - lo) (hi - r)))
+  where
+    at : (lo i j : ℕ) → (lo + i) * (lo + i) + lo * (lo + i + j) ≤ (lo + (lo + i + j)) * (lo + i)
+    at lo i j = omega arith
+
+-- three steps from the tangent are enough
+module _ (x r : ℕ) (root : IsWholeRoot x r) (wide : 2 ^ 31 ≤ r) (fits : r < 2 ^ 32) where
+  some : 0 < r
+  some = omega (arith, wide)
+
+  first : (g : ℕ) → g ≡ x / 2 ^ 34 * 3 + 1431655768 → (d : ℕ) × (g ≡ r + d) × (11 * d ≤ r)
+  first g e =
+      let over : x < (g + 1) * (g + 1) = subst (λ (z : ℕ). x < (z + 1) * (z + 1)) (sym e) (tangent x (x / 2 ^ 34) refl) in
+      let less : r < g + 1 = root_below r (g + 1) (between (r * r) ((g + 1) * (g + 1)) root.at_most over) in
+      let bounds : r * r + 2 ^ 31 * 2 ^ 32 ≤ (2 ^ 31 + 2 ^ 32) * r = between_bounds r (2 ^ 31) (2 ^ 32) wide (omega (arith, fits)) in
+      let most : x ≤ r * r + 2 * r = omega (arith, root.greatest) in
+      (g - r, (let k : g ≡ r + (g - r) = omega (arith, less) in k), at (r * r) (x / 2 ^ 34) (omega arith) most bounds e)
+    where
+      between : (m n : ℕ) → m ≤ x → x < n → m < n
+      between m n h k = omega (arith, h, k)
+
+      at : (s h : ℕ) → h * 2 ^ 34 ≤ x → x ≤ s + 2 * r → s + 2 ^ 31 * 2 ^ 32 ≤ (2 ^ 31 + 2 ^ 32) * r → g ≡ h * 3 + 1431655768 → 11 * (g - r) ≤ r
+      at s h a b k e = omega (arith, a, b, k, e, fits)
+
+  -- after three steps the guess is the root or one more
+  pub three_steps : (g b p q : ℕ) → g ≡ x / 2 ^ 34 * 3 + 1431655768 → b ≡ (g + x / g) / 2 → p ≡ (b + x / b) / 2 → q ≡ (p + x / p) / 2 → (f : ℕ) × (q ≡ r + f) × (f ≤ 1)
+  three_steps g b p q eg eb ep eq =
+      let d = first g eg in
+      let d' = closer x r root some 11 g d.0 b d.1 d.2 eb in
+      let d'' = closer x r root some 241 b d'.0 p d'.1 (omega (arith, d'.2, wide)) ep in
+      let e = closer x r root some 116000 p d''.0 q d''.1 (omega (arith, d''.2, wide)) eq in
+      (e.0, e.1, omega (arith, e.2, fits))
+
+  -- each guess is about as wide as the root
+  pub one_step : (g b : ℕ) → g ≡ x / 2 ^ 34 * 3 + 1431655768 → b ≡ (g + x / g) / 2 → (2 ^ 31 ≤ b) × (b ≤ 2 ^ 33)
+  one_step g b eg eb =
+      let d = first g eg in
+      let d' = closer x r root some 11 g d.0 b d.1 d.2 eb in
+      (omega (arith, d'.1, wide), omega (arith, d'.1, d'.2, fits))
+
+  pub two_steps : (g b p : ℕ) → g ≡ x / 2 ^ 34 * 3 + 1431655768 → b ≡ (g + x / g) / 2 → p ≡ (b + x / b) / 2 → (2 ^ 31 ≤ p) × (p ≤ 2 ^ 33)
+  two_steps g b p eg eb ep =
+      let d = first g eg in
+      let d' = closer x r root some 11 g d.0 b d.1 d.2 eb in
+      let d'' = closer x r root some 241 b d'.0 p d'.1 (omega (arith, d'.2, wide)) ep in
+      (omega (arith, d''.1, wide), omega (arith, d''.1, d''.2, fits))
+
+-- the guess is the root, or one more where its square is too great
+module _ (x r : ℕ) (root : IsWholeRoot x r) (q : ℕ) (last : (f : ℕ) × (q ≡ r + f) × (f ≤ 1)) where
+  pub one_less : r < q → IsWholeRoot x (q - 1)
+  one_less l = subst (IsWholeRoot x) (let e : r ≡ q - 1 = omega (arith, last.1, last.2, l) in e) root
+
+  pub square_over : x < q * q → IsWholeRoot x (q - 1)
+  square_over l = one_less (root_below r q (between (r * r) (q * q) root.at_most l))
+    where
+      between : (m n : ℕ) → m ≤ x → x < n → m < n
+      between m n h k = omega (arith, h, k)
+
+  pub square_within : q * q ≤ x → IsWholeRoot x q
+  square_within l =
+      let less : q < r + 1 = root_below q (r + 1) (between (q * q) ((r + 1) * (r + 1)) l root.greatest) in
+      subst (IsWholeRoot x) (let e : r ≡ q = omega (arith, last.1, less) in e) root
+    where
+      between : (m n : ℕ) → m ≤ x → x < n → m < n
+      between m n h k = omega (arith, h, k)
+
+-- the root of a wide number
+pub wide_root : (x : ℕ) → 2 ^ 62 ≤ x → x < 2 ^ 64 → (r : ℕ) × IsWholeRoot x r × (2 ^ 31 ≤ r) × (r < 2 ^ 32)
+wide_root x wide fits =
+    let q = square_below (suc x) (omega arith) in
+    let root : IsWholeRoot x q.0 = record { at_most = omega (arith, q.1); greatest = omega (arith, q.2) } in
+    let low : 2 ^ 31 < q.0 + 1 = root_below (2 ^ 31) (q.0 + 1) (under (2 ^ 31 * 2 ^ 31) ((q.0 + 1) * (q.0 + 1)) wide root.greatest) in
+    (q.0, root, omega (arith, low), root_below q.0 (2 ^ 32) (over (q.0 * q.0) (2 ^ 32 * 2 ^ 32) root.at_most fits))
+  where
+    under : (m n : ℕ) → m ≤ x → x < n → m < n
+    under m n h k = omega (arith, h, k)
+
+    over : (m n : ℕ) → m ≤ x → x < n → m < n
+    over m n h k = omega (arith, h, k)
 
 -- a number is shifted by pairs of digits, and none is lost
 pub record IsSpared (x k w : ℕ) : Type 0 where

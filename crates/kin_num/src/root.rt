@@ -1,9 +1,9 @@
 //! Whole square roots.
 
-ghost use Rattle.std.specs.Prelude.{◌+◌, ◌*◌, ◌<◌, ◌≤◌, ◌^◌};
+ghost use Rattle.std.specs.Prelude.{◌≡◌, ◌+◌, ◌*◌, ◌/◌, ◌<◌, ◌≤◌, ◌^◌};
 ghost use Rattle.kin_num.specs.Roots.{IsWholeRoot};
 
-/// The greatest whole number whose square is at most `x`. Takes about four divisions.
+/// The greatest whole number whose square is at most `x`. Takes three divisions.
 pub fn isqrt(x: u64) -> u64
     ensures { IsWholeRoot x result }
 {
@@ -14,37 +14,36 @@ pub fn isqrt(x: u64) -> u64
     isqrt_of_wide(x << (2 * spare)) >> spare
 }
 
-/// The same for a number that fills its 64 bits or all but one; of a lesser one it takes more divisions.
+/// The same for a number that fills its 64 bits or all but one. Takes three divisions: Heron's method has twice as many
+/// right digits after each, and three are enough for all but the last unit.
 pub fn isqrt_of_wide(x: u64) -> u64
-    requires some { 0 < x }
+    requires wide { 2 ^ 62 ≤ x }
     ensures { IsWholeRoot x result }
 {
-    heron(x, guess_above(x))
+    let guess = nearer(x, nearer(x, nearer(x, guess_above(x))));
+    if guess > GREATEST {
+        return guess - 1;
+    }
+    if guess * guess > x { guess - 1 } else { guess }
 }
 
-/// The whole root of `x`, from a guess that isn't below it, by Heron's method: each further guess is at most about half as
-/// great, and near the root it has about twice as many right digits.
-fn heron(x: u64, guess: u64) -> u64
-    requires some { 0 < x }
-    requires guess_some { 0 < guess }
-    requires guess_fits { guess ≤ 2 ^ 33 }
-    requires not_below { x < (guess + 1) * (guess + 1) }
-    ensures { IsWholeRoot x result }
+/// The greatest whole root of a number of 64 bits.
+const GREATEST: u64 = 4_294_967_295;
+
+/// A better guess at the root of `x`, by Heron's method.
+fn nearer(x: u64, guess: u64) -> u64
+    requires some { 0 < guess }
+    requires fits { guess ≤ 2 ^ 33 }
+    requires wide { 2 ^ 31 ≤ guess }
+    ensures { result ≡ (guess + x / guess) / 2 }
 {
-    let better = (guess + x / guess) / 2;
-    if better < guess {
-        heron(x, better)
-    } else {
-        guess
-    }
+    (guess + x / guess) / 2
 }
 
 /// A number that isn't below the root of `x`: a tangent of the parabola, which touches it within the wide numbers, so that
-/// it is at most a twelfth too great for them.
+/// it is at most an eleventh too great for them.
 fn guess_above(x: u64) -> u64
-    ensures some { 0 < result }
-    ensures fits { result ≤ 2 ^ 33 }
-    ensures not_below { x < (result + 1) * (result + 1) }
+    ensures { result ≡ x / 2 ^ 34 * 3 + 1431655768 }
 {
     (x >> 34) * 3 + 1_431_655_768
 }

@@ -1,4 +1,4 @@
-use Rattle.std.proofs.Common.{◌≢◌, ℕ, ◌/◌, ◌<◌, ◌≤◌, ◌^◌, arith, subst}
+use Rattle.std.proofs.Common.{◌≢◌, ℕ, ◌/◌, ◌<◌, ◌^◌, arith, subst}
 use Rattle.std.specs.Int.Count.{count_leading_zeros}
 use Rattle.kin_num.specs.Roots.{IsWholeRoot}
 use Rattle.kin_num.proofs.HeronRoots.{narrowed, spared}
@@ -10,10 +10,7 @@ some x n = grind (arith, n)
 pub isqrt_of_wide-requires : goal.isqrt_of_wide-requires
 isqrt_of_wide-requires c =
     let k = spared c.args.x (some c.args.x c.if-x-eq0.false) c.ranges.x.fits in
-    record { some = positive _ k.wide }
-  where
-    positive : (w : ℕ) → 2 ^ 62 ≤ w → 0 < w
-    positive w h = omega (arith, h)
+    record { wide = k.wide }
 
 pub returns : goal.returns
 returns c =
