@@ -10,6 +10,7 @@ use Rattle.kin_motion.specs.Numbers.{is_in, IsIn}
 use Rattle.kin_motion.specs.Sets.{ListsExactly}
 use Rattle.kin_motion.proofs.LiveLaws.{live-members}
 use Rattle.kin_motion.proofs.Members.{in_head, is_in-push, in_from_contains, contains_from_in}
+use Rattle.kin_list.proofs.LeaveLaws.{in_push_last}
 use Rattle.kin_overlay.specs.Overlays.{names_any}
 use Rattle.kin_env.specs.MarkLaws.{same_named, in_leaving}
 use Rattle.kin_env.specs.Trees.{Envelope, chain_of_slot, is_leaving, leaving_of, names_leaving, IsEnvelopeAtRest}
@@ -75,12 +76,6 @@ not_false : (a : Bool) → false ≡ not a → a ≡ true
 not_false true e = refl
 not_false false e = absurd cc
 
-own_test : (n : ℕ) → nat_eq n n ≡ true
-own_test n = grind (arith, nat_tests)
-
-pushed_itself : (n : ℕ) (xs : List ℕ) → is_in n (xs ++ n ∷ []) ≡ true
-pushed_itself n xs = is_in-push n n xs ∙ ap (λ b. b || is_in n xs) (own_test n)
-
 pushed_other : (i n : ℕ) (xs : List ℕ) → i ≢ n → is_in i (xs ++ n ∷ []) ≡ is_in i xs
 pushed_other i n xs m = is_in-push i n xs ∙ ap (λ b. b || is_in i xs) (let e : nat_eq i n ≡ false = grind (arith, nat_tests, m) in e)
 
@@ -127,7 +122,7 @@ module _ (size : ℕ) (ms : List (Option Course)) (t : Envelope) (facts : List P
       left i (inr m) inside = f.left i inside ∙ ap (λ b. is_in i (chain_of_slot t i) && not b) (sym (elsewhere true i m))
 
       entered : (i : ℕ) → (i ≡ n) ⊎ (i ≢ n) → i < 2 ^ size → is_in i (fresh ++ n ∷ []) ≡ slot_in (set t.slots n true) i && not (is_in i (chain_of_slot t i))
-      entered i (inl e) inside = subst (λ j. is_in j (fresh ++ n ∷ []) ≡ slot_in (set t.slots n true) j && not (is_in j (chain_of_slot t j))) (sym e) (pushed_itself n fresh ∙ sym (ap (λ b. b && not (is_in n (chain_of_slot t n))) (here true) ∙ ap not not_there))
+      entered i (inl e) inside = subst (λ j. is_in j (fresh ++ n ∷ []) ≡ slot_in (set t.slots n true) j && not (is_in j (chain_of_slot t j))) (sym e) (in_push_last n fresh ∙ sym (ap (λ b. b && not (is_in n (chain_of_slot t n))) (here true) ∙ ap not not_there))
       entered i (inr m) inside = pushed_other i n fresh m ∙ f.entered i inside ∙ ap (λ b. b && not (is_in i (chain_of_slot t i))) (sym (elsewhere true i m))
 
       so : IsFollowed size (set ms n (Some c)) (record t { slots = set t.slots n true }) facts gone (fresh ++ n ∷ [])
@@ -154,7 +149,7 @@ module _ (size : ℕ) (ms : List (Option Course)) (t : Envelope) (facts : List P
       in_chain = not_false (is_in n (chain_of_slot t n)) (sym stood ∙ f.entered n low ∙ ap (λ b. b && not (is_in n (chain_of_slot t n))) (slot_taken there))
 
       left : (i : ℕ) → (i ≡ n) ⊎ (i ≢ n) → i < 2 ^ size → is_in i (gone ++ n ∷ []) ≡ is_in i (chain_of_slot t i) && not (slot_in (set t.slots n false) i)
-      left i (inl e) inside = subst (λ j. is_in j (gone ++ n ∷ []) ≡ is_in j (chain_of_slot t j) && not (slot_in (set t.slots n false) j)) (sym e) (pushed_itself n gone ∙ sym (ap (λ b. b && not (slot_in (set t.slots n false) n)) in_chain ∙ ap not (here false)))
+      left i (inl e) inside = subst (λ j. is_in j (gone ++ n ∷ []) ≡ is_in j (chain_of_slot t j) && not (slot_in (set t.slots n false) j)) (sym e) (in_push_last n gone ∙ sym (ap (λ b. b && not (slot_in (set t.slots n false) n)) in_chain ∙ ap not (here false)))
       left i (inr m) inside = pushed_other i n gone m ∙ f.left i inside ∙ ap (λ b. is_in i (chain_of_slot t i) && not b) (sym (elsewhere false i m))
 
       entered : (i : ℕ) → (i ≡ n) ⊎ (i ≢ n) → i < 2 ^ size → is_in i fresh ≡ slot_in (set t.slots n false) i && not (is_in i (chain_of_slot t i))
