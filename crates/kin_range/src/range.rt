@@ -90,8 +90,8 @@ impl KinRange {
     }
 
     /// The points on or within the border of a rectangle at the moment now, phase included, by rising number. There are
-    /// none where `x1 > x2` or `y1 > y2`. It looks at each point, and asks at most four signs of it; no step is counted.
-    /// `NoMemory` changes nothing.
+    /// none where `x1 > x2` or `y1 > y2`. It is meant to look at each point once and to ask at most four
+    /// signs of it; no clause says so, and no step is counted. `NoMemory` changes nothing.
     pub fn inside(&self, motions: &Motions, now: &Moment, rect: &Rect) -> Result<Vec<u32>, NoMemory>
         requires settled { IsSettledRanging self.now (scene_at motions.now now.now) }
         requires rect { IsRectInRange rect.now }

@@ -225,7 +225,8 @@ impl Structure {
         }
     }
 
-    /// The live numbers in a rectangle, its border included, rising. Looks at each of them.
+    /// The live numbers in a rectangle, its border included, rising. It is meant to look at
+    /// each of them once; no clause says so.
     pub fn inside(&self, motions: &Motions, now: &Moment, rect: &Rect) -> Result<Vec<u32>, NoMemory>
         requires kept { (size : ℕ) × IsKept size KeepRange (scene_at motions.now now.now) self.now }
         requires rect { IsRectInRange rect.now }

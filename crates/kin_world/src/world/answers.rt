@@ -60,8 +60,8 @@ impl World {
         self.structure(self.place_of(&Keep::Closest)).closest()
     }
 
-    /// The live numbers in a rectangle, its border included, rising. Looks at each of them. Want of
-    /// memory changes nothing.
+    /// The live numbers in a rectangle, its border included, rising. It is meant to look at
+    /// each of them once; no clause says so. Want of memory changes nothing.
     pub fn inside(&self, rect: &Rect) -> Result<Vec<u32>, NoMemory>
         requires whole { IsTrue self.now.whole }
         requires kept { (k : ℕ) × (slice_get self.now.keeps k ≡ Some keep.Range) }
