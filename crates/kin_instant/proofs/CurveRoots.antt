@@ -27,7 +27,7 @@ use Rattle.kin_instant.specs.Places.{IsZeroPolynomial, IsNextRoot, HasNoRootAfte
 use Rattle.kin_instant.specs.Laws.{IsNext}
 use Rattle.kin_instant.proofs.Zeros.{line-zero_at, positive_product}
 use Rattle.kin_instant.proofs.RootsOf.{negated_zeros}
-use Rattle.kin_instant.proofs.Factors.{cofactor, instant-slopes, same_value, same_slope}
+use Rattle.kin_instant.proofs.Factors.{cofactor, instant-slope, same_value, same_slope}
 use Rattle.kin_instant.proofs.SignTable.{IsAt, IsPlace, by_degree, line_place, Places, places, double_line, other_line, not_single, positive_signed}
 use Rattle.kin_instant.proofs.Nexts.{IsEmpty, nowhere, everywhere, one_next, one_none, first_next, second_next, two_none}
 use Rattle.kin_instant.proofs.Kept.{keeps}
@@ -86,7 +86,7 @@ module _ (a b c : ℤ) (h : pos 0 <ℤ a) (m : Moment) (i : IsCanonicalForm m.at
       let j = k.canonical.form in
       let z = (k.exact (Ratio n d) j).1 refl in
       line_place (Ratio n d) j n d j.positive (line-zero_at n d n d refl) w i slope
-      (sym (double_sum (sign_at_instant (line n d) w) slope (subst (λ (t : Sign). SumMayBe t (sign_at_instant (line n d) w) slope) (double_line a b c h w i m.phase n d j k) (instant-slopes w i a b c n d j.positive z h))))
+      (sym (double_sum (sign_at_instant (line n d) w) slope (subst (λ (t : Sign). SumMayBe t (sign_at_instant (line n d) w) slope) (double_line a b c h w i m.phase n d j k) (instant-slope w i a b c n d j.positive z h))))
 
   rational_sloped : (n d : ℤ) (s : Shape) → AreRootsOf q (Two (Ratio n d) s) → IsSloped (Two (Ratio n d) s)
   rational_sloped n d s k =
@@ -97,7 +97,7 @@ module _ (a b c : ℤ) (h : pos 0 <ℤ a) (m : Moment) (i : IsCanonicalForm m.at
         (
           line_place (Ratio n d) j n d j.positive (line-zero_at n d n d refl) w i _ refl,
           line_place s k.canonical.1.form (neg_ℤ (a *ℤ n +ℤ b *ℤ d)) (a *ℤ d) (positive_product a d h j.positive) (other_line a b c h w i m.phase n d s j k) w i _ refl,
-          sum_turned _ _ _ (instant-slopes w i a b c n d j.positive z h),
+          sum_turned _ _ _ (instant-slope w i a b c n d j.positive z h),
         ),
       )
 

@@ -64,8 +64,8 @@ module _ (x : Number) (s : Sound x.radicand) (h : pos 0 <ℤ x.divisor) (a b c n
       (by_ring (a ∷ b ∷ n ∷ d ∷ N ∷ M ∷ R ∷ Q ∷ []) _ _ (search quotes depth 40 fits 100000) (search quotes depth 40 fits 100000) refl)
       (by_ring (a ∷ b ∷ n ∷ d ∷ N ∷ M ∷ R ∷ Q ∷ []) _ _ (search quotes depth 40 fits 100000) (search quotes depth 40 fits 100000) refl)
 
-  pub number-slopes : pos 0 <ℤ a → SumMayBe (sign_at_number second x) (sign_at_number first x) (sign_at_number (derivative (quadratic a b c)) x)
-  number-slopes p =
+  pub number-slope : pos 0 <ℤ a → SumMayBe (sign_at_number second x) (sign_at_number first x) (sign_at_number (derivative (quadratic a b c)) x)
+  number-slope p =
       let o = ordered R s in
       let d_plus = sign_over-whole R s d ∙ sign_in Plus d k in
       let ad_plus = sign_over-whole R s (a *ℤ d) ∙ sign_in Plus _ (positive_product a d p k) in
@@ -76,9 +76,6 @@ module _ (x : Number) (s : Sound x.radicand) (h : pos 0 <ℤ x.divisor) (a b c n
       (sym (scale o {a = pair (a *ℤ d) (pos 0)} (value first x) ad_plus))
       (sym (scale o {a = pair (d *ℤ d) (pos 0)} (value (derivative (quadratic a b c)) x) dd_plus) ∙ ap (sign_over R) slope_sum)
       may
-
-  pub number-slope : pos 0 <ℤ a → SumOf (sign_at_number second x) (sign_at_number first x) (sign_at_number (derivative (quadratic a b c)) x)
-  number-slope p = sum_of _ _ _ (number-slopes p)
 
 -- ---- at a canonical instant, for a rational root n/d
 root_equation : (a b c n d : ℤ) → a *ℤ (n *ℤ n +ℤ pos 0 *ℤ pos 0 *ℤ pos 0) +ℤ b *ℤ n *ℤ d +ℤ c *ℤ d *ℤ d ≡ a *ℤ (n *ℤ n) +ℤ b *ℤ n *ℤ d +ℤ c *ℤ d *ℤ d
@@ -96,10 +93,6 @@ module _ (w : Shape) (i : IsCanonicalForm w) (a b c n d : ℤ) (k : pos 0 <ℤ d
   pub instant-slope : pos 0 <ℤ a → SumMayBe (sign_at_instant (cofactor a b n d) w) (sign_at_instant (line n d) w) (sign_at_instant (derivative (quadratic a b c)) w)
   unfolding sign_at_instant
   instant-slope p = number-slope (number_of w) (canonical-sound w i) (divisor-positive w i) a b c n d k (on_root a b c n d z) p
-
-  pub instant-slopes : pos 0 <ℤ a → SumMayBe (sign_at_instant (cofactor a b n d) w) (sign_at_instant (line n d) w) (sign_at_instant (derivative (quadratic a b c)) w)
-  unfolding sign_at_instant
-  instant-slopes p = number-slopes (number_of w) (canonical-sound w i) (divisor-positive w i) a b c n d k (on_root a b c n d z) p
 
 -- ---- for an irrational root
 module _ (p : Quadratic) (a b c : ℤ) (i : IsIrreducible a b c) (upper : Bool) (z : sign_at_instant p (Root a b c upper) ≡ Zero) (k : pos 0 <ℤ p.a) where
