@@ -6,6 +6,7 @@ use Rattle.std.proofs.lemmas.Bool.Decides.{nat_tests}
 use Rattle.std.proofs.lemmas.List.{get_or-set_same, length-set}
 use Rattle.kin_motion.specs.Tournaments.{comes_to, is_under}
 use Rattle.kin_motion.proofs.NodeLaws.{not_above}
+use Rattle.kin_tourney.specs.declared.doubt.Doubt.{Doubt}
 use Rattle.kin_tourney.specs.declared.doubt.Doubt.TheVariants.{Clear, Below, Here}
 use Rattle.kin_tourney.specs.Standings.{Standings, IsTree, best_in, doubt_in, doubt_count, named_at}
 use Rattle.kin_tourney.specs.Repairs.{IsSpread, IsMarkedUp, IsFed}
