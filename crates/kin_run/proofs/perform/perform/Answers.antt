@@ -5,7 +5,7 @@ use Rattle.std.proofs.lemmas.Result.{err_from_is_err_and, on_ok_weaker}
 use Rattle.kin_num.specs.Instants.{line}
 use Rattle.kin_script.specs.Changes.{IsSlowVelocity}
 use Rattle.kin_script.specs.Deeds.{Deed}
-use Rattle.kin_script.specs.Ranges.{IsRatioInRange}
+use Rattle.kin_script.specs.Ranges.{IsRatioInRange, IsRootInRange}
 use Rattle.kin_script.specs.Replay.{IsNamedRoot}
 use Rattle.kin_script.proofs.Questions.{asks_otherwise}
 use Rattle.kin_run.specs.Passed.{Passes}
@@ -82,6 +82,18 @@ returns-in-AtRatio-clause-tallied g c =
     let positive : pos 0 <ℤ d = omega (arith, ints, range.d_low) in
     let asked : IsNamedRoot true (line n d) c.ratio.result = ratio_named n d c.ratio.result positive (rw (n_is, d_is) at c.ratio.ensures.value) c.ratio.ensures.canonical in
     on_ok_weaker c.move_to.result (λ x. rw c.in-AtRatio.is (tallied_is x (λ bs is. (c.ratio.result, asked, is)))) c.move_to.ensures.tallied
+
+pub returns-in-Some-clause-tallied : goal.returns-in-Some-clause-tallied
+returns-in-Some-clause-tallied g c =
+    let k = c.in-AtRoot.a in
+    let l = c.in-AtRoot.b in
+    let m = c.in-AtRoot.c in
+    let range : IsRootInRange k l m = rw c.in-AtRoot.is at c.requires.range in
+    let k_is : to_z w64 (of_z w64 k) ≡ k = grind (arith, to_z-of_z, range.a_small) in
+    let l_is : to_z w64 (of_z w64 l) ≡ l = grind (arith, to_z-of_z, range.b_small) in
+    let m_is : to_z w64 (of_z w64 m) ≡ m = grind (arith, to_z-of_z, range.c_small) in
+    let asked : IsNamedRoot c.in-AtRoot.upper (record { a = k; b = l; c = m }) c.in-Some.asked = rw (k_is, l_is, m_is) at c.in-Some.ensures in
+    on_ok_weaker c.move_to-in-Some.result (λ x. rw c.in-AtRoot.is (tallied_is x (λ bs is. (c.in-Some.asked, asked, is)))) c.move_to-in-Some.ensures.tallied
 
 pub returns-in_ok-put_next-in-Next-clause-tallied : goal.returns-in_ok-put_next-in-Next-clause-tallied
 returns-in_ok-put_next-in-Next-clause-tallied g c = rw c.in-Next.is c.in_ok-put_next-in-Next.ensures.tallied
