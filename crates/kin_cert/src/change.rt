@@ -13,6 +13,7 @@ ghost use Rattle.kin_cert.specs.Cost.{TakesAtMost, is_ungiven, ungiven, change_c
 ghost use Rattle.kin_cert.specs.Layout.{held, HasBorn, HasReplaced, IsLeftToApply, AreCounted, IsPaid, change_of};
 
 use crate::owned::Owned;
+use crate::place::place_number;
 use crate::table::Table;
 use crate::timing::{time, unqueue};
 use kin_motion::fact::{Delta, Placed};
@@ -58,8 +59,8 @@ impl Table {
         Ok(())
     }
 
-    // Puts born facts in the stead of dropped ones, pair by pair. Where a pair doesn't fit, one of the longer list goes by
-    // itself, so that those behind it may fit again.
+    // Puts born facts in the stead of dropped ones, pair by pair. Where a pair doesn't fit, but the dropped fact and the next
+    // born one do, the first born one goes by itself; else the dropped one does.
     fn replace_each<'a, L: Ledger>(
         &mut self,
         structure: u32,
@@ -89,18 +90,12 @@ impl Table {
                     dropped: later_dropped,
                     born: later_born,
                 };
-            } else if rest.dropped.len() >= rest.born.len() {
-                self.drop_one(structure, *dropped, steps);
-                rest.dropped = later_dropped;
-            } else if self
-                .sign_of(structure, born.part, &born.fact.form)
-                .is_none()
-            {
+            } else if fits_next(dropped, later_born) && self.is_free(structure, born) {
                 self.bear_one(structure, *born, motions, now, steps)?;
                 rest.born = later_born;
             } else {
-                // Its form is that of a fact that is still to be dropped.
-                return Ok(rest);
+                self.drop_one(structure, *dropped, steps);
+                rest.dropped = later_dropped;
             }
         }
         Ok(rest)
@@ -139,6 +134,14 @@ impl Table {
             steps,
         )?;
         Ok(true)
+    }
+
+    // Whether no live fact has the owner and the form of a born one, as one that is still to be dropped may have.
+    fn is_free(&self, structure: u32, born: &Placed) -> bool
+        ensures { IsTrue result → (l : LiveFact) → Contains self.now.live l → ¬ (IsOf structure born.now l) }
+    {
+        self.sign_of(structure, born.part, &born.fact.form)
+            .is_none()
     }
 
     // Drops the live fact that has this owner and form.
@@ -229,6 +232,17 @@ impl Table {
             steps,
         )?;
         Ok(())
+    }
+}
+
+// Whether the first one of the born facts may come to the place of a dropped one.
+fn fits_next(dropped: &Placed, born: &[Placed]) -> bool {
+    match born.first() {
+        Some(next) => {
+            next.part == dropped.part
+                && place_number(&next.fact.form) == place_number(&dropped.fact.form)
+        }
+        None => false,
     }
 }
 

@@ -9,7 +9,7 @@ use indexmap::IndexMap;
 use std::alloc::Global;
 
 /// How many guesses are kept.
-const COUNT: usize = 4096;
+const COUNT: usize = 16_384;
 
 /// Positions at which places were last found. A guess may be wrong, so it is tested where it is used: the index at that
 /// position has the place, or it is asked by hash. There are no guesses before the first one is noted.
@@ -94,9 +94,11 @@ impl Guesses {
     }
 }
 
-// Where the guess of a place stands.
+// Where the guess of a place stands. The places of a few lists of up to 1,024 points share none.
 fn slot_of(place: &Place) -> usize {
     let [structure, part, number] = *place;
-    let mixed = number ^ (part << 6) ^ (structure << 8);
+    let mixed = number
+        .wrapping_add(part.wrapping_mul(1_031))
+        .wrapping_add(structure.wrapping_mul(4_111));
     mixed as usize % COUNT
 }

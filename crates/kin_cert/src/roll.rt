@@ -114,7 +114,7 @@ impl Roll {
             &self.entries,
             &mut self.firsts,
             &mut self.others,
-            &self.guesses,
+            &mut self.guesses,
             structure,
             part,
             form,
@@ -260,7 +260,7 @@ fn strike(
     entries: &Slab<Entry>,
     firsts: &mut IndexMap<Place, usize>,
     others: &mut IndexMap<Rank, usize>,
-    guesses: &Guesses,
+    guesses: &mut Guesses,
     structure: u32,
     part: u32,
     form: Form,
@@ -268,6 +268,8 @@ fn strike(
     ensures some { IfSome result (λ id. IsStruck entries.now.slots firsts.old others.old structure part form id firsts.new others.new) }
     ensures none { IfNone result (HasNoId entries.now.slots firsts.old others.old structure part form) }
 {
+    // From here on the guess is right, if the place stands anywhere.
+    let _ = guesses.id_of(firsts, &place(structure, part, form));
     if let Some(id) = first_at(entries, firsts, guesses, structure, part, form) {
         guesses.strike(firsts, &place(structure, part, form));
         return Some(id);

@@ -154,7 +154,8 @@ fn reach(places: &mut Vec<usize>, id: usize) -> Result<(), NoMemory>
     Ok(())
 }
 
-// Writes the moment of an id down.
+// Writes the moment of an id down. It is made in line, so that the moment is written once.
+#[inline(always)]
 fn note(moments: &mut Vec<Moment>, id: usize, at: &Moment) -> Result<(), NoMemory>
     ensures noted { OnOk result (IsNoted moments.old.items id at.now moments.new.items) }
     ensures err { OnErr result (moments.new.items ≡ moments.old.items) }

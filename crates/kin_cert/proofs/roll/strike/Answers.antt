@@ -8,7 +8,7 @@ pub returns-in-Some-clause-some : goal.returns-in-Some-clause-some
 returns-in-Some-clause-some c =
     inl (
       c.in-Some.ensures.some,
-      λ q. c.strike.ensures q ∙ ap (λ (p : List ℕ). cond (is_place p q) None (look_up is_place c.args.firsts.now q)) c.place.ensures,
+      λ q. c.strike.ensures q ∙ ap (λ (p : List ℕ). cond (is_place p q) None (look_up is_place c.args.firsts.now q)) c.place-in-Some.ensures,
       λ q. refl,
     )
 

@@ -10,7 +10,6 @@ use Rattle.kin_cert.specs.Applied.{IsLiveIn, MayApply, HasApplied}
 use Rattle.kin_cert.specs.Facts.{Facts}
 use Rattle.kin_cert.proofs.Alone.{dropped-may, dropped-did, dropped-paid, born-may, born-did, born-paid}
 use Rattle.kin_cert.proofs.Replacing.{rest-may, rest-did}
-use Rattle.kin_cert.proofs.Tables.{none-of}
 use Rattle.kin_cert.specs.Cost.{change_cost}
 use Rattle.kin_cert.specs.Layout.{change_of, IsPaid}
 use Rattle.kin_cert.proofs.Paying.{rest-paid}
@@ -75,8 +74,8 @@ drop_one-requires g c =
           ((subst (λ (xs : List Placed). All (IsLiveIn c.loop-dropped.self.live s) xs) d_is c.loop-dropped.invariant.may.dropped_live) 0 c.in-Some.dropped.now (omega arith));
     }
 
-pub loop-dropped-preserved-then-rest : goal.loop-dropped-preserved-then-rest
-loop-dropped-preserved-then-rest g c =
+pub loop-dropped-preserved : goal.loop-dropped-preserved
+loop-dropped-preserved g c =
     let s = c.args.structure in
     let scene = scene_at c.args.motions.now in
     let now = c.args.now.now in
@@ -118,7 +117,7 @@ loop-dropped-preserved-then-rest g c =
     }
 
 pub bear_one-requires-clause-free : goal.bear_one-requires-clause-free
-bear_one-requires-clause-free g c = c.sign_of.ensures.none.0 (none-of c.sign_of.result c.if-is_none.ensures)
+bear_one-requires-clause-free g c = c.is_free.ensures c.if-is_free.true
 
 pub bear_one-requires-clause-askable : goal.bear_one-requires-clause-askable
 bear_one-requires-clause-askable g c =
@@ -130,8 +129,8 @@ bear_one-requires-clause-holds g c =
     let b_is = c.in-Some-split_first.ensures.cases.0 in
     All-head (λ (p : Placed). Holds (scene_at c.args.motions.now c.args.now.now) p.fact) _ _ (subst (λ (xs : List Placed). All (λ (p : Placed). Holds (scene_at c.args.motions.now c.args.now.now) p.fact) xs) b_is c.loop-dropped.invariant.holds)
 
-pub loop-dropped-preserved : goal.loop-dropped-preserved
-loop-dropped-preserved g c =
+pub loop-dropped-preserved-then-is_free : goal.loop-dropped-preserved-then-is_free
+loop-dropped-preserved-then-is_free g c =
     let s = c.args.structure in
     let scene = scene_at c.args.motions.now in
     let now = c.args.now.now in
@@ -146,7 +145,7 @@ loop-dropped-preserved g c =
     let idle : c.replace.new.steps ≡ c.loop-dropped.steps = c.in_ok-replace.ensures.idle (is_not _ c.if-branch.false) in
     let may : MayApply s (record { dropped = ds; born = b ∷ bs }) mid =
     subst (λ (t : Facts). MayApply s (record { dropped = ds; born = b ∷ bs }) t.live) (sym same) (subst (λ (ys : List Placed). MayApply s (record { dropped = ds; born = ys }) c.loop-dropped.self.live) b_is inv.may) in
-    let free = c.sign_of.ensures.none.0 (none-of c.sign_of.result c.if-is_none.ensures) in
+    let free = c.is_free.ensures c.if-is_free.true in
     let did = c.in_ok-bear_one.ensures.gained in
     let count = c.in_ok-bear_one.ensures.count in
     let same_count : length mid ≡ length c.loop-dropped.self.live = ap (λ (t : Facts). length t.live) same in
