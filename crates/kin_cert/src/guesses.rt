@@ -34,12 +34,21 @@ impl Guesses {
     }
 
     /// The id of a place, if it has one. Where it stands is guessed the next time.
+    #[inline(always)]
     pub(crate) fn id_of(&mut self, firsts: &IndexMap<Place, usize>, place: &Place) -> Option<usize>
         ensures { result ≡ look_up is_place firsts.now place.now }
     {
-        if let Some(seen) = self.guessed(firsts, place) {
-            return Some(seen.id);
+        match self.guessed(firsts, place) {
+            Some(seen) => Some(seen.id),
+            None => self.learn(firsts, place),
         }
+    }
+
+    // The same by hash, out of the way of right guesses.
+    #[inline(never)]
+    fn learn(&mut self, firsts: &IndexMap<Place, usize>, place: &Place) -> Option<usize>
+        ensures { result ≡ look_up is_place firsts.now place.now }
+    {
         let (position, _, id) = firsts.get_full(place)?;
         self.note(slot_of(place), position);
         Some(*id)
