@@ -38,7 +38,7 @@ use Rattle.kin_run.specs.Demo.{IsDemoText, OneDemoText, WritesDemo, start_of, de
 use Rattle.kin_run.specs.Headline.{status_of_stop}
 use Rattle.kin_run.specs.Performed.{IsFrontOfEach, IsCutOfText}
 use Rattle.kin_run.specs.Passed.{PassesInTurn}
-use Rattle.kin_run.specs.Tallies.{HasTallied, tally_line}
+use Rattle.kin_run.specs.Tallies.{HasCounted, tally_line}
 use Rattle.kin_run.specs.Written.{IsFront}
 use Rattle.kin_run.proofs.Fronts.{front_through}
 use Rattle.kin_run.proofs.InTurn.{one_in_turn}
@@ -213,7 +213,7 @@ broken_demo seed count NoMemory front cut = cut
 -- ---- the whole of it
 -- the text of the script, and then the counts of what it passed
 pub whole_text : (seed count : ℕ) (s : Script) (body : List ℕ) (t : Tally) → IsGenerated seed count s → Text (start_of s) s.lines body None
-    → HasTallied (PassesInTurn (start_of s) s.lines) (record { moments = 0; failures = 0 }) t → IsDemoText seed count (body ++ tally_line t)
+    → HasCounted (PassesInTurn (start_of s) s.lines) (record { moments = 0; failures = 0 }) t → IsDemoText seed count (body ++ tally_line t)
 whole_text seed count s body t is replays x = record {
   script = s;
   generated = is;

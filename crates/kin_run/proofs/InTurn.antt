@@ -1,5 +1,5 @@
 -- The blocks that commands pass in turn: those so far, and those of what is left.
-use Rattle.std.proofs.Common.{◌≡◌, ℕ, List, [], ◌∷◌, ◌++◌, refl, sym, ap, ◌∙◌, subst, append_assoc, inl, inr}
+use Rattle.std.proofs.Common.{◌≡◌, ℕ, Option, List, [], ◌∷◌, ◌++◌, refl, sym, ap, ◌∙◌, subst, append_assoc, inl, inr}
 use Rattle.std.proofs.lemmas.List.{append-nil}
 use Rattle.kin_num.specs.declared.instant.Shape.{Shape}
 use Rattle.kin_num.specs.Canonical.{IsCanonical}
@@ -22,11 +22,11 @@ use Rattle.kin_run.proofs.Tallying.{none_tallied, tallied_then, tallied_is}
 pub record ArePassedSoFar (s : State) (all : List Line) (t : State) (left : List Line) (so_far : List Block) : Type 0 where
   pub forth : (rest : List Block) → PassesInTurn t left rest → PassesInTurn s all (so_far ++ rest)
 
-pub begins_counting : (s : State) (cs : List Line) (t : Tally) → HasTallied (ArePassedSoFar s cs s cs) t t
+pub begins_counting : (s : State) (cs : List Line) (t : Option Tally) → HasTallied (ArePassedSoFar s cs s cs) t t
 begins_counting s cs t = none_tallied (ArePassedSoFar s cs s cs) t (record { forth = λ rest is. is })
 
-module _ {s : State} {all : List Line} {t : State} {old now : Tally} where
-  pub counts_command : (c : Line) (left : List Line) (u : State) (new : Tally) → IsAllowed t (deed_of c.1) → LeadsTo t (deed_of c.1) u
+module _ {s : State} {all : List Line} {t : State} {old now : Option Tally} where
+  pub counts_command : (c : Line) (left : List Line) (u : State) (new : Option Tally) → IsAllowed t (deed_of c.1) → LeadsTo t (deed_of c.1) u
       → HasTallied (ArePassedSoFar s all t (c ∷ left)) old now → HasTallied (Passes t (deed_of c.1)) now new → HasTallied (ArePassedSoFar s all u left) old new
   counts_command c left u new allowed leads x y = tallied_then x y
       (λ bs more is passed. record {

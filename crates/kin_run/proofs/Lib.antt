@@ -17,6 +17,7 @@ pub mod StepExistence
 pub mod TextExistence
 pub mod Tallying
 pub mod Counting
+pub mod Arriving
 pub mod InTurn
 pub mod Generated
 pub mod DemoExistence

@@ -3,6 +3,7 @@ pub mod States
 pub mod Performed
 pub mod Passed
 pub mod Tallies
+pub mod Arrived
 pub mod Headline
 pub mod Demo
 pub mod Words

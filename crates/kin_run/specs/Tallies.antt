@@ -1,5 +1,5 @@
 -- How passed blocks are counted.
-use Rattle.std.specs.Prelude.{◌≡◌, ℕ, ◌+◌, ◌-◌, ◌^◌, min, List, ◌++◌, fold, length, codes}
+use Rattle.std.specs.Prelude.{◌≡◌, ℕ, ◌+◌, ◌-◌, ◌^◌, min, List, ◌++◌, fold, length, codes, Option, Some, None}
 use Rattle.std.specs.Fmt.{decimal}
 use Rattle.kin_motion.specs.Journal.{Block}
 use Rattle.kin_run.specs.declared.tally.Tally.{Tally}
@@ -12,11 +12,21 @@ one_more failures t = record { moments = min (t.moments + 1) (2 ^ 64 - 1); failu
 abbrev pub tallied : Tally → List Block → Tally
 tallied t bs = fold (λ u b. one_more (length b.failures) u) t bs
 
+-- one more block, if anybody asks for the counts
+abbrev pub counted_on : ℕ → Option Tally → Option Tally
+counted_on failures None = None
+counted_on failures (Some t) = Some (one_more failures t)
+
 -- such blocks were passed and counted
-pub record HasTallied (IsPassed : List Block → Type 0) (old new : Tally) : Type 0 where
+pub record HasCounted (IsPassed : List Block → Type 0) (old new : Tally) : Type 0 where
   pub blocks : List Block
   pub passed : IsPassed blocks
   pub counted : new ≡ tallied old blocks
+
+-- such blocks were passed and counted, if anybody asks for the counts
+pub record HasTallied (IsPassed : List Block → Type 0) (old new : Option Tally) : Type 0 where
+  pub unasked : old ≡ None → new ≡ None
+  pub asked : (t : Tally) → old ≡ Some t → (u : Tally) × (new ≡ Some u) × HasCounted IsPassed t u
 
 -- both counts, as a line
 abbrev pub tally_line : Tally → List ℕ

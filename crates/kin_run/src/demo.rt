@@ -52,12 +52,15 @@ fn run_generated<K: Sink, L: Ledger>(
     let Ok(script) = generate(alloc, seed, count) else {
         return Status::NoMemory;
     };
-    let mut tally = Tally::new();
+    let mut tally = Some(Tally::new());
     match play_script::<K, L>(alloc, &script, sink, blank, &mut tally) {
-        Ok(None) => match write_tally(alloc, &tally, sink) {
-            Ok(()) => Status::Done,
-            Err(stop) => status_of(stop),
-        },
+        Ok(None) => {
+            let Some(counts) = tally else { unreachable!() };
+            match write_tally(alloc, &counts, sink) {
+                Ok(()) => Status::Done,
+                Err(stop) => status_of(stop),
+            }
+        }
         Ok(Some(_)) => unreachable!(),
         Err(stop) => status_of(stop),
     }

@@ -12,7 +12,7 @@ ghost use Rattle.kin_run.specs.States.{state_of, printed_if};
 ghost use Rattle.kin_run.specs.Tallies.{HasTallied};
 
 use crate::pass::{count_of, put_if_on};
-use crate::tally::Tally;
+use crate::tally::{Tally, count_on};
 use kin_cert::Block;
 use kin_num::{Moment, NoMemory, Steps};
 use kin_print::{put_bytes, put_moment};
@@ -45,7 +45,7 @@ pub fn put_next<L: Ledger>(
     journal: bool,
     out: &mut Vec<u8>,
     steps: &mut Steps<L>,
-    tally: &mut Tally,
+    tally: &mut Option<Tally>,
 ) -> Result<(), NoMemory>
     requires whole { IsWhole world.old }
     ensures line { PutsLine (IsNextText (state_of journal world.old)) result out.old.items out.new.items }
@@ -58,7 +58,7 @@ pub fn put_next<L: Ledger>(
     };
     match world.step(&moment, steps)? {
         Some(block) => {
-            tally.count(count_of(&block));
+            count_on(tally, count_of(&block));
             put_passed(out, journal, &block)
         }
         None => unreachable!(),

@@ -11,12 +11,13 @@ ghost use Rattle.kin_script.specs.States.{at, state_setting};
 ghost use Rattle.kin_script.specs.Text.{IsPassedText};
 ghost use Rattle.kin_world.specs.Worlds.{IsWhole};
 ghost use Rattle.kin_run.specs.declared.write.Stop.TheVariants.{Fault as FaultOf};
+ghost use Rattle.kin_run.specs.Arrived.{HasArrived};
 ghost use Rattle.kin_run.specs.Performed.{Puts};
 ghost use Rattle.kin_run.specs.States.{state_of, printed_if};
 ghost use Rattle.kin_run.specs.Tallies.{HasTallied};
 ghost use Rattle.kin_run.specs.Written.{printer};
 
-use crate::tally::Tally;
+use crate::tally::{Tally, count_on};
 use crate::write::{Stop, flush_if_due};
 use kin_cert::Block;
 use kin_io::sink::Sink;
@@ -54,8 +55,23 @@ pub fn put_if_on(out: &mut Vec<u8>, journal: bool, block: &Block) -> Result<(), 
     Ok(())
 }
 
+/// Leaves all failures up to the limit behind, of which nobody learns.
+fn leap_to<L: Ledger>(
+    world: &mut World,
+    limit: &Moment,
+    steps: &mut Steps<L>,
+) -> Result<(), NoMemory>
+    requires whole { IsWhole world.old }
+    requires later { ¬ (IsEarlier limit.now world.old.moment) }
+    ensures arrived { OnOk result (HasArrived limit.now world.old world.new) }
+{
+    while world.leap(limit, steps)? {}
+    Ok(())
+}
+
 /// Passes all failures up to the asked instant, which isn't before now. Where the journal is on,
-/// the sink is given each block before the next is computed; else no block is listed. Each is counted.
+/// the sink is given each block before the next is computed; else no block is listed. Each is
+/// counted, if anybody asks for the counts.
 pub fn pass<K: Sink, L: Ledger>(
     world: &mut World,
     journal: bool,
@@ -63,7 +79,7 @@ pub fn pass<K: Sink, L: Ledger>(
     out: &mut Vec<u8>,
     sink: &mut K,
     steps: &mut Steps<L>,
-    tally: &mut Tally,
+    tally: &mut Option<Tally>,
 ) -> Result<(), Stop>
     requires whole { IsWhole world.old }
     requires canonical { IsCanonical asked }
@@ -79,14 +95,18 @@ pub fn pass<K: Sink, L: Ledger>(
         at: asked,
         phase: Phase::At,
     };
+    if !journal && tally.is_none() {
+        leap_to(world, &limit, steps)?;
+        return Ok(());
+    }
     if !journal {
         while let Some(failures) = world.pass(&limit, steps)? {
-            tally.count(failures);
+            count_on(tally, failures);
         }
         return Ok(());
     }
     while let Some(block) = world.step(&limit, steps)? {
-        tally.count(count_of(&block));
+        count_on(tally, count_of(&block));
         put_if_on(out, journal, &block)?;
         flush_if_due(journal, out, sink)?;
     }

@@ -64,7 +64,7 @@ fn move_to<K: Sink, L: Ledger>(
     out: &mut Vec<u8>,
     sink: &mut K,
     steps: &mut Steps<L>,
-    tally: &mut Tally,
+    tally: &mut Option<Tally>,
 ) -> Result<(), Halt>
     requires whole { IsWhole world.old }
     requires canonical { IsCanonical asked }
@@ -91,7 +91,7 @@ pub fn perform<K: Sink, L: Ledger>(
     out: &mut Vec<u8>,
     sink: &mut K,
     steps: &mut Steps<L>,
-    tally: &mut Tally,
+    tally: &mut Option<Tally>,
 ) -> Result<(), Halt>
     requires whole { IsWhole world.old }
     requires range { IsCommandInRange world.old.size command.now }

@@ -53,7 +53,7 @@ fn perform_each<K: Sink, L: Ledger>(
     out: &mut Vec<u8>,
     sink: &mut K,
     steps: &mut Steps<L>,
-    tally: &mut Tally,
+    tally: &mut Option<Tally>,
 ) -> Result<Option<(u32, Refusal)>, Stop>
     requires whole { IsWhole world.old }
     requires ranges { All (λ line. IsCommandInRange world.old.size line.1) lines.now }
@@ -84,7 +84,7 @@ pub fn play<K: Sink, L: Ledger>(
     lines: &[(u32, Command)],
     sink: &mut K,
     steps: &mut Steps<L>,
-    tally: &mut Tally,
+    tally: &mut Option<Tally>,
 ) -> Result<Option<(u32, Refusal)>, Stop>
     requires whole { IsWhole world.old }
     requires ranges { All (λ line. IsCommandInRange world.old.size line.1) lines.now }
@@ -114,7 +114,7 @@ pub fn play_script<K: Sink, L: Ledger>(
     script: &Script,
     sink: &mut K,
     blank: Blank,
-    tally: &mut Tally,
+    tally: &mut Option<Tally>,
 ) -> Result<Option<(u32, Refusal)>, Stop>
     requires name { blank.name ≡ L.name }
     requires parts { blank.parts ≡ L.parts }

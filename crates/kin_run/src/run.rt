@@ -13,7 +13,6 @@ ghost use Rattle.kin_run.specs.Written.{Wrote};
 use crate::demo::run_demo;
 use crate::play::play_script;
 use crate::status::{Side, Status, status_of};
-use crate::tally::Tally;
 use crate::text::bad_text;
 use crate::words::{Asked, parse};
 use crate::write::flush;
@@ -45,7 +44,7 @@ fn run_script<K: Sink, L: Ledger>(
     ensures later { K.faults sink.old ≤ K.faults sink.new }
     ensures cause { result ≡ Status.Fault Side.Write → Rose (K.faults sink.old) (K.faults sink.new) }
 {
-    match play_script::<K, L>(alloc, script, sink, blank, &mut Tally::new()) {
+    match play_script::<K, L>(alloc, script, sink, blank, &mut None) {
         Ok(None) => Status::Done,
         Ok(Some((line, refusal))) => Status::Command(line, refusal),
         Err(stop) => status_of(stop),

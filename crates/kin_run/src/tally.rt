@@ -1,7 +1,7 @@
 //! How much a run has passed.
 
 ghost use Rattle.std.specs.Prelude.{◌≡◌};
-ghost use Rattle.kin_run.specs.Tallies.{one_more};
+ghost use Rattle.kin_run.specs.Tallies.{one_more, counted_on};
 
 /// How many blocks were passed, and how many failures they held. Both counts stop at 2^64 - 1.
 #[derive(Clone, Copy)]
@@ -27,5 +27,14 @@ impl Tally {
     {
         self.moments = self.moments.saturating_add(1);
         self.failures = self.failures.saturating_add(failures as u64);
+    }
+}
+
+/// Counts one more block, with so many failures, if anybody asks for the counts.
+pub fn count_on(tally: &mut Option<Tally>, failures: usize)
+    ensures { tally.new ≡ counted_on failures tally.old }
+{
+    if let Some(counts) = tally {
+        counts.count(failures);
     }
 }

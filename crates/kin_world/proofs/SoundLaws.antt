@@ -32,8 +32,8 @@ use Rattle.kin_world.specs.declared.structure.Structure.{Structure}
 use Rattle.kin_world.specs.declared.world.World.TheInside.{Inside}
 use Rattle.kin_world.specs.Kinds.{placed_facts}
 use Rattle.kin_world.specs.Structures.{IsSettledFor}
-use Rattle.kin_world.specs.Upkeep.{Stage, IsSound, HasSameFrame, HasSettled, meaning, setting, sight, stage_of}
-use Rattle.kin_world.specs.Worlds.{World, IsWhole, IsNextMoment, HasInserted, HasRemoved, HasMoved, HasPassed, FailsWithin, with_facts_of}
+use Rattle.kin_world.specs.Upkeep.{Stage, IsSound, HasSameFrame, HasSettled, HasLanded, meaning, setting, sight, stage_of}
+use Rattle.kin_world.specs.Worlds.{World, IsWhole, IsNextMoment, HasInserted, HasRemoved, HasMoved, HasPassed, HasLeftBehind, FailsWithin, with_facts_of}
 use Rattle.kin_world.proofs.InOrder.{facts_hold, owner, standing, timed, timely_from_timed}
 use Rattle.kin_world.proofs.StructureLaws.{settled_askable, settled_facts, settled_later}
 
@@ -55,11 +55,7 @@ certificates_distinct (l ∷ ls) once =
         let o = contains_mapped (λ (k : LiveFact). k.certificate) ls l.certificate h in
         once 0 (suc o.1.0) o.0 (omega arith) (omega (arith, o.1.1)) (subst (λ (k : LiveFact). AreAlike l k) (sym o.1.2) (alike o.0 o.2))
 
--- what a table answers about its least failure, against a limit
-pub none_until : (live : List LiveFact) (limit : Moment) (due : Option Moment) → IfSome due (IsLeastFailure live) → (due ≡ None) ↔ NoneFails live → IfSome due (IsEarlier limit) → NoneFailsUntil live limit
-none_until live limit None least none later = inl (none.0 refl)
-none_until live limit (Some m) least none later = inr (m, least, later)
-
+-- what a table answers about its least failure
 pub least_of : (live : List LiveFact) (due : Option Moment) (m : Moment) → IfSome due (IsLeastFailure live) → due ≡ Some m → IsLeastFailure live m
 least_of live due m least e = subst (λ (d : Option Moment). IfSome d (IsLeastFailure live)) e least
 
@@ -214,6 +210,10 @@ module _ {s : Stage} (sound : IsSound s) where
       none_waits = sound.none_waits;
     }
 
+-- fewer moments are left where it has landed
+pub landed_fewer : {s t : Stage} → IsSound s → (limit : Moment) → HasLanded limit s t → moments_left t.moment < moments_left s.moment
+landed_fewer {s} {t} sound limit landed = moments_run_out s.moment t.moment sound.in_order.canonical landed.settled.sound.in_order.canonical landed.later
+
 -- a sound world is whole, so it has moved to the limit
 pub has_moved : {s : Stage} (sound : IsSound s) (limit : Moment) → IsCanonical limit.at → ¬ (IsEarlier limit s.moment) → NoneFailsUntil s.table.live limit → HasMoved limit (meaning s true) (meaning (record s { moment = limit }) true)
 has_moved {s} sound limit canonical from none = record {
@@ -256,6 +256,19 @@ module _ (s : Stage) {t : Stage} (did : HasSettled s.table t) (frame : HasSameFr
       whole = whole did.sound;
       made = record { born = did.made.born; exactly = did.made.exactly; count = did.made.count };
     }
+
+-- a world that has landed at a moment has left some failures behind
+module _ (s : Stage) (limit : Moment) {t : Stage} (landed : HasLanded limit s t) where
+  pub has_left_behind : HasSameFrame (record s { moment = t.moment }) t → HasLeftBehind limit (meaning s true) (meaning t true)
+  has_left_behind frame =
+      let did = landed.settled in
+      record {
+        later = landed.later;
+        within = landed.within;
+        state = same_but_facts (record s { moment = t.moment }) did frame;
+        whole = whole did.sound;
+        made = record { born = did.made.born; exactly = did.made.exactly; count = did.made.count };
+      }
 
 -- what is inside a world that is seen as whole is sound
 module _ (w : Inside) (v : World) (is : meaning (stage_of w.upkeep) w.whole ≡ v) (sound : IsTrue w.whole → IsSound (stage_of w.upkeep)) (there : IsTrue v.whole) where

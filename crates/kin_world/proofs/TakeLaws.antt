@@ -1,9 +1,11 @@
 -- What fails at the least failure moment is taken out, and all else is seen from there.
-use Rattle.std.proofs.Common.{◌≡◌, ◌⊎◌, inl, inr, refl, sym, ap, ◌∙◌, subst, arith, ℕ, false, ◌<◌, ◌≤◌, ◌+◌, ◌-◌, ◌^◌, List, length, get_or, map, Option, Some}
+use Rattle.std.proofs.Common.{◌≡◌, ◌≢◌, inl, inr, refl, sym, ap, ◌∙◌, subst, arith, ℕ, false, ◌<◌, ◌≤◌, ◌+◌, ◌-◌, ◌^◌, List, length, get_or, map, Option, Some}
 use Rattle.std.specs.Prelude.{Contains, ◌↔◌, IsTrue, min, true}
 use Rattle.std.specs.List.{All}
 use Rattle.std.proofs.lemmas.List.Elements.{Contains-get_or}
+use Rattle.std.proofs.lemmas.List.Sorted.{Contains-permutation, IsPermutation-sym}
 use Rattle.kin_num.specs.declared.instant.Moment.{Moment}
+use Rattle.kin_num.specs.Canonical.{IsCanonical}
 use Rattle.kin_num.specs.Order.{IsEarlier}
 use Rattle.kin_num.proofs.MomentLaws.{total}
 use Rattle.kin_motion.specs.declared.fact.Placed.{Placed}
@@ -21,7 +23,7 @@ use Rattle.kin_motion.proofs.SetLaws.{contains_map, contains_mapped, exactly_in_
 use Rattle.kin_cert.specs.declared.owned.Owned.{Owned}
 use Rattle.kin_cert.specs.Facts.{LiveFact, Facts, NoneAlike, certificate_of}
 use Rattle.kin_cert.specs.Failures.{IsFirstFailure}
-use Rattle.kin_cert.specs.Taken.{IsLeastFailure, IsMarked, HasTaken, is_taken_before, certificate_rank}
+use Rattle.kin_cert.specs.Taken.{IsLeastFailure, IsMarked, HasTaken, HasGivenOut, is_taken_before, certificate_rank}
 use Rattle.kin_cert.specs.Told.{HasFactsOf, IsTimed, certificates_of}
 use Rattle.kin_cert.proofs.NextLaws.{fails_now, later_start, next_block}
 use Rattle.kin_world.specs.Kinds.{placed_facts}
@@ -37,6 +39,13 @@ listed_through o p q = less_rank_through (certificate_rank (certificate_of o)) (
 never_itself : (o : Owned) → is_taken_before o o ≡ true → ⊥
 never_itself o = never_less_rank (certificate_rank (certificate_of o))
 
+-- what was given out are those that were taken out, in another order
+pub given_same : {old new : List LiveFact} {given : List Owned} (out : HasGivenOut old new given) (o : Owned) → Contains given o ↔ Contains out.taken o
+given_same {old} {new} {given} out o = (
+  λ h. Contains-permutation given out.taken o out.reordered h,
+  λ h. Contains-permutation out.taken given o (IsPermutation-sym given out.taken out.reordered) h,
+)
+
 module _ {s : Stage} (sound : IsSound s) (table : Facts) {taken : List Owned} (has : HasTaken s.table.live table.live taken) where
   first : FailsFirst (scene_at s.motions) s.moment has.moment has.least.some.0.certificate.placed.fact
   first = least_fails sound has.moment has.least
@@ -47,30 +56,28 @@ module _ {s : Stage} (sound : IsSound s) (table : Facts) {taken : List Owned} (h
     λ k. let l = has.only k.0 k.1 in (tabled p).1 (l.0, l.1, sym l.2.certificate ∙ k.2),
   )
 
-  timed_after : (l : LiveFact) → Contains table.live l → l.waits ≡ false → IsTimed (scene_at s.motions) has.moment l
-  timed_after l there not = record {
-    waits_not = not;
-    fails = subst (λ (c : Certificate). IsFirstFailure (scene_at s.motions) has.moment c.placed.fact l.fails) (sym was.2.certificate)
-        (subst (λ (o : Option Moment). IsFirstFailure (scene_at s.motions) has.moment was.0.certificate.placed.fact o) (sym was.2.fails)
-        (later_start (scene_at s.motions) s.moment sound.in_order.canonical was.0 (timed sound.in_order sound.none_waits was.0 was.1) has.moment first.canonical first.later_is_later later));
+  -- Seen from such a moment: what was taken out doesn't hold, and all else has yet to fail.
+  pub record IsReached (m : Moment) : Type 0 where
+    pub canonical : IsCanonical m.at
+    pub later : IsEarlier s.moment m
+    pub ahead : (l : LiveFact) → Contains s.table.live l → (n : Moment) → l.fails ≡ Some n → n ≢ has.moment → IsEarlier m n
+    pub failed : (l : LiveFact) → Contains s.table.live l → l.fails ≡ Some has.moment → ¬ (HoldsAt (scene_at s.motions) m l.certificate.placed.fact)
+
+  -- so it is seen from the moment itself
+  pub at_once : IsReached has.moment
+  at_once = record {
+    canonical = first.canonical;
+    later = first.later_is_later;
+    ahead = λ l there n e other.
+        elim (total has.moment n first.canonical (failure_at sound l there n e).canonical) [
+          | inl more ↦ more
+          | inr rest ↦ elim rest [
+            | inl less ↦ absurd (has.least.least l n there e less)
+            | inr same ↦ absurd (other (sym same))
+          ]
+        ];
+    failed = λ l there e. fails_now (scene_at s.motions) s.moment sound.in_order.canonical l (timed sound.in_order sound.none_waits l there) has.moment e;
   }
-    where
-      was : (k : LiveFact) × Contains s.table.live k × IsMarked has.moment k l
-      was = has.only l there
-
-      later : (n : Moment) → was.0.fails ≡ Some n → IsEarlier has.moment n
-      later n e = at (total has.moment n first.canonical (failure_at sound was.0 was.1 n e).canonical)
-        where
-          at : IsEarlier has.moment n ⊎ (IsEarlier n has.moment ⊎ (has.moment ≡ n)) → IsEarlier has.moment n
-          at (inl more) = more
-          at (inr (inl less)) = absurd (has.least.least was.0 n was.1 e less)
-          at (inr (inr same)) = let w : l.waits ≡ true = was.2.waits.1 (e ∙ ap (λ (x : Moment). Some x) (sym same)) in absurd cc
-
-  failed_after : (l : LiveFact) → Contains table.live l → IsTrue l.waits → ¬ (HoldsAt (scene_at s.motions) has.moment l.certificate.placed.fact)
-  failed_after l there waits =
-      let was = has.only l there in
-      subst (λ (c : Certificate). ¬ (HoldsAt (scene_at s.motions) has.moment c.placed.fact)) (sym was.2.certificate)
-      (fails_now (scene_at s.motions) s.moment sound.in_order.canonical was.0 (timed sound.in_order sound.none_waits was.0 was.1) has.moment (was.2.waits.0 waits))
 
   -- the facts that were taken out wait for the repair of their structures, in whatever order they stand
   pub given_waiting : (given : List Owned) → AreDistinct given → ((o : Owned) → Contains given o ↔ Contains taken o) → AreWaiting 0 table.live given
@@ -89,32 +96,56 @@ module _ {s : Stage} (sound : IsSound s) (table : Facts) {taken : List Owned} (h
   pub taken_waiting : AreWaiting 0 table.live taken
   taken_waiting = given_waiting taken (chain_distinct is_taken_before listed_through never_itself taken has.in_order) (λ o. ((λ h. h), λ h. h))
 
-  -- a fact that was taken out may be asked for
-  pub taken_askable : All (λ (o : Owned). IsAskable (live_of s.motions) o.fact.form) taken
-  taken_askable i o low =
-      let l = (has.each (get_or taken i o)).0 (Contains-get_or taken i o low) in
+  -- facts that were taken out may be asked for, in whatever order they stand
+  pub given_askable : (given : List Owned) → ((o : Owned) → Contains given o ↔ Contains taken o) → All (λ (o : Owned). IsAskable (live_of s.motions) o.fact.form) given
+  given_askable given same i o low =
+      let l = (has.each (get_or given i o)).0 ((same (get_or given i o)).0 (Contains-get_or given i o low)) in
       subst (λ (c : Certificate). IsAskable (live_of s.motions) c.placed.fact.form) l.3 (live_askable sound l.0 l.1)
 
-  module _ (m : Moment) (least : IsLeastFailure s.table.live m) where
-    at_moment : has.moment ≡ m
-    at_moment = one_least sound has.moment m has.least least
+  pub taken_askable : All (λ (o : Owned). IsAskable (live_of s.motions) o.fact.form) taken
+  taken_askable = given_askable taken (λ o. ((λ h. h), λ h. h))
 
-    pub taken_under_repair : NoneAlike table.live → table.made ≡ s.table.made → IsUnderRepair (record s { moment = m; table = table })
-    taken_under_repair once made = subst (λ (n : Moment). IsUnderRepair (record s { moment = n; table = table })) at_moment (record {
+  module _ (m : Moment) (reached : IsReached m) where
+    timed_after : (l : LiveFact) → Contains table.live l → l.waits ≡ false → IsTimed (scene_at s.motions) m l
+    timed_after l there not =
+        let was = has.only l there in
+        let ahead : (n : Moment) → was.0.fails ≡ Some n → IsEarlier m n = λ n e. reached.ahead was.0 was.1 n e
+        (λ same. let w : l.waits ≡ true = was.2.waits.1 (e ∙ ap (λ (x : Moment). Some x) same) in absurd cc) in
+        record {
+          waits_not = not;
+          fails = subst (λ (c : Certificate). IsFirstFailure (scene_at s.motions) m c.placed.fact l.fails) (sym was.2.certificate)
+              (subst (λ (o : Option Moment). IsFirstFailure (scene_at s.motions) m was.0.certificate.placed.fact o) (sym was.2.fails)
+              (later_start (scene_at s.motions) s.moment sound.in_order.canonical was.0 (timed sound.in_order sound.none_waits was.0 was.1) m reached.canonical reached.later ahead));
+        }
+
+    failed_after : (l : LiveFact) → Contains table.live l → IsTrue l.waits → ¬ (HoldsAt (scene_at s.motions) m l.certificate.placed.fact)
+    failed_after l there waits =
+        let was = has.only l there in
+        subst (λ (c : Certificate). ¬ (HoldsAt (scene_at s.motions) m c.placed.fact)) (sym was.2.certificate) (reached.failed was.0 was.1 (was.2.waits.0 waits))
+
+    pub reached_under_repair : NoneAlike table.live → table.made ≡ s.table.made → IsUnderRepair (record s { moment = m; table = table })
+    reached_under_repair once made = record {
       fit = sound.in_order.fit;
-      canonical = first.canonical;
+      canonical = reached.canonical;
       counted = subst (λ n. n ≤ 2 ^ 64 - 1) (sym made) sound.in_order.counted;
       count = sound.in_order.count;
       each = λ j keep st kept there.
           let was = sound.in_order.each j keep st kept there in
           record {
-            fine = settled_where_hold s.size keep (sight s) (scene_at s.motions has.moment) st (real sound) (real_at s.motions has.moment first.canonical) was.fine refl;
+            fine = settled_where_hold s.size keep (sight s) (scene_at s.motions m) st (real sound) (real_at s.motions m reached.canonical) was.fine refl;
             tabled = facts_after j (placed_facts st) was.tabled;
           };
       once = once;
       owned = λ l there. let was = has.only l there in subst (λ (c : Certificate). c.structure < length s.structures) (sym was.2.certificate) (sound.in_order.owned was.0 was.1);
       timely = λ l there. record { timed = timed_after l there; failed = failed_after l there };
-    })
+    }
+
+  module _ (m : Moment) (least : IsLeastFailure s.table.live m) where
+    pub at_moment : has.moment ≡ m
+    at_moment = one_least sound has.moment m has.least least
+
+    pub taken_under_repair : NoneAlike table.live → table.made ≡ s.table.made → IsUnderRepair (record s { moment = m; table = table })
+    taken_under_repair once made = subst (λ (n : Moment). IsUnderRepair (record s { moment = n; table = table })) at_moment (reached_under_repair has.moment at_once once made)
 
     -- they are the next block
     pub taken_block : (b : Block) → b ≡ record { moment = m; failures = map (λ o. seen_in (scene_at s.motions m) (certificate_of o)) taken } → IsNextBlock (setting s) s.moment b

@@ -1,7 +1,10 @@
 -- All that a world is made of, in one piece: what is true of it between two calls, and while it is repaired. No public clause of the world cites this module.
-use Rattle.std.specs.Prelude.{◌≡◌, ◌≢◌, ℕ, ◌+◌, ◌<◌, ◌≤◌, ◌^◌, ◌-◌, min, false, Bool, List, map, length, slice_get, slice_set, Option, Some, None, MatchOption, filter, nat_eq, Contains, ◌↔◌, IsTrue}
+use Rattle.std.specs.Prelude.{◌≡◌, ◌≢◌, ℕ, ◌+◌, ◌<◌, ◌≤◌, ◌^◌, ◌-◌, ◌⊎◌, min, false, Bool, List, map, length, slice_get, slice_set, Option, Some, None, MatchOption, filter, nat_eq, Contains, ◌↔◌, IsTrue}
+use Rattle.std.specs.List.{All}
 use Rattle.kin_num.specs.declared.instant.Moment.{Moment}
+use Rattle.kin_num.specs.declared.instant.Phase.TheVariants.{At, After}
 use Rattle.kin_num.specs.Canonical.{IsCanonical}
+use Rattle.kin_num.specs.Order.{IsEarlier}
 use Rattle.kin_motion.specs.declared.fact.Placed.{Placed}
 use Rattle.kin_motion.specs.declared.keep.Keep.{Keep}
 use Rattle.kin_motion.specs.Course.{Course, AreSlow, is_live}
@@ -14,7 +17,7 @@ use Rattle.kin_motion.specs.Scene.{Scene, scene_at}
 use Rattle.kin_motion.specs.Sets.{AreDistinct, ListsExactly}
 use Rattle.kin_cert.specs.declared.owned.Owned.{Owned}
 use Rattle.kin_cert.specs.Facts.{LiveFact, Facts, NoneAlike, certificate_of}
-use Rattle.kin_cert.specs.Taken.{NoneWaits}
+use Rattle.kin_cert.specs.Taken.{NoneWaits, NoneFails, IsLeastFailure}
 use Rattle.kin_cert.specs.Told.{HasFactsOf, IsTimed, IsTold, AreNew, certificates_of, nothing}
 use Rattle.kin_world.specs.declared.structure.Mark.{Mark}
 use Rattle.kin_world.specs.declared.structure.Mark.TheVariants.{Enters, Leaves}
@@ -225,3 +228,29 @@ turns_left n (Some k) = n - k
 pub record HasSettled (before : Facts) (s : Stage) : Type 0 where
   pub sound : IsSound s
   pub made : HasTimedNew before s.table
+
+-- no failure is at the limit or before it
+abbrev pub NoneDueWithin : Moment → List LiveFact → Type 0
+NoneDueWithin limit live = NoneFails live ⊎ ((m : Moment) × IsLeastFailure live m × IsEarlier limit m)
+
+-- the least failure moment isn't after the limit
+pub record IsDueWithin (limit : Moment) (live : List LiveFact) (m : Moment) : Type 0 where
+  pub least : IsLeastFailure live m
+  pub within : ¬ (IsEarlier limit m)
+
+-- just after the instant at which these facts fail, which isn't after the limit, none of them holds
+pub record IsBeyond (scene : Moment → Scene) (due limit : Moment) (given : List Owned) (m : Moment) : Type 0 where
+  pub at : due.phase ≡ At
+  pub after : m ≡ record { at = due.at; phase = After }
+  pub within : ¬ (IsEarlier limit m)
+  pub fail : All (λ o. ¬ (HoldsAt scene m o.fact)) given
+
+-- where a leap lands: at the moment at which the facts fail, or beyond it
+abbrev pub IsLanding : (Moment → Scene) → Moment → Moment → List Owned → Moment → Type 0
+IsLanding scene due limit given m = (m ≡ due) ⊎ IsBeyond scene due limit given m
+
+-- the world has settled at a later moment, not after the limit
+pub record HasLanded (limit : Moment) (s t : Stage) : Type 0 where
+  pub later : IsEarlier s.moment t.moment
+  pub within : ¬ (IsEarlier limit t.moment)
+  pub settled : HasSettled s.table t

@@ -1,5 +1,5 @@
 -- What a world means, and what its calls do.
-use Rattle.std.specs.Prelude.{◌≡◌, ◌↔◌, ℕ, ℤ, ◌+◌, ◌-◌, ◌≤◌, ◌^◌, pos, min, Bool, true, List, [], Option, Some, None, length, slice_get, slice_set, replicate, count_by, Contains, IsTrue}
+use Rattle.std.specs.Prelude.{◌≡◌, ◌↔◌, ℕ, ℤ, ◌+◌, ◌-◌, ◌≤◌, ◌^◌, pos, min, Bool, true, false, List, [], Option, Some, None, length, slice_get, slice_set, replicate, count_by, Contains, IsTrue}
 use Rattle.kin_algebra.specs.declared.sign.Sign.{Sign}
 use Rattle.kin_num.specs.declared.instant.Moment.{Moment}
 use Rattle.kin_num.specs.declared.instant.Phase.TheVariants.{At}
@@ -135,6 +135,19 @@ pub record HasMoved (limit : Moment) (old new : World) : Type 0 where
 abbrev pub HasStepped : Moment → Option Block → World → World → Type 0
 HasStepped limit None old new = HasMoved limit old new
 HasStepped limit (Some b) old new = HasPassed limit b old new
+
+-- some failures were left behind, up to a moment that isn't after the limit, and nothing else changed but the facts
+pub record HasLeftBehind (limit : Moment) (old new : World) : Type 0 where
+  pub later : IsEarlier old.moment new.moment
+  pub within : ¬ (IsEarlier limit new.moment)
+  pub state : new ≡ with_facts_of (record old { moment = new.moment }) new
+  pub whole : IsWhole new
+  pub made : HasMade old new
+
+-- what a leap did
+abbrev pub HasLeapt : Moment → Bool → World → World → Type 0
+HasLeapt limit false old new = HasMoved limit old new
+HasLeapt limit true old new = HasLeftBehind limit old new
 
 -- how many failures a step held, if there was a block
 abbrev pub failure_count : Option Block → Option ℕ

@@ -30,6 +30,8 @@ mod asked;
 pub mod counter;
 mod failures;
 pub mod laws;
+#[cfg(test)]
+mod leaping;
 mod places;
 #[cfg(test)]
 mod scripts;

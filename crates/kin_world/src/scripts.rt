@@ -29,6 +29,8 @@ pub enum Call {
     Stops(Time, Time, &'static [Lost]),
     /// The same without a list: so many facts have failed.
     Passes(Time, Time, usize),
+    /// A leap towards the first time lands at the second, or moves to the first.
+    Leaps(Time, Option<Time>),
     /// A step to this time passes no failure.
     Moves(Time),
     /// Steps up to this time, whatever fails.

@@ -5,6 +5,7 @@ ghost use Rattle.kin_motion.specs.Live.{IsSmallDirection, IsSmallKeep};
 ghost use Rattle.kin_world.specs.Worlds.{AreKeepable};
 
 use crate::asked::ASKED;
+use crate::leaping::LEAPING;
 use crate::scripts::{Along, Call, Lost, SCRIPTS, Script, Time};
 use crate::turning::{TURNING, turns};
 use crate::world::World;
@@ -192,6 +193,24 @@ fn passes<L: Ledger>(
     Ok(passed == Some(count) && world.is_whole() && Some(*world.now()) == moment(time))
 }
 
+/// A leap towards the limit lands at this time, or moves there.
+fn leaps<L: Ledger>(
+    world: &mut World,
+    limit: &Moment,
+    time: Option<Time>,
+    steps: &mut Steps<L>,
+) -> Result<bool, NoMemory> {
+    if !may_step(world, limit, steps) {
+        return Ok(false);
+    }
+    let some = world.leap(limit, steps)?;
+    let there = match time {
+        Some(time) => moment(time),
+        None => Some(*limit),
+    };
+    Ok(some == time.is_some() && world.is_whole() && Some(*world.now()) == there)
+}
+
 /// At most a hundred steps lead to the limit.
 fn runs<L: Ledger>(
     world: &mut World,
@@ -309,6 +328,10 @@ fn follows<L: Ledger>(
             Some(limit) => passes(world, &limit, time, count, steps),
             None => Ok(false),
         },
+        Call::Leaps(limit, time) => match moment(limit) {
+            Some(limit) => leaps(world, &limit, time, steps),
+            None => Ok(false),
+        },
         Call::Runs(limit) => match moment(limit) {
             Some(limit) => runs(world, &limit, steps),
             None => Ok(false),
@@ -373,6 +396,13 @@ fn scripts_have_their_answers(rt: HostRuntime) -> Result<(), Fail> {
 #[test]
 fn pairs_and_rectangles_are_answered(rt: HostRuntime) -> Result<(), Fail> {
     let wrong = first_wrong_script(rt.alloc(), &ASKED)?;
+    assert!(rt; wrong == None, "script and call {wrong:?}");
+    Ok(())
+}
+
+#[test]
+fn leaps_land_where_they_may(rt: HostRuntime) -> Result<(), Fail> {
+    let wrong = first_wrong_script(rt.alloc(), &LEAPING)?;
     assert!(rt; wrong == None, "script and call {wrong:?}");
     Ok(())
 }

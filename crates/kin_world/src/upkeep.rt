@@ -16,6 +16,8 @@ use std::alloc::Global;
 use std::mem::replace;
 use std::sync::ledger::Ledger;
 
+mod leap;
+
 /// What is kept, the structures in the same order and the table of their live facts; the motions,
 /// and the moment now.
 #[derive(Drop)]

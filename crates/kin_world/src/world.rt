@@ -9,7 +9,9 @@ ghost use Rattle.kin_motion.specs.Course.{Course, is_live, motion_of};
 ghost use Rattle.kin_motion.specs.Journal.{Block as Listed, NothingFails};
 ghost use Rattle.kin_motion.specs.Turning.{IsNotWhole, IsOutOfBounds};
 ghost use Rattle.kin_turn.specs.declared.turned.TurnError.TheVariants.{NotWhole as Broken, OutOfBounds as Outside};
-ghost use Rattle.kin_world.specs.Worlds.{AreKeepable, IsNextMoment, IsWhole, CanTurn, HasInserted, HasRemoved, HasReplaced, HasTurned, HasStepped, failure_count, FailsWithin, certificate, empty, world_setting};
+ghost use Rattle.kin_cert.specs.Taken.{NoneWaits};
+ghost use Rattle.kin_world.specs.Upkeep.{IsDueWithin, NoneDueWithin};
+ghost use Rattle.kin_world.specs.Worlds.{AreKeepable, IsNextMoment, IsWhole, CanTurn, HasInserted, HasRemoved, HasReplaced, HasTurned, HasStepped, HasLeapt, failure_count, FailsWithin, certificate, empty, world_setting};
 
 use crate::places::find;
 use crate::structure::Mark;
@@ -215,8 +217,7 @@ impl World {
         ensures cause { OnErr result (FailsWithin limit.now self.old) }
     {
         limit.at.recall_canonical();
-        let due = self.upkeep.table.failing();
-        let Some(moment) = if_within(due, limit, steps) else {
+        let Some(moment) = due_within(&self.upkeep, limit, steps) else {
             self.upkeep.moment = *limit;
             return Ok(None);
         };
@@ -242,8 +243,7 @@ impl World {
         ensures cause { OnErr result (FailsWithin limit.now self.old) }
     {
         limit.at.recall_canonical();
-        let due = self.upkeep.table.failing();
-        let Some(moment) = if_within(due, limit, steps) else {
+        let Some(moment) = due_within(&self.upkeep, limit, steps) else {
             self.upkeep.moment = *limit;
             return Ok(None);
         };
@@ -251,6 +251,34 @@ impl World {
         let count = self.upkeep.pass_unlisted(self.alloc, &moment, steps)?;
         self.whole = true;
         Ok(Some(count))
+    }
+
+    /// Leaves some failures up to the limit behind, or moves to the limit where there are none, and
+    /// answers whether there were any. Nobody learns of these failures, so where all that fail at an
+    /// instant fail just after it too, and that isn't after the limit, it goes there at once: what
+    /// only the instant itself would have is never made. After want of memory the world isn't whole.
+    pub fn leap<L: Ledger>(
+        &mut self,
+        limit: &Moment,
+        steps: &mut Steps<L>,
+    ) -> Result<bool, NoMemory>
+        requires whole { IsTrue self.old.whole }
+        requires later { ¬ (IsEarlier limit.now self.old.moment) }
+        ensures leapt { IfOk result (λ some. HasLeapt limit.now some self.old self.new) }
+        ensures fewer { IfOk result (λ some. IsTrue some → moments_left self.new.moment < moments_left self.old.moment) }
+        ensures broken { OnErr result (self.new.whole ≡ false) }
+        ensures keeps { OnErr result (self.new.keeps ≡ self.old.keeps) }
+        ensures cause { OnErr result (FailsWithin limit.now self.old) }
+    {
+        limit.at.recall_canonical();
+        let Some(moment) = due_within(&self.upkeep, limit, steps) else {
+            self.upkeep.moment = *limit;
+            return Ok(false);
+        };
+        self.whole = false;
+        self.upkeep.leap(self.alloc, &moment, limit, steps)?;
+        self.whole = true;
+        Ok(true)
     }
 
     /// The moment now.
@@ -315,12 +343,15 @@ impl World {
     }
 }
 
-// The moment, where it isn't after the limit.
+// The least failure moment, or `None` where nothing fails at the limit or before it.
 #[inline(always)]
-fn if_within<L: Ledger>(due: Option<Moment>, limit: &Moment, steps: &mut Steps<L>) -> Option<Moment>
-    ensures { MatchOption result (IfSome due (IsEarlier limit.now)) (λ m. (due ≡ Some m) × ¬ (IsEarlier limit.now m)) }
+fn due_within<L: Ledger>(upkeep: &Upkeep, limit: &Moment, steps: &mut Steps<L>) -> Option<Moment>
+    requires { NoneWaits upkeep.now.table.live }
+    ensures { MatchOption result (NoneDueWithin limit.now upkeep.now.table.live) (IsDueWithin limit.now upkeep.now.table.live) }
 {
-    let moment = due?;
+    let Some(moment) = upkeep.table.failing() else {
+        return None;
+    };
     match compare_moments(&moment, limit, steps) {
         Ordering::Greater => None,
         _ => Some(moment),

@@ -64,4 +64,4 @@ returns-clause-tallied g c =
     let b = c.in-Some-2.block in
     let h : HasPassed c.in-Some.moment b c.args.world.now c.step.new.self = rw c.in-Some-2.is at c.in_ok-block.ensures.stepped in
     on_ok c.put_passed.result
-    (one_tallied (IsNextIfAny (state_of c.args.journal c.args.world.now)) b c.count_of.result c.args.tally.now c.count.new.self c.count_of.ensures (inl (b, h.next, refl)) c.count.ensures)
+    (one_tallied (IsNextIfAny (state_of c.args.journal c.args.world.now)) b c.count_of.result c.args.tally.now c.count_on.new.tally c.count_of.ensures (inl (b, h.next, refl)) c.count_on.ensures)

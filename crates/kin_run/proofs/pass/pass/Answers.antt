@@ -1,10 +1,12 @@
-use Rattle.std.proofs.Common.{arith, sym}
+use Rattle.std.proofs.Common.{[], arith, refl, sym, subst}
 use Rattle.std.proofs.lemmas.Result.{err_from_is_err_and}
 use Rattle.kin_script.specs.States.{at}
+use Rattle.kin_script.specs.Text.{IsPassedText}
 use Rattle.kin_world.specs.Worlds.{HasPassed, HasMoved}
 use Rattle.kin_run.specs.Written.{printer}
 use Rattle.kin_run.specs.States.{state_of}
 use Rattle.kin_run.proofs.Counting.{none_counted, counts_on, counts_quietly, counted_all, counted_quietly}
+use Rattle.kin_run.proofs.Gathering.{gains_nothing}
 use Rattle.kin_run.proofs.OnTheWay.{sets_out, breaks_here, breaks_within, faults_behind, goes_on, quiet_turn, arrives}
 use Rattle.kin_run.proofs.pass.pass.Goals as goal
 
@@ -43,7 +45,7 @@ loop-block-preserved g c =
     let passed : HasPassed (at c.args.asked) c.in-Some-2.block c.loop-block.world c.step.new.self = rw c.in-Some-2.is at c.in_ok-block.ensures.stepped in
     record {
       on = goes_on h.on c.requires.canonical h.whole.canonical passed c.put_if_on.new.out.items c.in_ok-put_if_on.ensures.ok c.in_ok-flush_if_due.ensures.gained;
-      counted = counts_on h.on c.requires.canonical h.whole.canonical c.count_of.result passed h.counted c.count_of.ensures c.count-in-Some-2.ensures;
+      counted = counts_on h.on c.requires.canonical h.whole.canonical c.count_of.result passed h.counted c.count_of.ensures c.count_on-in-Some-2.ensures;
       whole = passed.whole;
       later = omega (arith, h.later, c.flush_if_due.ensures.cause.later);
     }
@@ -63,17 +65,17 @@ loop-failures-init g c = record {
 
 pub returns-in_err-failures-clause-text : goal.returns-in_err-failures-clause-text
 returns-in_err-failures-clause-text g c =
-    let e = err_from_is_err_and c.from_residual.result c.from_residual.ensures.1 in
+    let e = err_from_is_err_and c.from_residual-in_err-failures.result c.from_residual-in_err-failures.ensures.1 in
     let h = c.loop-failures.invariant in
     rw (e.1, e.2) (breaks_here h.on c.requires.canonical h.whole.canonical)
 
 pub loop-failures-preserved : goal.loop-failures-preserved
 loop-failures-preserved g c =
     let h = c.loop-failures.invariant in
-    let t = quiet_turn h.on c.requires.canonical h.whole.canonical c.if-not-journal.true c.pass.new.self c.in_ok-failures.field-0 c.in-Some.failures c.in-Some.is c.in_ok-failures.ensures.stepped in
+    let t = quiet_turn h.on c.requires.canonical h.whole.canonical c.if-not-journal-2.true c.pass.new.self c.in_ok-failures.field-0 c.in-Some.failures c.in-Some.is c.in_ok-failures.ensures.stepped in
     record {
       on = t.0;
-      counted = counts_quietly h.on c.requires.canonical h.whole.canonical c.in_ok-failures.field-0 c.in-Some.failures c.in-Some.is c.in_ok-failures.ensures.stepped h.counted c.count.ensures;
+      counted = counts_quietly h.on c.requires.canonical h.whole.canonical c.in_ok-failures.field-0 c.in-Some.failures c.in-Some.is c.in_ok-failures.ensures.stepped h.counted c.count_on.ensures;
       whole = t.1;
     }
 
@@ -83,7 +85,20 @@ returns-clause-tallied g c =
     let moved : HasMoved (at c.args.asked) c.loop-block.world c.step.new.self = rw c.in_default-2.is at c.in_ok-block.ensures.stepped in
     counted_all h.on c.requires.canonical h.whole.canonical moved h.counted
 
-pub returns-then-not-journal-clause-tallied : goal.returns-then-not-journal-clause-tallied
-returns-then-not-journal-clause-tallied g c =
+pub returns-then-not-journal-2-clause-tallied : goal.returns-then-not-journal-2-clause-tallied
+returns-then-not-journal-2-clause-tallied g c =
     let h = c.loop-failures.invariant in
     counted_quietly h.on c.requires.canonical h.whole.canonical c.in_ok-failures.field-0 c.in_default.is c.in_ok-failures.ensures.stepped h.counted
+
+pub returns-in_err-leap_to-clause-text : goal.returns-in_err-leap_to-clause-text
+returns-in_err-leap_to-clause-text g c =
+    let e = err_from_is_err_and c.from_residual.result c.from_residual.ensures.1 in
+    let start = sets_out c.args.journal c.args.world.now c.args.asked (printer (g.K.Sink.held c.args.sink.now) c.args.out.now.items) c.requires.later in
+    rw (e.1, e.2) (breaks_here start c.requires.canonical c.requires.whole.canonical)
+
+pub returns-then-is_none-clause-text : goal.returns-then-is_none-clause-text
+returns-then-is_none-clause-text g c = record {
+  text = [];
+  gained = gains_nothing (printer (g.K.Sink.held c.args.sink.now) c.args.out.now.items);
+  is = subst (λ b. IsPassedText b (state_of c.args.journal c.args.world.now) c.args.asked []) (sym c.if-not-journal.true) refl;
+}

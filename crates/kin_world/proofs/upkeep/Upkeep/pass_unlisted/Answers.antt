@@ -1,13 +1,13 @@
 use Rattle.std.proofs.Common.{length, refl, sym, ap, subst, ◌∙◌, List}
 use Rattle.std.specs.Prelude.{map}
 use Rattle.std.proofs.lemmas.List.{length-map}
-use Rattle.std.proofs.lemmas.List.Sorted.{Contains-permutation, IsPermutation-sym, length_permutation}
+use Rattle.std.proofs.lemmas.List.Sorted.{length_permutation}
 use Rattle.kin_motion.specs.Journal.{Block, Failure, seen_in}
 use Rattle.kin_motion.specs.Scene.{scene_at}
 use Rattle.kin_cert.specs.declared.owned.Owned.{Owned}
 use Rattle.kin_cert.specs.Facts.{certificate_of}
 use Rattle.kin_world.specs.Upkeep.{AreWaiting}
-use Rattle.kin_world.proofs.TakeLaws.{given_waiting, taken_under_repair, taken_block, made_since}
+use Rattle.kin_world.proofs.TakeLaws.{given_same, given_waiting, taken_under_repair, taken_block, made_since}
 use Rattle.kin_world.proofs.upkeep.Upkeep.pass_unlisted.Goals as goal
 
 pub give_failing-requires-clause-none_waits : goal.give_failing-requires-clause-none_waits
@@ -21,12 +21,8 @@ repair_each-requires-clause-repair g c =
 pub repair_each-requires-clause-waiting : goal.repair_each-requires-clause-waiting
 repair_each-requires-clause-waiting g c =
     let out = c.in_ok-give_failing.ensures.given in
-    let given = c.give_failing.new.given.items in
     subst (λ (os : List Owned). AreWaiting 0 c.give_failing.new.self.live os) (sym c.deref.ensures.value)
-    (given_waiting c.requires.sound c.give_failing.new.self out.has_taken given out.once (λ o. (
-      (λ h. Contains-permutation given out.taken o out.reordered h),
-      (λ h. Contains-permutation out.taken given o (IsPermutation-sym given out.taken out.reordered) h),
-    )))
+    (given_waiting c.requires.sound c.give_failing.new.self out.has_taken c.give_failing.new.given.items out.once (given_same out))
 
 pub returns-clause-next : goal.returns-clause-next
 returns-clause-next g c =

@@ -1,0 +1,99 @@
+//! Failures that nobody learns of are left behind, an instant at a time.
+//!
+//! Mostly what fails at an instant fails just after it, too: a sign goes from + by 0 to -. Then the structures need not
+//! be repaired twice, and no fact that holds at that one instant alone is ever made.
+
+ghost use Rattle.std.specs.Prelude.{◌≡◌, ◌↔◌, IsTrue, OnOk};
+ghost use Rattle.std.specs.List.{All};
+ghost use Rattle.kin_num.specs.Order.{IsEarlier};
+ghost use Rattle.kin_motion.specs.Course.{live_of};
+ghost use Rattle.kin_motion.specs.Forms.{IsAskable};
+ghost use Rattle.kin_motion.specs.Scene.{scene_at, Holds};
+ghost use Rattle.kin_cert.specs.Taken.{IsLeastFailure};
+ghost use Rattle.kin_world.specs.Upkeep.{stage_of, HasSameFrame, HasLanded, IsLanding, IsSound};
+
+use crate::upkeep::Upkeep;
+use kin_cert::{Now, Owned};
+use kin_instant::order::compare_moments;
+use kin_motion::{Motions, Signs};
+use kin_num::{Moment, NoMemory, Phase, Steps};
+use std::alloc::Global;
+use std::cmp::Ordering;
+use std::mem::replace;
+use std::sync::ledger::Ledger;
+
+impl Upkeep {
+    /// Moves to the least failure moment, or just after it where all that fails there fails then,
+    /// too, and that isn't after the limit. Repairs all structures there.
+    pub fn leap<L: Ledger>(
+        &mut self,
+        alloc: Global,
+        due: &Moment,
+        limit: &Moment,
+        steps: &mut Steps<L>,
+    ) -> Result<(), NoMemory>
+        requires sound { IsSound (stage_of self.old) }
+        requires failing { IsLeastFailure self.old.table.live due.now }
+        requires within { ¬ (IsEarlier limit.now due.now) }
+        ensures landed { OnOk result (HasLanded limit.now (stage_of self.old) (stage_of self.new)) }
+        ensures frame { HasSameFrame (record (stage_of self.old) { moment = self.new.moment }) (stage_of self.new) }
+    {
+        let mut given = replace(&mut self.given, Vec::new(alloc));
+        self.table.give_failing(due, &mut given, steps)?;
+        self.moment = landing(due, limit, &given, &self.motions, steps);
+        self.repair_each(&given, steps)?;
+        self.given = given;
+        Ok(())
+    }
+}
+
+// Where a leap lands over these facts, which fail at a moment.
+fn landing<L: Ledger>(
+    due: &Moment,
+    limit: &Moment,
+    given: &[Owned],
+    motions: &Motions,
+    steps: &mut Steps<L>,
+) -> Moment
+    requires askable { All (λ o. IsAskable (live_of motions.now) o.fact.form) given.now }
+    ensures { IsLanding (scene_at motions.now) due.now limit.now given.now result }
+{
+    let Phase::At = due.phase else {
+        return *due;
+    };
+    let after = Moment {
+        at: due.at,
+        phase: Phase::After,
+    };
+    if is_after(&after, limit, steps) {
+        return *due;
+    }
+    let now = Now {
+        motions,
+        moment: &after,
+    };
+    if none_holds(given, &now, steps) {
+        after
+    } else {
+        *due
+    }
+}
+
+fn is_after<L: Ledger>(moment: &Moment, limit: &Moment, steps: &mut Steps<L>) -> bool
+    ensures { IsTrue result ↔ IsEarlier limit.now moment.now }
+{
+    matches!(compare_moments(moment, limit, steps), Ordering::Greater)
+}
+
+// Whether none of these facts holds now.
+fn none_holds<L: Ledger>(given: &[Owned], now: &Now, steps: &mut Steps<L>) -> bool
+    requires { All (λ o. IsAskable (live_of now.now.motions.now) o.fact.form) given.now }
+    ensures { IsTrue result → All (λ o. ¬ (Holds (scene_at now.now.motions.now now.now.moment.now) o.fact)) given.now }
+{
+    for owned in given {
+        if now.sign(&owned.fact.form, steps) == owned.fact.sign {
+            return false;
+        }
+    }
+    true
+}
