@@ -1,5 +1,5 @@
 -- What fails first at an instant, and what fails first just after one.
-use Rattle.std.proofs.Common.{◌≡◌, ◌⊎◌, inl, inr, refl, sym, ap, ◌∙◌, subst, List, Option}
+use Rattle.std.proofs.Common.{◌≡◌, ◌⊎◌, inl, inr, refl, sym, ap, ◌∙◌, subst, Bool, true, false, pos, List, Option}
 use Rattle.std.specs.Prelude.{Contains, ◌↔◌}
 use Rattle.std.proofs.lemmas.List.Elements.{All-contains}
 use Rattle.kin_algebra.specs.declared.sign.Sign.{Sign}
@@ -18,6 +18,8 @@ use Rattle.kin_num.proofs.MomentLaws.{never, through}
 use Rattle.kin_instant.proofs.Kept.{zero_after}
 use Rattle.kin_instant.proofs.SignTable.{at_at, at_after}
 use Rattle.kin_motion.specs.declared.fact.Fact.{Fact}
+use Rattle.kin_motion.specs.declared.form.Form.{Form}
+use Rattle.kin_motion.specs.declared.form.Form.TheVariants.{Line, Turn, Slope, Dist}
 use Rattle.kin_motion.specs.Course.{Course}
 use Rattle.kin_motion.specs.Forms.{polynomial_of, sign_of_form}
 use Rattle.kin_motion.specs.Moments.{HoldsAt, FailsFirst}
@@ -27,7 +29,8 @@ use Rattle.kin_cert.specs.Facts.{LiveFact, Facts, NoneAlike}
 use Rattle.kin_cert.specs.Taken.{IsLeastFailure, HasTaken}
 use Rattle.kin_cert.proofs.Failing.{zero_everywhere}
 use Rattle.kin_cert.proofs.Seen.{holds-seen}
-use Rattle.kin_world.specs.Upkeep.{Stage, IsSound, IsUnderRepair, IsBeyond, IsLanding}
+use Rattle.kin_world.specs.Upkeep.{Stage, IsSound, IsUnderRepair, IsBeyond, IsLanding, is_line}
+use Rattle.kin_world.proofs.CrossingLaws.{line_stays}
 use Rattle.kin_world.proofs.SoundLaws.{failure_at, least_fails}
 use Rattle.kin_world.proofs.TakeLaws.{IsReached, at_once, at_moment, reached_under_repair, taken_under_repair}
 
@@ -37,6 +40,10 @@ seen-holds ms f m h = h
 
 phases : At ≡ After → ⊥
 phases e = cc
+
+true_or_false : (b : Bool) → (b ≡ true) ⊎ (b ≡ false)
+true_or_false true = inl refl
+true_or_false false = inr refl
 
 -- an instant, and just after it
 module _ (w : Shape) (c : IsCanonical w) where
@@ -85,6 +92,19 @@ module _ (w : Shape) (c : IsCanonical w) where
     pub fails_not_just_after : FailsFirst (scene_at ms) now JustAfter f → ⊥
     fails_not_just_after first = first.fails (seen-holds ms f JustAfter (holds_on first f.sign refl))
 
+    -- a line that fails at the instant fails just after it, too
+    flat : (form : Form) → is_line form ≡ true → (polynomial_of ms form).a ≡ pos 0
+    unfolding polynomial_of
+    flat (Line dx dy off i j) e = refl
+    flat (Turn i j k) e = absurd cc
+    flat (Slope i j k l) e = absurd cc
+    flat (Dist i j k l) e = absurd cc
+
+    pub line_fails_on : is_line f.form ≡ true → FailsFirst (scene_at ms) now AtIt f → ¬ (HoldsAt (scene_at ms) JustAfter f)
+    line_fails_on is first holds =
+        let held : sign_at P now ≡ f.sign = holds-seen ms f now (first.holds_until now (record { canonical = here; from = never now here; until = first.later_is_later })) in
+        first.fails (seen-holds ms f AtIt (line_stays now here.form w c.form (before_instant now before) P (flat f.form is) (holds-seen ms f JustAfter holds ∙ sym held) ∙ held))
+
 -- where a leap lands
 module _ {s : Stage} (sound : IsSound s) (table : Facts) {taken : List Owned} (has : HasTaken s.table.live table.live taken) (due limit : Moment) (least : IsLeastFailure s.table.live due) where
   first : FailsFirst (scene_at s.motions) s.moment due least.some.0.certificate.placed.fact
@@ -115,7 +135,13 @@ module _ {s : Stage} (sound : IsSound s) (table : Facts) {taken : List Owned} (h
             ];
         failed = λ l live e.
             let o : Owned = record { structure = l.certificate.structure; part = l.certificate.placed.part; fact = l.certificate.placed.fact } in
-            All-contains (λ (x : Owned). ¬ (HoldsAt (scene_at s.motions) m x.fact)) given o beyond.fail ((same o).1 ((has.each o).1 (l, live, e, refl)));
+            let curved = All-contains (λ (x : Owned). is_line x.fact.form ≡ false → ¬ (HoldsAt (scene_at s.motions) m x.fact)) given o beyond.fail ((same o).1 ((has.each o).1 (l, live, e, refl))) in
+            let fails = subst (λ (x : Moment). FailsFirst (scene_at s.motions) s.moment x l.certificate.placed.fact) (at_moment sound table has due least ∙ at_it) (failure_at sound l live has.moment e) in
+            elim (true_or_false (is_line l.certificate.placed.fact.form)) [
+              | inl line ↦ subst (λ (x : Moment). ¬ (HoldsAt (scene_at s.motions) x l.certificate.placed.fact)) (sym beyond.after)
+                  (line_fails_on due.at first.canonical s.motions s.moment sound.in_order.canonical (subst (IsEarlier s.moment) at_it first.later_is_later) l.certificate.placed.fact line fails)
+              | inr other ↦ curved other
+            ];
       }
 
     pub landing_under_repair : IsLanding (scene_at s.motions) due limit given m → NoneAlike table.live → table.made ≡ s.table.made → IsUnderRepair (record s { moment = m; table = table })

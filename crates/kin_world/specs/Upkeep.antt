@@ -1,11 +1,13 @@
 -- All that a world is made of, in one piece: what is true of it between two calls, and while it is repaired. No public clause of the world cites this module.
-use Rattle.std.specs.Prelude.{◌≡◌, ◌≢◌, ℕ, ◌+◌, ◌<◌, ◌≤◌, ◌^◌, ◌-◌, ◌⊎◌, min, false, Bool, List, map, length, slice_get, slice_set, Option, Some, None, MatchOption, filter, nat_eq, Contains, ◌↔◌, IsTrue}
+use Rattle.std.specs.Prelude.{◌≡◌, ◌≢◌, ℕ, ◌+◌, ◌<◌, ◌≤◌, ◌^◌, ◌-◌, ◌⊎◌, min, true, false, Bool, List, map, length, slice_get, slice_set, Option, Some, None, MatchOption, filter, nat_eq, Contains, ◌↔◌, IsTrue}
 use Rattle.std.specs.List.{All}
 use Rattle.kin_num.specs.declared.instant.Moment.{Moment}
 use Rattle.kin_num.specs.declared.instant.Phase.TheVariants.{At, After}
 use Rattle.kin_num.specs.Canonical.{IsCanonical}
 use Rattle.kin_num.specs.Order.{IsEarlier}
 use Rattle.kin_motion.specs.declared.fact.Placed.{Placed}
+use Rattle.kin_motion.specs.declared.form.Form.{Form}
+use Rattle.kin_motion.specs.declared.form.Form.TheVariants.{Line, Turn, Slope, Dist}
 use Rattle.kin_motion.specs.declared.keep.Keep.{Keep}
 use Rattle.kin_motion.specs.Course.{Course, AreSlow, is_live}
 use Rattle.kin_motion.specs.Deltas.{Change}
@@ -238,12 +240,19 @@ pub record IsDueWithin (limit : Moment) (live : List LiveFact) (m : Moment) : Ty
   pub least : IsLeastFailure live m
   pub within : ¬ (IsEarlier limit m)
 
--- just after the instant at which these facts fail, which isn't after the limit, none of them holds
+-- a line's form: it crosses 0 where it comes to it
+abbrev pub is_line : Form → Bool
+is_line (Line dx dy off i j) = true
+is_line (Turn i j k) = false
+is_line (Slope i j k l) = false
+is_line (Dist i j k l) = false
+
+-- just after the instant at which these facts fail, which isn't after the limit, none of them holds, where lines need not be asked
 pub record IsBeyond (scene : Moment → Scene) (due limit : Moment) (given : List Owned) (m : Moment) : Type 0 where
   pub at : due.phase ≡ At
   pub after : m ≡ record { at = due.at; phase = After }
   pub within : ¬ (IsEarlier limit m)
-  pub fail : All (λ o. ¬ (HoldsAt scene m o.fact)) given
+  pub fail : All (λ o. is_line o.fact.form ≡ false → ¬ (HoldsAt scene m o.fact)) given
 
 -- where a leap lands: at the moment at which the facts fail, or beyond it
 abbrev pub IsLanding : (Moment → Scene) → Moment → Moment → List Owned → Moment → Type 0

@@ -3,19 +3,19 @@
 //! Mostly what fails at an instant fails just after it, too: a sign goes from + by 0 to -. Then the structures need not
 //! be repaired twice, and no fact that holds at that one instant alone is ever made.
 
-ghost use Rattle.std.specs.Prelude.{◌≡◌, ◌↔◌, IsTrue, OnOk};
+ghost use Rattle.std.specs.Prelude.{◌≡◌, ◌↔◌, IsTrue, false, OnOk};
 ghost use Rattle.std.specs.List.{All};
 ghost use Rattle.kin_num.specs.Order.{IsEarlier};
 ghost use Rattle.kin_motion.specs.Course.{live_of};
 ghost use Rattle.kin_motion.specs.Forms.{IsAskable};
 ghost use Rattle.kin_motion.specs.Scene.{scene_at, Holds};
 ghost use Rattle.kin_cert.specs.Taken.{IsLeastFailure};
-ghost use Rattle.kin_world.specs.Upkeep.{stage_of, HasSameFrame, HasLanded, IsLanding, IsSound};
+ghost use Rattle.kin_world.specs.Upkeep.{stage_of, HasSameFrame, HasLanded, IsLanding, IsSound, is_line};
 
 use crate::upkeep::Upkeep;
 use kin_cert::{Now, Owned};
 use kin_instant::order::compare_moments;
-use kin_motion::{Motions, Signs};
+use kin_motion::{Form, Motions, Signs};
 use kin_num::{Moment, NoMemory, Phase, Steps};
 use std::alloc::Global;
 use std::cmp::Ordering;
@@ -85,13 +85,20 @@ fn is_after<L: Ledger>(moment: &Moment, limit: &Moment, steps: &mut Steps<L>) ->
     matches!(compare_moments(moment, limit, steps), Ordering::Greater)
 }
 
-// Whether none of these facts holds now.
+fn is_line(form: &Form) -> bool
+    ensures { result ≡ is_line form.now }
+{
+    matches!(*form, Form::Line { .. })
+}
+
+// Whether none of these facts holds now. Lines aren't asked: they cross 0 where they come to it.
 fn none_holds<L: Ledger>(given: &[Owned], now: &Now, steps: &mut Steps<L>) -> bool
     requires { All (λ o. IsAskable (live_of now.now.motions.now) o.fact.form) given.now }
-    ensures { IsTrue result → All (λ o. ¬ (Holds (scene_at now.now.motions.now now.now.moment.now) o.fact)) given.now }
+    ensures { IsTrue result → All (λ o. is_line o.fact.form ≡ false → ¬ (Holds (scene_at now.now.motions.now now.now.moment.now) o.fact)) given.now }
 {
     for owned in given {
-        if now.sign(&owned.fact.form, steps) == owned.fact.sign {
+        let form = &owned.fact.form;
+        if !is_line(form) && now.sign(form, steps) == owned.fact.sign {
             return false;
         }
     }

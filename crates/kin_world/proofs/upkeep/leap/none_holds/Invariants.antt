@@ -1,7 +1,8 @@
-use Rattle.std.proofs.Common.{take}
+use Rattle.std.proofs.Common.{◌≡◌, false, take}
 use Rattle.std.specs.List.{All}
 use Rattle.kin_motion.specs.Scene.{scene_at, Holds}
+use Rattle.kin_world.specs.Upkeep.{is_line}
 use Rattle.kin_world.proofs.upkeep.leap.none_holds.Given as goal
 
 abbrev pub invariant-loop-owned : goal.invariant-loop-owned
-invariant-loop-owned g l = All (λ o. ¬ (Holds (scene_at l.now.motions.now l.now.moment.now) o.fact)) (take l.owned-index l.given)
+invariant-loop-owned g l = All (λ o. is_line o.fact.form ≡ false → ¬ (Holds (scene_at l.now.motions.now l.now.moment.now) o.fact)) (take l.owned-index l.given)
