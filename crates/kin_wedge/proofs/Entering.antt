@@ -9,7 +9,8 @@ use Rattle.kin_motion.specs.Octants.{Octant, octants}
 use Rattle.kin_list.proofs.RowLaws.{get_from_is_in}
 use Rattle.kin_wedge.specs.declared.touch.Touch.{Touch}
 use Rattle.kin_wedge.specs.Passages.{IsOfferedAround}
-use Rattle.kin_wedge.specs.Rows.{row_of, is_in_wedge}
+use Rattle.kin_wedge.specs.EightLaws.{of_eight}
+use Rattle.kin_wedge.specs.Rows.{row_of, is_in_wedge, AreAlike}
 use Rattle.kin_wedge.specs.Touched.{ComesFirst, IsOffered, HasTouched}
 use Rattle.kin_wedge.proofs.Places.{first_is_in, second_is_in}
 use Rattle.kin_wedge.proofs.Touching.{touched_none, touched_through}
@@ -44,17 +45,30 @@ module _ (rows : List (List ℕ)) (candidates : List (Option ℕ)) (no : ℕ) (f
       at k p v o (inr d) h g m n = t.keeps (8 * p + v) (Some no) (a.offered k p v o (omega (arith, h, d)) g m n)
 
 -- who is the apex of an octant with a member is in the row of the octant's first order
-pub apex_in : (rows : List (List ℕ)) (o : Octant) (p q : ℕ) → is_in_wedge rows o p q ≡ true → is_in p (row_of rows o.first.part) ≡ true
+apex_in : (rows : List (List ℕ)) (o : Octant) (p q : ℕ) → is_in_wedge rows o p q ≡ true → is_in p (row_of rows o.first.part) ≡ true
 apex_in rows o p q h = at o.first.from_end (and_parts _ _ h).0
   where
     at : (e : Bool) → cond e (stands_before (row_of rows o.first.part) q p) (stands_before (row_of rows o.first.part) p q) ≡ true → is_in p (row_of rows o.first.part) ≡ true
     at true k = second_is_in _ q p k
     at false k = first_is_in _ p q k
 
+-- and so is the member
+member_in : (rows : List (List ℕ)) (o : Octant) (p q : ℕ) → is_in_wedge rows o p q ≡ true → is_in q (row_of rows o.first.part) ≡ true
+member_in rows o p q h = at o.first.from_end (and_parts _ _ h).0
+  where
+    at : (e : Bool) → cond e (stands_before (row_of rows o.first.part) q p) (stands_before (row_of rows o.first.part) p q) ≡ true → is_in q (row_of rows o.first.part) ≡ true
+    at true k = first_is_in _ q p k
+    at false k = second_is_in _ p q k
+
+-- who is no member is offered to none
+pub to_nobody : (rows : List (List ℕ)) (candidates : List (Option ℕ)) (who : ℕ) (ts : List Touch) → AreAlike rows → is_in who (row_of rows 0) ≡ false → IsOfferedAround rows candidates who ts
+to_nobody rows candidates who ts alike out = λ p w o k m. absurd (
+    let c : true ≡ false = sym (member_in rows o p who m.0) ∙ alike o.first.part who (of_eight w o k).first ∙ out in cc)
+
 -- all members are among the apexes
-pub to_all : (rows : List (List ℕ)) (candidates : List (Option ℕ)) (who : ℕ) (first now : List Touch) (apexes : List ℕ) (i : ℕ) → length apexes ≤ i → ((part p : ℕ) → is_in p (row_of rows part) ≡ true → is_in p apexes ≡ true)
+pub to_all : (rows : List (List ℕ)) (candidates : List (Option ℕ)) (who : ℕ) (first now : List Touch) (apexes : List ℕ) (i : ℕ) → length apexes ≤ i → AreAlike rows → apexes ≡ row_of rows 0
     → AreOfferedTo rows candidates who first now apexes i → IsOfferedAround rows candidates who now
-to_all rows candidates who first now apexes i h all a = λ p w o k m.
-    let g = get_from_is_in apexes p (all o.first.part p (apex_in rows o p who m.0)) in
+to_all rows candidates who first now apexes i h alike e a = λ p w o k m.
+    let g = get_from_is_in apexes p (ap (is_in p) e ∙ sym (alike o.first.part p (of_eight w o k).first) ∙ apex_in rows o p who m.0) in
     let b = slice_get_within apexes g.0 p g.1 in
     a.offered g.0 p w o (omega (arith, b, h)) g.1 k m
