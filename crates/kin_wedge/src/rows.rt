@@ -2,6 +2,7 @@
 
 ghost use Rattle.std.specs.Prelude.{◌≡◌, ℕ, suc, ◌+◌, ◌*◌, ◌^◌, ◌<◌, Some, [], true, length, slice_get, IfOk, OnOk};
 ghost use Rattle.kin_motion.specs.Numbers.{is_in};
+ghost use Rattle.kin_list.specs.declared.mark.Mark.TheVariants.{Rest};
 ghost use Rattle.kin_list.specs.Listing.{staying, lasting, without};
 ghost use Rattle.kin_list.specs.Rows.{exchange, exchanged};
 ghost use Rattle.kin_wedge.specs.Parts.{swaps_of};
@@ -19,6 +20,16 @@ use kin_list::{KinList, Mark};
 use kin_num::memory::NoMemory;
 use std::alloc::Global;
 use std::marker::Model;
+
+/// Whether a list is as it was before it settled.
+fn stands_still(mark: Mark, list: &KinList) -> bool
+    ensures { result ≡ true → (mark ≡ Rest) × (list.now.swaps ≡ []) }
+{
+    match mark {
+        Mark::Rest => list.swaps().is_empty(),
+        _ => false,
+    }
+}
 
 /// Makes one exchange in a row, and notes the slots that it can have touched.
 fn follow_one(
@@ -223,8 +234,11 @@ impl Rows {
         ensures touched { OnOk result (HasTouched table.now touches.old.all.items touches.new.all.items) }
     {
         for part in 0..8 {
-            let row = &mut self.rows[part as usize];
-            row.follow(mark, part, orders.list(part), orders, table, touches)?;
+            let list = orders.list(part);
+            if !stands_still(mark, list) {
+                let row = &mut self.rows[part as usize];
+                row.follow(mark, part, list, orders, table, touches)?;
+            }
         }
         Ok(())
     }
