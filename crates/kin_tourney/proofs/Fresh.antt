@@ -62,6 +62,7 @@ module _ (Item : Type 0) (size : ℕ) where
     leaves = λ i e. absurd (let k : false ≡ true = sym (get_or-replicate_any (2 ^ size) i false) ∙ e in cc);
     won = λ i u e. absurd (let k : false ≡ true = sym (get_or-replicate_any (2 ^ size) i false) ∙ e in cc);
     consistent = λ v some inside e. (Zero, right v);
+    fed = λ v i some inside e. absurd (let z : None ≡ Some i = sym (get_or-replicate_any (2 ^ size) v None) ∙ e in cc);
     no_root = get_or-replicate_any (2 ^ size) 0 None;
     few = let k = count_of_top (set (replicate (2 ^ size) Clear) 0 Here) (fresh_closed (2 ^ size) (pow_pos size)) (fresh_clear (2 ^ size)) in omega arith;
   }

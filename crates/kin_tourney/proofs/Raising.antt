@@ -60,7 +60,7 @@ raising_starts {Item} slot start tree inside reached = record {
 same_node : (u v : ℕ) → nat_eq u v ≡ true → u ≡ v
 same_node u v e = grind (arith, nat_tests, e)
 
--- ---- above a node of which a slot isn't the best it is so nowhere, where nothing was in doubt itself
+-- ---- above a node of which a slot isn't the best it is so nowhere
 half_or_more : (n : ℕ) → (n ≡ 2 * (n / 2)) ⊎ (n ≡ 2 * (n / 2) + 1)
 half_or_more n = at (cases_eq n (2 * (n / 2)))
   where
@@ -90,9 +90,9 @@ module _ {Item : Type 0} (slot : ℕ) (t : Standings Item) (tree : IsTree t) (in
       at true e = refl
       at false e = let past : length t.items ≤ v = grind (arith, nat_tests, e) in absurd (omega arith)
 
-  module _ (fed : IsFed t) (none_here : (v : ℕ) → 0 < v → doubt_in t.doubts v ≢ Here) where
+  module _ (fed : IsFed t) where
     lost_up : (node : ℕ) → 1 < node → node < 2 * length t.items → is_under t.size node slot ≡ true → (named_at t node ≢ Some slot) → named_at t (node / 2) ≢ Some slot
-    lost_up node big fits under n e = at (fed (node / 2) slot (omega arith) (omega arith) (none_here (node / 2) (omega arith)) (sym (named_inner (node / 2) (omega arith)) ∙ e)) (half_or_more node)
+    lost_up node big fits under n e = at (fed (node / 2) slot (omega arith) (omega arith) (sym (named_inner (node / 2) (omega arith)) ∙ e)) (half_or_more node)
       where
         at : (named_at t (2 * (node / 2)) ≡ Some slot) ⊎ (named_at t (2 * (node / 2) + 1) ≡ Some slot) → (node ≡ 2 * (node / 2)) ⊎ (node ≡ 2 * (node / 2) + 1) → ⊥
         at (inl f) (inl g) = n (ap (named_at t) g ∙ f)
@@ -174,13 +174,9 @@ module _ {Item : Type 0} (slot : ℕ) (start now next : Standings Item) (node : 
           at (inl k) = absurd (here_is_doubt (sym k.1 ∙ e))
           at (inr k) = sym k.1 ∙ e
 
-  pub passed_by : next ≡ now → (named_at now node ≢ Some slot) → IsRaising slot start next (node / 2)
-  passed_by same n = raising_on (same ∙ ap (λ (t : Standings Item). record now { doubts = t.doubts }) (sym same)) (ap (λ (t : Standings Item). length t.doubts) same) (ap (λ (t : Standings Item). doubt_count t.doubts) same)
-      (λ v e. ap (λ (t : Standings Item). doubt_in t.doubts v) same ∙ e) (λ v e. sym (ap (λ (t : Standings Item). doubt_in t.doubts v) same) ∙ e) (λ e. absurd (n (ap (λ (t : Standings Item). named_at t node) h.same ∙ e)))
-
-  -- where nothing was in doubt itself it is the best of no node above
-  pub stopped : next ≡ now → (named_at now node ≢ Some slot) → ((v : ℕ) → 0 < v → doubt_in start.doubts v ≢ Here) → IsRaising slot start next 0
-  stopped same n none_here = record {
+  -- it is the best of no node above
+  pub stopped : next ≡ now → (named_at now node ≢ Some slot) → IsRaising slot start next 0
+  stopped same n = record {
     tree = tree;
     same = same ∙ h.same ∙ ap (λ (t : Standings Item). record start { doubts = t.doubts }) (sym same);
     room = ap (λ (t : Standings Item). length t.doubts) same ∙ h.room;
@@ -201,16 +197,8 @@ module _ {Item : Type 0} (slot : ℕ) (start now next : Standings Item) (node : 
       on fed u (inr (k, c)) e = at (nat_lt 1 u) refl
         where
           at : (b : Bool) → nat_lt 1 u ≡ b → doubt_in next.doubts (u / 2) ≡ Here
-          at true f = absurd (lost_above slot start first among fed none_here k node u (grind (arith, nat_tests, f)) h.low (h.under (omega arith)) lost c e)
+          at true f = absurd (lost_above slot start first among fed k node u (grind (arith, nat_tests, f)) h.low (h.under (omega arith)) lost c e)
           at false f = let small : u ≤ 1 = grind (arith, nat_tests, f) in let z : u / 2 ≡ 0 = omega arith in ap (doubt_in next.doubts) z ∙ tree.closed.top
-
--- nothing comes into doubt itself where only the way is led
-pub none_here_led : (old mid : List Doubt) (node : ℕ) → IsSpread old mid Below node → ((v : ℕ) → 0 < v → doubt_in old v ≡ Clear) → (v : ℕ) → 0 < v → doubt_in mid v ≢ Here
-none_here_led old mid node spread clear v some e = at (spread.each v)
-  where
-    at : (doubt_in mid v ≡ doubt_in old v) ⊎ ((doubt_in old v ≡ Clear) × (doubt_in mid v ≡ Below)) → ⊥
-    at (inl k) = here_is_doubt (sym e ∙ k ∙ clear v some)
-    at (inr k) = absurd (let z : Here ≡ Below = sym e ∙ k.1 in cc)
 
 -- at the root all is done
 pub raising_ends : {Item : Type 0} (slot : ℕ) (old mid now : Standings Item) (node : ℕ) → IsTree old → slot < length old.items → mid ≡ record old { doubts = mid.doubts } → IsSpread old.doubts mid.doubts Below ((length old.items + slot) / 2)
@@ -242,7 +230,7 @@ raising_ends {Item} slot old mid now node tree inside same spread ended h = (
     here_first v e (inr k) = absurd (here_is_doubt (sym e ∙ k.0))
 
     fed_first : IsFed old → IsFed mid
-    fed_first fed = subst IsFed (sym same) (λ v i some inside n e. fed v i some inside (λ here. n (here_first v here (spread.each v))) e)
+    fed_first fed = subst IsFed (sym same) fed
 
     clear_first : (v : ℕ) → doubt_in mid.doubts v ≡ Clear → (doubt_in mid.doubts v ≡ doubt_in old.doubts v) ⊎ ((doubt_in old.doubts v ≡ Clear) × (doubt_in mid.doubts v ≡ Below)) → doubt_in old.doubts v ≡ Clear
     clear_first v e (inl k) = sym k ∙ e

@@ -39,8 +39,8 @@ module _ {Item : Type 0} (key : Key Item) where
       leaf_doubt t.doubts tree.closed t.size v i some (let r = tree.items_room in omega arith) (subst (λ n. doubt_in t.doubts ((n + i) / 2) ≢ Clear) tree.items_room (leaves i e)) under
 
   -- a match has the winner of a half
-  fed_when_sound : (t : Standings Item) → IsSound key t → IsFed t
-  fed_when_sound t sound v i some inside n e = of_match (sound.consistent v some inside n)
+  fed_by : (t : Standings Item) → ((v : ℕ) → 0 < v → v < length t.items → (sign : Sign) × IsRight key (λ f. sign) t v) → IsFed t
+  fed_by t right v i some inside e = of_match (right v some inside)
     where
       of_match : (sign : Sign) × IsRight key (λ f. sign) t v → (named_at t (2 * v) ≡ Some i) ⊎ (named_at t (2 * v + 1) ≡ Some i)
       of_match (sign, right) = at (match_slot key (λ f. sign) (entry_at t (2 * v)) (entry_at t (2 * v + 1)) i (sym (ap (λ (p : Option ℕ × Option Fact). p.0) right) ∙ e))
@@ -120,12 +120,25 @@ module _ {Item : Type 0} (key : Key Item) where
               ∙ ap (λ x. match_of key (λ f. sign) (entry_at t (2 * v)) x) (entry_as (2 * v + 1) apart_right))),
         )
 
+    fed_after : IsFed new
+    fed_after v i some low e =
+        let f = sound.fed v i some (let r = room_kept in omega arith) (sym (ap (λ (x : Standings Item). best_in x.best v) same) ∙ e) in
+        at f
+      where
+        as_before : (u : ℕ) → named_at t u ≡ Some i → named_at new u ≡ Some i
+        as_before u f = ap (λ (x : Standings Item). named_at x u) same ∙ named_as u ∙ f
+
+        at : (named_at t (2 * v) ≡ Some i) ⊎ (named_at t (2 * v + 1) ≡ Some i) → (named_at new (2 * v) ≡ Some i) ⊎ (named_at new (2 * v + 1) ≡ Some i)
+        at (inl f) = inl (as_before (2 * v) f)
+        at (inr f) = inr (as_before (2 * v + 1) f)
+
     pub sound_marked : IsSound key new
     sound_marked = record {
       some = subst (λ n. 1 ≤ n) (sym size_same) sound.some;
       leaves = leaves_after;
       won = won_after;
       consistent = consistent_after;
+      fed = fed_after;
       no_root = ap (λ (x : Standings Item). fact_in x.facts 0) same ∙ sound.no_root;
       few = subst (λ n. doubt_count new.doubts ≤ 1 + n * mark_count new.marked) (sym size_same) few;
     }
@@ -150,7 +163,7 @@ module _ {Item : Type 0} (key : Key Item) where
           subst (λ n. doubt_count new.doubts ≤ 1 + t.size * n) (sym c) (omega arith))
       at false e =
           let s = spread e in
-          sound_marked t new tree tree' sound slot inside item same s.here_kept s.kept s.reached (s.won (fed_when_sound t sound))
+          sound_marked t new tree tree' sound slot inside item same s.here_kept s.kept s.reached (s.won sound.fed)
           (let k = mark_more t.marked slot room e in let c : mark_count new.marked ≡ mark_count t.marked + 1 = marked_are ∙ k in
           let d = s.few in let f = sound.few in
           subst (λ n. doubt_count new.doubts ≤ 1 + t.size * n) (sym c) (enough (doubt_count new.doubts) (doubt_count t.doubts) t.size (mark_count t.marked) d f))
@@ -240,10 +253,14 @@ module _ {Item : Type 0} (key : Key Item) where
     some = big;
     leaves = h.leaves;
     won = λ i u e. absurd (h.leaves i e (clear ((length t.items + i) / 2) (omega arith)));
-    consistent = λ v some inside e. right_at_one key t v signs (h.right v some inside (ap (needs_play all) (clear v some)));
+    consistent = λ v some inside e. at_one v some inside;
+    fed = fed_by t at_one;
     no_root = h.no_root;
     few = let k = count_of_top t.doubts h.tree.closed clear in omega arith;
   }
+    where
+      at_one : (v : ℕ) → 0 < v → v < length t.items → (sign : Sign) × IsRight key (λ f. sign) t v
+      at_one v some inside = right_at_one key t v signs (h.right v some inside (ap (needs_play all) (clear v some)))
 
   pub unmarked_repaired : (all : Bool) (t : Standings Item) (signs : Form → Sign) → IsDoubtful all key signs t → 1 < length t.items → ((v : ℕ) → 0 < v → doubt_in t.doubts v ≡ Clear) → (i : ℕ) → mark_in t.marked i ≡ false
   unmarked_repaired all t signs h many clear i = at (mark_in t.marked i) refl

@@ -19,9 +19,9 @@ pub record IsSpread (old new : List Doubt) (doubt : Doubt) (node : ℕ) : Type 0
   pub each : (v : ℕ) → (doubt_in new v ≡ doubt_in old v) ⊎ ((doubt_in old v ≡ Clear) × (doubt_in new v ≡ doubt))
   pub few : (height : ℕ) → node < 2 ^ height → doubt_count new ≤ doubt_count old + height
 
--- the best slot of a node that isn't in doubt itself is that of a half
+-- the best slot of a node is that of a half
 abbrev pub IsFed : {Item : Type 0} → Standings Item → Type 0
-IsFed t = (v i : ℕ) → 0 < v → v < length t.items → doubt_in t.doubts v ≢ Here → best_in t.best v ≡ Some i → (named_at t (2 * v) ≡ Some i) ⊎ (named_at t (2 * v + 1) ≡ Some i)
+IsFed t = (v i : ℕ) → 0 < v → v < length t.items → best_in t.best v ≡ Some i → (named_at t (2 * v) ≡ Some i) ⊎ (named_at t (2 * v + 1) ≡ Some i)
 
 -- the nodes above a slot came into doubt where they were clear, and those of which the slot is the best of a half are in doubt themselves
 pub record IsMarkedUp {Item : Type 0} (slot : ℕ) (old : Standings Item) (new : List Doubt) : Type 0 where

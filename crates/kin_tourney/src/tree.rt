@@ -168,17 +168,8 @@ impl<I: Copy> Tree<I> {
         self.doubts[node] = Doubt::Here;
     }
 
-    /// Whether no node is in doubt.
-    fn is_settled(&self) -> bool
-        requires { IsTree self.now }
-        ensures { result ≡ true → (v : ℕ) → 0 < v → doubt_in self.now.doubts v ≡ Doubt.Clear }
-    {
-        1 < self.slots() && self.is_clear(1)
-    }
-
     /// Puts the nodes above a slot into doubt. Only where it is the best of a half, the match itself
-    /// has to be played again. Where nothing was in doubt, it is the best of no node above one that
-    /// it isn't the best of.
+    /// has to be played again. Above a node that it isn't the best of, it is the best of none.
     fn doubt_above(&mut self, slot: u32)
         requires tree { IsTree self.old }
         requires slot { slot < length self.old.items }
@@ -186,17 +177,14 @@ impl<I: Copy> Tree<I> {
         ensures same { self.new ≡ record self.old { doubts = self.new.doubts } }
         ensures marked { IsMarkedUp slot self.old self.new.doubts }
     {
-        let was_settled = self.is_settled();
         let mut node = self.slots() + slot as usize;
         self.lead_to(node / 2);
         while node > 1 {
             if self.is_best_of(slot, node) {
                 self.raise(node / 2);
                 node /= 2;
-            } else if was_settled {
-                node = 0;
             } else {
-                node /= 2;
+                node = 0;
             }
         }
     }

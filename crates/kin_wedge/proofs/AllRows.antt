@@ -3,10 +3,12 @@ use Rattle.std.proofs.Common.{◌≡◌, ◌≢◌, refl, sym, ap, ap₂, ◌∙
 use Rattle.std.specs.Prelude.{slice_get}
 use Rattle.std.proofs.lemmas.Bool.{cases_eq}
 use Rattle.std.proofs.lemmas.Bool.Decides.{nat_tests}
-use Rattle.std.proofs.lemmas.List.{length-set, length-map, get_or-set_same, get_or-set_other}
+use Rattle.std.proofs.lemmas.List.{length-set, length-map, set-get_or, get_or-set_same, get_or-set_other}
 use Rattle.std.proofs.lemmas.Option.{same_Some}
 use Rattle.kin_list.specs.declared.mark.Mark.{Mark}
-use Rattle.kin_list.specs.Listing.{Listing, staying, without}
+use Rattle.kin_list.specs.declared.mark.Mark.TheVariants.{Rest}
+use Rattle.kin_list.specs.Listing.{Listing, staying, lasting, without}
+use Rattle.kin_list.specs.Rows.{exchanged}
 use Rattle.kin_wedge.specs.declared.touch.Touch.{Touch}
 use Rattle.kin_wedge.specs.Parts.{swaps_of}
 use Rattle.kin_wedge.specs.Passages.{AreExchangesOffered}
@@ -110,6 +112,23 @@ module _ (mark : Mark) (lists : List Listing) (candidates : List (Option ℕ)) (
       offered : (part x y : ℕ) → part < i + 1 → WereExchanged (row_of (swaps_of lists) part) (staying mark (row_of old part)) x y → (part ≡ i) ⊎ (part ≢ i) → HasOfferedBoth (rows_of lists) candidates part x y us
       offered part x y h k (inl s) = subst (λ (n : ℕ). HasOfferedBoth (rows_of lists) candidates n x y us) (sym s) (own x y (subst (λ (n : ℕ). WereExchanged (row_of (swaps_of lists) n) (staying mark (row_of old n)) x y) s k))
       offered part x y h k (inr n) = offered_stays (rows_of lists) candidates ts us part x y t (a.offered part x y (omega (arith, h, n)) k)
+
+  -- a list that stands still is as its row was
+  pub followed_still : (now : List (List ℕ)) (ts : List Touch) (i : ℕ) (l : Listing) → slice_get lists i ≡ Some l → i < length now → AreFollowed mark lists candidates old now first ts i
+      → exchanged (row_of (swaps_of lists) i) (staying mark (row_of old i)) ≡ lasting mark (row_of (rows_of lists) i) → mark ≡ Rest → l.swaps ≡ [] → AreFollowed mark lists candidates old now first ts (i + 1)
+  followed_still now ts i l here w a e rest still =
+      subst (λ (rs : List (List ℕ)). AreFollowed mark lists candidates old rs first ts (i + 1)) (set-get_or now i [])
+      (followed_more now (row_of now i) ts ts i l here w a same (λ x y k. absurd (subst (λ (sw : List ℕ). WereExchanged sw (staying mark (row_of now i)) x y) still k)) (touched_none candidates ts))
+    where
+      -- without a mark and an exchange both orders are one
+      unmoved : (m : Mark) (xs ys : List ℕ) → m ≡ Rest → staying m xs ≡ lasting m ys → xs ≡ ys
+      unmoved m xs ys r f = sym (ap (λ (n : Mark). staying n xs) r) ∙ f ∙ ap (λ (n : Mark). lasting n ys) r
+
+      same : row_of now i ≡ l.items
+      same =
+          a.left i (omega arith)
+          ∙ unmoved mark (row_of old i) (row_of (rows_of lists) i) rest (sym (ap (λ (sw : List ℕ). exchanged sw (staying mark (row_of old i))) (swaps_there lists i l here ∙ still)) ∙ e)
+          ∙ items_there lists i l here
 
   pub followed_rows : (now : List (List ℕ)) (ts : List Touch) (i : ℕ) → length old ≡ 8 → length lists ≡ 8 → 8 ≤ i → AreFollowed mark lists candidates old now first ts i → now ≡ rows_of lists
   followed_rows now ts i m n h a =

@@ -6,8 +6,6 @@ pub mod Scenes
 pub mod OctantSides
 pub mod StillThere
 pub mod Scanning
-pub mod Mirrors
-pub mod Cursors
 pub mod Slots
 pub mod Halves
 pub mod Touching
@@ -16,7 +14,6 @@ pub mod Lost
 pub mod Following
 pub mod Renewing
 pub mod TakenUp
-pub mod Empty
 pub mod Posting
 pub mod Stepwise
 pub mod Vacancy

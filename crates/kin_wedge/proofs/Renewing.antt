@@ -1,5 +1,5 @@
 -- A candidate after an offer is in its octant.
-use Rattle.std.proofs.Common.{◌≡◌, refl, sym, ap, ◌∙◌, arith, ◌*◌, ◌<◌, List, ℕ, Bool, true, false, cond, Some, None, Option, inl, inr, ◌⊎◌}
+use Rattle.std.proofs.Common.{◌≡◌, refl, sym, ap, ◌∙◌, arith, ◌*◌, ◌<◌, List, ℕ, [], ◌∷◌, zero, suc, set, Bool, true, false, cond, Some, None, Option, inl, inr, ◌⊎◌}
 use Rattle.std.specs.Prelude.{slice_get}
 use Rattle.std.proofs.lemmas.Option.{same_Some}
 use Rattle.std.proofs.lemmas.Bool.{cases_Bool, and_parts}
@@ -52,3 +52,9 @@ module _ (rows : List (List ℕ)) (o : Octant) (p : ℕ) where
 
 pub same_octant : (w : ℕ) (a b : Octant) → slice_get octants w ≡ Some a → slice_get octants w ≡ Some b → a ≡ b
 same_octant w a b e f = same_Some a b (sym e ∙ f)
+
+-- a write of what is there changes nothing
+pub set_as_it_is : {A : Type 0} (xs : List A) (p : ℕ) (x : A) → slice_get xs p ≡ Some x → xs ≡ set xs p x
+set_as_it_is [] p x e = refl
+set_as_it_is {A} (y ∷ ys) zero x e = ap (λ z. z ∷ ys) (same_Some y x e)
+set_as_it_is {A} (y ∷ ys) (suc p) x e = ap (λ (l : List A). y ∷ l) (set_as_it_is ys p x e)

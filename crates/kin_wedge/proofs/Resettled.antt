@@ -26,7 +26,7 @@ use Rattle.kin_list.specs.Rows.{exchanged}
 use Rattle.kin_list.proofs.ListLaws.{not_in-without}
 use Rattle.kin_wedge.specs.Parts.{EachTo, IsResettled, facts_from, swaps_of}
 use Rattle.kin_wedge.specs.Passages.{AreAnswered, AreBeside, IsPassage}
-use Rattle.kin_wedge.specs.Rows.{row_of, AreOrders, AreRanked, AreRows, HaveSlots}
+use Rattle.kin_wedge.specs.Rows.{row_of, AreAlike, AreOrders, AreRanked, AreRows, HaveSlots}
 use Rattle.kin_wedge.specs.Seen.{rows_of}
 use Rattle.kin_wedge.specs.Sides.{AreParted}
 use Rattle.kin_wedge.specs.Wedging.{Wedging, candidate_at, members_of, AreKept, AreWedges, IsListOf, IsMarkable}
@@ -139,8 +139,8 @@ module _ {s : Scene} {size : ℕ} {mark : Mark} {old new : List Listing} {rows :
   pub parted_now : AreParted (rows_of new)
   parted_now = parted s laws (rows_of new) orders
 
-  pub alike_now : (part i : ℕ) → is_in i (row_of (rows_of new) part) ≡ true → is_in i (row_of (rows_of new) 0) ≡ true
-  alike_now part i h = (orders.order 0 (omega arith)).all.same i ∙ live part i h
+  pub alike_now : AreAlike (rows_of new)
+  alike_now part i h = (orders.order part h).all.same i ∙ sym ((orders.order 0 (omega arith)).all.same i)
 
   below : (i : ℕ) → is_in i s.live ≡ true → i < 2 ^ size
   below = live_below size mark old rows candidates k s.live may.ready
@@ -241,7 +241,7 @@ module _ {s : Scene} {size : ℕ} {mark : Mark} {old new : List Listing} {rows :
         each = list_of;
         same = f;
         once = λ part h. (orders.order part h).all.once;
-        alike = λ part i h. (orders.order part h).all.same i ∙ sym ((orders.order 0 (omega arith)).all.same i);
+        alike = alike_now;
         below = λ i h. below i (live 0 i h);
         answered = answered;
         markable = tt;

@@ -1,4 +1,3 @@
-pub mod Cursors
 pub mod Rows
 pub mod Scans
 pub mod Seen

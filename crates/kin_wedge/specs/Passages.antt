@@ -1,5 +1,5 @@
 -- From the orders before a settle to those after it.
-use Rattle.std.specs.Prelude.{◌≡◌, ◌≢◌, Contains, nat_lt, ℕ, ◌+◌, ◌*◌, ◌<◌, true, false, List, [], length, Option, Some, None, slice_get}
+use Rattle.std.specs.Prelude.{◌≡◌, ◌≢◌, Contains, nat_lt, ℕ, ◌+◌, ◌*◌, ◌<◌, ◌≤◌, true, false, List, [], length, Option, Some, None, slice_get}
 use Rattle.kin_motion.specs.Numbers.{is_in, IsChain}
 use Rattle.kin_motion.specs.Octants.{Octant, octants}
 use Rattle.kin_list.specs.declared.mark.Mark.{Mark}
@@ -37,6 +37,10 @@ IsLookedUp i ts = (w : ℕ) → w < 8 → IsOffered ts (8 * i + w) None
 -- a number is offered to each octant that it is in, where no candidate stands before it
 abbrev pub IsOfferedAround : List (List ℕ) → List (Option ℕ) → ℕ → List Touch → Type 0
 IsOfferedAround rows candidates i ts = (p w : ℕ) (o : Octant) → slice_get octants w ≡ Some o → ComesFirst rows candidates o p w i → IsOffered ts (8 * p + w) (Some i)
+
+-- the same at the apexes that stand in the first order from one place to before another
+abbrev pub IsOfferedFrom : List (List ℕ) → List (Option ℕ) → ℕ → ℕ → ℕ → List Touch → Type 0
+IsOfferedFrom rows candidates i from to ts = (k p w : ℕ) (o : Octant) → from ≤ k → k < to → slice_get (row_of rows 0) k ≡ Some p → slice_get octants w ≡ Some o → ComesFirst rows candidates o p w i → IsOffered ts (8 * p + w) (Some i)
 
 -- each slot whose candidate a number is, is looked up
 abbrev pub IsLost : List (Option ℕ) → ℕ → List Touch → Type 0

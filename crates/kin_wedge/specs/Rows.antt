@@ -34,6 +34,10 @@ pub record AreOrders (s : Scene) (rows : List (List ℕ)) : Type 0 where
   pub count : length rows ≡ 8
   pub order : (part : ℕ) → part < 8 → IsOrder s (direction_of part).dx (direction_of part).dy (row_of rows part)
 
+-- the eight lists have the same members
+abbrev pub AreAlike : List (List ℕ) → Type 0
+AreAlike rows = (part i : ℕ) → part < 8 → is_in i (row_of rows part) ≡ is_in i (row_of rows 0)
+
 -- eight lists, in none of which a number stands twice
 pub record AreRows (rows : List (List ℕ)) : Type 0 where
   pub count : length rows ≡ 8

@@ -18,12 +18,12 @@ pub record AreSides (rows : List (List ℕ)) (p q : ℕ) (s : Sides) : Type 0 wh
 abbrev pub IsPlace : List ℕ → ℕ → Option ℕ → Type 0
 IsPlace row who place = MatchOption place (is_in who row ≡ false) (λ p. slice_get row p ≡ Some who)
 
--- the places of a number in each of the first four orders
+-- the places of a member in the first four orders
 pub record IsSpot (rows : List (List ℕ)) (who : ℕ) (s : Spot) : Type 0 where
-  pub y : IsPlace (row_of rows 0) who s.y
-  pub difference : IsPlace (row_of rows 1) who s.difference
-  pub x : IsPlace (row_of rows 2) who s.x
-  pub sum : IsPlace (row_of rows 3) who s.sum
+  pub y : slice_get (row_of rows 0) s.y ≡ Some who
+  pub difference : slice_get (row_of rows 1) s.difference ≡ Some who
+  pub x : slice_get (row_of rows 2) s.x ≡ Some who
+  pub sum : slice_get (row_of rows 3) s.sum ≡ Some who
 
 -- the octant in which q then lies, if it lies in one
 abbrev pub octant_by : Sides → ℕ

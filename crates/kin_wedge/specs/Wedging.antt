@@ -10,7 +10,7 @@ use Rattle.kin_list.specs.declared.mark.Mark.TheVariants.{Rest, Enters, Leaves, 
 use Rattle.kin_list.specs.Listing.{Listing, HasMarked}
 use Rattle.kin_wedge.specs.Parts.{AreAtNought}
 use Rattle.kin_wedge.specs.Passages.{AreAnswered}
-use Rattle.kin_wedge.specs.Rows.{row_of, AreOrders}
+use Rattle.kin_wedge.specs.Rows.{row_of, AreAlike, AreOrders}
 use Rattle.kin_wedge.specs.Seen.{rows_of}
 
 -- numbers are below 2^size; the orders of the eight parts, the live facts, the candidate of each slot 8p + w, the slots that the last settle changed, and the mark
@@ -67,7 +67,7 @@ pub record AreKept (size : ℕ) (mark : Mark) (lists : List Listing) (rows : Lis
   pub each : (part : ℕ) (l : Listing) → slice_get lists part ≡ Some l → IsListOf size mark part l
   pub same : rows ≡ rows_of lists
   pub once : (part : ℕ) → part < 8 → IsOnce (row_of (rows_of lists) part)
-  pub alike : (part i : ℕ) → part < 8 → is_in i (row_of (rows_of lists) part) ≡ is_in i (row_of (rows_of lists) 0)
+  pub alike : AreAlike (rows_of lists)
   pub below : (i : ℕ) → is_in i (row_of (rows_of lists) 0) ≡ true → i < 2 ^ size
   pub answered : AreAnswered (rows_of lists) candidates
   pub markable : IsMarkable size mark (row_of (rows_of lists) 0)

@@ -1,19 +1,49 @@
 //! What a number that enters or leaves can have changed.
 
-ghost use Rattle.std.specs.Prelude.{◌≡◌, ℕ, ◌+◌, ◌*◌, ◌<◌, ◌^◌, Some, true, length, slice_get, OnOk};
-ghost use Rattle.kin_motion.specs.Numbers.{is_in};
+ghost use Rattle.std.specs.Prelude.{◌≡◌, ℕ, ◌+◌, ◌*◌, ◌<◌, ◌≤◌, ◌^◌, Some, true, length, slice_get, OnOk};
 ghost use Rattle.kin_motion.specs.Octants.{Octant as Bounds, octants};
-ghost use Rattle.kin_wedge.specs.Passages.{IsNumberOf, IsLookedUp, IsLost, IsMarkOffered, IsOfferedAround};
-ghost use Rattle.kin_wedge.specs.Rows.{row_of, AreRows, HaveSlots};
+ghost use Rattle.kin_wedge.specs.Passages.{IsNumberOf, IsLookedUp, IsLost, IsMarkOffered, IsOfferedAround, IsOfferedFrom};
+ghost use Rattle.kin_wedge.specs.Rows.{row_of, AreAlike, AreRows, HaveSlots};
 ghost use Rattle.kin_wedge.specs.Seen.{rows_of};
-ghost use Rattle.kin_wedge.specs.Sides.{AreParted};
+ghost use Rattle.kin_wedge.specs.Sides.{AreParted, IsSpot};
 ghost use Rattle.kin_wedge.specs.Touched.{HasTouched};
 
 use crate::orders::Orders;
+use crate::sides::Spot;
 use crate::table::Table;
 use crate::touch::Touches;
 use kin_list::Mark;
 use kin_num::memory::NoMemory;
+
+/// Offers a member to those at some places of the first order, each in the octant that it is in.
+#[inline(always)]
+fn offer_from(
+    orders: &Orders,
+    table: &Table,
+    touches: &mut Touches,
+    no: u32,
+    spot: Spot,
+    from: usize,
+    to: usize,
+) -> Result<(), NoMemory>
+    requires rows { AreRows (rows_of orders.now.lists.items) }
+    requires parted { AreParted (rows_of orders.now.lists.items) }
+    requires members { HaveSlots (rows_of orders.now.lists.items) (length table.now) }
+    requires alike { AreAlike (rows_of orders.now.lists.items) }
+    requires small { length table.now < 2 ^ 32 }
+    requires spot { IsSpot (rows_of orders.now.lists.items) no spot }
+    requires range { from ≤ to }
+    requires within { to ≤ length (row_of (rows_of orders.now.lists.items) 0) }
+    ensures offered { OnOk result (IsOfferedFrom (rows_of orders.now.lists.items) table.now no from to touches.new.all.items) }
+    ensures touched { OnOk result (HasTouched table.now touches.old.all.items touches.new.all.items) }
+{
+    let apexes = orders.list(0).items();
+    for k in from..to {
+        let apex = apexes[k];
+        touches.offer(orders, table, apex, orders.spot_at(k, apex), no, spot)?;
+    }
+    Ok(())
+}
 
 /// Offers a number to all members, each in the octant that it is in.
 fn offer_to_all(
@@ -25,15 +55,21 @@ fn offer_to_all(
     requires rows { AreRows (rows_of orders.now.lists.items) }
     requires parted { AreParted (rows_of orders.now.lists.items) }
     requires members { HaveSlots (rows_of orders.now.lists.items) (length table.now) }
-    requires alike { (part x : ℕ) → is_in x (row_of (rows_of orders.now.lists.items) part) ≡ true → is_in x (row_of (rows_of orders.now.lists.items) 0) ≡ true }
+    requires alike { AreAlike (rows_of orders.now.lists.items) }
     requires small { length table.now < 2 ^ 32 }
     ensures offered { OnOk result (IsOfferedAround (rows_of orders.now.lists.items) table.now no touches.new.all.items) }
     ensures touched { OnOk result (HasTouched table.now touches.old.all.items touches.new.all.items) }
 {
-    let spot = orders.spot(no);
-    for apex in orders.list(0).items() {
-        touches.offer(orders, table, *apex, orders.spot(*apex), no, spot)?;
-    }
+    // Who is no member is in no octant.
+    let Some(place) = orders.place_in(0, no) else {
+        return Ok(());
+    };
+    let place = place as usize;
+    let spot = orders.spot_at(place, no);
+    let end = orders.list(0).items().len();
+    // On which side of an apex it lies in the first order, each half of the apexes has in common.
+    offer_from(orders, table, touches, no, spot, 0, place)?;
+    offer_from(orders, table, touches, no, spot, place, end)?;
     Ok(())
 }
 
@@ -47,7 +83,7 @@ fn note_entering(
     requires rows { AreRows (rows_of orders.now.lists.items) }
     requires parted { AreParted (rows_of orders.now.lists.items) }
     requires members { HaveSlots (rows_of orders.now.lists.items) (length table.now) }
-    requires alike { (part x : ℕ) → is_in x (row_of (rows_of orders.now.lists.items) part) ≡ true → is_in x (row_of (rows_of orders.now.lists.items) 0) ≡ true }
+    requires alike { AreAlike (rows_of orders.now.lists.items) }
     requires small { length table.now < 2 ^ 32 }
     requires slot { 8 * no + 7 < length table.now }
     ensures looked_up { OnOk result (IsLookedUp no touches.new.all.items) }
@@ -82,7 +118,7 @@ pub fn note_mark(
     requires rows { AreRows (rows_of orders.now.lists.items) }
     requires parted { AreParted (rows_of orders.now.lists.items) }
     requires members { HaveSlots (rows_of orders.now.lists.items) (length table.now) }
-    requires alike { (part x : ℕ) → is_in x (row_of (rows_of orders.now.lists.items) part) ≡ true → is_in x (row_of (rows_of orders.now.lists.items) 0) ≡ true }
+    requires alike { AreAlike (rows_of orders.now.lists.items) }
     requires small { length table.now < 2 ^ 32 }
     requires slot { (i : ℕ) → IsNumberOf mark i → 8 * i + 7 < length table.now }
     ensures offered { OnOk result (IsMarkOffered mark (rows_of orders.now.lists.items) table.now touches.new.all.items) }

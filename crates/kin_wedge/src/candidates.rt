@@ -1,10 +1,9 @@
 //! The candidates follow the orders.
 
 ghost use Rattle.std.specs.Prelude.{◌≡◌, ℕ, ◌+◌, ◌*◌, ◌<◌, ◌≤◌, ◌^◌, [], None, true, length, replicate, IfOk, OnOk};
-ghost use Rattle.kin_motion.specs.Numbers.{is_in};
 ghost use Rattle.kin_wedge.specs.Parts.{swaps_of};
 ghost use Rattle.kin_wedge.specs.Passages.{AreAnswered, AreChanged, AreExchangesOffered, AreVacantRows, IsMarkOffered, IsNumberOf, IsPassage};
-ghost use Rattle.kin_wedge.specs.Rows.{row_of, AreRows, AreRanked, HaveSlots};
+ghost use Rattle.kin_wedge.specs.Rows.{AreAlike, AreRows, AreRanked, HaveSlots};
 ghost use Rattle.kin_wedge.specs.Seen.{rows_of};
 ghost use Rattle.kin_wedge.specs.Sides.{AreParted};
 ghost use Rattle.kin_wedge.specs.Touched.{AreKnown};
@@ -50,10 +49,9 @@ impl Candidates {
     fn note(&mut self, mark: Mark, orders: &Orders) -> Result<(), NoMemory>
         requires rows { AreRows (rows_of orders.now.lists.items) }
         requires parted { AreParted (rows_of orders.now.lists.items) }
-        requires alike { (part x : ℕ) → is_in x (row_of (rows_of orders.now.lists.items) part) ≡ true → is_in x (row_of (rows_of orders.now.lists.items) 0) ≡ true }
+        requires alike { AreAlike (rows_of orders.now.lists.items) }
         requires members { HaveSlots (rows_of orders.now.lists.items) (length self.old.table) }
         requires old_rows { length self.old.rows.rows.items ≡ 8 }
-        requires old_members { HaveSlots self.old.rows.rows.items (length self.old.table) }
         requires small { length self.old.table < 2 ^ 32 }
         requires passage { IsPassage mark (swaps_of orders.now.lists.items) self.old.rows.rows.items (rows_of orders.now.lists.items) }
         requires slot { (i : ℕ) → IsNumberOf mark i → 8 * i + 7 < length self.old.table }
@@ -75,10 +73,9 @@ impl Candidates {
         requires rows { AreRows (rows_of orders.now.lists.items) }
         requires ranked { AreRanked (rows_of orders.now.lists.items) }
         requires parted { AreParted (rows_of orders.now.lists.items) }
-        requires alike { (part x : ℕ) → is_in x (row_of (rows_of orders.now.lists.items) part) ≡ true → is_in x (row_of (rows_of orders.now.lists.items) 0) ≡ true }
+        requires alike { AreAlike (rows_of orders.now.lists.items) }
         requires members { HaveSlots (rows_of orders.now.lists.items) (length self.old.table) }
         requires old_rows { length self.old.rows.rows.items ≡ 8 }
-        requires old_members { HaveSlots self.old.rows.rows.items (length self.old.table) }
         requires small { length self.old.table < 2 ^ 32 }
         requires passage { IsPassage mark (swaps_of orders.now.lists.items) self.old.rows.rows.items (rows_of orders.now.lists.items) }
         requires slot { (i : ℕ) → IsNumberOf mark i → 8 * i + 7 < length self.old.table }

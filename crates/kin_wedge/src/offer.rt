@@ -2,7 +2,8 @@
 
 ghost use Rattle.std.specs.Prelude.{◌≡◌, ◌+◌, ◌*◌, ◌<◌, ◌^◌, Some, true, length, slice_get};
 ghost use Rattle.kin_motion.specs.Octants.{Octant as Bounds, octants};
-ghost use Rattle.kin_wedge.specs.Rows.{AreRows};
+ghost use Rattle.kin_motion.specs.Numbers.{is_in};
+ghost use Rattle.kin_wedge.specs.Rows.{row_of, AreAlike, AreRows};
 ghost use Rattle.kin_wedge.specs.Seen.{rows_of};
 ghost use Rattle.kin_wedge.specs.Touched.{ComesFirst, HasPassedBy};
 
@@ -10,16 +11,19 @@ use crate::octant::{orders_of, third_of};
 use crate::orders::Orders;
 use crate::table::Table;
 
-/// Whether no candidate stands before a number in an octant.
+/// Whether no candidate stands before a member in an octant.
+#[inline(always)]
 pub fn leads(orders: &Orders, table: &Table, apex: u32, w: u32, no: u32) -> bool
     requires rows { AreRows (rows_of orders.now.lists.items) }
+    requires alike { AreAlike (rows_of orders.now.lists.items) }
+    requires member { is_in no (row_of (rows_of orders.now.lists.items) 0) ≡ true }
     requires octant { w < 8 }
     requires slot { 8 * apex + w < length table.now }
     requires small { length table.now < 2 ^ 32 }
     ensures { (o : Bounds) → slice_get octants w ≡ Some o → ComesFirst (rows_of orders.now.lists.items) table.now o apex w no → result ≡ true }
 {
     match table.candidate(8 * apex + w) {
-        Some(best) => !orders.comes_after(third_of(w), best, no),
+        Some(best) => !orders.member_comes_after(third_of(w), best, no),
         None => true,
     }
 }

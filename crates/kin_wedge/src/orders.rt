@@ -1,7 +1,8 @@
 //! The eight orders.
 
-ghost use Rattle.std.specs.Prelude.{◌≡◌, ℕ, ◌<◌, ◌≤◌, ◌^◌, Some, slice_get, length, IfOk};
+ghost use Rattle.std.specs.Prelude.{◌≡◌, ℕ, ◌<◌, ◌≤◌, ◌^◌, Some, true, slice_get, length, IfOk};
 ghost use Rattle.kin_motion.specs.Changes.{stands_before};
+ghost use Rattle.kin_motion.specs.Numbers.{is_in};
 ghost use Rattle.kin_wedge.specs.Parts.{AreVacant, vacant_listing};
 ghost use Rattle.kin_wedge.specs.Rows.{row_of, stands_after, is_in_wedge, AreRows};
 ghost use Rattle.kin_wedge.specs.Seen.{octant_seen, reading_seen, rows_of, IsOfEight};
@@ -66,6 +67,27 @@ impl Orders {
         self.list(part).place_of(no)
     }
 
+    /// The place of a member in the order of a part.
+    #[inline(always)]
+    pub fn place_of_member(&self, part: u32, no: u32) -> usize
+        requires part { part < length self.now.lists.items }
+        requires member { is_in no (row_of (rows_of self.now.lists.items) part) ≡ true }
+        ensures { slice_get (row_of (rows_of self.now.lists.items) part) result ≡ Some no }
+    {
+        match self.place_in(part, no) {
+            Some(place) => place as usize,
+            None => unreachable!(),
+        }
+    }
+
+    /// Whether the first of two places in the order of a part is before the second.
+    pub fn rises(&self, part: u32, first: usize, second: usize) -> bool
+        requires { AreRows (rows_of self.now.lists.items) }
+        ensures { (p q : ℕ) → slice_get (row_of (rows_of self.now.lists.items) part) first ≡ Some p → slice_get (row_of (rows_of self.now.lists.items) part) second ≡ Some q → result ≡ stands_before (row_of (rows_of self.now.lists.items) part) p q }
+    {
+        first < second
+    }
+
     /// Whether the number that has the first place stands before the one that has the second in the
     /// order of a part.
     pub fn places_rise(&self, part: u32, first: Option<u32>, second: Option<u32>) -> bool
@@ -116,6 +138,26 @@ impl Orders {
             self.stands_before(reading.part, q, p)
         } else {
             self.stands_before(reading.part, p, q)
+        }
+    }
+
+    /// Whether a member comes after a number, in an order as it is read.
+    #[inline(always)]
+    pub fn member_comes_after(&self, reading: Reading, p: u32, member: u32) -> bool
+        requires rows { AreRows (rows_of self.now.lists.items) }
+        requires part { reading.part < 8 }
+        requires member { is_in member (row_of (rows_of self.now.lists.items) reading.part) ≡ true }
+        ensures { result ≡ stands_after (rows_of self.now.lists.items) (reading_seen reading) p member }
+    {
+        let Some(place) = self.place_in(reading.part, p) else {
+            return false;
+        };
+        let place = place as usize;
+        let rank = self.place_of_member(reading.part, member);
+        if reading.from_end {
+            self.rises(reading.part, rank, place)
+        } else {
+            self.rises(reading.part, place, rank)
         }
     }
 

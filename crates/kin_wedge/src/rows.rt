@@ -2,11 +2,12 @@
 
 ghost use Rattle.std.specs.Prelude.{◌≡◌, ℕ, suc, ◌+◌, ◌*◌, ◌^◌, ◌<◌, Some, [], true, length, slice_get, IfOk, OnOk};
 ghost use Rattle.kin_motion.specs.Numbers.{is_in};
+ghost use Rattle.kin_list.specs.declared.mark.Mark.TheVariants.{Rest};
 ghost use Rattle.kin_list.specs.Listing.{staying, lasting, without};
 ghost use Rattle.kin_list.specs.Rows.{exchange, exchanged};
 ghost use Rattle.kin_wedge.specs.Parts.{swaps_of};
 ghost use Rattle.kin_wedge.specs.Passages.{AreExchangesOffered, AreVacantRows};
-ghost use Rattle.kin_wedge.specs.Rows.{row_of, AreRows, HaveSlots, WereExchanged};
+ghost use Rattle.kin_wedge.specs.Rows.{row_of, AreAlike, AreRows, HaveSlots, WereExchanged};
 ghost use Rattle.kin_wedge.specs.Seen.{rows_of};
 ghost use Rattle.kin_wedge.specs.Sides.{AreParted};
 ghost use Rattle.kin_wedge.specs.Touched.{HasTouched, HasOfferedBoth};
@@ -20,6 +21,16 @@ use kin_num::memory::NoMemory;
 use std::alloc::Global;
 use std::marker::Model;
 
+/// Whether a list is as it was before it settled.
+fn stands_still(mark: Mark, list: &KinList) -> bool
+    ensures { result ≡ true → (mark ≡ Rest) × (list.now.swaps ≡ []) }
+{
+    match mark {
+        Mark::Rest => list.swaps().is_empty(),
+        _ => false,
+    }
+}
+
 /// Makes one exchange in a row, and notes the slots that it can have touched.
 fn follow_one(
     row: &mut Vec<u32>,
@@ -31,7 +42,9 @@ fn follow_one(
 ) -> Result<(), NoMemory>
     requires rows { AreRows (rows_of orders.now.lists.items) }
     requires parted { AreParted (rows_of orders.now.lists.items) }
-    requires members { (x : ℕ) → is_in x row.old.items ≡ true → 8 * x + 7 < length table.now }
+    requires alike { AreAlike (rows_of orders.now.lists.items) }
+    requires members { HaveSlots (rows_of orders.now.lists.items) (length table.now) }
+    requires still_there { (x : ℕ) → is_in x row.old.items ≡ true → is_in x (row_of (rows_of orders.now.lists.items) 0) ≡ true }
     requires small { length table.now < 2 ^ 32 }
     ensures row { OnOk result (row.new.items ≡ exchange place row.old.items) }
     ensures offered { OnOk result ((a b : ℕ) → slice_get row.old.items place ≡ Some a → slice_get row.old.items (suc place) ≡ Some b → HasOfferedBoth (rows_of orders.now.lists.items) table.now part a b touches.new.all.items) }
@@ -57,7 +70,9 @@ pub fn follow_row(
 ) -> Result<(), NoMemory>
     requires rows { AreRows (rows_of orders.now.lists.items) }
     requires parted { AreParted (rows_of orders.now.lists.items) }
-    requires members { (x : ℕ) → is_in x row.old.items ≡ true → 8 * x + 7 < length table.now }
+    requires alike { AreAlike (rows_of orders.now.lists.items) }
+    requires members { HaveSlots (rows_of orders.now.lists.items) (length table.now) }
+    requires still_there { (x : ℕ) → is_in x row.old.items ≡ true → is_in x (row_of (rows_of orders.now.lists.items) 0) ≡ true }
     requires small { length table.now < 2 ^ 32 }
     ensures row { OnOk result (row.new.items ≡ exchanged swaps.now row.old.items) }
     ensures offered { OnOk result ((a b : ℕ) → WereExchanged swaps.now row.old.items a b → HasOfferedBoth (rows_of orders.now.lists.items) table.now part a b touches.new.all.items) }
@@ -145,8 +160,11 @@ impl Row {
     ) -> Result<(), NoMemory>
         requires rows { AreRows (rows_of orders.now.lists.items) }
         requires parted { AreParted (rows_of orders.now.lists.items) }
+        requires alike { AreAlike (rows_of orders.now.lists.items) }
+        requires members { HaveSlots (rows_of orders.now.lists.items) (length table.now) }
+        requires part { part < 8 }
+        requires list { list.now.items ≡ row_of (rows_of orders.now.lists.items) part }
         requires exchanges { exchanged list.now.swaps (staying mark self.old) ≡ lasting mark list.now.items }
-        requires members { (x : ℕ) → is_in x self.old ≡ true → 8 * x + 7 < length table.now }
         requires small { length table.now < 2 ^ 32 }
         ensures row { OnOk result (self.new ≡ list.now.items) }
         ensures offered { OnOk result ((a b : ℕ) → WereExchanged list.now.swaps (staying mark self.old) a b → HasOfferedBoth (rows_of orders.now.lists.items) table.now part a b touches.new.all.items) }
@@ -205,18 +223,22 @@ impl Rows {
     ) -> Result<(), NoMemory>
         requires orders { AreRows (rows_of orders.now.lists.items) }
         requires parted { AreParted (rows_of orders.now.lists.items) }
+        requires alike { AreAlike (rows_of orders.now.lists.items) }
+        requires members { HaveSlots (rows_of orders.now.lists.items) (length table.now) }
         requires count { length orders.now.lists.items ≡ 8 }
         requires rows { length self.old.rows.items ≡ 8 }
         requires exchanges { (part : ℕ) → exchanged (row_of (swaps_of orders.now.lists.items) part) (staying mark (row_of self.old.rows.items part)) ≡ lasting mark (row_of (rows_of orders.now.lists.items) part) }
-        requires members { HaveSlots self.old.rows.items (length table.now) }
         requires small { length table.now < 2 ^ 32 }
         ensures rows { OnOk result (self.new.rows.items ≡ rows_of orders.now.lists.items) }
         ensures offered { OnOk result (AreExchangesOffered mark (swaps_of orders.now.lists.items) self.old.rows.items (rows_of orders.now.lists.items) table.now touches.new.all.items) }
         ensures touched { OnOk result (HasTouched table.now touches.old.all.items touches.new.all.items) }
     {
         for part in 0..8 {
-            let row = &mut self.rows[part as usize];
-            row.follow(mark, part, orders.list(part), orders, table, touches)?;
+            let list = orders.list(part);
+            if !stands_still(mark, list) {
+                let row = &mut self.rows[part as usize];
+                row.follow(mark, part, list, orders, table, touches)?;
+            }
         }
         Ok(())
     }

@@ -2,7 +2,8 @@
 
 ghost use Rattle.std.specs.Prelude.{◌≡◌, ◌<◌, ℕ, Some, true, slice_get};
 ghost use Rattle.kin_motion.specs.Octants.{Octant as Bounds, octants};
-ghost use Rattle.kin_wedge.specs.Rows.{is_in_wedge, AreRows};
+ghost use Rattle.kin_motion.specs.Numbers.{is_in};
+ghost use Rattle.kin_wedge.specs.Rows.{row_of, is_in_wedge, AreAlike, AreRows};
 ghost use Rattle.kin_wedge.specs.Seen.{rows_of};
 ghost use Rattle.kin_wedge.specs.Sides.{octant_by, AreParted, AreSides, IsSpot};
 
@@ -37,26 +38,40 @@ impl Sides {
     }
 }
 
-/// Where a number stands in these four orders.
+/// Where a member stands in these four orders.
 #[derive(Clone, Copy)]
 pub struct Spot {
-    pub y: Option<u32>,
-    pub difference: Option<u32>,
-    pub x: Option<u32>,
-    pub sum: Option<u32>,
+    pub y: usize,
+    pub difference: usize,
+    pub x: usize,
+    pub sum: usize,
 }
 
 impl Orders {
-    /// Where a number stands in the orders that bound the octants.
+    /// Where a member stands in the orders that bound the octants.
+    #[inline(always)]
     pub fn spot(&self, no: u32) -> Spot
-        requires { AreRows (rows_of self.now.lists.items) }
+        requires rows { AreRows (rows_of self.now.lists.items) }
+        requires alike { AreAlike (rows_of self.now.lists.items) }
+        requires member { is_in no (row_of (rows_of self.now.lists.items) 0) ≡ true }
+        ensures { IsSpot (rows_of self.now.lists.items) no result }
+    {
+        self.spot_at(self.place_of_member(0, no), no)
+    }
+
+    /// Where the member at a place of the first order stands.
+    #[inline(always)]
+    pub fn spot_at(&self, y: usize, no: u32) -> Spot
+        requires rows { AreRows (rows_of self.now.lists.items) }
+        requires alike { AreAlike (rows_of self.now.lists.items) }
+        requires place { slice_get (row_of (rows_of self.now.lists.items) 0) y ≡ Some no }
         ensures { IsSpot (rows_of self.now.lists.items) no result }
     {
         Spot {
-            y: self.place_in(0, no),
-            difference: self.place_in(1, no),
-            x: self.place_in(2, no),
-            sum: self.place_in(3, no),
+            y,
+            difference: self.place_of_member(1, no),
+            x: self.place_of_member(2, no),
+            sum: self.place_of_member(3, no),
         }
     }
 
@@ -66,10 +81,10 @@ impl Orders {
         ensures { (p q : ℕ) → IsSpot (rows_of self.now.lists.items) p apex → IsSpot (rows_of self.now.lists.items) q other → AreSides (rows_of self.now.lists.items) p q result }
     {
         Sides {
-            y: self.places_rise(0, apex.y, other.y),
-            difference: self.places_rise(1, apex.difference, other.difference),
-            x: self.places_rise(2, apex.x, other.x),
-            sum: self.places_rise(3, apex.sum, other.sum),
+            y: self.rises(0, apex.y, other.y),
+            difference: self.rises(1, apex.difference, other.difference),
+            x: self.rises(2, apex.x, other.x),
+            sum: self.rises(3, apex.sum, other.sum),
         }
     }
 

@@ -1,38 +1,29 @@
 //! The candidates, and the slots that each number is the candidate of.
 
 ghost use Rattle.std.specs.Prelude.{◌≡◌, ℕ, ◌+◌, ◌*◌, ◌^◌, ◌<◌, ◌≤◌, List, Option, Some, None, true, length, replicate, slice_get, slice_set, IfOk, OnOk, OnErr};
-ghost use Rattle.kin_wedge.specs.Tables.{AreHits, AreEmpty};
+ghost use Rattle.kin_wedge.specs.Tables.{AreHits};
 
 use crate::hits::Hits;
-use kin_links::{Links, ListId, NodeId};
 use kin_num::memory::NoMemory;
-use std::alloc::{AllocError, Global};
+use kin_pointers::pointers::Pointers;
+use std::alloc::Global;
 use std::marker::Model;
 
-/// What a slot holds: its candidate, and the slot's node in that number's list.
-#[derive(Clone, Copy)]
-pub struct Hit {
-    pub candidate: u32,
-    pub node: NodeId,
-}
-
-/// The candidate of each slot, and for each number the list of the slots that it is the candidate
-/// of.
+/// The candidate of each slot, and for each number the slots that it is the candidate of.
 #[derive(Drop)]
 pub struct Table {
-    held: Vec<Option<Hit>>,
-    links: Links<u32>,
+    pointers: Pointers,
 }
 
 impl Model for Table {
     ghost use Rattle.std.specs.Prelude.{List, Option, ℕ};
-    ghost use Rattle.kin_wedge.specs.Tables.{candidates_of, AreMirrored};
+    ghost use Rattle.kin_wedge.specs.Tables.{AreSlots};
 
     ghost Value = { List (Option ℕ) };
 
-    ghost view = { λ t. candidates_of t.held.items };
+    ghost view = { λ t. t.pointers.targets };
 
-    ghost invariant = { λ t. AreMirrored t.held.items t.links };
+    ghost invariant = { λ t. AreSlots t.pointers };
 }
 
 impl Table {
@@ -41,10 +32,7 @@ impl Table {
         requires { slot < length self.now }
         ensures { slice_get self.now slot ≡ Some result }
     {
-        match self.held[slot as usize] {
-            Some(hit) => Some(hit.candidate),
-            None => None,
-        }
+        self.pointers.target(slot)
     }
 
     /// Whether a number is the candidate of a slot.
@@ -63,10 +51,7 @@ impl Table {
         requires { slot < length self.old }
         ensures { self.new ≡ slice_set self.old slot None }
     {
-        if let Some(hit) = self.held[slot as usize] {
-            self.held[slot as usize] = None;
-            self.links.unlink(hit.node);
-        }
+        self.pointers.release(slot);
     }
 
     /// Gives a slot that has none a candidate.
@@ -76,9 +61,7 @@ impl Table {
         ensures ok { OnOk result (self.new ≡ slice_set self.old slot (Some candidate)) }
         ensures err { OnErr result (self.new ≡ self.old) }
     {
-        let node = self.links.push_front(ListId(candidate as usize), slot)?;
-        self.held[slot as usize] = Some(Hit { candidate, node });
-        Ok(())
+        self.pointers.point(slot, candidate)
     }
 
     /// Gives a slot a candidate, or none.
@@ -99,26 +82,12 @@ impl Table {
     pub fn hits(&self, no: u32) -> Hits<'_>
         ensures { AreHits self.now no result }
     {
-        let list = no as usize;
-        let lists = self.held.len() / 8;
-        if list < lists {
-            Hits::new(&self.links, no)
+        if (no as usize) < self.pointers.numbers() {
+            Hits::new(self.pointers.slots_of(no))
         } else {
-            Hits::none(&self.links)
+            Hits::new(&[])
         }
     }
-}
-
-/// So many empty lists.
-fn empty_lists(alloc: Global, count: usize) -> Result<Links<u32>, NoMemory>
-    ensures { IfOk result (λ lists. AreEmpty lists count) }
-{
-    let mut links = Links::new(alloc);
-    for no in 0..count {
-        let _ = no;
-        links.new_list()?;
-    }
-    Ok(links)
 }
 
 /// How many numbers have this size.
@@ -130,11 +99,16 @@ fn numbers_of(size: u32) -> usize
     1 << size
 }
 
-/// So many slots that hold nothing.
-fn no_hits(alloc: Global, count: usize) -> Result<Vec<Option<Hit>>, AllocError>
-    ensures { IfOk result (λ held. held.items ≡ replicate count None) }
+/// So many slots that point at none, over the numbers below `numbers`.
+fn vacant(alloc: Global, slots: usize, numbers: usize) -> Result<Pointers, NoMemory>
+    ensures { IfOk result (λ p. p ≡ record { targets = replicate slots None; numbers = numbers }) }
 {
-    Vec::from_elem(alloc, None, count)
+    let mut pointers = Pointers::new(alloc, numbers)?;
+    for slot in 0..slots {
+        let _ = slot;
+        pointers.add_slot()?;
+    }
+    Ok(pointers)
 }
 
 /// No candidates, with eight slots for each number below `2^size`.
@@ -143,7 +117,6 @@ pub fn new_table(alloc: Global, size: u32) -> Result<Table, NoMemory>
     ensures { IfOk result (λ t. t ≡ replicate (8 * 2 ^ size) None) }
 {
     let numbers = numbers_of(size);
-    let held = no_hits(alloc, 8 * numbers)?;
-    let links = empty_lists(alloc, numbers)?;
-    Ok(Table { held, links })
+    let pointers = vacant(alloc, 8 * numbers, numbers)?;
+    Ok(Table { pointers })
 }

@@ -2,7 +2,8 @@
 
 ghost use Rattle.std.specs.Prelude.{◌≡◌, ℕ, ◌+◌, ◌*◌, ◌<◌, ◌≤◌, ◌^◌, [], Option, Some, None, true, length, slice_get, OnOk};
 ghost use Rattle.kin_motion.specs.Octants.{Octant as Bounds, octants};
-ghost use Rattle.kin_wedge.specs.Rows.{AreRows};
+ghost use Rattle.kin_motion.specs.Numbers.{is_in};
+ghost use Rattle.kin_wedge.specs.Rows.{row_of, AreAlike, AreRows, HaveSlots};
 ghost use Rattle.kin_wedge.specs.Seen.{rows_of};
 ghost use Rattle.kin_wedge.specs.Sides.{AreParted, IsSpot};
 ghost use Rattle.kin_wedge.specs.Touched.{IsOffered, ComesFirst, ComesOrGoes, HasPassedBy, HasTouched, HasOfferedBoth};
@@ -138,7 +139,7 @@ impl Touches {
         Ok(())
     }
 
-    /// Offers a number to the octant of an apex that it is in, where no candidate stands before it. Both
+    /// Offers a member to the octant of an apex that it is in, where no candidate stands before it. Both
     /// stand at these spots.
     #[inline(always)]
     pub fn offer(
@@ -152,6 +153,7 @@ impl Touches {
     ) -> Result<(), NoMemory>
         requires rows { AreRows (rows_of orders.now.lists.items) }
         requires parted { AreParted (rows_of orders.now.lists.items) }
+        requires alike { AreAlike (rows_of orders.now.lists.items) }
         requires at { IsSpot (rows_of orders.now.lists.items) apex at }
         requires spot { IsSpot (rows_of orders.now.lists.items) no spot }
         requires slot { 8 * apex + 7 < length table.now }
@@ -179,7 +181,7 @@ impl Touches {
         Ok(())
     }
 
-    /// Offers a number to the slots of another where it comes or goes. Both stand at these
+    /// Offers a member to the slots of another where it comes or goes. Both stand at these
     /// spots.
     fn offer_within(
         &mut self,
@@ -192,6 +194,7 @@ impl Touches {
     ) -> Result<(), NoMemory>
         requires rows { AreRows (rows_of orders.now.lists.items) }
         requires parted { AreParted (rows_of orders.now.lists.items) }
+        requires alike { AreAlike (rows_of orders.now.lists.items) }
         requires at { IsSpot (rows_of orders.now.lists.items) apex at }
         requires spot { IsSpot (rows_of orders.now.lists.items) no spot }
         requires slot { 8 * apex + 7 < length table.now }
@@ -204,7 +207,7 @@ impl Touches {
         Ok(())
     }
 
-    /// Offers the two numbers of an exchange in an order: each to the other's slots, if the order
+    /// Offers the two members of an exchange in an order: each to the other's slots, if the order
     /// bounds octants, or else to the slots whose candidate the other is in the octants that it ranks.
     pub fn add_exchange(
         &mut self,
@@ -216,8 +219,10 @@ impl Touches {
     ) -> Result<(), NoMemory>
         requires rows { AreRows (rows_of orders.now.lists.items) }
         requires parted { AreParted (rows_of orders.now.lists.items) }
-        requires a { 8 * a + 7 < length table.now }
-        requires b { 8 * b + 7 < length table.now }
+        requires alike { AreAlike (rows_of orders.now.lists.items) }
+        requires members { HaveSlots (rows_of orders.now.lists.items) (length table.now) }
+        requires a { is_in a (row_of (rows_of orders.now.lists.items) 0) ≡ true }
+        requires b { is_in b (row_of (rows_of orders.now.lists.items) 0) ≡ true }
         requires small { length table.now < 2 ^ 32 }
         ensures offered { OnOk result (HasOfferedBoth (rows_of orders.now.lists.items) table.now part a b self.new.all.items) }
         ensures touched { OnOk result (HasTouched table.now self.old.all.items self.new.all.items) }

@@ -3,8 +3,7 @@ use Rattle.std.proofs.lemmas.Option.{same_Some}
 use Rattle.kin_motion.specs.Octants.{Octant}
 use Rattle.kin_wedge.specs.Seen.{octant_seen, rows_of}
 use Rattle.kin_wedge.specs.Touched.{IsRenewed}
-use Rattle.kin_wedge.proofs.Mirrors.{set_as_it_is}
-use Rattle.kin_wedge.proofs.Renewing.{renewed_within, within_slots, same_octant}
+use Rattle.kin_wedge.proofs.Renewing.{renewed_within, within_slots, same_octant, set_as_it_is}
 use Rattle.kin_wedge.proofs.renew.renew.Goals as goal
 
 pub renewed-new-requires-clause-behind : goal.renewed-new-requires-clause-behind

@@ -25,11 +25,11 @@ returns-then-place-len-clause-offered c = λ a b h k. none_past c.args.place b c
 pub add_exchange-requires-clause-a : goal.add_exchange-requires-clause-a
 add_exchange-requires-clause-a c =
     let l = (subst (λ (n : ℕ). c.args.place + 1 < n) (c.len.ensures ∙ c.args.row.now.ok.0) c.if-place-len.false) in
-    c.requires.members c.index.result.now (read_member c.args.row.now.items c.args.place c.index.result.now (omega (arith, l)) c.index.ensures)
+    c.requires.still_there c.index.result.now (read_member c.args.row.now.items c.args.place c.index.result.now (omega (arith, l)) c.index.ensures)
 
 pub add_exchange-requires-clause-b : goal.add_exchange-requires-clause-b
 add_exchange-requires-clause-b c =
-    c.requires.members c.index-2.result.now (read_member c.args.row.now.items (c.args.place + 1) c.index-2.result.now (subst (λ (n : ℕ). c.args.place + 1 < n) (c.len.ensures ∙ c.args.row.now.ok.0) c.if-place-len.false) c.index-2.ensures)
+    c.requires.still_there c.index-2.result.now (read_member c.args.row.now.items (c.args.place + 1) c.index-2.result.now (subst (λ (n : ℕ). c.args.place + 1 < n) (c.len.ensures ∙ c.args.row.now.ok.0) c.if-place-len.false) c.index-2.ensures)
 
 pub returns-clause-row : goal.returns-clause-row
 returns-clause-row c = c.swap.ensures.items ∙ exchange-is_swap c.args.place c.args.row.now.items (subst (λ (n : ℕ). c.args.place + 1 < n) (c.len.ensures ∙ c.args.row.now.ok.0) c.if-place-len.false)

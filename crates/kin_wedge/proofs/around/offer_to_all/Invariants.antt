@@ -1,6 +1,0 @@
-use Rattle.kin_wedge.proofs.Entering.{AreOfferedTo}
-use Rattle.kin_wedge.specs.Seen.{rows_of}
-use Rattle.kin_wedge.proofs.around.offer_to_all.Given as goal
-
-abbrev pub invariant-loop-apex : goal.invariant-loop-apex
-invariant-loop-apex l = AreOfferedTo (rows_of l.orders.lists.items) l.table l.no l.fn.touches.all.items l.touches.all.items l.apex-items l.apex-index
