@@ -102,7 +102,7 @@ impl Draft {
         }
         match command_of(self.size, line.words) {
             Some(command) => {
-                self.commands.push(line.number, command)?;
+                self.commands.push((line.number, command))?;
                 Ok(())
             }
             None => Err(ReadError::BadLine(line.number)),
