@@ -1,5 +1,6 @@
 //! Upper chains, straight from their definition: a point of a set stands in the chain where no point
-//! of the set keeps it off.
+//! of the set keeps it off. Nothing is taken from the code of merges, not even its forms, so that a
+//! slip there can't hide itself here.
 
 ghost use Rattle.std.specs.Prelude.{◌≡◌, ◌≤◌, pos, length, IsTrue, IfOk};
 ghost use Rattle.std.specs.List.{All, list_any};

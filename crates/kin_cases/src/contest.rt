@@ -106,62 +106,30 @@ impl Contest {
     }
 
     /// Puts a point into a slot. No other slot may hold it.
-    pub fn set(self, slot: u32, item: u32) -> Result<Contest, Fault> {
-        let Contest {
-            alloc,
-            size,
-            motions,
-            mut tourney,
-            mut slots,
-            mut marks,
-            is_settled: _,
-        } = self;
-        if !is_live(&motions, item) {
+    pub fn set(mut self, slot: u32, item: u32) -> Result<Contest, Fault> {
+        if !is_live(&self.motions, item) {
             return Err(Fault::NotAskable);
         }
-        if slot >= 1 << size || holds_elsewhere(&slots, slot, item) {
+        if slot >= 1 << self.size || holds_elsewhere(&self.slots, slot, item) {
             return Err(Fault::NotNew);
         }
-        tourney.set(slot, item);
-        slots[slot as usize] = Some(item);
-        marks[slot as usize] = true;
-        Ok(Contest {
-            alloc,
-            size,
-            motions,
-            tourney,
-            slots,
-            marks,
-            is_settled: false,
-        })
+        self.tourney.set(slot, item);
+        self.slots[slot as usize] = Some(item);
+        self.marks[slot as usize] = true;
+        self.is_settled = false;
+        Ok(self)
     }
 
     /// Empties a slot.
-    pub fn clear(self, slot: u32) -> Result<Contest, Fault> {
-        let Contest {
-            alloc,
-            size,
-            motions,
-            mut tourney,
-            mut slots,
-            mut marks,
-            is_settled: _,
-        } = self;
-        if slot >= 1 << size {
+    pub fn clear(mut self, slot: u32) -> Result<Contest, Fault> {
+        if slot >= 1 << self.size {
             return Err(Fault::NotNew);
         }
-        tourney.clear(slot);
-        slots[slot as usize] = None;
-        marks[slot as usize] = true;
-        Ok(Contest {
-            alloc,
-            size,
-            motions,
-            tourney,
-            slots,
-            marks,
-            is_settled: false,
-        })
+        self.tourney.clear(slot);
+        self.slots[slot as usize] = None;
+        self.marks[slot as usize] = true;
+        self.is_settled = false;
+        Ok(self)
     }
 
     /// Goes on to a moment.

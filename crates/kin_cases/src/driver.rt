@@ -5,8 +5,7 @@ ghost use Rattle.kin_motion.specs.declared.fact.Placed.{Placed as Put};
 ghost use Rattle.kin_motion.specs.Scene.{scene_at};
 ghost use Rattle.kin_motion.specs.Sets.{AreDistinct};
 
-use crate::ask::Sight;
-use crate::failing::{after, failing};
+use crate::failing::{after, failing_at};
 use crate::fault::Fault;
 use crate::spares::Spares;
 use crate::watch::Watch;
@@ -85,12 +84,7 @@ impl<K: Kept> Driver<K> {
             mut structure,
             facts,
         } = self;
-        let plain = now.plain();
-        let sight = Sight {
-            signs: &plain,
-            motions: plain.motions,
-        };
-        let failed = failing(alloc, &facts, &sight, spares)?;
+        let failed = failing_at(alloc, &facts, now, spares)?;
         let mut out = Delta::new(alloc);
         structure.settle_steadily(now, &failed, &mut out, steps)?;
         let facts = after(alloc, &facts, &out)?;

@@ -6,9 +6,9 @@ ghost use Rattle.kin_motion.specs.Scene.{scene_at};
 ghost use Rattle.kin_motion.specs.Sets.{ListsExactly};
 ghost use Rattle.kin_env.specs.Trees.{IsEnvelopeAtRest, IsReadyEnvelope, names_leaving};
 
-use crate::ask::{Sight, is_live};
+use crate::ask::is_live;
 use crate::chains::has_number;
-use crate::failing::{after, failing};
+use crate::failing::{after, failing_at};
 use crate::fault::Fault;
 use crate::spares::{Spares, SparesNamed};
 use crate::watch::{Tally, Watch};
@@ -38,12 +38,7 @@ fn settle<S: Spares, L: Ledger>(
     ensures same { OnOk result (tree.new ≡ record tree.old { chains = tree.new.chains; facts = tree.new.facts }) }
     ensures facts { OnOk result (ListsExactly facts.new.items (Contains tree.new.facts)) }
 {
-    let plain = now.plain();
-    let sight = Sight {
-        signs: &plain,
-        motions: plain.motions,
-    };
-    let failed = failing(alloc, facts, &sight, spares)?;
+    let failed = failing_at(alloc, facts, now, spares)?;
     let mut out = Delta::new(alloc);
     tree.settle(now, &failed, &mut out, steps)?;
     *facts = after(alloc, facts, &out)?;

@@ -1,14 +1,15 @@
 //! Which live facts fail at a moment, and which are live after a report.
 
-ghost use Rattle.std.specs.Prelude.{◌≡◌, ◌↔◌, List, [], ◌∷◌, ◌++◌, cond, Contains, IsTrue, IsFalse, IfOk, OnOk};
+ghost use Rattle.std.specs.Prelude.{◌≡◌, ◌↔◌, Bool, List, [], ◌∷◌, ◌++◌, cond, Contains, IsTrue, IsFalse, IfOk, OnOk};
 ghost use Rattle.kin_motion.specs.declared.fact.Placed.{Placed as Put};
-ghost use Rattle.kin_motion.specs.Kinetics.{HasChanged};
-ghost use Rattle.kin_motion.specs.Scene.{Holds};
+ghost use Rattle.kin_motion.specs.Kinetics.{HasChanged, ListsFailing};
+ghost use Rattle.kin_motion.specs.Scene.{Holds, IsReal, scene_at};
 ghost use Rattle.kin_motion.specs.Sets.{AreDistinct, ListsExactly};
 
 use crate::ask::Sight;
 use crate::fault::Fault;
 use crate::spares::Spares;
+use crate::watch::Watch;
 use kin_motion::fact::{Delta, Placed};
 use kin_motion::signs::Signs;
 use std::alloc::Global;
@@ -48,6 +49,26 @@ pub fn failing<S: Spares, O: Signs>(
         let picked = fails(fact, now, spares)?;
         push_if(&mut failed, *fact, picked)?;
     }
+    Ok(failed)
+}
+
+/// The facts that a structure wants to be handed at the moment of a watch.
+pub fn failing_at<S: Spares>(
+    alloc: Global,
+    facts: &[Placed],
+    now: &Watch<'_>,
+    spares: &S,
+) -> Result<Vec<Placed>, Fault>
+    requires { AreDistinct facts.now }
+    ensures real { IfOk result (λ _. IsReal (scene_at now.now.motions.now now.now.moment.now)) }
+    ensures failing { IfOk result (λ v. (live : List Put) (spared : Put → Bool) → ListsExactly facts.now (Contains live) → ((p : Put) → S.is_spared spares.now p ≡ spared p) → ListsFailing live spared (scene_at now.now.motions.now now.now.moment.now) v.items) }
+{
+    let plain = now.plain();
+    let sight = Sight {
+        signs: &plain,
+        motions: plain.motions,
+    };
+    let failed = failing(alloc, facts, &sight, spares)?;
     Ok(failed)
 }
 

@@ -7,8 +7,8 @@ ghost use Rattle.kin_motion.specs.Sets.{ListsExactly};
 ghost use Rattle.kin_list.specs.Listing.{names_leaving};
 ghost use Rattle.kin_wedge.specs.Wedging.{IsReadyWedging, IsSettledWedging, IsWedgingAtRest};
 
-use crate::ask::{Sight, is_live};
-use crate::failing::{after, failing};
+use crate::ask::is_live;
+use crate::failing::{after, failing_at};
 use crate::fault::Fault;
 use crate::spares::{Spares, SparesNone};
 use crate::watch::{Tally, Watch};
@@ -55,12 +55,7 @@ fn settle<S: Spares, L: Ledger>(
     ensures facts { OnOk result (ListsExactly facts.new.items (Contains wedges.new.facts)) }
     ensures size { OnOk result (wedges.new.size ≡ wedges.old.size) }
 {
-    let plain = now.plain();
-    let sight = Sight {
-        signs: &plain,
-        motions: plain.motions,
-    };
-    let failed = failing(alloc, facts, &sight, spares)?;
+    let failed = failing_at(alloc, facts, now, spares)?;
     let mut out = Delta::new(alloc);
     wedges.settle(now, &failed, &mut out, steps)?;
     *facts = after(alloc, facts, &out)?;

@@ -144,16 +144,17 @@ module _ (a b c : ℤ) (up : pos 0 <ℤ a) (small : IsSmall (quadratic a b c)) w
       by_discriminant (pos s) e = let q = whole_root s in by_root s (sym e) q (eq-or-lt_of_le q.1.at_most)
 
 -- ---- all polynomials
+-- the answer of the negated polynomial is its own
+pub turned_answer : (p : Quadratic) (answer : Roots) → AreRootsOf (negated p) answer → AreRootsOf p answer
+turned_answer p answer h = record {
+  canonical = h.canonical;
+  exact = λ w i. let z = negated_zeros p w i in (λ e. (h.exact w i).0 (z.0 e), λ l. z.1 ((h.exact w i).1 l));
+  rising = h.rising;
+  number = h.number ∙ count_negated p;
+}
+
 turned_roots : (p : Quadratic) → HasRoots (negated p) → HasRoots p
-turned_roots p h = (
-  h.0,
-  record {
-    canonical = h.1.canonical;
-    exact = λ w i. let z = negated_zeros p w i in (λ e. (h.1.exact w i).0 (z.0 e), λ l. z.1 ((h.1.exact w i).1 l));
-    rising = h.1.rising;
-    number = h.1.number ∙ count_negated p;
-  },
-)
+turned_roots p h = (h.0, turned_answer p h.0 h.1)
 
 turned_small : (p : Quadratic) → IsSmall p → IsSmall (negated p)
 turned_small p s = record { a_small = turned p.a (2 ^ 28) s.a_small; b_small = turned p.b (2 ^ 29) s.b_small; c_small = turned p.c (2 ^ 28) s.c_small }

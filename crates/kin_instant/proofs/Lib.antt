@@ -11,6 +11,7 @@ pub mod Kept
 pub mod Divided
 pub mod Discriminants
 pub mod Existence
+pub mod BothRoots
 pub mod NextExistence
 pub mod KeyOrder
 pub mod Spans

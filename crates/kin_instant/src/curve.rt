@@ -1,17 +1,26 @@
 //! The lesser or the greater root of a quadratic, made alone.
 
 ghost use Rattle.std.specs.Prelude.{◌≡◌, ◌≢◌, ◌≤◌, ◌<◌, ◌^◌, ◌*◌, ◌%◌, ℕ, IsTrue, ℤ, ◌<ℤ◌, ◌≤ℤ◌, ◌*ℤ◌, pos, unsigned_abs, Some, IfSome, IfNone};
-ghost use Rattle.kin_num.specs.Quadratic.{IsSmall};
+ghost use Rattle.std.specs.Int.{◌∣◌};
+ghost use Rattle.kin_num.specs.Quadratic.{IsSmall, negated};
 ghost use Rattle.kin_num.specs.Canonical.{discriminant};
 ghost use Rattle.kin_instant.specs.Roots.{quadratic};
 ghost use Rattle.kin_instant.specs.Sides.{IsRootOn};
 
 use crate::product::difference_of_products;
 use crate::ratio::{exact_quotient, ratio};
-use crate::solve::common_divisor;
+use kin_num::divisor::gcd;
 use kin_num::instant::{Instant, Shape};
 use kin_num::poly::Poly;
 use kin_num::root::isqrt;
+
+/// `-p`.
+#[inline(always)]
+pub(crate) fn negative(p: &Poly) -> Poly
+    ensures { result ≡ negated p.now }
+{
+    Poly::new(-p.a(), -p.b(), -p.c())
+}
 
 /// One of the two rational roots of a quadratic, or its double one, where `root` is the square root of the discriminant.
 fn rational_root(a: i64, b: i64, root: i64, upper: bool) -> Instant
@@ -27,6 +36,23 @@ fn rational_root(a: i64, b: i64, root: i64, upper: bool) -> Instant
     } else {
         ratio(-root - b, 2 * a)
     }
+}
+
+/// The greatest common divisor of three numbers, of which the first is positive.
+fn common_divisor(a: i64, b: i64, c: i64) -> i64
+    requires a_positive { pos 0 <ℤ a }
+    requires a_small { unsigned_abs a < 2 ^ 63 }
+    ensures positive { pos 0 <ℤ result }
+    ensures divides_a { unsigned_abs result ∣ unsigned_abs a }
+    ensures divides_b { unsigned_abs result ∣ unsigned_abs b }
+    ensures divides_c { unsigned_abs result ∣ unsigned_abs c }
+    ensures greatest { (k : ℕ) → k ∣ unsigned_abs a → k ∣ unsigned_abs b → k ∣ unsigned_abs c → k ∣ unsigned_abs result }
+{
+    let divisor = gcd(b.unsigned_abs(), a.unsigned_abs());
+    if divisor == 1 {
+        return 1;
+    }
+    gcd(c.unsigned_abs(), divisor) as i64
 }
 
 /// One of the two irrational roots of a quadratic.

@@ -12,7 +12,7 @@ ghost use Rattle.kin_instant.specs.Sides.{root_on};
 ghost use Rattle.kin_instant.specs.Places.{IsZeroPolynomial, IsNextRoot, HasNoRootAfter, KeepsSign};
 ghost use Rattle.kin_instant.specs.Laws.{IsNext};
 
-use crate::curve::root_on;
+use crate::curve::{negative, root_on};
 use crate::order::compare;
 use crate::roots::Roots;
 use crate::sign::slope_sign;
@@ -82,14 +82,6 @@ fn as_cup(p: &Poly, sign: Sign) -> (Poly, Sign)
     } else {
         (negative(p), sign.opposite())
     }
-}
-
-/// `-p`.
-#[inline(always)]
-fn negative(p: &Poly) -> Poly
-    ensures { result ≡ negated p.now }
-{
-    Poly::new(-p.a(), -p.b(), -p.c())
 }
 
 /// The least root later than the moment `m` of a quadratic whose first coefficient is positive and that has this sign at

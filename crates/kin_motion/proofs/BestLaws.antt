@@ -1,9 +1,7 @@
 -- The computed best item, and the computed extreme point.
-use Rattle.std.proofs.Common.{◌≡◌, ◌≢◌, ◌⊎◌, inl, inr, refl, sym, ap, ◌∙◌, subst, arith, List, [], ◌∷◌, ℕ, zero, ◌<◌, Bool, true, false, cond, not, nat_eq, nat_lt, ℤ, pos}
+use Rattle.std.proofs.Common.{◌≡◌, ◌≢◌, ◌⊎◌, inl, inr, refl, sym, ap, ◌∙◌, subst, arith, List, [], ◌∷◌, ℕ, ◌<◌, Bool, true, false, not, nat_eq, nat_lt, ℤ, pos}
 use Rattle.std.specs.Prelude.{Option, Some, None, Contains, MatchOption}
 use Rattle.std.proofs.lemmas.Bool.Decides.{nat_tests}
-use Rattle.std.proofs.lemmas.Option.{same_Some}
-use Rattle.kin_basics.proofs.Members.{contains_cases, contains_tail, contains_none}
 use Rattle.kin_algebra.specs.declared.sign.Sign.{Sign}
 use Rattle.kin_algebra.specs.declared.sign.Sign.TheVariants.{Minus, Zero, Plus}
 use Rattle.kin_algebra.specs.Signs.{opposite_of, SumMayBe}
@@ -13,58 +11,24 @@ use Rattle.kin_motion.specs.Scene.{Scene}
 use Rattle.kin_motion.specs.Tournaments.{Key, beats, better_of, best_of}
 use Rattle.kin_motion.specs.Extremes.{IsExtreme, IsExtremePoint, left_is_farther, along_key, extreme_of}
 use Rattle.kin_motion.specs.Laws.{HasLineLaws}
+use Rattle.kin_motion.proofs.Choices.{preferred, IsTop, nothing_there, chosen_is_top}
 use Rattle.kin_motion.proofs.Members.{in_from_contains, contains_from_in}
 
 module _ {Item : Type 0} (s : Scene) (key : Key Item)
     (otherwise : (a b : Item) → beats s key a b ≡ false → (a ≡ b) ⊎ (beats s key b a ≡ true))
     (through : (a b c : Item) → beats s key a b ≡ true → beats s key b c ≡ true → beats s key a c ≡ true) where
+  as_preferred : (a : Item) (items : List Item) → best_of s key (a ∷ items) ≡ preferred (beats s key) a (best_of s key items)
+  as_preferred a items = at (best_of s key items)
+    where
+      at : (o : Option Item) → better_of s key a o ≡ preferred (beats s key) a o
+      at None = refl
+      at (Some b) = refl
+
   pub none_there : (xs : List Item) → best_of s key xs ≡ None → xs ≡ []
-  none_there [] e = refl
-  none_there (x ∷ xs) e = at (best_of s key xs) e
-    where
-      at : (o : Option Item) → better_of s key x o ≡ None → x ∷ xs ≡ []
-      at None e = absurd cc
-      at (Some b) e = absurd cc
+  none_there xs e = nothing_there (beats s key) (best_of s key) refl as_preferred xs e
 
-  -- it stands in the list, and beats every other item of it
-  unfoldable pub IsTop : List Item → Item → Type 0
-  IsTop xs a = Contains xs a × ((z : Item) → Contains xs z → (a ≡ z) ⊎ (beats s key a z ≡ true))
-
-  pub best_is_top : (xs : List Item) (a : Item) → best_of s key xs ≡ Some a → IsTop xs a
-  unfolding IsTop
-  best_is_top [] a e = absurd cc
-  best_is_top (x ∷ xs) a e = at (best_of s key xs) refl (best_is_top xs) e
-    where
-      top : (b : Item) → IsTop xs b → (t : Bool) → beats s key x b ≡ t → IsTop (x ∷ xs) (cond t x b)
-      top b r true f = ((zero, omega arith, refl), λ z h. with_x z (contains_cases x z xs h))
-        where
-          with_x : (z : Item) → (x ≡ z) ⊎ Contains xs z → (x ≡ z) ⊎ (beats s key x z ≡ true)
-          with_x z (inl g) = inl g
-          with_x z (inr h) = by_b z (r.1 z h)
-            where
-              by_b : (z : Item) → (b ≡ z) ⊎ (beats s key b z ≡ true) → (x ≡ z) ⊎ (beats s key x z ≡ true)
-              by_b z (inl g) = inr (subst (λ v. beats s key x v ≡ true) g f)
-              by_b z (inr g) = inr (through x b z f g)
-      top b r false f = (contains_tail x b xs r.0, λ z h. with_b z (contains_cases x z xs h))
-        where
-          with_b : (z : Item) → (x ≡ z) ⊎ Contains xs z → (b ≡ z) ⊎ (beats s key b z ≡ true)
-          with_b z (inl g) = turned (otherwise x b f)
-            where
-              turned : (x ≡ b) ⊎ (beats s key b x ≡ true) → (b ≡ z) ⊎ (beats s key b z ≡ true)
-              turned (inl k) = inl (sym k ∙ g)
-              turned (inr k) = inr (subst (λ v. beats s key b v ≡ true) g k)
-          with_b z (inr h) = r.1 z h
-
-      alone : xs ≡ [] → (z : Item) → Contains (x ∷ xs) z → x ≡ z
-      alone none z h = only (contains_cases x z xs h)
-        where
-          only : (x ≡ z) ⊎ Contains xs z → x ≡ z
-          only (inl g) = g
-          only (inr h) = absurd (contains_none z (subst (λ ys. Contains ys z) none h))
-
-      at : (o : Option Item) → best_of s key xs ≡ o → ((b : Item) → best_of s key xs ≡ Some b → IsTop xs b) → better_of s key x o ≡ Some a → IsTop (x ∷ xs) a
-      at None f rest g = subst (IsTop (x ∷ xs)) (same_Some _ _ g) ((zero, omega arith, refl), λ z h. inl (alone (none_there xs f) z h))
-      at (Some b) f rest g = subst (IsTop (x ∷ xs)) (same_Some _ _ g) (top b (rest b f) (beats s key x b) refl)
+  pub best_is_top : (xs : List Item) (a : Item) → best_of s key xs ≡ Some a → IsTop (beats s key) xs a
+  best_is_top xs a e = chosen_is_top (beats s key) (best_of s key) refl as_preferred otherwise through xs a e
 
 -- ---- the extreme point
 pub farther_otherwise : (t : Sign) (i j : ℕ) → left_is_farther t i j ≡ false → (i ≡ j) ⊎ (left_is_farther (opposite_of t) j i ≡ true)

@@ -11,10 +11,8 @@ use Rattle.kin_motion.specs.Theorems.{OneCandidate}
 use Rattle.kin_motion.proofs.RealLaws.{real_line_laws}
 use Rattle.kin_motion.proofs.OrderLaws.{never_before_itself, before_through}
 use Rattle.kin_motion.proofs.OctantLaws.{before_turned}
-use Rattle.kin_motion.proofs.Members.{in_cases, in_head, in_tail}
-
-same_number : {i j : ℕ} → Some i ≡ Some j → i ≡ j
-same_number {i} {j} e = cc
+use Rattle.kin_motion.proofs.Choices.{preferred, IsTop, nothing_there, chosen_is_top}
+use Rattle.kin_motion.proofs.Members.{in_from_contains, contains_from_in}
 
 module _ (s : Scene) (laws : HasLineLaws s) (r : Reading) where
   -- of two different numbers one comes after the other
@@ -39,52 +37,33 @@ module _ (s : Scene) (laws : HasLineLaws s) (r : Reading) where
       at true e = never_before_itself s laws (direction_of r.part).dx (direction_of r.part).dy p e
       at false e = never_before_itself s laws (direction_of r.part).dx (direction_of r.part).dy p e
 
-  -- it is in the list, and every other number of the list comes after it
-  abbrev IsFirst : List ℕ → ℕ → Type 0
-  IsFirst xs c = IsIn c xs × ((q : ℕ) → IsIn q xs → (q ≡ c) ⊎ (comes_after s r c q ≡ true))
+  after_otherwise : (p q : ℕ) → comes_after s r p q ≡ false → (p ≡ q) ⊎ (comes_after s r q p ≡ true)
+  after_otherwise p q e = at (cases_eq p q)
+    where
+      at : (p ≡ q) ⊎ (p ≢ q) → (p ≡ q) ⊎ (comes_after s r q p ≡ true)
+      at (inl k) = inl k
+      at (inr k) = inr (after_turned p q k ∙ ap not e)
+
+  as_preferred : (p : ℕ) (ps : List ℕ) → first_in s r (p ∷ ps) ≡ preferred (comes_after s r) p (first_in s r ps)
+  as_preferred p ps = at (first_in s r ps)
+    where
+      at : (o : Option ℕ) → earlier_of s r p o ≡ preferred (comes_after s r) p o
+      at None = refl
+      at (Some q) = refl
 
   none_first : (xs : List ℕ) → first_in s r xs ≡ None → xs ≡ []
-  none_first [] e = refl
-  none_first (x ∷ xs) e = at (first_in s r xs) e
+  none_first xs e = nothing_there (comes_after s r) (first_in s r) refl as_preferred xs e
+
+  -- it is in the list, and every other number of the list comes after it
+  first_agrees : (xs : List ℕ) (c : ℕ) → first_in s r xs ≡ Some c → IsIn c xs × ((q : ℕ) → IsIn q xs → (q ≡ c) ⊎ (comes_after s r c q ≡ true))
+  unfolding IsTop
+  first_agrees xs c e =
+      let top = chosen_is_top (comes_after s r) (first_in s r) refl as_preferred after_otherwise after_through xs c e in
+      (in_from_contains xs c top.0, λ q h. turned q (top.1 q (contains_from_in xs q h)))
     where
-      at : (o : Option ℕ) → earlier_of s r x o ≡ None → x ∷ xs ≡ []
-      at None e = absurd cc
-      at (Some d) e = absurd cc
-
-  first_agrees : (xs : List ℕ) (c : ℕ) → first_in s r xs ≡ Some c → IsFirst xs c
-  first_agrees [] c e = absurd cc
-  first_agrees (x ∷ xs) c e = at (first_in s r xs) refl (first_agrees xs) e
-    where
-      alone : xs ≡ [] → IsFirst (x ∷ xs) x
-      alone none = (in_head x xs, λ q h. only q (in_cases q x xs h))
-        where
-          only : (q : ℕ) → (q ≡ x) ⊎ IsIn q xs → (q ≡ x) ⊎ (comes_after s r x q ≡ true)
-          only q (inl f) = inl f
-          only q (inr h) = absurd (let clash : false ≡ true = subst (λ ys. IsIn q ys) none h in cc)
-
-      earlier : (d : ℕ) → IsFirst xs d → (t : Bool) → comes_after s r x d ≡ t → IsFirst (x ∷ xs) (cond t x d)
-      earlier d f true e = (in_head x xs, λ q h. with_x q (in_cases q x xs h))
-        where
-          with_x : (q : ℕ) → (q ≡ x) ⊎ IsIn q xs → (q ≡ x) ⊎ (comes_after s r x q ≡ true)
-          with_x q (inl g) = inl g
-          with_x q (inr h) = by_d q (f.1 q h)
-            where
-              by_d : (q : ℕ) → (q ≡ d) ⊎ (comes_after s r d q ≡ true) → (q ≡ x) ⊎ (comes_after s r x q ≡ true)
-              by_d q (inl g) = inr (ap (comes_after s r x) g ∙ e)
-              by_d q (inr g) = inr (after_through x d q e g)
-      earlier d f false e = (in_tail d x xs f.0, λ q h. with_d q (in_cases q x xs h))
-        where
-          with_d : (q : ℕ) → (q ≡ x) ⊎ IsIn q xs → (q ≡ d) ⊎ (comes_after s r d q ≡ true)
-          with_d q (inl g) = turned (cases_eq x d)
-            where
-              turned : (x ≡ d) ⊎ (x ≢ d) → (q ≡ d) ⊎ (comes_after s r d q ≡ true)
-              turned (inl k) = inl (g ∙ k)
-              turned (inr k) = inr (ap (comes_after s r d) g ∙ after_turned x d k ∙ ap not e)
-          with_d q (inr h) = f.1 q h
-
-      at : (o : Option ℕ) → first_in s r xs ≡ o → ((d : ℕ) → first_in s r xs ≡ Some d → IsFirst xs d) → earlier_of s r x o ≡ Some c → IsFirst (x ∷ xs) c
-      at None f rest g = subst (IsFirst (x ∷ xs)) (same_number g) (alone (none_first xs f))
-      at (Some d) f rest g = subst (IsFirst (x ∷ xs)) (same_number g) (earlier d (rest d f) (comes_after s r x d) refl)
+      turned : (q : ℕ) → (c ≡ q) ⊎ (comes_after s r c q ≡ true) → (q ≡ c) ⊎ (comes_after s r c q ≡ true)
+      turned q (inl k) = inl (sym k)
+      turned q (inr k) = inr k
 
 pub candidate_agrees : CandidateAgrees
 candidate_agrees s o p real = at (candidate_of s o p) refl

@@ -16,7 +16,8 @@ use Rattle.kin_motion.specs.ClosestPairs.{Near, is_less_pair, left_is_nearer, di
 use Rattle.kin_motion.specs.Laws.{HasDistanceLaws}
 use Rattle.kin_motion.specs.Agreements.{ClosestAgrees}
 use Rattle.kin_motion.proofs.LiveLaws.{not_below}
-use Rattle.kin_motion.proofs.BestLaws.{none_there, best_is_top, IsTop}
+use Rattle.kin_motion.proofs.BestLaws.{none_there, best_is_top}
+use Rattle.kin_motion.proofs.Choices.{IsTop}
 use Rattle.kin_motion.proofs.DistanceLaws.{LessPair, less_from, less_to, not_both, three_ways, same_or_less, nearer_transitive, real_distance_laws}
 use Rattle.kin_motion.proofs.Members.{in_tail, in_front, in_cases}
 

@@ -11,7 +11,8 @@ use Rattle.kin_motion.specs.Sets.{ListsExactly}
 use Rattle.kin_motion.specs.Scene.{Scene, placed_at}
 use Rattle.kin_motion.specs.Tournaments.{Key, beats, IsBest, item_in, comes_to, is_under, items_from, items_under, best_of, IsNodeFact, node_fact, tournament_facts}
 use Rattle.kin_motion.proofs.SetLaws.{exactly_none, exactly_one, exactly_in_turn, exactly_in_words}
-use Rattle.kin_motion.proofs.BestLaws.{none_there, best_is_top, IsTop}
+use Rattle.kin_motion.proofs.BestLaws.{none_there, best_is_top}
+use Rattle.kin_motion.proofs.Choices.{IsTop}
 
 -- ---- which nodes have slots
 pub not_above : (h u v : ℕ) → comes_to h u v ≡ true → v ≤ u
@@ -115,7 +116,7 @@ module _ {Item : Type 0} (s : Scene) (key : Key Item)
   one_best : (among : ℕ → Bool) (a b : Item) → IsBest s key slots among a → IsBest s key slots among b → a ≡ b
   one_best = one_best_of s key slots (λ i j a b n e f h k. never a (through a b a h k))
 
-  best_from_top : (v : ℕ) (a : Item) → IsTop s key otherwise through (items_under size v slots) a → IsBest s key slots (is_under size v) a
+  best_from_top : (v : ℕ) (a : Item) → IsTop (beats s key) (items_under size v slots) a → IsBest s key slots (is_under size v) a
   unfolding IsTop
   best_from_top v a top =
       let r = under-sound size v slots a top.0 in

@@ -38,7 +38,7 @@ struct Step {
 }
 
 /// How far it is from one coordinate to another.
-fn way(from: i32, to: i32) -> i64
+pub fn way(from: i32, to: i32) -> i64
     requires from_small { unsigned_abs from ≤ 4096 }
     requires to_small { unsigned_abs to ≤ 4096 }
     ensures value { result ≡ to -ℤ from }
@@ -70,7 +70,7 @@ fn step_between(motions: &Motions, i: u32, j: u32) -> Step
 }
 
 /// A product of two coordinates of steps.
-fn times(x: i64, y: i64) -> i64
+pub fn times(x: i64, y: i64) -> i64
     requires x_small { unsigned_abs x ≤ 2 ^ 13 }
     requires y_small { unsigned_abs y ≤ 2 ^ 13 }
     ensures value { result ≡ x *ℤ y }
@@ -80,7 +80,7 @@ fn times(x: i64, y: i64) -> i64
 }
 
 /// A sum of two products of coordinates.
-fn combined(a: i64, x: i64, b: i64, y: i64) -> i64
+pub fn combined(a: i64, x: i64, b: i64, y: i64) -> i64
     requires a_small { unsigned_abs a ≤ 2 ^ 13 }
     requires x_small { unsigned_abs x ≤ 2 ^ 13 }
     requires b_small { unsigned_abs b ≤ 2 ^ 13 }

@@ -1,10 +1,10 @@
 -- Every input has a text.
-use Rattle.std.proofs.Common.{◌≡◌, inl, inr, ℕ, zero, suc, ◌^◌, List, [], ◌∷◌, ◌++◌, Some, None, Result, Ok, Err, refl, sym, subst, replicate}
+use Rattle.std.proofs.Common.{◌≡◌, inl, inr, ℕ, ◌^◌, List, [], ◌∷◌, ◌++◌, Some, None, Result, Ok, Err, refl, sym, subst}
 use Rattle.std.proofs.lemmas.List.{length-replicate}
 use Rattle.std.specs.Prelude.{All}
 use Rattle.std.proofs.lemmas.List.Elements.{All-head, All-tail, All-weaker}
-use Rattle.kin_motion.specs.Course.{motion_of}
 use Rattle.kin_motion.specs.Live.{IsSmallKeep}
+use Rattle.kin_motion.proofs.SlotLaws.{none_live}
 use Rattle.kin_script.specs.declared.script.Script.{Script}
 use Rattle.kin_script.specs.Grammar.{script_of}
 use Rattle.kin_script.specs.Questions.{IsKeepInRange}
@@ -39,15 +39,10 @@ text_exists (c ∷ cs) s sound range = by_end (deed_ends s sound (deed_of c.1) (
         (steps.text ++ more.0, more.1, inr (steps.text, more.0, steps.next, record { allowed = steps.allowed; prints = steps.prints; leads = steps.leads }, more.2, refl))
 
 -- ---- the state at the start
-none_moves : (n i : ℕ) → motion_of (replicate n None) i ≡ None
-none_moves zero i = refl
-none_moves (suc n) zero = refl
-none_moves (suc n) (suc i) = none_moves n i
-
 pub start_sound : (s : Script) → IsWithin s → IsSound (start s.size s.keeps s.journal)
 start_sound s within = record {
   proper = record {
-    slow = record { each = λ i c e. absurd (let none = none_moves (2 ^ s.size) i in cc) };
+    slow = record { each = λ i c e. absurd (let none = none_live (2 ^ s.size) i in cc) };
     slots = length-replicate (2 ^ s.size) None;
     small = All-weaker IsKeepInRange IsSmallKeep small_keep s.keeps within.keeps;
   };

@@ -154,6 +154,11 @@ deed_in_range size (Inside r) range = range
 deed_in_range size Live range = range
 
 -- ---- lines
+
+-- what is said along one direction is said along the same one
+along_same : (Said : ℤ → ℤ → Type 0) (dx dy ex ey : ℤ) → (dx ≡ ex) × (dy ≡ ey) → Said dx dy → Said ex ey
+along_same Said dx dy ex ey e said = subst (λ (d : ℤ). Said d ey) e.0 (subst (λ (d : ℤ). Said dx d) e.1 said)
+
 module _ (s : State) (canonical : IsCanonical s.moment.at) where
   pub real : IsReal (scene_of s)
   real = real_at s.motions s.moment canonical
@@ -164,7 +169,7 @@ module _ (s : State) (canonical : IsCanonical s.moment.at) where
   one_order_line : (k : ℕ) (x y : List ℕ) → IsOrderLine s.keeps (scene_of s) k x → IsOrderLine s.keeps (scene_of s) k y → x ≡ y
   one_order_line k x y a b =
       let e = same_order a.dx a.dy b.dx b.dy (same_Some _ _ (sym a.kept ∙ b.kept)) in
-      let o : IsOrder (scene_of s) b.dx b.dy a.order = subst (λ (d : ℤ). IsOrder (scene_of s) d b.dy a.order) e.0 (subst (λ (d : ℤ). IsOrder (scene_of s) a.dx d a.order) e.1 a.ordered) in
+      let o = along_same (λ dx dy. IsOrder (scene_of s) dx dy a.order) a.dx a.dy b.dx b.dy e a.ordered in
       a.line ∙ ap list_line (order_is_one (scene_of s) b.dx b.dy a.order b.order real o b.ordered) ∙ sym b.line
 
   same_extreme : (dx dy ex ey : ℤ) → keep.Extreme dx dy ≡ keep.Extreme ex ey → (dx ≡ ex) × (dy ≡ ey)
@@ -173,7 +178,7 @@ module _ (s : State) (canonical : IsCanonical s.moment.at) where
   one_extreme_line : (k : ℕ) (x y : List ℕ) → IsExtremeLine s.keeps (scene_of s) k x → IsExtremeLine s.keeps (scene_of s) k y → x ≡ y
   one_extreme_line k x y a b =
       let e = same_extreme a.dx a.dy b.dx b.dy (same_Some _ _ (sym a.kept ∙ b.kept)) in
-      let p : IsExtremePoint (scene_of s) b.dx b.dy a.point = subst (λ (d : ℤ). IsExtremePoint (scene_of s) d b.dy a.point) e.0 (subst (λ (d : ℤ). IsExtremePoint (scene_of s) a.dx d a.point) e.1 a.extreme) in
+      let p = along_same (λ dx dy. IsExtremePoint (scene_of s) dx dy a.point) a.dx a.dy b.dx b.dy e a.extreme in
       a.line ∙ ap one_line (one_extreme (scene_of s) b.dx b.dy a.point b.point real p b.extreme) ∙ sym b.line
 
   one_live_line : (x y : List ℕ) → IsLiveLine s x → IsLiveLine s y → x ≡ y

@@ -101,35 +101,30 @@ behind_header h ls s few e = at (commands_of h.size ls) refl e
         })
 
 -- one more line of the header
-keep_line : (h : Header) (l : Numbered) (ls : List Numbered) (s : Script) (k : Keep) → header_line_of l.1 ≡ Some (header_line.Keep k)
-    → Parts (record h { keeps = h.keeps ++ k ∷ [] }) ls s → Parts h (l ∷ ls) s
-keep_line h l ls s k is p = record {
+one_more : (h : Header) (keeps : List Keep) (journal : Option Bool) (l : Numbered) (ls : List Numbered) (s : Script) (x : HeaderLine) → header_line_of l.1 ≡ Some x
+    → (p : Parts (record h { keeps = keeps; journal = journal }) ls s) → s.keeps ≡ h.keeps ++ keeps_of (x ∷ p.header_lines)
+    → IsJournal (journal_lines h.journal ++ journals_of (x ∷ p.header_lines)) s.journal → Parts h (l ∷ ls) s
+one_more h keeps journal l ls s x is p kept on = record {
   header = l ∷ p.header;
-  header_lines = header_line.Keep k ∷ p.header_lines;
+  header_lines = x ∷ p.header_lines;
   commands = p.commands;
   parts = ap (λ (xs : List Numbered). l ∷ xs) p.parts;
   size = p.size;
   header_says = (is, p.header_says);
-  keeps = p.keeps ∙ append_assoc h.keeps (k ∷ []) (keeps_of p.header_lines);
+  keeps = kept;
   few_keeps = p.few_keeps;
-  journal = p.journal;
+  journal = on;
   commands_say = p.commands_say;
 }
 
+keep_line : (h : Header) (l : Numbered) (ls : List Numbered) (s : Script) (k : Keep) → header_line_of l.1 ≡ Some (header_line.Keep k)
+    → Parts (record h { keeps = h.keeps ++ k ∷ [] }) ls s → Parts h (l ∷ ls) s
+keep_line h l ls s k is p =
+    one_more h (h.keeps ++ k ∷ []) h.journal l ls s (header_line.Keep k) is p (p.keeps ∙ append_assoc h.keeps (k ∷ []) (keeps_of p.header_lines)) p.journal
+
 journal_line : (h : Header) (l : Numbered) (ls : List Numbered) (s : Script) (on : Bool) → h.journal ≡ None → header_line_of l.1 ≡ Some (header_line.Journal on)
     → Parts (record h { journal = Some on }) ls s → Parts h (l ∷ ls) s
-journal_line h l ls s on none is p = record {
-  header = l ∷ p.header;
-  header_lines = header_line.Journal on ∷ p.header_lines;
-  commands = p.commands;
-  parts = ap (λ (xs : List Numbered). l ∷ xs) p.parts;
-  size = p.size;
-  header_says = (is, p.header_says);
-  keeps = p.keeps;
-  few_keeps = p.few_keeps;
-  journal = rw none p.journal;
-  commands_say = p.commands_say;
-}
+journal_line h l ls s on none is p = one_more h h.keeps (Some on) l ls s (header_line.Journal on) is p p.keeps (rw none p.journal)
 
 -- from the function to the relation
 parts_of : (h : Header) (ls : List Numbered) (s : Script) → are_few h.keeps ≡ true → behind_size h ls ≡ Ok s → Parts h ls s

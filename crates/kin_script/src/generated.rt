@@ -91,7 +91,7 @@ fn insertions(alloc: Global, seed: u32, count: u32) -> Result<Commands, AllocErr
     let mut draws = Draws { state: seed };
     for no in 0..count {
         let m = draws.motion();
-        lines.push(HEADER_LINES + 1 + no, Command::Insert { no, m })?;
+        lines.push((HEADER_LINES + 1 + no, Command::Insert { no, m }))?;
     }
     Ok(lines)
 }
@@ -107,12 +107,12 @@ fn ask(lines: &mut Commands, first: u32) -> Result<(), AllocError>
         y1: -100,
         y2: 100,
     };
-    lines.push(first, Command::AtRatio { n: 20, d: 1 })?;
-    lines.push(first + 1, Command::Extreme { s: 1 })?;
-    lines.push(first + 2, Command::Hull)?;
-    lines.push(first + 3, Command::Closest)?;
-    lines.push(first + 4, Command::Inside { rect })?;
-    lines.push(first + 5, Command::Live)
+    lines.push((first, Command::AtRatio { n: 20, d: 1 }))?;
+    lines.push((first + 1, Command::Extreme { s: 1 }))?;
+    lines.push((first + 2, Command::Hull))?;
+    lines.push((first + 3, Command::Closest))?;
+    lines.push((first + 4, Command::Inside { rect }))?;
+    lines.push((first + 5, Command::Live))
 }
 
 /// Puts the parts together.

@@ -7,128 +7,63 @@ use kin_motion::Keep;
 use std::alloc::{AllocError, Global};
 use std::marker::Model;
 
-/// The kept structures, in the order of their lines: the first has number 0.
+/// Items in a row. A contract sees them as a list.
 #[derive(Drop)]
-pub struct Keeps {
-    items: Vec<Keep>,
+pub struct Row<T: Drop> {
+    items: Vec<T>,
 }
 
-impl Model for Keeps {
-    ghost use Rattle.std.specs.Prelude.{List};
-    ghost use Rattle.kin_motion.specs.declared.keep.Keep.{Keep};
-
-    ghost Value = { List Keep };
-
-    ghost view = { λ k. k.items.items };
-}
-
-impl Keeps {
-    /// An empty list.
-    pub fn new(alloc: Global) -> Keeps
-        ensures { result ≡ [] }
-    {
-        Keeps {
-            items: Vec::new(alloc),
-        }
-    }
-
-    /// The list of these items.
-    pub fn from_vec(items: Vec<Keep>) -> Keeps
-        ensures { result ≡ items.items }
-    {
-        Keeps { items }
-    }
-
-    /// Its items, given back.
-    pub fn into_vec(self) -> Vec<Keep>
-        ensures { result.items ≡ self }
-    {
-        self.items
-    }
-
-    /// Its items, lent.
-    pub fn as_slice(&self) -> &[Keep]
-        ensures { result.now ≡ self.now }
-    {
-        self.items.as_slice()
-    }
-
-    /// Keeps one more structure.
-    pub fn push(&mut self, keep: Keep) -> Result<(), AllocError>
-        ensures ok { OnOk result (self.new ≡ self.old ++ keep ∷ []) }
-        ensures err { OnErr result (self.new ≡ self.old) }
-    {
-        self.items.push(keep)?;
-        Ok(())
-    }
-
-    /// How many items it has.
-    pub fn len(&self) -> usize
-        ensures { result ≡ length self.now }
-    {
-        self.items.len()
-    }
-
-    /// Whether it has none.
-    pub fn is_empty(&self) -> bool
-        ensures { result ≡ (length self.now == 0) }
-    {
-        self.items.is_empty()
-    }
-}
+/// The kept structures, in the order of their lines: the first has number 0.
+pub type Keeps = Row<Keep>;
 
 /// The commands, each with the number of its line, by rising number.
-#[derive(Drop)]
-pub struct Commands {
-    items: Vec<(u32, Command)>,
+pub type Commands = Row<(u32, Command)>;
+
+impl<T: Drop> Model for Row<T> {
+    ghost use Rattle.std.specs.Prelude.{List};
+
+    ghost Value = { List T };
+
+    ghost view = { λ r. r.items.items };
 }
 
-impl Model for Commands {
-    ghost use Rattle.std.specs.Prelude.{List, ℕ};
-    ghost use Rattle.kin_script.specs.declared.command.Command.{Command};
-
-    ghost Value = { List (ℕ × Command) };
-
-    ghost view = { λ l. l.items.items };
-}
-
-impl Commands {
-    /// An empty list.
-    pub fn new(alloc: Global) -> Commands
+impl<T: Drop> Row<T> {
+    /// No items.
+    pub fn new(alloc: Global) -> Row<T>
         ensures { result ≡ [] }
     {
-        Commands {
+        Row {
             items: Vec::new(alloc),
         }
     }
 
     /// The list of these items.
-    pub fn from_vec(items: Vec<(u32, Command)>) -> Commands
+    pub fn from_vec(items: Vec<T>) -> Row<T>
         ensures { result ≡ items.items }
     {
-        Commands { items }
+        Row { items }
     }
 
     /// Its items, given back.
-    pub fn into_vec(self) -> Vec<(u32, Command)>
+    pub fn into_vec(self) -> Vec<T>
         ensures { result.items ≡ self }
     {
         self.items
     }
 
     /// Its items, lent.
-    pub fn as_slice(&self) -> &[(u32, Command)]
+    pub fn as_slice(&self) -> &[T]
         ensures { result.now ≡ self.now }
     {
         self.items.as_slice()
     }
 
-    /// Adds a command behind the others.
-    pub fn push(&mut self, line: u32, command: Command) -> Result<(), AllocError>
-        ensures ok { OnOk result (self.new ≡ self.old ++ (line, command) ∷ []) }
+    /// Adds an item behind the others.
+    pub fn push(&mut self, item: T) -> Result<(), AllocError>
+        ensures ok { OnOk result (self.new ≡ self.old ++ item ∷ []) }
         ensures err { OnErr result (self.new ≡ self.old) }
     {
-        self.items.push((line, command))?;
+        self.items.push(item)?;
         Ok(())
     }
 

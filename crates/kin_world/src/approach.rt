@@ -1,10 +1,11 @@
 //! When two points come within a distance of each other.
 
-ghost use Rattle.std.specs.Prelude.{◌≡◌, ◌≤◌, ◌*◌, ◌^◌, ◌+ℤ◌, ◌-ℤ◌, ◌*ℤ◌, pos, unsigned_abs, IfSome, IfNone};
+ghost use Rattle.std.specs.Prelude.{◌≡◌, ◌≤◌, ◌*◌, ◌^◌, ◌-ℤ◌, ◌*ℤ◌, pos, unsigned_abs, IfSome, IfNone};
 ghost use Rattle.kin_world.specs.Approach.{clearance, IsFirstWithin, StayApart};
 
 use kin_cert::first_fail::first_fail;
 use kin_instant::sign::sign_at;
+use kin_motion::poly::{combined, way};
 use kin_motion::{Fact, Form, Motion};
 use kin_num::{Moment, Poly, Sign, Steps};
 use std::sync::ledger::Ledger;
@@ -14,38 +15,6 @@ const APART: Fact = Fact {
     form: Form::Turn { i: 0, j: 0, k: 0 },
     sign: Sign::Plus,
 };
-
-/// How far it is from one coordinate to another.
-fn way(from: i32, to: i32) -> i64
-    requires from_small { unsigned_abs from ≤ 4096 }
-    requires to_small { unsigned_abs to ≤ 4096 }
-    ensures value { result ≡ to -ℤ from }
-    ensures size { unsigned_abs result ≤ 2 ^ 13 }
-{
-    i64::from(to) - i64::from(from)
-}
-
-/// A product of two coordinates of a step.
-fn times(x: i64, y: i64) -> i64
-    requires x_small { unsigned_abs x ≤ 2 ^ 13 }
-    requires y_small { unsigned_abs y ≤ 2 ^ 13 }
-    ensures value { result ≡ x *ℤ y }
-    ensures size { unsigned_abs result ≤ 2 ^ 26 }
-{
-    x * y
-}
-
-/// A sum of two such products.
-fn dot(a: i64, x: i64, b: i64, y: i64) -> i64
-    requires a_small { unsigned_abs a ≤ 2 ^ 13 }
-    requires x_small { unsigned_abs x ≤ 2 ^ 13 }
-    requires b_small { unsigned_abs b ≤ 2 ^ 13 }
-    requires y_small { unsigned_abs y ≤ 2 ^ 13 }
-    ensures value { result ≡ a *ℤ x +ℤ b *ℤ y }
-    ensures size { unsigned_abs result ≤ 2 ^ 27 }
-{
-    times(a, x) + times(b, y)
-}
 
 /// The square of a distance.
 fn square(distance: u32) -> i64
@@ -77,9 +46,9 @@ fn clearance(one: &Motion, other: &Motion, distance: u32) -> Poly
     let u = way(one.u(), other.u());
     let v = way(one.v(), other.v());
     lowered(
-        dot(u, u, v, v),
-        dot(u, x, v, y),
-        dot(x, x, y, y),
+        combined(u, u, v, v),
+        combined(u, x, v, y),
+        combined(x, x, y, y),
         square(distance),
     )
 }

@@ -6,8 +6,8 @@ use Rattle.kin_cases.specs.Contests.{IsHeld}
 use Rattle.kin_cases.proofs.Held.{apart_set, live_set, held_marked}
 use Rattle.kin_cases.proofs.contest.Contest.set.Goals as goal
 
-pub invariant_of-result : goal.invariant_of-result
-invariant_of-result c =
+pub invariant_of-self : goal.invariant_of-self
+invariant_of-self c =
     let slots = c.self.inside.slots.items in
     let marks = c.self.inside.marks.items in
     let within : c.args.slot < length slots = search rules in

@@ -6,7 +6,7 @@ use Rattle.std.proofs.lemmas.Nat.Gcd.{dvd_trans, le_of_dvd}
 use Rattle.kin_instant.proofs.Widths.{clean, positive_out}
 use Rattle.std.proofs.Math.Nat.{pos_of_dvd_of_pos, one-dvd}
 use Rattle.kin_basics.proofs.Integers.{size-some}
-use Rattle.kin_instant.proofs.solve.common_divisor.Goals as goal
+use Rattle.kin_instant.proofs.curve.common_divisor.Goals as goal
 
 -- g is the greatest common divisor of |a|, |b| and |c|, as the code has it
 record Shared (a b c : ℤ) (g : ℕ) : Type 0 where

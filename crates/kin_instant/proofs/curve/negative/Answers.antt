@@ -3,7 +3,7 @@ use Rattle.std.proofs.lemmas.Int.{ints}
 use lib.IntN.{neg_ℤ}
 use Rattle.kin_num.specs.Quadratic.{Quadratic, negated}
 use Rattle.kin_instant.specs.Roots.{quadratic}
-use Rattle.kin_instant.proofs.next.negative.Goals as goal
+use Rattle.kin_instant.proofs.curve.negative.Goals as goal
 
 opposite : (x' x : ℤ) → x' ≡ x → unsigned_abs x' ≤ 2 ^ 29 → to_z w64 (of_z w64 (pos 0 -ℤ to_z w64 (of_z w64 x'))) ≡ neg_ℤ x
 opposite x' x e h = read x' h ∙ ap neg_ℤ e
