@@ -3,7 +3,9 @@ pub mod Dues
 pub mod Failing
 pub mod Giving
 pub mod Ranks
+pub mod Places
 pub mod Rolls
+pub mod Enrolling
 pub mod Replacing
 pub mod Alone
 pub mod SlotNumbers

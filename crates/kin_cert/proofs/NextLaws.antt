@@ -18,7 +18,7 @@ use Rattle.kin_cert.specs.declared.owned.Owned.{Owned}
 use Rattle.kin_cert.specs.Facts.{LiveFact, certificate_of}
 use Rattle.kin_cert.specs.Failures.{IsFirstFailure}
 use Rattle.kin_cert.specs.Taken.{NoneFails, IsLeastFailure, HasTaken, is_taken_before}
-use Rattle.kin_cert.proofs.Rolls.{some_none}
+use Rattle.kin_cert.proofs.Places.{some_none}
 use Rattle.kin_cert.specs.Told.{certificates_of, IsTimed}
 
 -- what is not before a moment is not before an earlier one

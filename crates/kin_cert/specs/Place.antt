@@ -1,13 +1,13 @@
 -- The places of facts.
-use Rattle.std.specs.Prelude.{ℕ, List, [], ◌∷◌}
+use Rattle.std.specs.Prelude.{ℕ, ◌-◌, ◌^◌, List, [], ◌∷◌}
 use Rattle.kin_motion.specs.declared.form.Form.{Form}
 use Rattle.kin_motion.specs.declared.form.Form.TheVariants.{Line, Turn, Slope, Dist}
 
--- the first number that a form names, and 0 for a comparison of distances
+-- the first number that a form names, from the greatest one down for a slope, and 0 for a comparison of distances
 abbrev pub place_number : Form → ℕ
 place_number (Line dx dy off i j) = i
 place_number (Turn i j k) = i
-place_number (Slope i j k l) = i
+place_number (Slope i j k l) = 2 ^ 32 - 1 - i
 place_number (Dist i j k l) = 0
 
 -- structure, part and that number

@@ -1,10 +1,12 @@
 -- How a roll lies in memory: slots of entries, and two indices of their ids. No public clause cites this module.
-use Rattle.std.specs.Prelude.{◌≡◌, ◌≢◌, ◌⊎◌, ℕ, Bool, cond, ℤ, List, Option, Some, None, IsSome, nat_eq}
+use Rattle.std.specs.Prelude.{◌≡◌, ◌≢◌, ◌⊎◌, ℕ, Bool, true, false, cond, ℤ, List, Option, Some, None, IsSome, nat_eq, slice_get}
 use lib.Pointwise.{pointwise}
 use Rattle.indexmap.specs.IndexMap.{IndexMap, get as look_up}
 use Rattle.kin_motion.specs.declared.form.Form.{Form}
 use Rattle.kin_cert.specs.Entries.{Entry}
 use Rattle.kin_cert.specs.declared.owned.Owned.{Owned}
+use Rattle.kin_cert.specs.declared.holder.Holder.{Holder}
+use Rattle.kin_cert.specs.declared.holder.Spot.{Spot}
 use Rattle.kin_cert.specs.Place.{place_of}
 use Rattle.kin_cert.specs.Rank.{padded_rank}
 use Rattle.kin_cert.specs.Layout.{entry_at, entry_rank, is_rank, owned_place, owned_rank}
@@ -12,58 +14,98 @@ use Rattle.kin_cert.specs.Layout.{entry_at, entry_rank, is_rank, owned_place, ow
 abbrev pub is_place : List ℕ → List ℕ → Bool
 is_place = pointwise nat_eq
 
--- a place is known by an entry there, which isn't among the others
-pub record IsFirst {S : Type 0} (slots : List (Option Entry)) (others : IndexMap (List ℤ) ℕ S) (place : List ℕ) (id : ℕ) : Type 0 where
+-- the place is known by this id, of which the fact may be gone
+pub record IsKnownBy {S : Type 0} (firsts : IndexMap (List ℕ) Holder S) (place : List ℕ) (id : ℕ) : Type 0 where
+  pub holder : Holder
+  pub known : look_up is_place firsts place ≡ Some holder
+  pub id_is : holder.id ≡ id
+
+-- the place is marked as one of which further facts may be among the others
+pub record IsShared {S : Type 0} (firsts : IndexMap (List ℕ) Holder S) (place : List ℕ) : Type 0 where
+  pub holder : Holder
+  pub known : look_up is_place firsts place ≡ Some holder
+  pub shared : holder.is_shared ≡ true
+
+-- an entry of this rank is there, and its place is shared
+pub record IsOther {S : Type 0} (slots : List (Option Entry)) (firsts : IndexMap (List ℕ) Holder S) (rank : List ℤ) (id : ℕ) : Type 0 where
   pub entry : Entry
   pub there : entry_at slots id ≡ Some entry
-  pub placed : owned_place entry.owned ≡ place
-  pub alone : look_up is_rank others (entry_rank entry) ≡ None
+  pub ranked : entry_rank entry ≡ rank
+  pub shared : IsShared firsts (owned_place entry.owned)
 
--- each entry is found by its place or among the others, and nothing else is found
-pub record IsRoll {S T : Type 0} (slots : List (Option Entry)) (firsts : IndexMap (List ℕ) ℕ S) (others : IndexMap (List ℤ) ℕ T) : Type 0 where
-  pub found : (id : ℕ) (e : Entry) → entry_at slots id ≡ Some e → (look_up is_place firsts (owned_place e.owned) ≡ Some id) ⊎ (look_up is_rank others (entry_rank e) ≡ Some id)
-  pub first : (place : List ℕ) (id : ℕ) → look_up is_place firsts place ≡ Some id → IsFirst slots others place id
-  pub other : (rank : List ℤ) (id : ℕ) → look_up is_rank others rank ≡ Some id → (e : Entry) × (entry_at slots id ≡ Some e) × (entry_rank e ≡ rank)
+-- each entry is found by its place or among the others, not by both, and the others are there
+pub record IsRoll {S T : Type 0} (slots : List (Option Entry)) (firsts : IndexMap (List ℕ) Holder S) (others : IndexMap (List ℤ) ℕ T) : Type 0 where
+  pub found : (id : ℕ) (e : Entry) → entry_at slots id ≡ Some e → IsKnownBy firsts (owned_place e.owned) id ⊎ (look_up is_rank others (entry_rank e) ≡ Some id)
+  pub alone : (id : ℕ) (e : Entry) → entry_at slots id ≡ Some e → IsKnownBy firsts (owned_place e.owned) id → look_up is_rank others (entry_rank e) ≡ None
+  pub other : (rank : List ℤ) (id : ℕ) → look_up is_rank others rank ≡ Some id → IsOther slots firsts rank id
 
--- the place is known by this id, whose entry has the form
-pub record IsFirstAt {S : Type 0} (slots : List (Option Entry)) (firsts : IndexMap (List ℕ) ℕ S) (place : List ℕ) (form : Form) (id : ℕ) : Type 0 where
-  pub known : look_up is_place firsts place ≡ Some id
+-- the place stands there with its holder
+pub record StandsAt {S : Type 0} (firsts : IndexMap (List ℕ) Holder S) (place : List ℕ) (spot : Spot) : Type 0 where
+  pub at : slice_get firsts.entries spot.position ≡ Some (place, spot.holder)
+  pub known : look_up is_place firsts place ≡ Some spot.holder
+
+-- the place has this holder, and every other one is as it was
+abbrev pub HasHolder : {S T : Type 0} → IndexMap (List ℕ) Holder S → List ℕ → Holder → IndexMap (List ℕ) Holder T → Type 0
+HasHolder firsts place holder firsts' = (q : List ℕ) → look_up is_place firsts' q ≡ cond (is_place place q) (Some holder) (look_up is_place firsts q)
+
+-- the place is known by this id, whose entry is the owner's of this form
+pub record IsFirstAt {S : Type 0} (slots : List (Option Entry)) (firsts : IndexMap (List ℕ) Holder S) (structure part : ℕ) (form : Form) (id : ℕ) : Type 0 where
+  pub known : IsKnownBy firsts (place_of structure part form) id
   pub entry : Entry
   pub there : entry_at slots id ≡ Some entry
-  pub formed : entry.owned.fact.form ≡ form
+  pub ranked : entry_rank entry ≡ padded_rank structure part form
 
--- the place isn't known by an entry of this form
-abbrev pub HasNoFirstAt : {S : Type 0} → List (Option Entry) → IndexMap (List ℕ) ℕ S → List ℕ → Form → Type 0
-HasNoFirstAt slots firsts place form = (id : ℕ) (e : Entry) → look_up is_place firsts place ≡ Some id → entry_at slots id ≡ Some e → e.owned.fact.form ≢ form
+-- the id of the owner's form, by its place or among the others
+abbrev pub IsIdOf : {S T : Type 0} → List (Option Entry) → IndexMap (List ℕ) Holder S → IndexMap (List ℤ) ℕ T → ℕ → ℕ → Form → ℕ → Type 0
+IsIdOf slots firsts others structure part form id = IsFirstAt slots firsts structure part form id ⊎ (look_up is_rank others (padded_rank structure part form) ≡ Some id)
 
--- the id by which the place of the owner's form is known, where its entry has the form, or one of the others of this rank
-abbrev pub IsIdOf : {S T : Type 0} → List (Option Entry) → IndexMap (List ℕ) ℕ S → IndexMap (List ℤ) ℕ T → ℕ → ℕ → Form → ℕ → Type 0
-IsIdOf slots firsts others structure part form id = IsFirstAt slots firsts (place_of structure part form) form id ⊎ (look_up is_rank others (padded_rank structure part form) ≡ Some id)
+-- where the place is known, its holder isn't the owner's of this form, nor is one of the others if it is shared
+pub record HasNoId {S T : Type 0} (slots : List (Option Entry)) (firsts : IndexMap (List ℕ) Holder S) (others : IndexMap (List ℤ) ℕ T) (structure part : ℕ) (form : Form) : Type 0 where
+  pub no_first : (h : Holder) (e : Entry) → look_up is_place firsts (place_of structure part form) ≡ Some h → entry_at slots h.id ≡ Some e → entry_rank e ≢ padded_rank structure part form
+  pub no_other : (h : Holder) → look_up is_place firsts (place_of structure part form) ≡ Some h → h.is_shared ≡ true → look_up is_rank others (padded_rank structure part form) ≡ None
 
-abbrev pub HasNoId : {S T : Type 0} → List (Option Entry) → IndexMap (List ℕ) ℕ S → IndexMap (List ℤ) ℕ T → ℕ → ℕ → Form → Type 0
-HasNoId slots firsts others structure part form = HasNoFirstAt slots firsts (place_of structure part form) form × (look_up is_rank others (padded_rank structure part form) ≡ None)
+-- the place isn't shared, and is gone, and every other one is as it was
+pub record HasLeft {S S' : Type 0} (firsts : IndexMap (List ℕ) Holder S) (place : List ℕ) (firsts' : IndexMap (List ℕ) Holder S') : Type 0 where
+  pub holder : Holder
+  pub known : look_up is_place firsts place ≡ Some holder
+  pub unshared : holder.is_shared ≡ false
+  pub gone : (q : List ℕ) → look_up is_place firsts' q ≡ cond (is_place place q) None (look_up is_place firsts q)
 
--- the place is gone, and every other one is as it was
-abbrev pub IsStruckOut : {S : Type 0} → IndexMap (List ℕ) ℕ S → List ℕ → IndexMap (List ℕ) ℕ S → Type 0
-IsStruckOut firsts place firsts' = (q : List ℕ) → look_up is_place firsts' q ≡ cond (is_place place q) None (look_up is_place firsts q)
+-- the place is gone, or all is as it was
+abbrev pub MayHaveLeft : {S S' : Type 0} → IndexMap (List ℕ) Holder S → List ℕ → IndexMap (List ℕ) Holder S' → Type 0
+MayHaveLeft firsts place firsts' = HasLeft firsts place firsts' ⊎ ((q : List ℕ) → look_up is_place firsts' q ≡ look_up is_place firsts q)
 
--- the id is no longer known by its place, or no longer among the others
-abbrev pub IsStruck : {S T : Type 0} → List (Option Entry) → IndexMap (List ℕ) ℕ S → IndexMap (List ℤ) ℕ T → ℕ → ℕ → Form → ℕ → IndexMap (List ℕ) ℕ S → IndexMap (List ℤ) ℕ T → Type 0
+-- the owner's form has the id by its place, which may be gone now, or was among the others and no longer is
+abbrev pub IsStruck : {S S' T T' : Type 0} → List (Option Entry) → IndexMap (List ℕ) Holder S → IndexMap (List ℤ) ℕ T → ℕ → ℕ → Form → ℕ → IndexMap (List ℕ) Holder S' → IndexMap (List ℤ) ℕ T' → Type 0
 IsStruck slots firsts others structure part form id firsts' others' =
-    (IsFirstAt slots firsts (place_of structure part form) form id × IsStruckOut firsts (place_of structure part form) firsts' × ((q : List ℤ) → look_up is_rank others' q ≡ look_up is_rank others q))
+    (IsFirstAt slots firsts structure part form id × MayHaveLeft firsts (place_of structure part form) firsts' × ((q : List ℤ) → look_up is_rank others' q ≡ look_up is_rank others q))
     ⊎ ((look_up is_rank others (padded_rank structure part form) ≡ Some id) × ((q : List ℕ) → look_up is_place firsts' q ≡ look_up is_place firsts q) × ((q : List ℤ) → look_up is_rank others' q ≡ cond (is_rank (padded_rank structure part form) q) None (look_up is_rank others q)))
 
--- the new fact has the place of the old one, and isn't among the others unless its form is that of the old one
-pub record MayFollow {S : Type 0} (others : IndexMap (List ℤ) ℕ S) (old new : Owned) : Type 0 where
-  pub placed : owned_place new ≡ owned_place old
-  pub free : (owned_rank new ≡ owned_rank old) ⊎ (look_up is_rank others (owned_rank new) ≡ None)
+-- the new fact isn't among the others, unless its form is that of the old one, or the place isn't shared
+abbrev pub MayFollow : {S : Type 0} → IndexMap (List ℤ) ℕ S → Holder → Owned → Owned → Type 0
+MayFollow others holder old new = (holder.is_shared ≡ false) ⊎ (new.fact.form ≡ old.fact.form) ⊎ (look_up is_rank others (owned_rank new) ≡ None)
 
--- the id is new under its place, or among the others where the place was known
-abbrev pub IsEnrolled : {S T : Type 0} → IndexMap (List ℕ) ℕ S → IndexMap (List ℤ) ℕ T → List ℕ → List ℤ → ℕ → IndexMap (List ℕ) ℕ S → IndexMap (List ℤ) ℕ T → Type 0
-IsEnrolled firsts others place rank id firsts' others' =
-    ((look_up is_place firsts place ≡ None) × ((q : List ℕ) → look_up is_place firsts' q ≡ cond (is_place place q) (Some id) (look_up is_place firsts q)) × ((q : List ℤ) → look_up is_rank others' q ≡ look_up is_rank others q))
-    ⊎ (IsSome (look_up is_place firsts place) × ((q : List ℕ) → look_up is_place firsts' q ≡ look_up is_place firsts q) × ((q : List ℤ) → look_up is_rank others' q ≡ cond (is_rank rank q) (Some id) (look_up is_rank others q)))
+-- the id holds a place at which no entry stood, and which is shared if it was
+pub record HoldsPlace {S S' : Type 0} (slots : List (Option Entry)) (firsts : IndexMap (List ℕ) Holder S) (place : List ℕ) (id : ℕ) (firsts' : IndexMap (List ℕ) Holder S') : Type 0 where
+  pub holder : Holder
+  pub id_is : holder.id ≡ id
+  pub free : (h : Holder) (e : Entry) → look_up is_place firsts place ≡ Some h → entry_at slots h.id ≡ Some e → owned_place e.owned ≢ place
+  pub stays : (h : Holder) → look_up is_place firsts place ≡ Some h → h.is_shared ≡ true → holder.is_shared ≡ true
+  pub has : HasHolder firsts place holder firsts'
+
+-- the place keeps the id by which it is known, where there is an entry, and is shared
+pub record SharesPlace {S S' : Type 0} (slots : List (Option Entry)) (firsts : IndexMap (List ℕ) Holder S) (place : List ℕ) (firsts' : IndexMap (List ℕ) Holder S') : Type 0 where
+  pub holder : Holder
+  pub known : look_up is_place firsts place ≡ Some holder
+  pub there : IsSome (entry_at slots holder.id)
+  pub has : HasHolder firsts place (record { id = holder.id; is_shared = true }) firsts'
+
+-- the id holds its place, or is new among the others where the place was held
+abbrev pub IsEnrolled : {S S' T T' : Type 0} → List (Option Entry) → IndexMap (List ℕ) Holder S → IndexMap (List ℤ) ℕ T → List ℕ → List ℤ → ℕ → IndexMap (List ℕ) Holder S' → IndexMap (List ℤ) ℕ T' → Type 0
+IsEnrolled slots firsts others place rank id firsts' others' =
+    (HoldsPlace slots firsts place id firsts' × ((q : List ℤ) → look_up is_rank others' q ≡ look_up is_rank others q))
+    ⊎ (SharesPlace slots firsts place firsts' × ((q : List ℤ) → look_up is_rank others' q ≡ cond (is_rank rank q) (Some id) (look_up is_rank others q)))
 
 -- both indices answer as before
-abbrev pub IsSameIndex : {S T S' T' : Type 0} → IndexMap (List ℕ) ℕ S → IndexMap (List ℤ) ℕ T → IndexMap (List ℕ) ℕ S' → IndexMap (List ℤ) ℕ T' → Type 0
+abbrev pub IsSameIndex : {S T S' T' : Type 0} → IndexMap (List ℕ) Holder S → IndexMap (List ℤ) ℕ T → IndexMap (List ℕ) Holder S' → IndexMap (List ℤ) ℕ T' → Type 0
 IsSameIndex firsts others firsts' others' = ((q : List ℕ) → look_up is_place firsts' q ≡ look_up is_place firsts q) × ((q : List ℤ) → look_up is_rank others' q ≡ look_up is_rank others q)

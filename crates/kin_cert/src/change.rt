@@ -10,10 +10,9 @@ ghost use Rattle.kin_motion.specs.Kinetics.{AreDistinct};
 ghost use Rattle.kin_cert.specs.Facts.{LiveFact, NoneAlike};
 ghost use Rattle.kin_cert.specs.Applied.{IsOf, IsLiveIn, IsAmong, AreUnlike, MayApply, IsBorn, HasApplied};
 ghost use Rattle.kin_cert.specs.Cost.{TakesAtMost, is_ungiven, ungiven, change_cost};
-ghost use Rattle.kin_cert.specs.Layout.{held, HasBorn, HasReplaced, IsLeftToApply, AreCounted, IsPaid, change_of};
+ghost use Rattle.kin_cert.specs.Layout.{HasBorn, HasReplaced, IsLeftToApply, AreCounted, IsPaid, change_of};
 
-use crate::owned::Owned;
-use crate::place::place_number;
+use crate::index::have_one_place;
 use crate::table::Table;
 use crate::timing::{time, unqueue};
 use kin_motion::fact::{Delta, Placed};
@@ -91,10 +90,10 @@ impl Table {
                     born: later_born,
                 };
             } else if fits_next(dropped, later_born) && self.is_free(structure, born) {
-                self.bear_one(structure, *born, motions, now, steps)?;
+                self.bear_one(structure, born, motions, now, steps)?;
                 rest.born = later_born;
             } else {
-                self.drop_one(structure, *dropped, steps);
+                self.drop_one(structure, dropped, steps);
                 rest.dropped = later_dropped;
             }
         }
@@ -145,15 +144,17 @@ impl Table {
     }
 
     // Drops the live fact that has this owner and form.
-    fn drop_one<L: Ledger>(&mut self, structure: u32, placed: Placed, steps: &mut Steps<L>)
-        requires live { IsLiveIn self.old.live structure placed }
+    fn drop_one<L: Ledger>(&mut self, structure: u32, placed: &Placed, steps: &mut Steps<L>)
+        requires live { IsLiveIn self.old.live structure placed.now }
         ensures once { NoneAlike self.old.live }
-        ensures rest { (l : LiveFact) → Contains self.new.live l ↔ (Contains self.old.live l × ¬ (IsOf structure placed l)) }
+        ensures rest { (l : LiveFact) → Contains self.new.live l ↔ (Contains self.old.live l × ¬ (IsOf structure placed.now l)) }
         ensures count { length self.new.live + 1 ≡ length self.old.live }
         ensures made { self.new.made ≡ self.old.made }
-        ensures cost { TakesAtMost (length self.old.live) (λ r. cond (is_ungiven structure self.old.live placed) r 0) steps.old steps.new }
+        ensures cost { TakesAtMost (length self.old.live) (λ r. cond (is_ungiven structure self.old.live placed.now) r 0) steps.old steps.new }
     {
-        let seat = self.roll.take_out(structure, placed.part, placed.fact.form);
+        let seat = self
+            .roll
+            .take_out(structure, placed.part, &placed.fact.form);
         unqueue(&mut self.schedule, seat, steps);
         // Without memory for it the index is given up, and gathered again when it is asked for.
         let _ = self.names.forget(seat.id);
@@ -170,7 +171,7 @@ impl Table {
     {
         let _ = self.roll.len();
         for placed in dropped {
-            self.drop_one(structure, *placed, steps);
+            self.drop_one(structure, placed, steps);
         }
     }
 
@@ -196,7 +197,7 @@ impl Table {
         ensures cost { OnOk result (TakesAtMost (length self.old.live + length born.now) (λ r. length born.now * (r + 1)) steps.old steps.new) }
     {
         for placed in born {
-            self.bear_one(structure, *placed, motions, now, steps)?;
+            self.bear_one(structure, placed, motions, now, steps)?;
         }
         let _ = self.roll.len();
         Ok(())
@@ -206,27 +207,26 @@ impl Table {
     fn bear_one<L: Ledger>(
         &mut self,
         structure: u32,
-        placed: Placed,
+        placed: &Placed,
         motions: &Motions,
         now: &Moment,
         steps: &mut Steps<L>,
     ) -> Result<(), NoMemory>
-        requires free { (l : LiveFact) → Contains self.old.live l → ¬ (IsOf structure placed l) }
-        requires askable { IsAskable (live_of motions.now) placed.fact.form }
-        requires holds { Holds (scene_at motions.now now.now) placed.fact }
-        ensures gained { OnOk result (HasBorn structure (scene_at motions.now) now.now placed self.old.live self.new.live) }
+        requires free { (l : LiveFact) → Contains self.old.live l → ¬ (IsOf structure placed.now l) }
+        requires askable { IsAskable (live_of motions.now) placed.now.fact.form }
+        requires holds { Holds (scene_at motions.now now.now) placed.now.fact }
+        ensures gained { OnOk result (HasBorn structure (scene_at motions.now) now.now placed.now self.old.live self.new.live) }
         ensures count { OnOk result (length self.new.live ≡ length self.old.live + 1) }
         ensures made { self.new.made ≡ self.old.made }
         ensures cost { OnOk result (TakesAtMost (length self.old.live) (λ r. r + 1) steps.old steps.new) }
     {
-        let owned = owned_by(structure, placed);
-        let id = self.roll.put_in(owned)?;
-        self.names.note(id, &owned.fact.form)?;
+        let id = self.roll.put_in(structure, placed)?;
+        self.names.note(id, &placed.fact.form)?;
         time(
             &mut self.roll,
             &mut self.schedule,
             id,
-            &owned.fact,
+            &placed.fact,
             motions,
             now,
             steps,
@@ -238,21 +238,7 @@ impl Table {
 // Whether the first one of the born facts may come to the place of a dropped one.
 fn fits_next(dropped: &Placed, born: &[Placed]) -> bool {
     match born.first() {
-        Some(next) => {
-            next.part == dropped.part
-                && place_number(&next.fact.form) == place_number(&dropped.fact.form)
-        }
+        Some(next) => have_one_place(dropped, next),
         None => false,
-    }
-}
-
-// The fact with its owner.
-fn owned_by(structure: u32, placed: Placed) -> Owned
-    ensures { result ≡ held structure placed }
-{
-    Owned {
-        structure,
-        part: placed.part,
-        fact: placed.fact,
     }
 }

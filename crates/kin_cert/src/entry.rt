@@ -1,10 +1,13 @@
 //! Entries of the table.
 
-ghost use Rattle.std.specs.Prelude.{◌≡◌, Some, is_some};
-ghost use Rattle.kin_cert.specs.Layout.{held, fresh, timed, waiting, queued_at};
+ghost use Rattle.std.specs.Prelude.{◌≡◌, ◌↔◌, Some, is_some, IsTrue};
+ghost use Rattle.kin_cert.specs.Rank.{padded_rank};
+ghost use Rattle.kin_cert.specs.Layout.{entry_rank, owned_place, held, fresh, timed, waiting, queued_at};
 
 use crate::owned::Owned;
+use crate::place::{Place, place};
 use kin_motion::fact::Placed;
+use kin_motion::form::Form;
 use kin_num::{Instant, Moment, Phase, Shape};
 use std::marker::Model;
 
@@ -30,11 +33,15 @@ impl Model for Entry {
 
 impl Entry {
     /// A fact that never fails as yet.
-    pub(crate) fn new(owned: Owned) -> Entry
-        ensures { result ≡ fresh owned }
+    pub(crate) fn new(structure: u32, placed: &Placed) -> Entry
+        ensures { result ≡ fresh (held structure placed.now) }
     {
         Entry {
-            owned,
+            owned: Owned {
+                structure,
+                part: placed.part,
+                fact: placed.fact,
+            },
             at: Moment {
                 at: Instant::of(Shape::Ratio { n: 0, d: 1 }),
                 phase: Phase::At,
@@ -49,6 +56,23 @@ impl Entry {
         ensures { result.now ≡ self.now.owned }
     {
         &self.owned
+    }
+
+    /// Whether the fact is one of this owner and form.
+    #[inline(always)]
+    pub(crate) fn is_of(&self, structure: u32, part: u32, form: &Form) -> bool
+        ensures { IsTrue result ↔ (entry_rank self.now ≡ padded_rank structure part form.now) }
+    {
+        self.owned.structure == structure
+            && self.owned.part == part
+            && self.owned.fact.form.is(*form)
+    }
+
+    /// The place of the fact.
+    pub(crate) fn place(&self) -> Place
+        ensures { result ≡ owned_place self.now.owned }
+    {
+        place(self.owned.structure, self.owned.part, self.owned.fact.form)
     }
 
     /// Whether the queue has it.

@@ -1,28 +1,23 @@
 //! Guesses of where places stand in their index, which spare most hashes.
 
-ghost use Rattle.std.specs.Prelude.{◌≡◌, Some, IfSome, slice_get};
+ghost use Rattle.std.specs.Prelude.{◌≡◌, Some, IfSome, IfNone, None, slice_get};
+ghost use Rattle.kin_cert.specs.declared.holder.Holder.{Holder as Kept};
 ghost use Rattle.indexmap.specs.IndexMap.{get as look_up};
-ghost use Rattle.kin_cert.specs.Rolls.{is_place, IsStruckOut};
+ghost use Rattle.kin_cert.specs.Rolls.{is_place, StandsAt};
 
+use crate::holder::{Holder, Spot};
 use crate::place::Place;
 use indexmap::IndexMap;
 use std::alloc::Global;
 
 /// How many guesses are kept.
-const COUNT: usize = 16_384;
+const COUNT: usize = 65_536;
 
 /// Positions at which places were last found. A guess may be wrong, so it is tested where it is used: the index at that
 /// position has the place, or it is asked by hash. There are no guesses before the first one is noted.
 #[derive(Drop)]
 pub(crate) struct Guesses {
     positions: Vec<u32>,
-}
-
-/// Where a place stands in its index, and the id there.
-#[derive(Clone, Copy)]
-struct Seen {
-    position: usize,
-    id: usize,
 }
 
 impl Guesses {
@@ -33,74 +28,92 @@ impl Guesses {
         }
     }
 
-    /// The id of a place, if it has one. Where it stands is guessed the next time.
+    /// Where a place stands, if it does. That is guessed the next time.
     #[inline(always)]
-    pub(crate) fn id_of(&mut self, firsts: &IndexMap<Place, usize>, place: &Place) -> Option<usize>
-        ensures { result ≡ look_up is_place firsts.now place.now }
+    pub(crate) fn spot_of(
+        &mut self,
+        firsts: &IndexMap<Place, Holder>,
+        place: &Place,
+    ) -> Option<Spot>
+        ensures some { IfSome result (λ spot. StandsAt firsts.now place.now spot) }
+        ensures none { IfNone result (look_up is_place firsts.now place.now ≡ None) }
     {
-        match self.guessed(firsts, place) {
-            Some(seen) => Some(seen.id),
-            None => self.learn(firsts, place),
+        if let Some(spot) = self.guessed(firsts, place) {
+            return Some(spot);
         }
+        let position = self.learn(firsts, place)?;
+        let Some((_, holder)) = firsts.get_index(position) else {
+            unreachable!()
+        };
+        Some(Spot {
+            position,
+            holder: *holder,
+        })
     }
 
-    // The same by hash, out of the way of right guesses.
+    // The position by hash, out of the way of right guesses.
     #[inline(never)]
-    fn learn(&mut self, firsts: &IndexMap<Place, usize>, place: &Place) -> Option<usize>
-        ensures { result ≡ look_up is_place firsts.now place.now }
+    fn learn(&mut self, firsts: &IndexMap<Place, Holder>, place: &Place) -> Option<usize>
+        ensures some { IfSome result (λ position. (holder : Kept) × StandsAt firsts.now place.now (record { position = position; holder = holder })) }
+        ensures none { IfNone result (look_up is_place firsts.now place.now ≡ None) }
     {
-        let (position, _, id) = firsts.get_full(place)?;
-        self.note(slot_of(place), position);
-        Some(*id)
+        let spot = asked(firsts, place)?;
+        self.note(place, spot.position);
+        Some(spot.position)
     }
 
-    /// The id of a place, if it has one.
-    pub(crate) fn look_up(&self, firsts: &IndexMap<Place, usize>, place: &Place) -> Option<usize>
-        ensures { result ≡ look_up is_place firsts.now place.now }
+    /// The same, and no guess is noted.
+    pub(crate) fn look_up(&self, firsts: &IndexMap<Place, Holder>, place: &Place) -> Option<Spot>
+        ensures some { IfSome result (λ spot. StandsAt firsts.now place.now spot) }
+        ensures none { IfNone result (look_up is_place firsts.now place.now ≡ None) }
     {
         match self.guessed(firsts, place) {
-            Some(seen) => Some(seen.id),
-            None => firsts.get(place).copied(),
+            Some(spot) => Some(spot),
+            None => asked(firsts, place),
         }
     }
 
-    /// Strikes a place out of its index. The last place there takes its position.
-    pub(crate) fn strike(&self, firsts: &mut IndexMap<Place, usize>, place: &Place)
-        ensures { IsStruckOut firsts.old place.now firsts.new }
-    {
-        if let Some(seen) = self.guessed(firsts, place) {
-            firsts.swap_remove_index(seen.position);
-            return;
-        }
-        firsts.swap_remove(place);
-    }
-
-    // Where a place stands, and its id, if the guess is right.
-    fn guessed(&self, firsts: &IndexMap<Place, usize>, place: &Place) -> Option<Seen>
-        ensures there { IfSome result (λ seen. slice_get firsts.now.entries seen.position ≡ Some (place.now, seen.id)) }
-        ensures known { IfSome result (λ seen. look_up is_place firsts.now place.now ≡ Some seen.id) }
+    // Where a place stands, if the guess is right.
+    #[inline(always)]
+    fn guessed(&self, firsts: &IndexMap<Place, Holder>, place: &Place) -> Option<Spot>
+        ensures { IfSome result (λ spot. StandsAt firsts.now place.now spot) }
     {
         let position = *self.positions.get(slot_of(place))? as usize;
-        let (known, id) = firsts.get_index(position)?;
+        let (known, holder) = firsts.get_index(position)?;
         if *known == *place {
-            Some(Seen { position, id: *id })
+            Some(Spot {
+                position,
+                holder: *holder,
+            })
         } else {
             None
         }
     }
 
-    // Notes where a place stands. Without memory there are no guesses.
-    fn note(&mut self, slot: usize, position: usize) {
+    /// Notes where a place stands. Without memory there are no guesses.
+    pub(crate) fn note(&mut self, place: &Place, position: usize) {
         if self.positions.is_empty() && self.positions.resize(COUNT, 0).is_err() {
             return;
         }
         if let (Some(guess), Ok(position)) = (
-            self.positions.get_mut(slot),
+            self.positions.get_mut(slot_of(place)),
             u32::try_from(position),
         ) {
             *guess = position;
         }
     }
+}
+
+// Where a place stands, by hash.
+fn asked(firsts: &IndexMap<Place, Holder>, place: &Place) -> Option<Spot>
+    ensures some { IfSome result (λ spot. StandsAt firsts.now place.now spot) }
+    ensures none { IfNone result (look_up is_place firsts.now place.now ≡ None) }
+{
+    let (position, _, holder) = firsts.get_full(place)?;
+    Some(Spot {
+        position,
+        holder: *holder,
+    })
 }
 
 // Where the guess of a place stands. The places of a few lists of up to 1,024 points share none.

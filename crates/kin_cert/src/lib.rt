@@ -15,6 +15,8 @@ mod change;
 mod entry;
 pub mod first_fail;
 mod guesses;
+mod holder;
+mod index;
 pub mod laws;
 mod names;
 pub mod now;

@@ -80,9 +80,13 @@ impl Names {
     }
 
     /// Notes that an id has no fact. After want of memory all is as if nobody had asked.
+    #[inline(always)]
     pub(crate) fn forget(&mut self, id: usize) -> Result<(), NoMemory>
         ensures { AreKept self.old self.new id (numbers_in None) }
     {
+        if self.pointers.is_none() {
+            return Ok(());
+        }
         self.note_asked(id, None)
     }
 
@@ -91,11 +95,13 @@ impl Names {
     fn note_asked(&mut self, id: usize, form: Option<Form>) -> Result<(), NoMemory>
         ensures { AreKept self.old self.new id (numbers_in form) }
     {
-        let Some(mut pointers) = self.pointers.take() else {
+        let Some(pointers) = &mut self.pointers else {
             return Ok(());
         };
-        aim_each(&mut pointers, id, form)?;
-        self.pointers = Some(pointers);
+        if aim_each(pointers, id, form).is_err() {
+            self.pointers = None;
+            return Err(NoMemory);
+        }
         Ok(())
     }
 }

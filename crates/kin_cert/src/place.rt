@@ -17,14 +17,15 @@ pub fn place(structure: u32, part: u32, form: Form) -> Place
 }
 
 /// The number that tells a form from others of its part: the first one that it names, and 0 for a
-/// comparison of distances, since a match of a tournament has one.
+/// comparison of distances, since a match of a tournament has one. Slopes count from the greatest
+/// number down, since a breakpoint of a merge has a turn and a slope.
 pub fn place_number(form: &Form) -> u32
     ensures { result ≡ place_number form.now }
 {
     match *form {
         Form::Line { i, .. } => i,
         Form::Turn { i, .. } => i,
-        Form::Slope { i, .. } => i,
+        Form::Slope { i, .. } => u32::MAX - i,
         Form::Dist { .. } => 0,
     }
 }

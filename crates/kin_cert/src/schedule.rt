@@ -78,9 +78,8 @@ impl Schedule {
         if !may_join(&self.soon, &self.soon_at, at) {
             return self.queue.insert(id, *at, steps);
         }
-        if self.soon.push(id).is_err() {
-            return Err(NoMemory);
-        }
+        self.soon.reserve(1)?;
+        self.soon.push_reserved(id);
         self.soon_at = *at;
         Ok(())
     }

@@ -1,5 +1,4 @@
-use Rattle.std.proofs.Common.{◌≡◌, ◌⊎◌, inl, inr, ℕ, true, List, [], ◌∷◌, ◌++◌, None, OnOk, OnErr, Result, Ok, Err, refl, sym, ap, subst, ◌∙◌, arith}
-use Rattle.std.specs.Result.{is_ok}
+use Rattle.std.proofs.Common.{◌≡◌, ◌⊎◌, inl, inr, ℕ, List, [], ◌∷◌, ◌++◌, None, OnOk, OnErr, Result, Ok, Err, refl, sym, ap, subst, ◌∙◌}
 use Rattle.std.specs.FinMap.{get, insert}
 use Rattle.kin_basics.proofs.Results.{from_two}
 use Rattle.kin_queue.specs.Agenda.{Agenda}
@@ -40,8 +39,7 @@ returns-then-not-may_join-clause-ok g c =
 pub invariant_of-self-2 : goal.invariant_of-self-2
 invariant_of-self-2 g c =
     let free : get (with_each c.self.inside.queue.moments c.self.inside.soon_at c.self.inside.soon.items) c.args.id ≡ None = ap (λ (x : Moments). get x c.args.id) c.self.view_is ∙ c.requires.absent in
-    let ok : is_ok c.push.result ≡ true = grind arith in
-    let items : c.push.new.self.items ≡ c.self.inside.soon.items ++ c.args.id ∷ [] = rw ok at c.push.ensures.items in
+    let items : c.push_reserved.new.self.items ≡ c.self.inside.soon.items ++ c.args.id ∷ [] = c.push_reserved.ensures.items ∙ ap (λ (xs : List ℕ). xs ++ c.args.id ∷ []) c.reserve.ensures.items in
     subst (λ (xs : List ℕ). AreBeside c.self.inside.queue.moments xs) (sym items) (pushed_beside c.self.inside.queue.moments c.self.inside.soon_at c.self.inside.soon.items c.self.invariant c.args.id free)
 
 pub returns-clause-ok : goal.returns-clause-ok
@@ -55,8 +53,7 @@ returns-clause-ok g c =
     ] in
     let same = at_either m c.self.inside.soon_at w ids join in
     let free : get (with_each c.self.inside.queue.moments c.args.at.now c.self.inside.soon.items) c.args.id ≡ None = ap (λ (x : Moments). get x c.args.id) (sym same ∙ c.self.view_is) ∙ c.requires.absent in
-    let ok : is_ok c.push.result ≡ true = grind arith in
-    let items : c.push.new.self.items ≡ c.self.inside.soon.items ++ c.args.id ∷ [] = rw ok at c.push.ensures.items in
+    let items : c.push_reserved.new.self.items ≡ c.self.inside.soon.items ++ c.args.id ∷ [] = c.push_reserved.ensures.items ∙ ap (λ (xs : List ℕ). xs ++ c.args.id ∷ []) c.reserve.ensures.items in
     ap (with_each m w) items ∙ pushed_is m w ids c.self.invariant c.args.id free ∙ ap (λ (x : Moments). insert x c.args.id c.args.at.now) (sym same ∙ c.self.view_is)
 
 pub returns-then-not-may_join-clause-cost : goal.returns-then-not-may_join-clause-cost

@@ -17,14 +17,11 @@ use Rattle.kin_cert.proofs.table.Table.bear_one.Goals as goal
 
 pub put_in-requires : goal.put_in-requires
 put_in-requires g c =
-    record {
-      free = subst (λ (o : Owned). IsNotFound c.self.inside.roll (owned_rank o)) (sym c.owned_by-owned.ensures)
-          (not-found c.self.inside.roll c.args.structure c.args.placed.part c.args.placed.fact.form (λ l there. c.requires.free l (subst (λ (t : Facts). Contains t.live l) c.self.view_is there)));
-    }
+    record { free = not-found c.self.inside.roll c.args.structure c.args.placed.now.part c.args.placed.now.fact.form (λ l there. c.requires.free l (subst (λ (t : Facts). Contains t.live l) c.self.view_is there)) }
 
 pub invariant_of-self-in_err-note : goal.invariant_of-self-in_err-note
 invariant_of-self-in_err-note g c =
-    let o = c.owned_by-owned.result in
+    let o = held c.args.structure c.args.placed.now in
     record {
       table = put-table c.self.inside.roll c.put_in.new.self c.self.inside.schedule c.in_ok-id.id o c.self.invariant.table c.in_ok-id.ensures.vacant c.in_ok-id.ensures.slot;
       named = renamed c.self.inside.names c.note.new.self c.self.inside.roll c.put_in.new.self c.in_ok-id.id (numbers_at (Some (fresh o))) (Some (fresh o)) c.self.invariant.named c.in_ok-id.ensures.slot c.note.ensures refl;
@@ -32,7 +29,7 @@ invariant_of-self-in_err-note g c =
 
 pub invariant_of-self-in_err-time : goal.invariant_of-self-in_err-time
 invariant_of-self-in_err-time g c =
-    let o = c.owned_by-owned.result in
+    let o = held c.args.structure c.args.placed.now in
     subst (λ (m : Moments). IsListed c.time.new.roll m c.note.new.self) (sym c.in_err-time.ensures.schedule)
     (subst (λ (slots : List (Option Entry)). IsListed slots c.self.inside.schedule c.note.new.self) (sym c.in_err-time.ensures.roll)
     (record {
@@ -42,7 +39,7 @@ invariant_of-self-in_err-time g c =
 
 pub invariant_of-self-2 : goal.invariant_of-self-2
 invariant_of-self-2 g c =
-    let o = c.owned_by-owned.result in
+    let o = held c.args.structure c.args.placed.now in
     let scene = scene_at c.args.motions.now in
     let table = put-table c.self.inside.roll c.put_in.new.self c.self.inside.schedule c.in_ok-id.id o c.self.invariant.table c.in_ok-id.ensures.vacant c.in_ok-id.ensures.slot in
     let named = renamed c.self.inside.names c.note.new.self c.self.inside.roll c.put_in.new.self c.in_ok-id.id (numbers_at (Some (fresh o))) (Some (fresh o)) c.self.invariant.named c.in_ok-id.ensures.slot c.note.ensures refl in
@@ -56,24 +53,24 @@ invariant_of-self-2 g c =
 pub returns-clause-gained : goal.returns-clause-gained
 returns-clause-gained g c =
     let s = c.args.structure in
-    let p = c.args.placed in
+    let p = c.args.placed.now in
     let scene = scene_at c.args.motions.now in
     let slot : HasSlot c.self.inside.roll c.put_in.new.self c.in_ok-id.id (Some (fresh (held s p))) =
-    subst (λ (o : Owned). HasSlot c.self.inside.roll c.put_in.new.self c.in_ok-id.id (Some (fresh o))) c.owned_by-owned.ensures c.in_ok-id.ensures.slot in
+    c.in_ok-id.ensures.slot in
     let timed_so : IsTimed scene c.args.now.now (held s p) c.in_ok-id.id c.put_in.new.self c.self.inside.schedule c.time.new.roll c.time.new.schedule =
-    subst (λ (o : Owned). IsTimed scene c.args.now.now o c.in_ok-id.id c.put_in.new.self c.self.inside.schedule c.time.new.roll c.time.new.schedule) c.owned_by-owned.ensures (c.in_ok-time.ensures.ok c.owned_by-owned.result c.in_ok-id.ensures.slot.changed refl) in
+    c.in_ok-time.ensures.ok (held s p) c.in_ok-id.ensures.slot.changed refl in
     subst (λ (t : Facts). HasBorn s scene c.args.now.now p t.live (live_in c.time.new.roll)) c.self.view_is
     (has-born s scene c.args.now.now p c.self.inside.roll c.put_in.new.self c.time.new.roll c.in_ok-id.id c.self.inside.schedule c.time.new.schedule slot.changed timed_so c.in_ok-id.ensures.vacant slot)
 
 pub returns-clause-count : goal.returns-clause-count
 returns-clause-count g c =
     let s = c.args.structure in
-    let p = c.args.placed in
+    let p = c.args.placed.now in
     let scene = scene_at c.args.motions.now in
     let slot : HasSlot c.self.inside.roll c.put_in.new.self c.in_ok-id.id (Some (fresh (held s p))) =
-    subst (λ (o : Owned). HasSlot c.self.inside.roll c.put_in.new.self c.in_ok-id.id (Some (fresh o))) c.owned_by-owned.ensures c.in_ok-id.ensures.slot in
+    c.in_ok-id.ensures.slot in
     let timed_so : IsTimed scene c.args.now.now (held s p) c.in_ok-id.id c.put_in.new.self c.self.inside.schedule c.time.new.roll c.time.new.schedule =
-    subst (λ (o : Owned). IsTimed scene c.args.now.now o c.in_ok-id.id c.put_in.new.self c.self.inside.schedule c.time.new.roll c.time.new.schedule) c.owned_by-owned.ensures (c.in_ok-time.ensures.ok c.owned_by-owned.result c.in_ok-id.ensures.slot.changed refl) in
+    c.in_ok-time.ensures.ok (held s p) c.in_ok-id.ensures.slot.changed refl in
     let more : length (live_in c.put_in.new.self) ≡ length (live_in c.self.inside.roll) + 1 = omega (arith, live-count c.put_in.new.self, live-count c.self.inside.roll, c.in_ok-id.ensures.count) in
     born-count s scene c.args.now.now p c.self.inside.roll c.put_in.new.self c.time.new.roll c.in_ok-id.id c.self.inside.schedule c.time.new.schedule slot.changed timed_so more
     ∙ ap (λ (t : Facts). length t.live + 1) c.self.view_is

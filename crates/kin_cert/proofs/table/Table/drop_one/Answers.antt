@@ -19,8 +19,8 @@ take_out-seat-requires g c =
     let l = c.requires.live.0 in
     let there = subst (λ (t : Facts). Contains t.live l) (sym c.self.view_is) c.requires.live.1 in
     let h = live-from c.self.inside.roll l there in
-    let at = is-at c.args.structure c.args.placed l c.requires.live.2 in
-    record { there = (h.id, h.entry, h.there, rank-of-live c.self.inside.roll c.args.structure c.args.placed.part c.args.placed.fact.form l at h, tt) }
+    let at = is-at c.args.structure c.args.placed.now l c.requires.live.2 in
+    record { there = (h.id, h.entry, h.there, rank-of-live c.self.inside.roll c.args.structure c.args.placed.now.part c.args.placed.now.fact.form l at h, tt) }
 
 pub invariant_of-self : goal.invariant_of-self
 invariant_of-self g c =
@@ -37,9 +37,9 @@ returns-clause-rest g c = λ l.
     let k = c.take_out-seat.ensures.seat in
     let slot : HasSlot c.self.inside.roll c.take_out-seat.new.self c.take_out-seat.result.id None =
     subst (λ (xs : List (Option Entry)). HasSlot c.self.inside.roll xs c.take_out-seat.result.id None) (sym c.take_out-seat.ensures.slots) (has-slot c.self.inside.roll c.take_out-seat.result.id k.entry None k.there) in
-    subst (λ (t : Facts). Contains (live_in c.take_out-seat.new.self) l ↔ (Contains t.live l × ¬ (IsOf c.args.structure c.args.placed l))) c.self.view_is
-    (dropped-rest c.self.inside.roll c.take_out-seat.new.self c.take_out-seat.ensures.once c.take_out-seat.result.id k.entry k.there slot c.args.structure c.args.placed.part c.args.placed.fact.form
-    (at-rank c.args.structure c.args.placed.part c.args.placed.fact.form k.entry k.ranked) l)
+    subst (λ (t : Facts). Contains (live_in c.take_out-seat.new.self) l ↔ (Contains t.live l × ¬ (IsOf c.args.structure c.args.placed.now l))) c.self.view_is
+    (dropped-rest c.self.inside.roll c.take_out-seat.new.self c.take_out-seat.ensures.once c.take_out-seat.result.id k.entry k.there slot c.args.structure c.args.placed.now.part c.args.placed.now.fact.form
+    (at-rank c.args.structure c.args.placed.now.part c.args.placed.now.fact.form k.entry k.ranked) l)
 
 pub returns-clause-count : goal.returns-clause-count
 returns-clause-count g c =
@@ -49,8 +49,8 @@ returns-clause-count g c =
 pub returns-clause-cost : goal.returns-clause-cost
 returns-clause-cost g c = λ r e.
     let seat = c.take_out-seat.result in
-    let queued : seat.is_queued ≡ true → is_ungiven c.args.structure c.args.self.now.live c.args.placed ≡ true = λ q.
-    subst (λ (t : Facts). is_ungiven c.args.structure t.live c.args.placed ≡ true) c.self.view_is (queued-ungiven c.args.structure c.args.placed c.self.inside.roll seat c.take_out-seat.ensures.seat q) in
+    let queued : seat.is_queued ≡ true → is_ungiven c.args.structure c.args.self.now.live c.args.placed.now ≡ true = λ q.
+    subst (λ (t : Facts). is_ungiven c.args.structure t.live c.args.placed.now ≡ true) c.self.view_is (queued-ungiven c.args.structure c.args.placed.now c.self.inside.roll seat c.take_out-seat.ensures.seat q) in
     let few = few-queued-of c.self.inside.roll c.self.inside.schedule c.args.self.now.live c.self.invariant.table (ap (λ (t : Facts). t.live) c.self.view_is) in
     let part = in_queue _ _ _ _ _ few c.unqueue.ensures.cost r e in
     let less = cost_if _ _ r queued in
