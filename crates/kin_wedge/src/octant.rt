@@ -20,6 +20,22 @@ pub struct Octant {
     pub third: Reading,
 }
 
+impl Octant {
+    /// The octant with its members ranked from the front or from the end.
+    #[inline(always)]
+    pub fn ranked(self, from_end: bool) -> Octant
+        ensures { result ≡ record self { third = record self.third { from_end = from_end } } }
+    {
+        Octant {
+            third: Reading {
+                part: self.third.part,
+                from_end,
+            },
+            ..self
+        }
+    }
+}
+
 fn forward(part: u32) -> Reading
     ensures { result ≡ record { part = part; from_end = false } }
 {
