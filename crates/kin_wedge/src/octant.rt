@@ -1,6 +1,6 @@
 //! The eight octants, by their orders.
 
-ghost use Rattle.std.specs.Prelude.{◌≡◌, ◌<◌, Some, slice_get, true, false};
+ghost use Rattle.std.specs.Prelude.{◌≡◌, ◌+◌, ◌%◌, ◌<◌, Some, slice_get, true, false};
 ghost use Rattle.kin_motion.specs.Octants.{Octant as Bounds, octants, direction_of};
 ghost use Rattle.kin_wedge.specs.Seen.{octant_seen, reading_seen, IsOfEight};
 
@@ -86,7 +86,8 @@ pub fn orders_of(w: u32) -> Octant
 pub fn third_of(w: u32) -> Reading
     requires { w < 8 }
     ensures third { (o : Bounds) → slice_get octants w ≡ Some o → o.third ≡ reading_seen result }
-    ensures part { result.part < 8 }
+    ensures part { result.part ≡ w % 4 + 4 }
+    ensures small { result.part < 8 }
 {
     Reading {
         part: w % 4 + 4,
