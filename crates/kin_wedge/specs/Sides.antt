@@ -1,5 +1,5 @@
 -- On which sides of a point another one lies, by the four orders that bound the octants.
-use Rattle.std.specs.Prelude.{◌≡◌, ℕ, true, false, cond, List, Option, Some, slice_get, MatchOption}
+use Rattle.std.specs.Prelude.{◌≡◌, ℕ, ◌+◌, ◌<◌, true, false, cond, List, length, Option, Some, slice_get, slice_index_or, MatchOption}
 use Rattle.kin_motion.specs.Changes.{stands_before}
 use Rattle.kin_motion.specs.Numbers.{is_in}
 use Rattle.kin_motion.specs.Octants.{Octant, octants}
@@ -24,6 +24,11 @@ pub record IsSpot (rows : List (List ℕ)) (who : ℕ) (s : Spot) : Type 0 where
   pub difference : slice_get (row_of rows 1) s.difference ≡ Some who
   pub x : slice_get (row_of rows 2) s.x ≡ Some who
   pub sum : slice_get (row_of rows 3) s.sum ≡ Some who
+
+-- the places of a member in the last four orders
+pub record AreRanks (rows : List (List ℕ)) (who : ℕ) (ranks : List ℕ) : Type 0 where
+  pub count : length ranks ≡ 4
+  pub each : (k : ℕ) → k < 4 → slice_get (row_of rows (k + 4)) (slice_index_or ranks k 0) ≡ Some who
 
 -- the octant in which q then lies, if it lies in one
 abbrev pub octant_by : Sides → ℕ

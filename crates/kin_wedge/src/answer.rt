@@ -33,7 +33,8 @@ fn step_to(from_end: bool, place: usize, k: usize, len: usize) -> usize
 
 impl Orders {
     /// The first number of an octant in its third order, by a scan that begins behind the apex.
-    pub fn look_up(&self, octant: Octant, apex: u32) -> Option<u32>
+    #[inline(always)]
+    fn scan(&self, octant: Octant, apex: u32) -> Option<u32>
         requires rows { AreRows (rows_of self.now.lists.items) }
         requires parts { IsOfEight (octant_seen octant) }
         requires behind { (q : ℕ) → is_in_wedge (rows_of self.now.lists.items) (octant_seen octant) apex q ≡ true → stands_after (rows_of self.now.lists.items) (octant_seen octant).third apex q ≡ true }
@@ -54,6 +55,21 @@ impl Orders {
             }
         }
         None
+    }
+
+    /// The first number of an octant in its third order.
+    pub fn look_up(&self, octant: Octant, apex: u32) -> Option<u32>
+        requires rows { AreRows (rows_of self.now.lists.items) }
+        requires parts { IsOfEight (octant_seen octant) }
+        requires behind { (q : ℕ) → is_in_wedge (rows_of self.now.lists.items) (octant_seen octant) apex q ≡ true → stands_after (rows_of self.now.lists.items) (octant_seen octant).third apex q ≡ true }
+        ensures { IsFirstAnswer (rows_of self.now.lists.items) (octant_seen octant) apex result }
+    {
+        // Each way has a loop of its own, so that no step of it asks for the way.
+        if octant.third.from_end {
+            self.scan(octant.ranked(true), apex)
+        } else {
+            self.scan(octant.ranked(false), apex)
+        }
     }
 
     /// The candidate of a slot after an offer. `None` asks for a look-up, and a candidate that isn't

@@ -5,7 +5,7 @@ ghost use Rattle.kin_motion.specs.Octants.{Octant as Bounds, octants};
 ghost use Rattle.kin_wedge.specs.Passages.{IsNumberOf, IsLookedUp, IsLost, IsMarkOffered, IsOfferedAround, IsOfferedFrom};
 ghost use Rattle.kin_wedge.specs.Rows.{row_of, AreAlike, AreRows, HaveSlots};
 ghost use Rattle.kin_wedge.specs.Seen.{rows_of};
-ghost use Rattle.kin_wedge.specs.Sides.{AreParted, IsSpot};
+ghost use Rattle.kin_wedge.specs.Sides.{AreParted, AreRanks, IsSpot};
 ghost use Rattle.kin_wedge.specs.Touched.{HasTouched};
 
 use crate::orders::Orders;
@@ -23,6 +23,7 @@ fn offer_from(
     touches: &mut Touches,
     no: u32,
     spot: Spot,
+    ranks: [usize; 4],
     from: usize,
     to: usize,
 ) -> Result<(), NoMemory>
@@ -32,6 +33,7 @@ fn offer_from(
     requires alike { AreAlike (rows_of orders.now.lists.items) }
     requires small { length table.now < 2 ^ 32 }
     requires spot { IsSpot (rows_of orders.now.lists.items) no spot }
+    requires ranks { AreRanks (rows_of orders.now.lists.items) no ranks }
     requires range { from ≤ to }
     requires within { to ≤ length (row_of (rows_of orders.now.lists.items) 0) }
     ensures offered { OnOk result (IsOfferedFrom (rows_of orders.now.lists.items) table.now no from to touches.new.all.items) }
@@ -40,7 +42,8 @@ fn offer_from(
     let apexes = orders.list(0).items();
     for k in from..to {
         let apex = apexes[k];
-        touches.offer(orders, table, apex, orders.spot_at(k, apex), no, spot)?;
+        let w = orders.octant_of(orders.spot_at(k, apex), spot);
+        touches.offer(orders, table, apex, w, no, ranks[w as usize % 4])?;
     }
     Ok(())
 }
@@ -66,10 +69,11 @@ fn offer_to_all(
     };
     let place = place as usize;
     let spot = orders.spot_at(place, no);
+    let ranks = orders.ranks(no);
     let end = orders.list(0).items().len();
     // On which side of an apex it lies in the first order, each half of the apexes has in common.
-    offer_from(orders, table, touches, no, spot, 0, place)?;
-    offer_from(orders, table, touches, no, spot, place, end)?;
+    offer_from(orders, table, touches, no, spot, ranks, 0, place)?;
+    offer_from(orders, table, touches, no, spot, ranks, place, end)?;
     Ok(())
 }
 

@@ -1,6 +1,6 @@
 //! The eight octants, by their orders.
 
-ghost use Rattle.std.specs.Prelude.{◌≡◌, ◌<◌, Some, slice_get, true, false};
+ghost use Rattle.std.specs.Prelude.{◌≡◌, ◌+◌, ◌%◌, ◌<◌, Some, slice_get, true, false};
 ghost use Rattle.kin_motion.specs.Octants.{Octant as Bounds, octants, direction_of};
 ghost use Rattle.kin_wedge.specs.Seen.{octant_seen, reading_seen, IsOfEight};
 
@@ -18,6 +18,22 @@ pub struct Octant {
     pub first: Reading,
     pub second: Reading,
     pub third: Reading,
+}
+
+impl Octant {
+    /// The octant with its members ranked from the front or from the end.
+    #[inline(always)]
+    pub fn ranked(self, from_end: bool) -> Octant
+        ensures { result ≡ record self { third = record self.third { from_end = from_end } } }
+    {
+        Octant {
+            third: Reading {
+                part: self.third.part,
+                from_end,
+            },
+            ..self
+        }
+    }
 }
 
 fn forward(part: u32) -> Reading
@@ -70,7 +86,8 @@ pub fn orders_of(w: u32) -> Octant
 pub fn third_of(w: u32) -> Reading
     requires { w < 8 }
     ensures third { (o : Bounds) → slice_get octants w ≡ Some o → o.third ≡ reading_seen result }
-    ensures part { result.part < 8 }
+    ensures part { result.part ≡ w % 4 + 4 }
+    ensures small { result.part < 8 }
 {
     Reading {
         part: w % 4 + 4,

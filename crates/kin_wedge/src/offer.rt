@@ -1,9 +1,8 @@
 //! Whether a number can change a candidate.
 
-ghost use Rattle.std.specs.Prelude.{◌≡◌, ◌+◌, ◌*◌, ◌<◌, ◌^◌, Some, true, length, slice_get};
+ghost use Rattle.std.specs.Prelude.{◌%◌, ℕ, ◌≡◌, ◌+◌, ◌*◌, ◌<◌, ◌^◌, Some, true, length, slice_get};
 ghost use Rattle.kin_motion.specs.Octants.{Octant as Bounds, octants};
-ghost use Rattle.kin_motion.specs.Numbers.{is_in};
-ghost use Rattle.kin_wedge.specs.Rows.{row_of, AreAlike, AreRows};
+ghost use Rattle.kin_wedge.specs.Rows.{row_of, AreRows};
 ghost use Rattle.kin_wedge.specs.Seen.{rows_of};
 ghost use Rattle.kin_wedge.specs.Touched.{ComesFirst, HasPassedBy};
 
@@ -11,19 +10,17 @@ use crate::octant::{orders_of, third_of};
 use crate::orders::Orders;
 use crate::table::Table;
 
-/// Whether no candidate stands before a member in an octant.
+/// Whether no candidate stands before the member that has this place in the order that ranks an octant.
 #[inline(always)]
-pub fn leads(orders: &Orders, table: &Table, apex: u32, w: u32, no: u32) -> bool
+pub fn leads(orders: &Orders, table: &Table, apex: u32, w: u32, rank: usize) -> bool
     requires rows { AreRows (rows_of orders.now.lists.items) }
-    requires alike { AreAlike (rows_of orders.now.lists.items) }
-    requires member { is_in no (row_of (rows_of orders.now.lists.items) 0) ≡ true }
     requires octant { w < 8 }
     requires slot { 8 * apex + w < length table.now }
     requires small { length table.now < 2 ^ 32 }
-    ensures { (o : Bounds) → slice_get octants w ≡ Some o → ComesFirst (rows_of orders.now.lists.items) table.now o apex w no → result ≡ true }
+    ensures { (no : ℕ) (o : Bounds) → slice_get (row_of (rows_of orders.now.lists.items) (w % 4 + 4)) rank ≡ Some no → slice_get octants w ≡ Some o → ComesFirst (rows_of orders.now.lists.items) table.now o apex w no → result ≡ true }
 {
     match table.candidate(8 * apex + w) {
-        Some(best) => !orders.member_comes_after(third_of(w), best, no),
+        Some(best) => !orders.place_comes_after(third_of(w), best, rank),
         None => true,
     }
 }

@@ -141,19 +141,17 @@ impl Orders {
         }
     }
 
-    /// Whether a member comes after a number, in an order as it is read.
+    /// Whether the member that has this place comes after a number, in an order as it is read.
     #[inline(always)]
-    pub fn member_comes_after(&self, reading: Reading, p: u32, member: u32) -> bool
+    pub fn place_comes_after(&self, reading: Reading, p: u32, rank: usize) -> bool
         requires rows { AreRows (rows_of self.now.lists.items) }
         requires part { reading.part < 8 }
-        requires member { is_in member (row_of (rows_of self.now.lists.items) reading.part) ≡ true }
-        ensures { result ≡ stands_after (rows_of self.now.lists.items) (reading_seen reading) p member }
+        ensures { (member : ℕ) → slice_get (row_of (rows_of self.now.lists.items) reading.part) rank ≡ Some member → result ≡ stands_after (rows_of self.now.lists.items) (reading_seen reading) p member }
     {
         let Some(place) = self.place_in(reading.part, p) else {
             return false;
         };
         let place = place as usize;
-        let rank = self.place_of_member(reading.part, member);
         if reading.from_end {
             self.rises(reading.part, rank, place)
         } else {

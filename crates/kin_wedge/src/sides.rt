@@ -5,7 +5,7 @@ ghost use Rattle.kin_motion.specs.Octants.{Octant as Bounds, octants};
 ghost use Rattle.kin_motion.specs.Numbers.{is_in};
 ghost use Rattle.kin_wedge.specs.Rows.{row_of, is_in_wedge, AreAlike, AreRows};
 ghost use Rattle.kin_wedge.specs.Seen.{rows_of};
-ghost use Rattle.kin_wedge.specs.Sides.{octant_by, AreParted, AreSides, IsSpot};
+ghost use Rattle.kin_wedge.specs.Sides.{octant_by, AreParted, AreRanks, AreSides, IsSpot};
 
 use crate::orders::Orders;
 
@@ -73,6 +73,21 @@ impl Orders {
             x: self.place_of_member(2, no),
             sum: self.place_of_member(3, no),
         }
+    }
+
+    /// Where a member stands in the orders that rank the members of octants.
+    pub fn ranks(&self, no: u32) -> [usize; 4]
+        requires rows { AreRows (rows_of self.now.lists.items) }
+        requires alike { AreAlike (rows_of self.now.lists.items) }
+        requires member { is_in no (row_of (rows_of self.now.lists.items) 0) ≡ true }
+        ensures { AreRanks (rows_of self.now.lists.items) no result }
+    {
+        [
+            self.place_of_member(4, no),
+            self.place_of_member(5, no),
+            self.place_of_member(6, no),
+            self.place_of_member(7, no),
+        ]
     }
 
     /// On which sides of a number another one lies, by where they stand.

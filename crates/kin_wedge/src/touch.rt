@@ -1,9 +1,9 @@
 //! Slots whose candidate may change.
 
-ghost use Rattle.std.specs.Prelude.{◌≡◌, ℕ, ◌+◌, ◌*◌, ◌<◌, ◌≤◌, ◌^◌, [], Option, Some, None, true, length, slice_get, OnOk};
+ghost use Rattle.std.specs.Prelude.{◌≡◌, ℕ, ◌+◌, ◌*◌, ◌%◌, ◌<◌, ◌≤◌, ◌^◌, [], Option, Some, None, true, length, slice_get, OnOk};
 ghost use Rattle.kin_motion.specs.Octants.{Octant as Bounds, octants};
 ghost use Rattle.kin_motion.specs.Numbers.{is_in};
-ghost use Rattle.kin_wedge.specs.Rows.{row_of, AreAlike, AreRows, HaveSlots};
+ghost use Rattle.kin_wedge.specs.Rows.{row_of, is_in_wedge, AreAlike, AreRows, HaveSlots};
 ghost use Rattle.kin_wedge.specs.Seen.{rows_of};
 ghost use Rattle.kin_wedge.specs.Sides.{AreParted, IsSpot};
 ghost use Rattle.kin_wedge.specs.Touched.{IsOffered, ComesFirst, ComesOrGoes, HasPassedBy, HasTouched, HasOfferedBoth};
@@ -139,30 +139,28 @@ impl Touches {
         Ok(())
     }
 
-    /// Offers a member to the octant of an apex that it is in, where no candidate stands before it. Both
-    /// stand at these spots.
+    /// Offers a member to an octant of an apex, where no candidate stands before it. It is in no other
+    /// octant of the apex, and has this place in the order that ranks this one.
     #[inline(always)]
     pub fn offer(
         &mut self,
         orders: &Orders,
         table: &Table,
         apex: u32,
-        at: Spot,
+        w: u32,
         no: u32,
-        spot: Spot,
+        rank: usize,
     ) -> Result<(), NoMemory>
         requires rows { AreRows (rows_of orders.now.lists.items) }
-        requires parted { AreParted (rows_of orders.now.lists.items) }
-        requires alike { AreAlike (rows_of orders.now.lists.items) }
-        requires at { IsSpot (rows_of orders.now.lists.items) apex at }
-        requires spot { IsSpot (rows_of orders.now.lists.items) no spot }
+        requires octant { w < 8 }
+        requires there { (v : ℕ) (o : Bounds) → slice_get octants v ≡ Some o → is_in_wedge (rows_of orders.now.lists.items) o apex no ≡ true → w ≡ v }
+        requires rank { slice_get (row_of (rows_of orders.now.lists.items) (w % 4 + 4)) rank ≡ Some no }
         requires slot { 8 * apex + 7 < length table.now }
         requires small { length table.now < 2 ^ 32 }
-        ensures offered { OnOk result ((w : ℕ) (o : Bounds) → slice_get octants w ≡ Some o → ComesFirst (rows_of orders.now.lists.items) table.now o apex w no → IsOffered self.new.all.items (8 * apex + w) (Some no)) }
+        ensures offered { OnOk result ((v : ℕ) (o : Bounds) → slice_get octants v ≡ Some o → ComesFirst (rows_of orders.now.lists.items) table.now o apex v no → IsOffered self.new.all.items (8 * apex + v) (Some no)) }
         ensures touched { OnOk result (HasTouched table.now self.old.all.items self.new.all.items) }
     {
-        let w = orders.octant_of(at, spot);
-        let wanted = leads(orders, table, apex, w, no);
+        let wanted = leads(orders, table, apex, w, rank);
         self.add_if(wanted, table, apex, w, no)?;
         Ok(())
     }
@@ -202,7 +200,9 @@ impl Touches {
         ensures offered { OnOk result ((w : ℕ) (o : Bounds) → slice_get octants w ≡ Some o → ComesOrGoes (rows_of orders.now.lists.items) table.now o apex w no → IsOffered self.new.all.items (8 * apex + w) (Some no)) }
         ensures touched { OnOk result (HasTouched table.now self.old.all.items self.new.all.items) }
     {
-        self.offer(orders, table, apex, at, no, spot)?;
+        let w = orders.octant_of(at, spot);
+        let rank = orders.place_of_member(w % 4 + 4, no);
+        self.offer(orders, table, apex, w, no, rank)?;
         self.offer_again(table, apex, no)?;
         Ok(())
     }

@@ -7,7 +7,7 @@ use Rattle.kin_wedge.specs.Rows.{is_in_wedge}
 use Rattle.kin_wedge.specs.Scans.{steps_in, step_to}
 use Rattle.kin_wedge.specs.Seen.{octant_seen, rows_of}
 use Rattle.kin_wedge.proofs.Scanning.{starts, goes_on, ends, behind_place, apex_there, found_first}
-use Rattle.kin_wedge.proofs.orders.Orders.look_up.Goals as goal
+use Rattle.kin_wedge.proofs.orders.Orders.scan.Goals as goal
 
 pub returns-in_default : goal.returns-in_default
 returns-in_default c = λ q. false_from_ne_true _ (λ m.
