@@ -1,4 +1,4 @@
-//! The lesser or the greater root of a quadratic, made alone.
+//! The lesser or the greater root of a quadratic, made alone, and in line where a fact of a curve is born.
 
 ghost use Rattle.std.specs.Prelude.{◌≡◌, ◌≢◌, ◌≤◌, ◌<◌, ◌^◌, ◌*◌, ◌%◌, ℕ, IsTrue, ℤ, ◌<ℤ◌, ◌≤ℤ◌, ◌*ℤ◌, pos, unsigned_abs, Some, IfSome, IfNone};
 ghost use Rattle.std.specs.Int.{◌∣◌};
@@ -23,6 +23,7 @@ pub(crate) fn negative(p: &Poly) -> Poly
 }
 
 /// One of the two rational roots of a quadratic, or its double one, where `root` is the square root of the discriminant.
+#[inline(always)]
 fn rational_root(a: i64, b: i64, root: i64, upper: bool) -> Instant
     requires a_positive { pos 0 <ℤ a }
     requires a_small { unsigned_abs a ≤ 2 ^ 28 }
@@ -39,6 +40,7 @@ fn rational_root(a: i64, b: i64, root: i64, upper: bool) -> Instant
 }
 
 /// The greatest common divisor of three numbers, of which the first is positive.
+#[inline(always)]
 fn common_divisor(a: i64, b: i64, c: i64) -> i64
     requires a_positive { pos 0 <ℤ a }
     requires a_small { unsigned_abs a < 2 ^ 63 }
@@ -56,6 +58,7 @@ fn common_divisor(a: i64, b: i64, c: i64) -> i64
 }
 
 /// One of the two irrational roots of a quadratic.
+#[inline(always)]
 fn irrational_root(a: i64, b: i64, c: i64, upper: bool) -> Instant
     requires a_positive { pos 0 <ℤ a }
     requires small { IsSmall (quadratic a b c) }
@@ -73,6 +76,7 @@ fn irrational_root(a: i64, b: i64, c: i64, upper: bool) -> Instant
 }
 
 /// The square root of `x`, where it is a whole number.
+#[inline(always)]
 fn exact_root(x: u64) -> Option<u64>
     ensures some { IfSome result (λ r. r * r ≡ x) }
     ensures none { IfNone result ((k : ℕ) → k * k ≢ x) }
@@ -114,6 +118,7 @@ fn is_square_by_63(rest: u64) -> bool
 }
 
 /// The greater or the lesser real root of a quadratic whose first coefficient is positive, if it has any.
+#[inline(always)]
 pub(crate) fn root_on(p: &Poly, upper: bool) -> Option<Instant>
     requires a_positive { pos 0 <ℤ p.now.a }
     ensures { IsRootOn p.now upper result }
