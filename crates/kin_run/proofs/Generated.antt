@@ -1,4 +1,5 @@
 -- The commands of a generated script are never refused, and a seed and a count have one text.
+use Rattle.std.proofs.lemmas.Option.{same_Some}
 use Rattle.std.proofs.Common.{◌≡◌, ◌≢◌, ◌⊎◌, inl, inr, ℕ, zero, suc, ◌+◌, ◌-◌, ◌*◌, ◌≤◌, ◌<◌, ◌%◌, ◌^◌, Bool, true, false, List, [], ◌∷◌, ◌++◌, length, replicate, Option, Some, None, refl, sym, ap, ◌∙◌, subst, append_assoc, arith, pos, ℤ}
 use Rattle.std.specs.Prelude.{slice_get, slice_set, is_some}
 use Rattle.std.proofs.lemmas.Int.{ints}
@@ -38,7 +39,7 @@ use Rattle.kin_run.specs.Demo.{IsDemoText, OneDemoText, WritesDemo, start_of, de
 use Rattle.kin_run.specs.Headline.{status_of_stop}
 use Rattle.kin_run.specs.Performed.{IsFrontOfEach, IsCutOfText}
 use Rattle.kin_run.specs.Passed.{PassesInTurn}
-use Rattle.kin_run.specs.Tallies.{HasCounted, tally_line}
+use Rattle.kin_run.specs.Tallies.{HasTallied, tally_line}
 use Rattle.kin_run.specs.Written.{IsFront}
 use Rattle.kin_run.proofs.Fronts.{front_through}
 use Rattle.kin_run.proofs.InTurn.{one_in_turn}
@@ -213,7 +214,7 @@ broken_demo seed count NoMemory front cut = cut
 -- ---- the whole of it
 -- the text of the script, and then the counts of what it passed
 pub whole_text : (seed count : ℕ) (s : Script) (body : List ℕ) (t : Tally) → IsGenerated seed count s → Text (start_of s) s.lines body None
-    → HasCounted (PassesInTurn (start_of s) s.lines) (record { moments = 0; failures = 0 }) t → IsDemoText seed count (body ++ tally_line t)
+    → HasTallied (PassesInTurn (start_of s) s.lines) (Some (record { moments = 0; failures = 0 })) (Some t) → IsDemoText seed count (body ++ tally_line t)
 whole_text seed count s body t is replays x = record {
   script = s;
   generated = is;
@@ -221,5 +222,5 @@ whole_text seed count s body t is replays x = record {
   replays = replays;
   blocks = x.blocks;
   passed = x.passed;
-  joined = ap (λ (u : Tally). body ++ tally_line u) (x.counted ∙ tallied_from_nothing x.blocks);
+  joined = ap (λ (u : Tally). body ++ tally_line u) (same_Some _ _ x.counted ∙ tallied_from_nothing x.blocks);
 }

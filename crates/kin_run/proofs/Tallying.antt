@@ -1,57 +1,54 @@
 -- How passed blocks are counted.
-use Rattle.std.proofs.Common.{◌≡◌, ℕ, ◌+◌, ◌-◌, ◌≤◌, ◌^◌, List, [], ◌∷◌, ◌++◌, length, Option, Some, None, refl, sym, ap, ◌∙◌, subst, arith}
+use Rattle.std.proofs.Common.{◌≡◌, ℕ, ◌+◌, ◌-◌, ◌≤◌, ◌^◌, List, [], ◌∷◌, ◌++◌, length, Option, Some, None, is_some, false, refl, sym, ap, ◌∙◌, subst, arith}
 use Rattle.std.specs.Prelude.{min}
-use Rattle.std.proofs.lemmas.Option.{same_Some}
 use Rattle.std.proofs.lemmas.List.Sums.{fold-append, sum_by-cons}
 use Rattle.kin_motion.specs.Journal.{Block}
 use Rattle.kin_run.specs.declared.tally.Tally.{Tally}
 use Rattle.kin_run.specs.Demo.{failures_in}
-use Rattle.kin_run.specs.Tallies.{one_more, counted_on, tallied, HasCounted, HasTallied}
+use Rattle.kin_run.specs.Tallies.{one_more, counted_on, tallied, tallied_on, HasTallied}
 
 -- no block changes nothing
 pub none_tallied : (IsPassed : List Block → Type 0) (t : Option Tally) → IsPassed [] → HasTallied IsPassed t t
-none_tallied IsPassed t is = record { unasked = λ none. none; asked = λ u some. (u, some, record { blocks = []; passed = is; counted = refl }) }
+none_tallied IsPassed t is = record { blocks = []; passed = is; counted = same t }
+  where
+    same : (t : Option Tally) → t ≡ tallied_on t []
+    same None = refl
+    same (Some t) = refl
 
--- what nobody asks for is not counted
-pub untallied : (IsPassed : List Block → Type 0) (t : Option Tally) → t ≡ None → HasTallied IsPassed t t
-untallied IsPassed t none = record { unasked = λ _. none; asked = λ u some. let both : None ≡ Some u = sym none ∙ some in absurd cc }
+-- where nobody asks for the counts there are none
+pub untallied : (IsPassed : List Block → Type 0) (t : Option Tally) (bs : List Block) → is_some t ≡ false → IsPassed bs → HasTallied IsPassed t t
+untallied IsPassed None bs none is = record { blocks = bs; passed = is; counted = refl }
+untallied IsPassed (Some t) bs none is = absurd cc
 
 -- one block is counted once
 pub one_tallied : (IsPassed : List Block → Type 0) (b : Block) (failures : ℕ) (old new : Option Tally) → failures ≡ length b.failures → IsPassed (b ∷ []) → new ≡ counted_on failures old → HasTallied IsPassed old new
-one_tallied IsPassed b failures old new same is e = record {
-  unasked = λ none. e ∙ ap (counted_on failures) none;
-  asked = λ t some. (one_more failures t, e ∙ ap (counted_on failures) some, record { blocks = b ∷ []; passed = is; counted = ap (λ n. one_more n t) same });
-}
+one_tallied IsPassed b failures old new same is e = record { blocks = b ∷ []; passed = is; counted = e ∙ ap (λ n. counted_on n old) same ∙ once old }
+  where
+    once : (t : Option Tally) → counted_on (length b.failures) t ≡ tallied_on t (b ∷ [])
+    once None = refl
+    once (Some t) = refl
 
 -- blocks, and then more of them
-module _ {Is IsMore IsBoth : List Block → Type 0} (both : (bs cs : List Block) → Is bs → IsMore cs → IsBoth (bs ++ cs)) where
-  counted_then : {old middle new : Tally} → HasCounted Is old middle → HasCounted IsMore middle new → HasCounted IsBoth old new
-  counted_then {old} {middle} {new} x y = record {
-    blocks = x.blocks ++ y.blocks;
-    passed = both x.blocks y.blocks x.passed y.passed;
-    counted = y.counted ∙ ap (λ (t : Tally). tallied t y.blocks) x.counted ∙ sym (fold-append (λ u b. one_more (length b.failures) u) old x.blocks y.blocks);
-  }
+tallied_both : (t : Option Tally) (bs cs : List Block) → tallied_on (tallied_on t bs) cs ≡ tallied_on t (bs ++ cs)
+tallied_both None bs cs = refl
+tallied_both (Some t) bs cs = ap (λ (u : Tally). Some u) (sym (fold-append (λ u b. one_more (length b.failures) u) t bs cs))
 
 pub tallied_then : {Is IsMore IsBoth : List Block → Type 0} {old middle new : Option Tally} → HasTallied Is old middle → HasTallied IsMore middle new
     → ((bs cs : List Block) → Is bs → IsMore cs → IsBoth (bs ++ cs)) → HasTallied IsBoth old new
-tallied_then x y both = record {
-  unasked = λ none. y.unasked (x.unasked none);
-  asked = λ t some. let m = x.asked t some in let n = y.asked m.0 m.1 in (n.0, n.1, counted_then both m.2 n.2);
+tallied_then {Is} {IsMore} {IsBoth} {old} {middle} {new} x y both = record {
+  blocks = x.blocks ++ y.blocks;
+  passed = both x.blocks y.blocks x.passed y.passed;
+  counted = y.counted ∙ ap (λ (t : Option Tally). tallied_on t y.blocks) x.counted ∙ tallied_both old x.blocks y.blocks;
 }
 
 -- what it means is changed
 pub tallied_is : {Is IsOther : List Block → Type 0} {old new : Option Tally} → HasTallied Is old new → ((bs : List Block) → Is bs → IsOther bs) → HasTallied IsOther old new
-tallied_is x f = record {
-  unasked = x.unasked;
-  asked = λ t some. let c = x.asked t some in (c.0, c.1, record { blocks = c.2.blocks; passed = f c.2.blocks c.2.passed; counted = c.2.counted });
-}
+tallied_is x f = record { blocks = x.blocks; passed = f x.blocks x.passed; counted = x.counted }
 
--- what was asked for is told
+-- counts that are asked for begin with nothing, and are told
 pub counts_told : (IsPassed : List Block → Type 0) (old : Tally) (new : Option Tally) (told : Tally) → old ≡ record { moments = 0; failures = 0 } → HasTallied IsPassed (Some old) new → new ≡ Some told
-    → HasCounted IsPassed (record { moments = 0; failures = 0 }) told
-counts_told IsPassed old new told nothing x is =
-    let c = x.asked old refl in
-    subst (λ (t : Tally). HasCounted IsPassed t told) nothing (subst (HasCounted IsPassed old) (same_Some _ _ (sym c.1 ∙ is)) c.2)
+    → HasTallied IsPassed (Some (record { moments = 0; failures = 0 })) (Some told)
+counts_told IsPassed old new told nothing x is = subst (λ (t : Tally). HasTallied IsPassed (Some t) (Some told)) nothing (subst (HasTallied IsPassed (Some old)) is x)
 
 -- a count that stops at the most, more often than once, stops there once
 module _ (most : ℕ) where

@@ -12,21 +12,20 @@ one_more failures t = record { moments = min (t.moments + 1) (2 ^ 64 - 1); failu
 abbrev pub tallied : Tally → List Block → Tally
 tallied t bs = fold (λ u b. one_more (length b.failures) u) t bs
 
--- one more block, if anybody asks for the counts
+-- one more block, and several, if anybody asks for the counts
 abbrev pub counted_on : ℕ → Option Tally → Option Tally
 counted_on failures None = None
 counted_on failures (Some t) = Some (one_more failures t)
 
--- such blocks were passed and counted
-pub record HasCounted (IsPassed : List Block → Type 0) (old new : Tally) : Type 0 where
+abbrev pub tallied_on : Option Tally → List Block → Option Tally
+tallied_on None bs = None
+tallied_on (Some t) bs = Some (tallied t bs)
+
+-- such blocks were passed, and counted if anybody asks for the counts
+pub record HasTallied (IsPassed : List Block → Type 0) (old new : Option Tally) : Type 0 where
   pub blocks : List Block
   pub passed : IsPassed blocks
-  pub counted : new ≡ tallied old blocks
-
--- such blocks were passed and counted, if anybody asks for the counts
-pub record HasTallied (IsPassed : List Block → Type 0) (old new : Option Tally) : Type 0 where
-  pub unasked : old ≡ None → new ≡ None
-  pub asked : (t : Tally) → old ≡ Some t → (u : Tally) × (new ≡ Some u) × HasCounted IsPassed t u
+  pub counted : new ≡ tallied_on old blocks
 
 -- both counts, as a line
 abbrev pub tally_line : Tally → List ℕ

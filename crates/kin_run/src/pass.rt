@@ -70,8 +70,8 @@ fn leap_to<L: Ledger>(
 }
 
 /// Passes all failures up to the asked instant, which isn't before now. Where the journal is on,
-/// the sink is given each block before the next is computed; else no block is listed. Each is
-/// counted, if anybody asks for the counts.
+/// the sink is given each block before the next is computed. Else no block is listed, and where
+/// nobody asks for the counts either, the world leaps.
 pub fn pass<K: Sink, L: Ledger>(
     world: &mut World,
     journal: bool,

@@ -135,7 +135,7 @@ module _ {s : Stage} (sound : IsSound s) (table : Facts) {taken : List Owned} (h
             ];
         failed = λ l live e.
             let o : Owned = record { structure = l.certificate.structure; part = l.certificate.placed.part; fact = l.certificate.placed.fact } in
-            let curved = All-contains (λ (x : Owned). is_line x.fact.form ≡ false → ¬ (HoldsAt (scene_at s.motions) m x.fact)) given o beyond.fail ((same o).1 ((has.each o).1 (l, live, e, refl))) in
+            let curved = All-contains (λ (x : Owned). is_line x.fact.form ≡ false → ¬ (HoldsAt (scene_at s.motions) m x.fact)) given o beyond.none_holds ((same o).1 ((has.each o).1 (l, live, e, refl))) in
             let fails = subst (λ (x : Moment). FailsFirst (scene_at s.motions) s.moment x l.certificate.placed.fact) (at_moment sound table has due least ∙ at_it) (failure_at sound l live has.moment e) in
             elim (true_or_false (is_line l.certificate.placed.fact.form)) [
               | inl line ↦ subst (λ (x : Moment). ¬ (HoldsAt (scene_at s.motions) x l.certificate.placed.fact)) (sym beyond.after)
@@ -151,6 +151,10 @@ module _ {s : Stage} (sound : IsSound s) (table : Facts) {taken : List Owned} (h
     pub landing_later : IsLanding (scene_at s.motions) due limit given m → IsEarlier s.moment m
     landing_later (inl is) = subst (IsEarlier s.moment) (sym is) first.later_is_later
     landing_later (inr beyond) = (reached beyond).later
+
+    pub landing_past : IsLanding (scene_at s.motions) due limit given m → ¬ (IsEarlier m due)
+    landing_past (inl is) = subst (λ (x : Moment). ¬ (IsEarlier x due)) (sym is) (never due first.canonical)
+    landing_past (inr beyond) = λ e. never due first.canonical (through due m due first.canonical (reached beyond).canonical first.canonical (past_due beyond) e)
 
     pub landing_within : IsLanding (scene_at s.motions) due limit given m → ¬ (IsEarlier limit due) → ¬ (IsEarlier limit m)
     landing_within (inl is) within = subst (λ (x : Moment). ¬ (IsEarlier limit x)) (sym is) within

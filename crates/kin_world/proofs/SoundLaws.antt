@@ -211,8 +211,8 @@ module _ {s : Stage} (sound : IsSound s) where
     }
 
 -- fewer moments are left where it has landed
-pub landed_fewer : {s t : Stage} → IsSound s → (limit : Moment) → HasLanded limit s t → moments_left t.moment < moments_left s.moment
-landed_fewer {s} {t} sound limit landed = moments_run_out s.moment t.moment sound.in_order.canonical landed.settled.sound.in_order.canonical landed.later
+pub landed_fewer : {s t : Stage} → IsSound s → (due limit : Moment) → HasLanded due limit s t → moments_left t.moment < moments_left s.moment
+landed_fewer {s} {t} sound due limit landed = moments_run_out s.moment t.moment sound.in_order.canonical landed.settled.sound.in_order.canonical landed.later
 
 -- a sound world is whole, so it has moved to the limit
 pub has_moved : {s : Stage} (sound : IsSound s) (limit : Moment) → IsCanonical limit.at → ¬ (IsEarlier limit s.moment) → NoneFailsUntil s.table.live limit → HasMoved limit (meaning s true) (meaning (record s { moment = limit }) true)
@@ -257,18 +257,17 @@ module _ (s : Stage) {t : Stage} (did : HasSettled s.table t) (frame : HasSameFr
       made = record { born = did.made.born; exactly = did.made.exactly; count = did.made.count };
     }
 
--- a world that has landed at a moment has left some failures behind
-module _ (s : Stage) (limit : Moment) {t : Stage} (landed : HasLanded limit s t) where
-  pub has_left_behind : HasSameFrame (record s { moment = t.moment }) t → HasLeftBehind limit (meaning s true) (meaning t true)
-  has_left_behind frame =
-      let did = landed.settled in
-      record {
-        later = landed.later;
-        within = landed.within;
-        state = same_but_facts (record s { moment = t.moment }) did frame;
-        whole = whole did.sound;
-        made = record { born = did.made.born; exactly = did.made.exactly; count = did.made.count };
-      }
+-- a world that has landed at a moment has left failures up to it behind
+pub has_left_behind : {s t : Stage} → IsSound s → (due limit : Moment) → IsLeastFailure s.table.live due → HasLanded due limit s t → HasSameFrame (record s { moment = t.moment }) t → HasLeftBehind limit (meaning s true) (meaning t true)
+has_left_behind {s} {t} sound due limit least landed frame =
+    let did = landed.settled in
+    record {
+      due = fails_within sound due least t.moment landed.past;
+      within = landed.within;
+      state = same_but_facts (record s { moment = t.moment }) did frame;
+      whole = whole did.sound;
+      made = record { born = did.made.born; exactly = did.made.exactly; count = did.made.count };
+    }
 
 -- what is inside a world that is seen as whole is sound
 module _ (w : Inside) (v : World) (is : meaning (stage_of w.upkeep) w.whole ≡ v) (sound : IsTrue w.whole → IsSound (stage_of w.upkeep)) (there : IsTrue v.whole) where

@@ -247,19 +247,20 @@ is_line (Turn i j k) = false
 is_line (Slope i j k l) = false
 is_line (Dist i j k l) = false
 
--- just after the instant at which these facts fail, which isn't after the limit, none of them holds, where lines need not be asked
+-- m is just after the instant at which these facts fail, and not after the limit. None of them holds there; of lines nothing need be known
 pub record IsBeyond (scene : Moment → Scene) (due limit : Moment) (given : List Owned) (m : Moment) : Type 0 where
   pub at : due.phase ≡ At
   pub after : m ≡ record { at = due.at; phase = After }
   pub within : ¬ (IsEarlier limit m)
-  pub fail : All (λ o. is_line o.fact.form ≡ false → ¬ (HoldsAt scene m o.fact)) given
+  pub none_holds : All (λ o. is_line o.fact.form ≡ false → ¬ (HoldsAt scene m o.fact)) given
 
 -- where a leap lands: at the moment at which the facts fail, or beyond it
 abbrev pub IsLanding : (Moment → Scene) → Moment → Moment → List Owned → Moment → Type 0
 IsLanding scene due limit given m = (m ≡ due) ⊎ IsBeyond scene due limit given m
 
--- the world has settled at a later moment, not after the limit
-pub record HasLanded (limit : Moment) (s t : Stage) : Type 0 where
+-- the world has settled at a later moment, not before the one that was due and not after the limit
+pub record HasLanded (due limit : Moment) (s t : Stage) : Type 0 where
   pub later : IsEarlier s.moment t.moment
+  pub past : ¬ (IsEarlier t.moment due)
   pub within : ¬ (IsEarlier limit t.moment)
   pub settled : HasSettled s.table t

@@ -136,9 +136,17 @@ abbrev pub HasStepped : Moment → Option Block → World → World → Type 0
 HasStepped limit None old new = HasMoved limit old new
 HasStepped limit (Some b) old new = HasPassed limit b old new
 
--- some failures were left behind, up to a moment that isn't after the limit, and nothing else changed but the facts
+-- a live fact fails at or before the limit
+pub record FailsWithin (limit : Moment) (w : World) : Type 0 where
+  pub certificate : Certificate
+  pub live : IsLiveFact w.size w.keeps (scene_of w) certificate
+  pub moment : Moment
+  pub fails : FailsFirst (scene_at w.motions) w.moment moment certificate.placed.fact
+  pub within : ¬ (IsEarlier limit moment)
+
+-- a live fact has failed up to the moment now, which isn't after the limit, and nothing else changed but the facts
 pub record HasLeftBehind (limit : Moment) (old new : World) : Type 0 where
-  pub later : IsEarlier old.moment new.moment
+  pub due : FailsWithin new.moment old
   pub within : ¬ (IsEarlier limit new.moment)
   pub state : new ≡ with_facts_of (record old { moment = new.moment }) new
   pub whole : IsWhole new
@@ -158,11 +166,3 @@ failure_count (Some b) = Some (length b.failures)
 pub record IsNextMoment (t : Setting) (now m : Moment) : Type 0 where
   pub failures : List Failure
   pub next : IsNextBlock t now (record { moment = m; failures = failures })
-
--- a live fact fails at or before the limit
-pub record FailsWithin (limit : Moment) (w : World) : Type 0 where
-  pub certificate : Certificate
-  pub live : IsLiveFact w.size w.keeps (scene_of w) certificate
-  pub moment : Moment
-  pub fails : FailsFirst (scene_at w.motions) w.moment moment certificate.placed.fact
-  pub within : ¬ (IsEarlier limit moment)

@@ -36,8 +36,21 @@ const UP_TO: Script = (
     ],
 );
 
+/// The same with just after the meeting as the limit: a leap goes there at once.
+const JUST_PAST: Script = (
+    1,
+    &[ORDER_EAST],
+    &[
+        Call::Insert(0, [0, 0, 1, 0]),
+        Call::Insert(1, [10, 0, -1, 0]),
+        Call::Leaps((5, Phase::After), Some((5, Phase::After))),
+        Call::Order(0, &[1, 0]),
+        Call::Facts(1, 2),
+    ],
+);
+
 /// At 10 a point is as near to another one as two others are to each other, and goes away again: that comparison fails at
-/// 10 and not just after it, so a leap stops there. At 6, 8, 9, 11, 12 and 14 two points are exchanged in one of eight
+/// 10 and holds again just after it, so a leap stops there. At 6, 8, 9, 11, 12 and 14 two points are exchanged in one of eight
 /// orders.
 const TOUCHING: Script = (
     2,
@@ -61,4 +74,4 @@ const TOUCHING: Script = (
     ],
 );
 
-pub const LEAPING: [Script; 3] = [OVER, UP_TO, TOUCHING];
+pub const LEAPING: [Script; 4] = [OVER, UP_TO, JUST_PAST, TOUCHING];

@@ -253,10 +253,10 @@ impl World {
         Ok(Some(count))
     }
 
-    /// Leaves some failures up to the limit behind, or moves to the limit where there are none, and
-    /// answers whether there were any. Nobody learns of these failures, so where all that fail at an
-    /// instant fail just after it too, and that isn't after the limit, it goes there at once: what
-    /// only the instant itself would have is never made. After want of memory the world isn't whole.
+    /// Moves to a later moment up to the limit, over one or more failures, or to the limit where there
+    /// are none; answers whether there were any. It may leave an instant out and go to just after it,
+    /// where none of the facts that fail at the instant holds again and that moment isn't after the
+    /// limit. After want of memory the world isn't whole.
     pub fn leap<L: Ledger>(
         &mut self,
         limit: &Moment,

@@ -23,8 +23,9 @@ use std::mem::replace;
 use std::sync::ledger::Ledger;
 
 impl Upkeep {
-    /// Moves to the least failure moment, or just after it where all that fails there fails then,
-    /// too, and that isn't after the limit. Repairs all structures there.
+    /// Moves to the least failure moment. From an instant it goes on to just after it, where none of
+    /// the facts that failed holds again there and that isn't after the limit. Repairs all structures
+    /// there.
     pub fn leap<L: Ledger>(
         &mut self,
         alloc: Global,
@@ -35,7 +36,7 @@ impl Upkeep {
         requires sound { IsSound (stage_of self.old) }
         requires failing { IsLeastFailure self.old.table.live due.now }
         requires within { ¬ (IsEarlier limit.now due.now) }
-        ensures landed { OnOk result (HasLanded limit.now (stage_of self.old) (stage_of self.new)) }
+        ensures landed { OnOk result (HasLanded due.now limit.now (stage_of self.old) (stage_of self.new)) }
         ensures frame { HasSameFrame (record (stage_of self.old) { moment = self.new.moment }) (stage_of self.new) }
     {
         let mut given = replace(&mut self.given, Vec::new(alloc));

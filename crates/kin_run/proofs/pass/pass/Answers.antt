@@ -1,10 +1,13 @@
-use Rattle.std.proofs.Common.{[], arith, refl, sym, subst}
+use Rattle.std.proofs.Common.{[], ap, arith, not, refl, sym, subst, ◌∙◌}
 use Rattle.std.proofs.lemmas.Result.{err_from_is_err_and}
-use Rattle.kin_script.specs.States.{at}
+use Rattle.kin_motion.specs.Journal.{IsJournal}
+use Rattle.kin_script.specs.States.{at, state_setting}
 use Rattle.kin_script.specs.Text.{IsPassedText}
 use Rattle.kin_world.specs.Worlds.{HasPassed, HasMoved}
+use Rattle.kin_world.proofs.RootLaws.{journals_exist}
 use Rattle.kin_run.specs.Written.{printer}
 use Rattle.kin_run.specs.States.{state_of}
+use Rattle.kin_run.proofs.Tallying.{untallied}
 use Rattle.kin_run.proofs.Counting.{none_counted, counts_on, counts_quietly, counted_all, counted_quietly}
 use Rattle.kin_run.proofs.Gathering.{gains_nothing}
 use Rattle.kin_run.proofs.OnTheWay.{sets_out, breaks_here, breaks_within, faults_behind, goes_on, quiet_turn, arrives}
@@ -102,3 +105,12 @@ returns-then-is_none-clause-text g c = record {
   gained = gains_nothing (printer (g.K.Sink.held c.args.sink.now) c.args.out.now.items);
   is = subst (λ b. IsPassedText b (state_of c.args.journal c.args.world.now) c.args.asked []) (sym c.if-not-journal.true) refl;
 }
+
+pub returns-then-is_none-clause-tallied : goal.returns-then-is_none-clause-tallied
+returns-then-is_none-clause-tallied g c =
+    let w = c.args.world.now in
+    let j = journals_exist w (at c.args.asked) c.requires.whole c.requires.canonical c.requires.later in
+    untallied (IsJournal (state_setting (state_of c.args.journal w)) w.moment (at c.args.asked)) c.args.tally.now j.0 (c.is_none.ensures ∙ ap not c.if-is_none.true) j.1
+
+pub returns-then-is_none-clause-moved : goal.returns-then-is_none-clause-moved
+returns-then-is_none-clause-moved g c = ap (state_of c.args.journal) c.in_ok-leap_to.ensures.arrived.state

@@ -7,7 +7,7 @@ use Rattle.kin_motion.specs.Forms.{IsAskable}
 use Rattle.kin_motion.specs.Scene.{scene_at}
 use Rattle.kin_cert.specs.declared.owned.Owned.{Owned}
 use Rattle.kin_world.specs.Upkeep.{Stage, AreWaiting, IsLanding}
-use Rattle.kin_world.proofs.LeapLaws.{landing_under_repair, landing_later, landing_within}
+use Rattle.kin_world.proofs.LeapLaws.{landing_under_repair, landing_later, landing_past, landing_within}
 use Rattle.kin_world.proofs.TakeLaws.{given_same, given_waiting, given_askable, made_since}
 use Rattle.kin_world.proofs.upkeep.Upkeep.leap.Goals as goal
 
@@ -43,6 +43,8 @@ returns-clause-landed g c =
     let there : c.repair_each.new.self.moment ≡ c.landing-self.result = ap (λ (x : Stage). x.moment) c.repair_each.ensures.frame in
     record {
       later = subst (λ (m : Moment). IsEarlier c.args.self.now.moment m) (sym there) (landing_later c.requires.sound c.give_failing.new.self out.has_taken c.args.due.now c.args.limit.now c.requires.failing c.give_failing.new.given.items (given_same out) c.landing-self.result landing);
+      past = subst (λ (m : Moment). ¬ (IsEarlier m c.args.due.now)) (sym there)
+          (landing_past c.requires.sound c.give_failing.new.self out.has_taken c.args.due.now c.args.limit.now c.requires.failing c.give_failing.new.given.items (given_same out) c.landing-self.result landing);
       within = subst (λ (m : Moment). ¬ (IsEarlier c.args.limit.now m)) (sym there) (landing_within c.requires.sound c.give_failing.new.self out.has_taken c.args.due.now c.args.limit.now c.requires.failing c.give_failing.new.given.items (given_same out) c.landing-self.result landing c.requires.within);
       settled = record { sound = done.sound; made = made_since c.requires.sound c.give_failing.new.self out.has_taken c.repair_each.new.self.table c.give_failing.ensures.made done.made };
     }

@@ -40,11 +40,11 @@ returns-in_err-leap-clause-cause g c =
 
 pub returns-clause-leapt : goal.returns-clause-leapt
 returns-clause-leapt g c =
-    let s = stage_of c.self.inside.upkeep in
+    let sound = sound_inside c.self.inside c.args.self.now c.self.view_is c.self.invariant c.requires.whole in
     subst (λ (v : World). HasLeftBehind c.args.limit.now v (meaning (stage_of c.leap.new.self) true)) (seen_inside c.self.inside c.args.self.now c.self.view_is c.self.invariant c.requires.whole)
-    (has_left_behind s c.args.limit.now c.in_ok-leap.ensures.landed c.leap.ensures.frame)
+    (has_left_behind sound c.in-Some.moment c.args.limit.now c.in-Some.ensures.least c.in_ok-leap.ensures.landed c.leap.ensures.frame)
 
 pub returns-clause-fewer : goal.returns-clause-fewer
 returns-clause-fewer g c = λ some.
     let sound = sound_inside c.self.inside c.args.self.now c.self.view_is c.self.invariant c.requires.whole in
-    subst (λ (v : World). moments_left c.leap.new.self.moment < moments_left v.moment) c.self.view_is (landed_fewer sound c.args.limit.now c.in_ok-leap.ensures.landed)
+    subst (λ (v : World). moments_left c.leap.new.self.moment < moments_left v.moment) c.self.view_is (landed_fewer sound c.in-Some.moment c.args.limit.now c.in_ok-leap.ensures.landed)
