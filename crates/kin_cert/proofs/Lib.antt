@@ -32,3 +32,5 @@ pub mod QueueSizes
 pub mod Ungiven
 pub mod Paying
 pub mod Trials
+pub mod Remapping
+pub mod Listing
