@@ -25,6 +25,7 @@ pub mod SamePlaced
 pub mod TellLaws
 pub mod ToldLaws
 pub mod NextLaws
+pub mod JustAfter
 pub mod Schedules
 pub mod LineFailures
 pub mod Costs

@@ -17,7 +17,7 @@ use Rattle.kin_motion.proofs.SetLaws.{contains_none, contains_mapped, contains_m
 use Rattle.kin_cert.specs.declared.owned.Owned.{Owned}
 use Rattle.kin_cert.specs.Facts.{LiveFact, certificate_of}
 use Rattle.kin_cert.specs.Failures.{IsFirstFailure}
-use Rattle.kin_cert.specs.Taken.{NoneFails, IsLeastFailure, HasTaken, is_taken_before}
+use Rattle.kin_cert.specs.Taken.{NoneFails, NoneFailsUntil, IsLeastFailure, HasTaken, is_taken_before}
 use Rattle.kin_cert.proofs.Places.{some_none}
 use Rattle.kin_cert.specs.Told.{certificates_of, IsTimed}
 
@@ -76,10 +76,6 @@ pub record IsInTime (t : Setting) (now : Moment) (live : List LiveFact) : Type 0
   pub canonical : IsCanonical now.at
   pub lists : ListsLive t.size t.keeps (t.scene now) (certificates_of live)
   pub timed : (l : LiveFact) → Contains live l → IsTimed t.scene now l
-
--- no failure is at the limit or before it
-abbrev pub NoneFailsUntil : List LiveFact → Moment → Type 0
-NoneFailsUntil live limit = NoneFails live ⊎ ((m : Moment) × IsLeastFailure live m × IsEarlier limit m)
 
 -- a failure that is not before the moment and not after it is at it
 at_moment : (fails : Option Moment) (m : Moment) → IsCanonical m.at → ((n : Moment) → fails ≡ Some n → IsCanonical n.at) → ((n : Moment) → fails ≡ Some n → ¬ (IsEarlier n m))

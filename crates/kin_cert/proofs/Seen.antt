@@ -22,6 +22,10 @@ pub holds-seen : (ms : List (Option Course)) (f : Fact) (m : Moment) → Holds (
 unfolding sign_of_form
 holds-seen ms f m h = h
 
+pub seen-holds : (ms : List (Option Course)) (f : Fact) (m : Moment) → sign_at (polynomial_of ms f.form) m ≡ f.sign → Holds (scene_at ms m) f
+unfolding sign_of_form
+seen-holds ms f m h = h
+
 pub failure-seen : (ms : List (Option Course)) (f : Fact) (now : Moment) (o : Option Moment) → IsFirstFailure (seen_by (polynomial_of ms f.form)) now f o → IsFirstFailure (scene_at ms) now f o
 unfolding sign_of_form
 failure-seen ms f now None h = h

@@ -1,5 +1,5 @@
 -- What `failing` and `take_failing` answer.
-use Rattle.std.specs.Prelude.{◌≡◌, Bool, false, ℤ, pos, List, ◌∷◌, Some, Contains, ◌↔◌, length, IsTrue}
+use Rattle.std.specs.Prelude.{◌≡◌, Bool, false, ℤ, pos, List, ◌∷◌, Some, Contains, ◌↔◌, ◌⊎◌, length, IsTrue}
 use Rattle.std.specs.List.Sorted.{IsPermutation}
 use Rattle.kin_num.specs.declared.instant.Moment.{Moment}
 use Rattle.kin_num.specs.Order.{IsEarlier}
@@ -22,6 +22,10 @@ NoneFails live = (l : LiveFact) → Contains live l → (m : Moment) → l.fails
 pub record IsLeastFailure (live : List LiveFact) (m : Moment) : Type 0 where
   pub some : (l : LiveFact) × Contains live l × (l.fails ≡ Some m)
   pub least : (l : LiveFact) (n : Moment) → Contains live l → l.fails ≡ Some n → ¬ (IsEarlier n m)
+
+-- no failure is at the limit or before it
+abbrev pub NoneFailsUntil : List LiveFact → Moment → Type 0
+NoneFailsUntil live limit = NoneFails live ⊎ ((m : Moment) × IsLeastFailure live m × IsEarlier limit m)
 
 abbrev pub certificate_rank : Certificate → List ℤ
 certificate_rank c = pos c.structure ∷ pos c.placed.part ∷ form_rank c.placed.fact.form

@@ -56,7 +56,7 @@ module _ (w : Shape) (i : IsCanonicalForm w) (f : Phase) where
   ended Zero = refl
   ended Plus = refl
 
-  constant_at : (c : ℤ) → sign_at (quadratic (pos 0) (pos 0) c) m ≡ sign_of c
+  pub constant_at : (c : ℤ) → sign_at (quadratic (pos 0) (pos 0) c) m ≡ sign_of c
   constant_at c = by_phase f
     where
       by_phase : (f : Phase) → sign_at (quadratic (pos 0) (pos 0) c) (record { at = w; phase = f }) ≡ sign_of c
@@ -159,7 +159,7 @@ zero_after p w i e =
     three Plus t u e = absurd (code e)
 
 -- ---- a sign stays where no root comes between
-phase_code : At ≡ After → ⊥
+pub phase_code : At ≡ After → ⊥
 phase_code e = cc
 
 module _ (m n : Moment) (fm : IsCanonicalForm m.at) (fn : IsCanonicalForm n.at) (earlier : IsEarlier m n) (r : Shape) (fr : IsCanonicalForm r) (between : IsLess m.at r → IsLess n.at r) where

@@ -3,7 +3,6 @@ pub mod StructureLaws
 pub mod InOrder
 pub mod SoundLaws
 pub mod TakeLaws
-pub mod CrossingLaws
 pub mod LeapLaws
 pub mod RepairLaws
 pub mod MadeLaws

@@ -24,10 +24,10 @@ use Rattle.kin_motion.proofs.MotionScenes.{real_at, live_fits}
 use Rattle.kin_motion.proofs.SetLaws.{contains_map, contains_mapped, distinct_none, distinct_cons}
 use Rattle.kin_cert.specs.Facts.{LiveFact, NoneAlike, AreAlike}
 use Rattle.kin_cert.specs.Failures.{IsFirstFailure}
-use Rattle.kin_cert.specs.Taken.{NoneFails, IsLeastFailure}
+use Rattle.kin_cert.specs.Taken.{NoneFails, NoneFailsUntil, IsLeastFailure}
 use Rattle.kin_cert.specs.Told.{certificates_of}
 use Rattle.kin_cert.proofs.JournalExistence.{least_block}
-use Rattle.kin_cert.proofs.NextLaws.{IsInTime, NoneFailsUntil, nothing_fails, nothing_until, hold_before_least, fails_first, holds_until_failure, earlier_still, later_start}
+use Rattle.kin_cert.proofs.NextLaws.{IsInTime, nothing_fails, nothing_until, hold_before_least, fails_first, holds_until_failure, earlier_still, later_start}
 use Rattle.kin_world.specs.declared.structure.Structure.{Structure}
 use Rattle.kin_world.specs.declared.world.World.TheInside.{Inside}
 use Rattle.kin_world.specs.Kinds.{placed_facts}

@@ -19,7 +19,7 @@ use Rattle.kin_motion.specs.Scene.{Scene, scene_at}
 use Rattle.kin_motion.specs.Sets.{AreDistinct, ListsExactly}
 use Rattle.kin_cert.specs.declared.owned.Owned.{Owned}
 use Rattle.kin_cert.specs.Facts.{LiveFact, Facts, NoneAlike, certificate_of}
-use Rattle.kin_cert.specs.Taken.{NoneWaits, NoneFails, IsLeastFailure}
+use Rattle.kin_cert.specs.Taken.{NoneWaits, IsLeastFailure}
 use Rattle.kin_cert.specs.Told.{HasFactsOf, IsTimed, IsTold, AreNew, certificates_of, nothing}
 use Rattle.kin_world.specs.declared.structure.Mark.{Mark}
 use Rattle.kin_world.specs.declared.structure.Mark.TheVariants.{Enters, Leaves}
@@ -230,10 +230,6 @@ turns_left n (Some k) = n - k
 pub record HasSettled (before : Facts) (s : Stage) : Type 0 where
   pub sound : IsSound s
   pub made : HasTimedNew before s.table
-
--- no failure is at the limit or before it
-abbrev pub NoneDueWithin : Moment → List LiveFact → Type 0
-NoneDueWithin limit live = NoneFails live ⊎ ((m : Moment) × IsLeastFailure live m × IsEarlier limit m)
 
 -- the least failure moment isn't after the limit
 pub record IsDueWithin (limit : Moment) (live : List LiveFact) (m : Moment) : Type 0 where

@@ -9,8 +9,8 @@ ghost use Rattle.kin_motion.specs.Course.{Course, is_live, motion_of};
 ghost use Rattle.kin_motion.specs.Journal.{Block as Listed, NothingFails};
 ghost use Rattle.kin_motion.specs.Turning.{IsNotWhole, IsOutOfBounds};
 ghost use Rattle.kin_turn.specs.declared.turned.TurnError.TheVariants.{NotWhole as Broken, OutOfBounds as Outside};
-ghost use Rattle.kin_cert.specs.Taken.{NoneWaits};
-ghost use Rattle.kin_world.specs.Upkeep.{IsDueWithin, NoneDueWithin};
+ghost use Rattle.kin_cert.specs.Taken.{NoneWaits, NoneFailsUntil};
+ghost use Rattle.kin_world.specs.Upkeep.{IsDueWithin};
 ghost use Rattle.kin_world.specs.Worlds.{AreKeepable, IsNextMoment, IsWhole, CanTurn, HasInserted, HasRemoved, HasReplaced, HasTurned, HasStepped, HasLeapt, failure_count, FailsWithin, certificate, empty, world_setting};
 
 use crate::places::find;
@@ -347,7 +347,7 @@ impl World {
 #[inline(always)]
 fn due_within<L: Ledger>(upkeep: &Upkeep, limit: &Moment, steps: &mut Steps<L>) -> Option<Moment>
     requires { NoneWaits upkeep.now.table.live }
-    ensures { MatchOption result (NoneDueWithin limit.now upkeep.now.table.live) (IsDueWithin limit.now upkeep.now.table.live) }
+    ensures { MatchOption result (NoneFailsUntil upkeep.now.table.live limit.now) (IsDueWithin limit.now upkeep.now.table.live) }
 {
     let Some(moment) = upkeep.table.failing() else {
         return None;

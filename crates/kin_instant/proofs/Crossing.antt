@@ -4,7 +4,7 @@ use Rattle.std.specs.Prelude.{◌<ℤ◌}
 use lib.IntN.{neg_ℤ}
 use Rattle.kin_algebra.specs.declared.sign.Sign.{Sign}
 use Rattle.kin_algebra.specs.declared.sign.Sign.TheVariants.{Minus, Zero, Plus}
-use Rattle.kin_algebra.specs.Signs.{sign_of, first_of, opposite_of}
+use Rattle.kin_algebra.specs.Signs.{sign_of, opposite_of}
 use Rattle.kin_algebra.proofs.Signs.{code, opposite-opposite}
 use Rattle.kin_algebra.proofs.IntegerSigns.{sign_of-negative, sign_in, sign_out, zero_of}
 use Rattle.kin_num.specs.declared.instant.Moment.{Moment}
@@ -15,22 +15,23 @@ use Rattle.kin_num.specs.Canonical.{IsCanonicalForm}
 use Rattle.kin_num.specs.Instants.{sign_at, sign_at_instant}
 use Rattle.kin_num.specs.Order.{IsLess}
 use Rattle.kin_num.specs.Quadratic.{Quadratic, quadratic, negated}
-use Rattle.kin_num.proofs.Constants.{constant_sign}
 use Rattle.kin_num.proofs.LowerFractions.{not_less_itself, less_asym}
 use Rattle.kin_num.proofs.SignLaws.{sign_at-neg}
+use Rattle.kin_instant.proofs.Kept.{constant_at}
 use Rattle.kin_instant.proofs.RootsOf.{line_as}
-use Rattle.kin_instant.proofs.SignTable.{IsAt, lift, line_place, line_sign, at_at, at_after}
+use Rattle.kin_instant.proofs.SignTable.{IsAt, lift, line_place, line_sign, at_at}
+
+-- an instant itself, and just after it
+abbrev pub at_it : Shape → Moment
+at_it w = record { at = w; phase = At }
+
+abbrev pub just_after : Shape → Moment
+just_after w = record { at = w; phase = After }
 
 module _ (now : Moment) (here : IsCanonicalForm now.at) (w : Shape) (c : IsCanonicalForm w) (before : IsLess now.at w) where
-  abbrev AtIt : Moment
-  AtIt = record { at = w; phase = At }
-
-  abbrev JustAfter : Moment
-  JustAfter = record { at = w; phase = After }
-
   -- What has the same sign just after the instant as before has it at the instant, too.
   abbrev pub HasStayed : Quadratic → Type 0
-  HasStayed p = sign_at p JustAfter ≡ sign_at p now → sign_at p AtIt ≡ sign_at p now
+  HasStayed p = sign_at p (just_after w) ≡ sign_at p now → sign_at p (at_it w) ≡ sign_at p now
 
   -- a line that rises, and is 0 at the instant, lies below before it
   module _ (b k : ℤ) (up : pos 0 <ℤ b) where
@@ -58,21 +59,14 @@ module _ (now : Moment) (here : IsCanonicalForm now.at) (w : Shape) (c : IsCanon
     rising same = at_at P w ∙ stays (sign_at_instant P w) refl (sym (line_sign b k up w c After) ∙ same)
 
   -- a line without slope
-  itself : (s : Sign) → first_of s Zero ≡ s
-  itself Minus = refl
-  itself Zero = refl
-  itself Plus = refl
-
   level : (k : ℤ) → HasStayed (quadratic (pos 0) (pos 0) k)
-  level k same =
-      let p = quadratic (pos 0) (pos 0) k in
-      at_at p w ∙ sym (itself (sign_at_instant p w)) ∙ sym (at_after p w c ∙ ap (λ (s : Sign). first_of (sign_at_instant p w) (first_of s Zero)) (constant_sign (pos 0) w c)) ∙ same
+  level k same = constant_at w c At k ∙ sym (constant_at now.at here now.phase k)
 
   -- one that falls is one that rises, turned round
   turned : (p : Quadratic) → HasStayed (negated p) → HasStayed p
   turned p stayed same =
-      let there = stayed (sign_at-neg p JustAfter ∙ ap opposite_of same ∙ sym (sign_at-neg p now)) in
-      sym (opposite-opposite (sign_at p AtIt)) ∙ ap opposite_of (sym (sign_at-neg p AtIt) ∙ there ∙ sign_at-neg p now) ∙ opposite-opposite (sign_at p now)
+      let there = stayed (sign_at-neg p (just_after w) ∙ ap opposite_of same ∙ sym (sign_at-neg p now)) in
+      sym (opposite-opposite (sign_at p (at_it w))) ∙ ap opposite_of (sym (sign_at-neg p (at_it w)) ∙ there ∙ sign_at-neg p now) ∙ opposite-opposite (sign_at p now)
 
   pub line_stays : (p : Quadratic) → p.a ≡ pos 0 → HasStayed p
   line_stays p flat = at (sign_of p.b) refl
