@@ -33,6 +33,14 @@ one_if b n old new due takes = subst (λ (x : Bool). TakesAtMost n (λ r. cond x
 pub none_if : (b : Bool) (n old : ℕ) → TakesAtMost n (λ r. cond b r 0) old old
 none_if b n old r e = omega arith
 
+-- an id that goes where it is queued, and comes back
+pub gone_and_back : (live here there old mid new : ℕ) (b : Bool) → here ≤ live → there ≤ live → TakesAtMost here (λ r. cond b r 0) old mid → TakesAtMost there (λ r. r + 1) mid new
+    → TakesAtMost live (λ r. cond b r 0 + (r + 1)) old new
+gone_and_back live here there old mid new b le le' gone back r e =
+    let first = gone r (enough here live r le e) in
+    let second = back r (enough there live r le' e) in
+    omega (arith, first, second)
+
 -- one more of them
 pub one_more : (live index old mid new : ℕ) (each : ℕ → ℕ) → TakesAtMost live (λ r. index * each r) old mid → TakesAtMost live each mid new → TakesAtMost live (λ r. (index + 1) * each r) old new
 one_more live index old mid new each before one r e =

@@ -33,5 +33,3 @@ pub mod QueueSizes
 pub mod Ungiven
 pub mod Paying
 pub mod Trials
-pub mod Remapping
-pub mod Listing

@@ -36,16 +36,7 @@ module _ (old mid : List (Option Entry)) (id : ℕ) (owned : Owned) (seat : Seat
   freed-table moments fewer table less =
       unqueued-table old mid moments fewer id (Some (fresh owned)) table freed-slot refl (less ∙ ap (λ (s : Seat). map.remove moments s.id) freed.seat_is)
 
-  seated : seat.id ≡ id
-  seated = ap (λ (s : Seat). s.id) freed.seat_is
-
-  pub freed-here : entry_at mid seat.id ≡ Some (fresh owned)
-  freed-here = ap (entry_at mid) seated ∙ freed-slot.changed
-
-  pub timed-here : (scene : Moment → Scene) (now : Moment) (fewer : FinMap nat_cmp Moment) (new : List (Option Entry)) (later : FinMap nat_cmp Moment) → IsTimed scene now owned seat.id mid fewer new later → IsTimed scene now owned id mid fewer new later
-  timed-here scene now fewer new later t = subst (λ (k : ℕ). IsTimed scene now owned k mid fewer new later) seated t
-
-  freed-count : length (live_in mid) ≡ length (live_in old)
+  pub freed-count : length (live_in mid) ≡ length (live_in old)
   freed-count = ap (λ (xs : List (Option Entry)). length (live_in xs)) freed.slots ∙ live-set-count old id freed.entry (fresh freed.entry.owned) freed.there
 
   -- and comes back with its first failure

@@ -12,7 +12,6 @@ ghost use Rattle.kin_cert.specs.Applied.{IsOf, IsLiveIn, IsAmong, AreUnlike, May
 ghost use Rattle.kin_cert.specs.Cost.{TakesAtMost, is_ungiven, ungiven, change_cost};
 ghost use Rattle.kin_cert.specs.Layout.{HasBorn, HasReplaced, IsLeftToApply, AreCounted, IsPaid, change_of};
 
-use crate::entry::Seat;
 use crate::index::have_one_place;
 use crate::table::Table;
 use crate::timing::{time, unqueue};
@@ -122,17 +121,17 @@ impl Table {
         let Some(seat) = self.roll.take_over(structure, dropped, born) else {
             return Ok(false);
         };
-        let noted = self.names.note(seat.id, &born.fact.form);
+        unqueue(&mut self.schedule, seat, steps);
+        self.names.note(seat.id, &born.fact.form)?;
         time(
             &mut self.roll,
             &mut self.schedule,
-            seat,
+            seat.id,
             &born.fact,
             motions,
             now,
             steps,
         )?;
-        noted?;
         Ok(true)
     }
 
@@ -223,14 +222,10 @@ impl Table {
     {
         let id = self.roll.put_in(structure, placed)?;
         self.names.note(id, &placed.fact.form)?;
-        let seat = Seat {
-            id,
-            is_queued: false,
-        };
         time(
             &mut self.roll,
             &mut self.schedule,
-            seat,
+            id,
             &placed.fact,
             motions,
             now,

@@ -84,25 +84,6 @@ impl Schedule {
         Ok(())
     }
 
-    /// Gives an id another moment, if the queue has it and will have it. Else nothing changes.
-    #[inline(always)]
-    pub(crate) fn change<L: Ledger>(&mut self, id: usize, at: &Moment, steps: &mut Steps<L>) -> bool
-        ensures yes { IsTrue result → self.new ≡ insert self.old id at.now }
-        ensures no { IsFalse result → self.new ≡ self.old }
-        ensures cost { IsTrue result → TakesSteps (len self.old) steps.old steps.new }
-        ensures idle { IsFalse result → steps.new ≡ steps.old }
-    {
-        at.at.recall_canonical();
-        if !is_same_phase(at.phase, Phase::At) {
-            return false;
-        }
-        if !self.queue.has(id) {
-            return false;
-        }
-        self.queue.change(id, at, steps);
-        true
-    }
-
     /// Takes an id out, which is there.
     pub(crate) fn remove<L: Ledger>(&mut self, id: usize, steps: &mut Steps<L>)
         requires present { IsSome (get self.old id) }

@@ -1,5 +1,4 @@
 use Rattle.std.proofs.Common.{◌≡◌, ap, ◌∙◌}
-use Rattle.std.specs.FinMap as map
 use Rattle.kin_num.specs.Quadratic.{Quadratic}
 use Rattle.kin_num.specs.Instants.{sign_at}
 use Rattle.kin_motion.specs.declared.form.Form.{Form}
@@ -15,4 +14,4 @@ time_by-requires-clause-holds g c =
 pub returns-in-Line-clause-ok : goal.returns-in-Line-clause-ok
 returns-in-Line-clause-ok g c =
     let p_is : c.poly_of_line-p.result ≡ polynomial_of c.args.motions.now c.args.fact.now.form = c.poly_of_line-p.ensures ∙ ap (λ (f : Form). polynomial_of c.args.motions.now f) (line-read _ c.args.fact.now.form c.in-Line.dx c.in-Line.dy c.in-Line.off c.in-Line.i c.in-Line.j c.requires.askable c.in-Line.is) in
-    on_timed c.args.motions.now c.args.now.now c.args.fact.now c.args.seat.id c.args.roll.now c.time_by.new.roll (map.remove c.args.schedule.now c.args.seat.id) c.time_by.new.schedule c.poly_of_line-p.result p_is c.time_by.result c.time_by.ensures.ok
+    on_timed c.args.motions.now c.args.now.now c.args.fact.now c.args.id c.args.roll.now c.time_by.new.roll c.args.schedule.now c.time_by.new.schedule c.poly_of_line-p.result p_is c.time_by.result c.time_by.ensures.ok

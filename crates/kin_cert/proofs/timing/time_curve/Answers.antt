@@ -1,5 +1,4 @@
 use Rattle.std.proofs.Common.{◌≡◌, ap, ◌∙◌}
-use Rattle.std.specs.FinMap as map
 use Rattle.kin_num.specs.Quadratic.{Quadratic}
 use Rattle.kin_num.specs.Instants.{sign_at}
 use Rattle.kin_motion.specs.Forms.{polynomial_of}
@@ -14,4 +13,4 @@ time_by-requires-clause-holds g c =
 pub returns-clause-ok : goal.returns-clause-ok
 returns-clause-ok g c =
     let p_is : c.poly_of-p.result ≡ polynomial_of c.args.motions.now c.args.fact.now.form = c.poly_of-p.ensures in
-    on_timed c.args.motions.now c.args.now.now c.args.fact.now c.args.seat.id c.args.roll.now c.time_by.new.roll (map.remove c.args.schedule.now c.args.seat.id) c.time_by.new.schedule c.poly_of-p.result p_is c.time_by.result c.time_by.ensures.ok
+    on_timed c.args.motions.now c.args.now.now c.args.fact.now c.args.id c.args.roll.now c.time_by.new.roll c.args.schedule.now c.time_by.new.schedule c.poly_of-p.result p_is c.time_by.result c.time_by.ensures.ok

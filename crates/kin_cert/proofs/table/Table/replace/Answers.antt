@@ -1,16 +1,17 @@
 use Rattle.std.proofs.Common.{◌≡◌, true, List, length, Option, Some, IsSome, refl, sym, ap, subst, ◌∙◌, arith}
-use Rattle.std.specs.FinMap as map
 use Rattle.kin_motion.specs.Scene.{scene_at}
 use Rattle.kin_cert.specs.Entries.{Entry}
 use Rattle.kin_cert.specs.Cost.{is_ungiven}
 use Rattle.kin_cert.specs.Facts.{Facts}
-use Rattle.kin_cert.specs.Layout.{live_in, held, owned_rank, fresh, HasReplaced}
-use Rattle.kin_cert.specs.Names.{IsListed}
+use Rattle.kin_cert.specs.Layout.{live_in, held, owned_rank, fresh, timed, queued_at, HasReplaced}
+use Rattle.kin_cert.specs.Names.{numbers_at, IsListed}
 use Rattle.kin_cert.proofs.Schedules.{Moments}
-use Rattle.kin_cert.proofs.Listing.{fresh-listed, timed-listed}
+use Rattle.kin_cert.proofs.Naming.{renamed, still-named, same-facts}
+use Rattle.kin_cert.proofs.Tables.{unqueued-table, timed-slot, timed-table}
 use Rattle.kin_cert.proofs.Replacing.{taken-slot, has-replaced}
-use Rattle.kin_cert.proofs.Costs.{enough}
-use Rattle.kin_cert.proofs.QueueSizes.{few-queued-of}
+use Rattle.kin_cert.proofs.Slots.{live-set-count}
+use Rattle.kin_cert.proofs.Costs.{gone_and_back}
+use Rattle.kin_cert.proofs.QueueSizes.{few-queued, few-queued-of}
 use Rattle.kin_cert.proofs.Ungiven.{cost_if, queued-ungiven}
 use Rattle.kin_cert.proofs.table.Table.replace.Goals as goal
 
@@ -19,30 +20,46 @@ time-requires-clause-there g c =
     let slot = taken-slot c.self.inside.roll c.take_over.new.self (owned_rank (held c.args.structure c.args.dropped.now)) (held c.args.structure c.args.born.now) c.in-Some.seat c.in-Some.ensures.taken in
     subst (λ (o : Option Entry). IsSome o) (sym slot.changed) refl
 
+pub time-requires-clause-absent : goal.time-requires-clause-absent
+time-requires-clause-absent g c =
+    let o = held c.args.structure c.args.born.now in
+    let slot = taken-slot c.self.inside.roll c.take_over.new.self (owned_rank (held c.args.structure c.args.dropped.now)) o c.in-Some.seat c.in-Some.ensures.taken in
+    unqueued-table c.self.inside.roll c.take_over.new.self c.self.inside.schedule c.unqueue.new.schedule c.in-Some.seat.id (Some (fresh o)) c.self.invariant.table slot refl c.unqueue.ensures.rest c.in-Some.seat.id
+    ∙ ap queued_at slot.changed
+
+pub invariant_of-self-in_err-note : goal.invariant_of-self-in_err-note
+invariant_of-self-in_err-note g c =
+    let o = held c.args.structure c.args.born.now in
+    let id = c.in-Some.seat.id in
+    let slot = taken-slot c.self.inside.roll c.take_over.new.self (owned_rank (held c.args.structure c.args.dropped.now)) o c.in-Some.seat c.in-Some.ensures.taken in
+    let table = unqueued-table c.self.inside.roll c.take_over.new.self c.self.inside.schedule c.unqueue.new.schedule id (Some (fresh o)) c.self.invariant.table slot refl c.unqueue.ensures.rest in
+    let named = renamed c.self.inside.names c.note.new.self c.self.inside.roll c.take_over.new.self id (numbers_at (Some (fresh o))) (Some (fresh o)) c.self.invariant.named slot c.note.ensures refl in
+    record { table = table; named = named }
+
 pub invariant_of-self-in_err-time : goal.invariant_of-self-in_err-time
 invariant_of-self-in_err-time g c =
     let o = held c.args.structure c.args.born.now in
     let id = c.in-Some.seat.id in
     let slot = taken-slot c.self.inside.roll c.take_over.new.self (owned_rank (held c.args.structure c.args.dropped.now)) o c.in-Some.seat c.in-Some.ensures.taken in
-    let listed = fresh-listed c.self.inside.roll c.take_over.new.self c.self.inside.schedule c.self.inside.names c.note-noted.new.self id o c.self.invariant slot c.note-noted.ensures in
-    subst (λ (m : Moments). IsListed c.time.new.roll m c.note-noted.new.self) (sym c.in_err-time.ensures.schedule)
-    (subst (λ (slots : List (Option Entry)). IsListed slots (map.remove c.self.inside.schedule c.in-Some.seat.id) c.note-noted.new.self) (sym c.in_err-time.ensures.roll) listed)
-
-pub invariant_of-self-in_err-noted : goal.invariant_of-self-in_err-noted
-invariant_of-self-in_err-noted g c =
-    let o = held c.args.structure c.args.born.now in
-    let id = c.in-Some.seat.id in
-    let slot = taken-slot c.self.inside.roll c.take_over.new.self (owned_rank (held c.args.structure c.args.dropped.now)) o c.in-Some.seat c.in-Some.ensures.taken in
-    let listed = fresh-listed c.self.inside.roll c.take_over.new.self c.self.inside.schedule c.self.inside.names c.note-noted.new.self id o c.self.invariant slot c.note-noted.ensures in
-    timed-listed (scene_at c.args.motions.now) c.args.now.now c.take_over.new.self c.time.new.roll (map.remove c.self.inside.schedule id) c.time.new.schedule c.note-noted.new.self id o listed slot.changed (c.in_ok-time.ensures.ok o slot.changed refl)
+    let table = unqueued-table c.self.inside.roll c.take_over.new.self c.self.inside.schedule c.unqueue.new.schedule id (Some (fresh o)) c.self.invariant.table slot refl c.unqueue.ensures.rest in
+    let named = renamed c.self.inside.names c.note.new.self c.self.inside.roll c.take_over.new.self id (numbers_at (Some (fresh o))) (Some (fresh o)) c.self.invariant.named slot c.note.ensures refl in
+    subst (λ (m : Moments). IsListed c.time.new.roll m c.note.new.self) (sym c.in_err-time.ensures.schedule)
+    (subst (λ (slots : List (Option Entry)). IsListed slots c.unqueue.new.schedule c.note.new.self) (sym c.in_err-time.ensures.roll) (record { table = table; named = named }))
 
 pub invariant_of-self-2 : goal.invariant_of-self-2
 invariant_of-self-2 g c =
     let o = held c.args.structure c.args.born.now in
     let id = c.in-Some.seat.id in
     let slot = taken-slot c.self.inside.roll c.take_over.new.self (owned_rank (held c.args.structure c.args.dropped.now)) o c.in-Some.seat c.in-Some.ensures.taken in
-    let listed = fresh-listed c.self.inside.roll c.take_over.new.self c.self.inside.schedule c.self.inside.names c.note-noted.new.self id o c.self.invariant slot c.note-noted.ensures in
-    timed-listed (scene_at c.args.motions.now) c.args.now.now c.take_over.new.self c.time.new.roll (map.remove c.self.inside.schedule id) c.time.new.schedule c.note-noted.new.self id o listed slot.changed (c.in_ok-time.ensures.ok o slot.changed refl)
+    let table = unqueued-table c.self.inside.roll c.take_over.new.self c.self.inside.schedule c.unqueue.new.schedule id (Some (fresh o)) c.self.invariant.table slot refl c.unqueue.ensures.rest in
+    let named = renamed c.self.inside.names c.note.new.self c.self.inside.roll c.take_over.new.self id (numbers_at (Some (fresh o))) (Some (fresh o)) c.self.invariant.named slot c.note.ensures refl in
+    let scene = scene_at c.args.motions.now in
+    let t = c.in_ok-time.ensures.ok o slot.changed refl in
+    let later = timed-slot scene c.args.now.now o id c.take_over.new.self c.time.new.roll c.unqueue.new.schedule c.time.new.schedule table slot.changed t in
+    record {
+      table = timed-table scene c.args.now.now o id c.take_over.new.self c.time.new.roll c.unqueue.new.schedule c.time.new.schedule table slot.changed t;
+      named = still-named c.note.new.self c.take_over.new.self c.time.new.roll named (same-facts c.take_over.new.self c.time.new.roll id (fresh o) (timed (fresh o) t.fails) slot.changed later refl);
+    }
 
 pub returns-clause-yes : goal.returns-clause-yes
 returns-clause-yes g c = λ yes.
@@ -52,7 +69,7 @@ returns-clause-yes g c = λ yes.
     let k = c.in-Some.ensures.taken in
     let slot = taken-slot c.self.inside.roll c.take_over.new.self (owned_rank (held s c.args.dropped.now)) o c.in-Some.seat k in
     subst (λ (t : Facts). HasReplaced s scene c.args.now.now c.args.dropped.now c.args.born.now t.live (live_in c.time.new.roll)) c.self.view_is
-    (has-replaced s scene c.args.now.now c.args.born.now c.self.inside.roll c.take_over.new.self c.time.new.roll c.in-Some.seat.id (map.remove c.self.inside.schedule c.in-Some.seat.id) c.time.new.schedule slot.changed
+    (has-replaced s scene c.args.now.now c.args.born.now c.self.inside.roll c.take_over.new.self c.time.new.roll c.in-Some.seat.id c.unqueue.new.schedule c.time.new.schedule slot.changed
     (c.in_ok-time.ensures.ok o slot.changed refl) c.args.dropped.now c.in-Some.seat refl k)
 
 pub returns-clause-cost : goal.returns-clause-cost
@@ -63,8 +80,12 @@ returns-clause-cost g c = λ yes r e.
     let k = c.in-Some.ensures.taken in
     let queued : seat.is_queued ≡ true → is_ungiven s c.args.self.now.live c.args.dropped.now ≡ true = λ q.
     subst (λ (t : Facts). is_ungiven s t.live c.args.dropped.now ≡ true) c.self.view_is (queued-ungiven s c.args.dropped.now c.self.inside.roll seat k.seat_of q) in
+    let slot = taken-slot c.self.inside.roll c.take_over.new.self (owned_rank (held s c.args.dropped.now)) o seat k in
+    let table = unqueued-table c.self.inside.roll c.take_over.new.self c.self.inside.schedule c.unqueue.new.schedule seat.id (Some (fresh o)) c.self.invariant.table slot refl c.unqueue.ensures.rest in
     let live : live_in c.self.inside.roll ≡ c.args.self.now.live = ap (λ (t : Facts). t.live) c.self.view_is in
-    let few = few-queued-of c.self.inside.roll c.self.inside.schedule c.args.self.now.live c.self.invariant.table live in
-    let both = c.in_ok-time.ensures.cost r (enough (map.len c.self.inside.schedule) (length c.args.self.now.live) r few e) in
+    let same : length (live_in c.take_over.new.self) ≡ length c.args.self.now.live =
+    ap (λ (xs : List (Option Entry)). length (live_in xs)) k.slots ∙ live-set-count c.self.inside.roll seat.id k.seat_of.entry (fresh o) k.seat_of.there ∙ ap length live in
+    let left = few-queued c.take_over.new.self c.unqueue.new.schedule table in
+    let both = gone_and_back (length c.args.self.now.live) _ _ _ _ _ seat.is_queued (few-queued-of c.self.inside.roll c.self.inside.schedule c.args.self.now.live c.self.invariant.table live) (omega (arith, left, same)) c.unqueue.ensures.cost c.in_ok-time.ensures.cost r e in
     let less = cost_if _ _ r queued in
     omega (arith, both, less)
