@@ -56,31 +56,14 @@ by_id q k P same_id other = elim (same q k) as (λ b. same q k ≡ b → P b) [
   | false ↦ λ t. other (λ e. absurd (let both : true ≡ false = sym (subst (λ (x : ℕ). same q x ≡ true) e (same_itself q)) ∙ t in cc))
 ] refl
 
--- what has another id than the entry at a place stands outside it
-outside_other : (es : List (ℕ × Moment)) (place : ℕ) (x : ℕ × Moment) (q : ℕ) (v : Moment) → q ≢ x.0 → ((d : ℕ × Moment) → (get_or es place d).0 ≡ x.0) → Stands es (q, v) → StandsOutside es place (q, v)
-outside_other es place x q v n id s = (s.0, s.1, λ e. n (sym (ap (λ (k : ℕ × Moment). k.0) (s.2 x)) ∙ ap (λ (i : ℕ). (get_or es i x).0) e ∙ id x), s.2)
-
--- an entry came in, and those of other ids stayed
-moments_put : (es fs : List (ℕ × Moment)) (x : ℕ × Moment) → HaveDifferentIds es → HaveDifferentIds fs → Stands fs x → ((q : ℕ) (v : Moment) → q ≢ x.0 → Stands fs (q, v) ↔ Stands es (q, v)) → from_entries {R = nat_cmp} fs ≡ map.insert (from_entries es) x.0 x.1
-moments_put es fs x ae af here is =
+pub moments_inserted : (es fs : List (ℕ × Moment)) (x : ℕ × Moment) → HaveDifferentIds es → HaveDifferentIds fs → ((e : ℕ × Moment) → Stands fs e ↔ ((e ≡ x) ⊎ Stands es e)) → from_entries {R = nat_cmp} fs ≡ map.insert (from_entries es) x.0 x.1
+moments_inserted es fs x ae af is =
     same_map nat_cmp_total nat_cmp-IsAntisymmetric _ _ (λ q. get-from_entries nat_cmp_total fs q ∙ answer q ∙ sym (get-insert nat_cmp_total (from_entries es) x.0 x.1 q ∙ ap (cond (same q x.0) (Some x.1)) (get-from_entries nat_cmp_total es q)))
   where
     answer : (q : ℕ) → look_up q fs ≡ cond (same q x.0) (Some x.1) (look_up q es)
     answer q = by_id q x.0 (λ b. look_up q fs ≡ cond b (Some x.1) (look_up q es))
-        (λ e. ap (λ (k : ℕ). look_up k fs) e ∙ found_at fs af x here)
-        (λ n. same_look_up fs es af ae q (λ v. is q v n))
-
-pub moments_inserted : (es fs : List (ℕ × Moment)) (x : ℕ × Moment) → HaveDifferentIds es → HaveDifferentIds fs → ((e : ℕ × Moment) → Stands fs e ↔ ((e ≡ x) ⊎ Stands es e)) → from_entries {R = nat_cmp} fs ≡ map.insert (from_entries es) x.0 x.1
-moments_inserted es fs x ae af is = moments_put es fs x ae af ((is x).1 (inl refl))
-    (λ q v n. (λ s. elim ((is (q, v)).0 s) [ inl e ↦ absurd (n (ap (λ (k : ℕ × Moment). k.0) e)) | inr o ↦ o ], λ s. (is (q, v)).1 (inr s)))
-
--- an entry came in for that at the place, which has its id
-pub moments_changed : (es fs : List (ℕ × Moment)) (place : ℕ) (x : ℕ × Moment) → HaveDifferentIds es → HaveDifferentIds fs → place < length es → ((d : ℕ × Moment) → (get_or es place d).0 ≡ x.0) → ((e : ℕ × Moment) → Stands fs e ↔ ((e ≡ x) ⊎ StandsOutside es place e)) → from_entries {R = nat_cmp} fs ≡ map.insert (from_entries es) x.0 x.1
-moments_changed es fs place x ae af lt id is = moments_put es fs x ae af ((is x).1 (inl refl))
-    (λ q v n. (
-      λ s. elim ((is (q, v)).0 s) [ inl e ↦ absurd (n (ap (λ (k : ℕ × Moment). k.0) e)) | inr o ↦ (o.0, o.1, o.3) ],
-      λ s. (is (q, v)).1 (inr (outside_other es place x q v n id s)),
-    ))
+        (λ e. ap (λ (k : ℕ). look_up k fs) e ∙ found_at fs af x ((is x).1 (inl refl)))
+        (λ n. same_look_up fs es af ae q (λ v. (λ s. elim ((is (q, v)).0 s) [ inl e ↦ absurd (n (ap (λ (k : ℕ × Moment). k.0) e)) | inr o ↦ o ], λ s. (is (q, v)).1 (inr s))))
 
 pub moments_removed : (es fs : List (ℕ × Moment)) (place : ℕ) (d : ℕ × Moment) → HaveDifferentIds es → HaveDifferentIds fs → place < length es → ((e : ℕ × Moment) → Stands fs e ↔ StandsOutside es place e) → from_entries {R = nat_cmp} fs ≡ map.remove (from_entries es) (get_or es place d).0
 moments_removed es fs place d ae af lt is =

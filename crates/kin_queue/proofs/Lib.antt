@@ -15,4 +15,3 @@ pub mod Costs
 pub mod Whole
 pub mod Known
 pub mod Noting
-pub mod Changing

@@ -39,7 +39,7 @@ module _ (old new : List Moment) (id : ℕ) (at : Moment) (noted : IsNoted old i
     same_moment : moment_in new t.id ≡ moment_in old t.id
     same_moment = noted.others t.id stamped.within other
 
-    pub still_stamped : IsStamped new t
+    still_stamped : IsStamped new t
     still_stamped = record {
       within = noted.kept t.id stamped.within;
       canonical = subst (λ (m : Moment). IsCanonical m.at) (sym same_moment) stamped.canonical;

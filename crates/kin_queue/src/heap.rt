@@ -1,8 +1,7 @@
 //! The heap below the queue: entries with an earliest one first, and the place of each id.
 //!
 //! Right below place p lie the places 2p + 1 and 2p + 2, and no entry is earlier than the one above it. A hole rises or
-//! sinks to where an entry may stand, so that each other entry on its way moves once. The hole begins at the end for an
-//! entry that comes in, and at its own place for one that goes or gets another moment. An entry is a ticket of 16 bytes;
+//! sinks to where an entry may stand, so that each other entry on its way moves once. An entry is a ticket of 16 bytes;
 //! the moments stand by id beside the heap, and are looked at only where two keys don't tell which one is earlier.
 
 ghost use Rattle.std.specs.Prelude.{◌≡◌, ◌≢◌, ◌⊎◌, ◌↔◌, ℕ, ◌+◌, ◌*◌, ◌<◌, ◌≤◌, length, slice_set, slice_index_or, None, IfSome, IfNone, IsTrue, vec_len, vec_capacity};
@@ -64,27 +63,6 @@ pub fn take_out<L: Ledger>(
         return;
     }
     settle(entries, places, moments, place, &last, steps);
-}
-
-/// Gives the entry at a place another moment, with which it moves to where it may stand.
-pub fn move_to<L: Ledger>(
-    entries: &mut [Ticket],
-    places: &mut [usize],
-    moments: &mut [Moment],
-    place: usize,
-    at: &Moment,
-    steps: &mut Steps<L>,
-)
-    requires heap { IsKeyed moments.old entries.old places.old }
-    requires place { place < length entries.old }
-    ensures heap { IsKeyed moments.new entries.new places.new }
-    ensures moments { (d : ℕ × Time) → from_entries {R = nat_cmp} (entries_of moments.new entries.new) ≡ insert (from_entries (entries_of moments.old entries.old)) (slice_index_or (entries_of moments.old entries.old) place d).0 at.now }
-    ensures cost { TakesSteps (length entries.old) steps.old steps.new }
-{
-    let entry = Ticket::new(entries[place].id, at);
-    moments[entry.id as usize] = *at;
-    entries[place] = entry;
-    settle(entries, places, moments, place, &entry, steps);
 }
 
 // Puts the entry where it may stand, beginning at a hole.
