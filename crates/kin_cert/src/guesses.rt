@@ -11,7 +11,7 @@ use indexmap::IndexMap;
 use std::alloc::Global;
 
 /// How many guesses are kept.
-const COUNT: usize = 65_536;
+const COUNT: usize = 32_768;
 
 /// Positions at which places were last found. A guess may be wrong, so it is tested where it is used: the index at that
 /// position has the place, or it is asked by hash. There are no guesses before the first one is noted.

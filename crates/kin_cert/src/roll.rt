@@ -60,6 +60,19 @@ impl Roll {
         }
     }
 
+    /// A roll without facts, with room for so many, and for twice as many places, since these outlive
+    /// their facts.
+    pub(crate) fn with_room(alloc: Global, count: usize) -> Result<Roll, NoMemory>
+        ensures { IfOk result (λ r. r ≡ []) }
+    {
+        Ok(Roll {
+            entries: Slab::with_capacity(alloc, count)?,
+            firsts: IndexMap::with_capacity(alloc, count.saturating_mul(2))?,
+            others: IndexMap::new(alloc),
+            guesses: Guesses::new(alloc),
+        })
+    }
+
     /// How many facts are live.
     pub(crate) fn len(&self) -> usize
         ensures count { result ≡ count_by is_some self.now }

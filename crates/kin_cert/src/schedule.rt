@@ -1,6 +1,6 @@
 //! When the live facts fail.
 
-ghost use Rattle.std.specs.Prelude.{◌≡◌, ◌≢◌, ◌⊎◌, ◌↔◌, ℕ, [], slice_get, Contains, None, Some, IsSome, IsTrue, IsFalse, IfSome, IfNone, MatchOption, OnOk, OnErr};
+ghost use Rattle.std.specs.Prelude.{◌≡◌, ◌≢◌, ◌⊎◌, ◌↔◌, ℕ, [], slice_get, Contains, None, Some, IsSome, IsTrue, IsFalse, IfSome, IfNone, MatchOption, OnOk, OnErr, IfOk};
 ghost use Rattle.std.specs.FinMap.{get, insert, remove, empty, len};
 ghost use Rattle.kin_num.specs.declared.instant.Moment.{Moment as Time};
 ghost use Rattle.kin_num.specs.Order.{IsEarlier};
@@ -58,6 +58,20 @@ impl Schedule {
                 phase: Phase::At,
             },
         }
+    }
+
+    /// No ids, with room for so many.
+    pub(crate) fn with_room(alloc: Global, count: usize) -> Result<Schedule, NoMemory>
+        ensures { IfOk result (λ s. s ≡ empty) }
+    {
+        Ok(Schedule {
+            queue: Queue::with_room(alloc, count)?,
+            soon: Vec::new(alloc),
+            soon_at: Moment {
+                at: ratio(0, 1),
+                phase: Phase::At,
+            },
+        })
     }
 
     /// Puts an id in at a moment. The id isn't there yet. Want of memory changes nothing. It is made in line, since who

@@ -1,6 +1,6 @@
 //! The event queue.
 
-ghost use Rattle.std.specs.Prelude.{◌≡◌, ◌<◌, length, None, OnOk, OnErr, IsSome, is_some};
+ghost use Rattle.std.specs.Prelude.{◌≡◌, ◌<◌, length, None, OnOk, OnErr, IfOk, IfSome, IsSome, is_some};
 ghost use Rattle.std.specs.FinMap.{get, insert, remove, empty, len};
 ghost use Rattle.kin_queue.specs.Agenda.{IsNext, without};
 ghost use Rattle.kin_queue.specs.Cost.{TakesSteps};
@@ -53,6 +53,18 @@ impl Queue {
             places: Vec::new(alloc),
             moments: Vec::new(alloc),
         }
+    }
+
+    /// An empty queue with room for so many entries, of which the ids are below that number.
+    pub fn with_room(alloc: Global, count: usize) -> Result<Queue, NoMemory>
+        ensures empty { IfOk result (λ q. q.moments ≡ empty) }
+        ensures none { IfOk result (λ q. q.next ≡ None) }
+    {
+        Ok(Queue {
+            entries: Vec::with_capacity(alloc, count)?,
+            places: Vec::with_capacity(alloc, count)?,
+            moments: Vec::with_capacity(alloc, count)?,
+        })
     }
 
     /// Whether an id is there.
@@ -139,6 +151,14 @@ impl Queue {
     }
 }
 
+// How long a list becomes that is to reach an id: twice as long as it is, if that is enough.
+fn reaching(id: usize, len: usize) -> Option<usize>
+    ensures { IfSome result (λ count. id < count) }
+{
+    let count = id.checked_add(1)?;
+    Some(count.max(len.saturating_mul(2)))
+}
+
 // Makes the places reach the id.
 fn reach(places: &mut Vec<usize>, id: usize) -> Result<(), NoMemory>
     ensures reached { OnOk result (id < length places.new.items) }
@@ -147,7 +167,7 @@ fn reach(places: &mut Vec<usize>, id: usize) -> Result<(), NoMemory>
     if id < places.len() {
         return Ok(());
     }
-    let Some(count) = id.checked_add(1) else {
+    let Some(count) = reaching(id, places.len()) else {
         return Err(NoMemory);
     };
     places.resize(count, 0)?;
@@ -161,7 +181,7 @@ fn note(moments: &mut Vec<Moment>, id: usize, at: &Moment) -> Result<(), NoMemor
     ensures err { OnErr result (moments.new.items ≡ moments.old.items) }
 {
     if id >= moments.len() {
-        let Some(count) = id.checked_add(1) else {
+        let Some(count) = reaching(id, moments.len()) else {
             return Err(NoMemory);
         };
         moments.resize(count, *at)?;

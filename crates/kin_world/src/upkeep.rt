@@ -51,6 +51,7 @@ impl Upkeep {
             phase: Phase::At,
         };
         let structures = vacant_structures(alloc, size, keeps)?;
+        let room = room_for_facts(size, keeps);
         let Ok(keeps) = Vec::from_slice(alloc, keeps) else {
             return Err(NoMemory);
         };
@@ -58,7 +59,7 @@ impl Upkeep {
             size,
             keeps,
             structures,
-            table: Table::new(alloc),
+            table: Table::with_room(alloc, room)?,
             motions,
             moment,
             delta: Delta::new(alloc),
@@ -208,6 +209,29 @@ fn vacant_structures(alloc: Global, size: u32, keeps: &[Keep]) -> Result<Vec<Str
         structures.push(structure).map_err(|_| NoMemory)?;
     }
     Ok(structures)
+}
+
+// How many facts these keeps have over all numbers below `2^size`, as a rule.
+fn room_for_facts(size: u32, keeps: &[Keep]) -> usize
+    requires { size ≤ 12 }
+{
+    let mut room: usize = 0;
+    for keep in keeps {
+        room = room.saturating_add(facts_of_a_point(keep) << size);
+    }
+    room
+}
+
+// How many facts a keep has for each point, as a rule. Two neighbours in an order have one, and so has a match.
+fn facts_of_a_point(keep: &Keep) -> usize
+    ensures { result ≤ 16 }
+{
+    match keep {
+        Keep::Order { .. } | Keep::Extreme { .. } => 1,
+        Keep::Range => 2,
+        Keep::Hull => 8,
+        Keep::Closest => 16,
+    }
 }
 
 fn count_of(taken: &[Owned]) -> usize

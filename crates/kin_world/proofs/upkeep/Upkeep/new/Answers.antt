@@ -18,7 +18,7 @@ returns-clause-sound c =
     let kept = c.in_ok-structures.ensures in
     let m : Moment = record { at = c.of.result; phase = At } in
     let start : Stage = record { size = c.args.size; keeps = c.args.keeps.now; structures = c.in_ok-structures.structures.items; table = record { live = []; made = 0 }; motions = c.in_ok-motions.motions; moment = m } in
-    let same : start ≡ record start { keeps = c.in-Ok.keeps.items; table = c.new-2.result } = λ t. record start { keeps = sym c.in-Ok.ensures.items t; table = record { live = sym c.new-2.ensures.live t; made = sym c.new-2.ensures.made t } } in
+    let same : start ≡ record start { keeps = c.in-Ok.keeps.items; table = c.in_ok-with_room.field-0 } = λ t. record start { keeps = sym c.in-Ok.ensures.items t; table = record { live = sym c.in_ok-with_room.ensures.live t; made = sym c.in_ok-with_room.ensures.made t } } in
     subst (λ (s : Stage). IsSound s) same
     (sound_start c.args.size c.args.keeps.now c.in_ok-structures.structures.items c.in_ok-motions.motions m
     (record { low = c.requires.low; high = c.requires.high; keepable = c.requires.keepable; room = motions.room; slow = motions.slow }) (subst IsCanonical (sym c.of.ensures) start_canonical)
@@ -27,5 +27,5 @@ returns-clause-sound c =
 pub returns-clause-empty : goal.returns-clause-empty
 returns-clause-empty c =
     let none = empty_slots (2 ^ c.args.size) c.in_ok-motions.motions c.in_ok-motions.ensures.room c.in_ok-motions.ensures.none in
-    let live = ap certificates_of c.new-2.ensures.live in
-    λ t. record { size = c.args.size; keeps = c.in-Ok.ensures.items t; motions = none t; moment = record { at = c.of.ensures t; phase = At }; live = live t; made = c.new-2.ensures.made t; whole = true }
+    let live = ap certificates_of c.in_ok-with_room.ensures.live in
+    λ t. record { size = c.args.size; keeps = c.in-Ok.ensures.items t; motions = none t; moment = record { at = c.of.ensures t; phase = At }; live = live t; made = c.in_ok-with_room.ensures.made t; whole = true }
