@@ -1,8 +1,29 @@
-//! Scripts of leaps, worked out by hand.
+//! Scripts of leaps, with their answers, worked out by hand.
 
-use crate::scripts::{Call, ORDER_EAST, Script};
+use crate::scripts::{Call, ORDER_EAST, Script, Time};
+use crate::tests::{may_step, moment};
+use crate::world::World;
 use kin_motion::Keep;
-use kin_num::Phase;
+use kin_num::{Moment, NoMemory, Phase, Steps};
+use std::sync::ledger::Ledger;
+
+/// A leap towards the limit lands at this time, or moves there.
+pub fn leaps<L: Ledger>(
+    world: &mut World,
+    limit: &Moment,
+    time: Option<Time>,
+    steps: &mut Steps<L>,
+) -> Result<bool, NoMemory> {
+    if !may_step(world, limit, steps) {
+        return Ok(false);
+    }
+    let some = world.leap(limit, steps)?;
+    let there = match time {
+        Some(time) => moment(time),
+        None => Some(*limit),
+    };
+    Ok(some == time.is_some() && world.is_whole() && Some(*world.now()) == there)
+}
 
 /// Two points meet at 5 and pass each other: a leap goes over their meeting, and makes one fact and not two.
 const OVER: Script = (

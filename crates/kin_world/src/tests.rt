@@ -5,7 +5,7 @@ ghost use Rattle.kin_motion.specs.Live.{IsSmallDirection, IsSmallKeep};
 ghost use Rattle.kin_world.specs.Worlds.{AreKeepable};
 
 use crate::asked::ASKED;
-use crate::leaping::LEAPING;
+use crate::leaping::{LEAPING, leaps};
 use crate::scripts::{Along, Call, Lost, SCRIPTS, Script, Time};
 use crate::turning::{TURNING, turns};
 use crate::world::World;
@@ -58,7 +58,7 @@ fn motion(m: [i32; 4]) -> Option<Motion> {
     }
 }
 
-fn moment(time: Time) -> Option<Moment> {
+pub fn moment(time: Time) -> Option<Moment> {
     let (second, phase) = time;
     if second.unsigned_abs() < 1 << 31 {
         Some(Moment {
@@ -140,7 +140,7 @@ fn is_replaced<L: Ledger>(
 }
 
 /// Whether a step to this limit may be asked for.
-fn may_step<L: Ledger>(world: &World, limit: &Moment, steps: &mut Steps<L>) -> bool
+pub fn may_step<L: Ledger>(world: &World, limit: &Moment, steps: &mut Steps<L>) -> bool
     ensures whole { IsTrue result → IsTrue world.now.whole }
     ensures later { IsTrue result → ¬ (IsEarlier limit.now world.now.moment) }
 {
@@ -191,24 +191,6 @@ fn passes<L: Ledger>(
     }
     let passed = world.pass(limit, steps)?;
     Ok(passed == Some(count) && world.is_whole() && Some(*world.now()) == moment(time))
-}
-
-/// A leap towards the limit lands at this time, or moves there.
-fn leaps<L: Ledger>(
-    world: &mut World,
-    limit: &Moment,
-    time: Option<Time>,
-    steps: &mut Steps<L>,
-) -> Result<bool, NoMemory> {
-    if !may_step(world, limit, steps) {
-        return Ok(false);
-    }
-    let some = world.leap(limit, steps)?;
-    let there = match time {
-        Some(time) => moment(time),
-        None => Some(*limit),
-    };
-    Ok(some == time.is_some() && world.is_whole() && Some(*world.now()) == there)
 }
 
 /// At most a hundred steps lead to the limit.
