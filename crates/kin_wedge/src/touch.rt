@@ -181,6 +181,7 @@ impl Touches {
 
     /// Offers a member to the slots of another where it comes or goes. Both stand at these
     /// spots.
+    #[inline(always)]
     fn offer_within(
         &mut self,
         orders: &Orders,
