@@ -117,9 +117,32 @@ impl Touches {
         Ok(())
     }
 
-    /// Offers a number to the slots of an octant whose candidate another is and that it is in, where that
-    /// is wanted.
+    /// Offers a number to the slots of an octant whose candidate another is and that it is in.
+    #[inline(never)]
     fn offer_in(
+        &mut self,
+        orders: &Orders,
+        table: &Table,
+        w: u32,
+        of: u32,
+        no: u32,
+    ) -> Result<(), NoMemory>
+        requires rows { AreRows (rows_of orders.now.lists.items) }
+        requires octant { w < 8 }
+        requires small { length table.now < 2 ^ 32 }
+        ensures offered { OnOk result (IsOfferedIn (rows_of orders.now.lists.items) table.now self.new.all.items w of no) }
+        ensures touched { OnOk result (HasTouched table.now self.old.all.items self.new.all.items) }
+    {
+        for (apex, v) in table.hits(of) {
+            let wanted = is_within(orders, apex, v, w, no);
+            self.add_if(wanted, table, apex, v, no)?;
+        }
+        Ok(())
+    }
+
+    /// The same, where it is wanted.
+    #[inline(always)]
+    fn offer_in_if(
         &mut self,
         is_wanted: bool,
         orders: &Orders,
@@ -134,14 +157,11 @@ impl Touches {
         ensures offered { OnOk result (is_wanted ≡ true → IsOfferedIn (rows_of orders.now.lists.items) table.now self.new.all.items w of no) }
         ensures touched { OnOk result (HasTouched table.now self.old.all.items self.new.all.items) }
     {
-        if !is_wanted {
-            return Ok(());
+        if is_wanted {
+            self.offer_in(orders, table, w, of, no)
+        } else {
+            Ok(())
         }
-        for (apex, v) in table.hits(of) {
-            let wanted = is_within(orders, apex, v, w, no);
-            self.add_if(wanted, table, apex, v, no)?;
-        }
-        Ok(())
     }
 
     /// Offers a number to the slots whose candidate another is, in the octants that an order ranks, where it
@@ -164,8 +184,8 @@ impl Touches {
         // Of the two octants that the order ranks, one reads it from the front and one from the end.
         let from_front = !orders.stands_before(part, of, no);
         let from_end = !orders.stands_before(part, no, of);
-        self.offer_in(from_front, orders, table, part - 4, of, no)?;
-        self.offer_in(from_end, orders, table, part, of, no)?;
+        self.offer_in_if(from_front, orders, table, part - 4, of, no)?;
+        self.offer_in_if(from_end, orders, table, part, of, no)?;
         Ok(())
     }
 
@@ -196,6 +216,7 @@ impl Touches {
     }
 
     /// Offers a number to the slots of an apex whose candidate it was.
+    #[inline(always)]
     fn offer_again(&mut self, table: &Table, apex: u32, no: u32) -> Result<(), NoMemory>
         requires slot { 8 * apex + 7 < length table.now }
         requires small { length table.now < 2 ^ 32 }

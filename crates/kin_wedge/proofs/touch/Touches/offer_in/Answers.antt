@@ -22,7 +22,7 @@ loop-apex-preserved c =
     c.in_ok-add_if.ensures.offered (c.is_within-wanted.ensures k.1 k.2 k.0 k.3)) c.in_ok-add_if.ensures.touched
 
 pub returns-clause-offered : goal.returns-clause-offered
-returns-clause-offered c = λ wanted apex o e k h.
+returns-clause-offered c = λ apex o e k h.
     offered_done c.args.table.now c.args.of (IsWithinAt (rows_of c.args.orders.now.lists.items) c.args.w c.args.no) (Some c.args.no) c.args.self.now.all.items c.loop-apex.self.all.items c.loop-apex.apex-iterator c.in-None.ensures.steps.0 c.loop-apex.invariant (8 * apex + c.args.w)
     (within_there (rows_of c.args.orders.now.lists.items) c.args.w c.args.no apex c.args.w c.requires.octant o refl e h) k
 
