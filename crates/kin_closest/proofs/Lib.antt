@@ -1,6 +1,7 @@
 pub mod Telling
 pub mod Readiness
 pub mod Splitting
+pub mod Sorted
 pub mod Joining
 pub mod Moving
 pub mod Vacancy

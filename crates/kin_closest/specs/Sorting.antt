@@ -1,5 +1,5 @@
 -- Facts of the eight orders, and facts of the tournament of pairs, which stand eight parts further on.
-use Rattle.std.specs.Prelude.{◌-◌, Bool, nat_lt, not}
+use Rattle.std.specs.Prelude.{◌≡◌, ◌≢◌, ◌-◌, Bool, nat_lt, not, List, [], filter, map}
 use Rattle.kin_motion.specs.declared.fact.Placed.{Placed}
 
 -- whether a fact is of one of the eight orders
@@ -13,3 +13,9 @@ is_of_pair p = not (nat_lt p.part 8)
 -- a fact of the tournament in its own part
 abbrev pub taken_back : Placed → Placed
 taken_back p = record { part = p.part - 8; fact = p.fact }
+
+-- failed facts are sorted out: the second list holds those of the tournament, and where there are some, the first holds those of the orders
+pub record IsSortedMail (failed first second : List Placed) : Type 0 where
+  pub pairs : second ≡ map taken_back (filter is_of_pair failed)
+  pub orders : second ≢ [] → first ≡ filter is_of_order failed
+  pub all : second ≡ [] → filter is_of_order failed ≡ failed

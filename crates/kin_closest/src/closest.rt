@@ -139,7 +139,8 @@ impl Kinetic for KinClosest {
     {
         self.whole = false;
         self.mail.sort(failed)?;
-        self.wedges.settle(now, self.mail.orders(), out, steps)?;
+        self.wedges
+            .settle(now, self.mail.orders(failed), out, steps)?;
         tell_all(&mut self.pairs, &self.wedges);
         self.mail.settle_pairs(&mut self.pairs, now, out, steps)?;
         self.whole = true;

@@ -8,7 +8,7 @@ ghost use Rattle.kin_motion.specs.Parts.{moved_by};
 ghost use Rattle.kin_motion.specs.Scene.{IsReal};
 ghost use Rattle.kin_tourney.specs.Tournament.{IsAtRest, IsReady, IsSettled, mark_count, CoversAskable};
 ghost use Rattle.kin_closest.specs.DistanceKey.{pair_names};
-ghost use Rattle.kin_closest.specs.Sorting.{is_of_order, is_of_pair, taken_back};
+ghost use Rattle.kin_closest.specs.Sorting.{is_of_order, IsSortedMail};
 
 use crate::distance::Distance;
 use crate::sorting::{move_from, sort_out};
@@ -21,7 +21,8 @@ use kin_tourney::Tourney;
 use std::alloc::Global;
 use std::sync::ledger::Ledger;
 
-/// The failed facts of the orders, and those of the tournament in its own parts. The memory is kept from settle to settle.
+/// The failed facts of the tournament in its own parts, and where there are some, those of the orders. The memory is kept from
+/// settle to settle.
 #[derive(Drop)]
 pub(crate) struct Mail {
     orders: Vec<Placed>,
@@ -38,17 +39,21 @@ impl Mail {
 
     /// Sorts failed facts out.
     pub(crate) fn sort(&mut self, failed: &[Placed]) -> Result<(), NoMemory>
-        ensures orders { OnOk result (self.new.orders.items ≡ filter is_of_order failed.now) }
-        ensures pairs { OnOk result (self.new.pairs.items ≡ map taken_back (filter is_of_pair failed.now)) }
+        ensures { OnOk result (IsSortedMail failed.now self.new.orders.items self.new.pairs.items) }
     {
         sort_out(failed, &mut self.orders, &mut self.pairs)
     }
 
-    /// The failed facts of the orders.
-    pub(crate) fn orders(&self) -> &[Placed]
-        ensures { result.now ≡ self.now.orders.items }
+    /// The failed facts of the orders, of those that were sorted last.
+    pub(crate) fn orders<'a>(&'a self, failed: &'a [Placed]) -> &'a [Placed]
+        requires { IsSortedMail failed.now self.now.orders.items self.now.pairs.items }
+        ensures { result.now ≡ filter is_of_order failed.now }
     {
-        &self.orders
+        if self.pairs.is_empty() {
+            failed
+        } else {
+            &self.orders
+        }
     }
 
     /// Settles the tournament, and reports its facts in their parts behind the orders.

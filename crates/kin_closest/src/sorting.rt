@@ -3,7 +3,7 @@
 ghost use Rattle.std.specs.Prelude.{true, ◌≡◌, ◌<◌, ◌^◌, [], ◌∷◌, ◌++◌, cond, drop, filter, map, take, Contains, OnOk};
 ghost use Rattle.kin_motion.specs.declared.fact.Placed.{Placed as Put};
 ghost use Rattle.kin_motion.specs.Parts.{moved_by};
-ghost use Rattle.kin_closest.specs.Sorting.{is_of_order, is_of_pair, taken_back};
+ghost use Rattle.kin_closest.specs.Sorting.{is_of_order, is_of_pair, taken_back, IsSortedMail};
 
 use kin_motion::fact::Placed;
 use kin_num::memory::NoMemory;
@@ -42,19 +42,17 @@ fn are_of_orders(facts: &[Placed]) -> bool
     true
 }
 
-/// Sorts facts out: those of the orders, and those of the tournament in its own parts.
+/// Sorts facts out: those of the tournament in its own parts, and where there are some, those of the orders.
 pub(crate) fn sort_out(
     facts: &[Placed],
     orders: &mut Vec<Placed>,
     pairs: &mut Vec<Placed>,
 ) -> Result<(), NoMemory>
-    ensures orders { OnOk result (orders.new.items ≡ filter is_of_order facts.now) }
-    ensures pairs { OnOk result (pairs.new.items ≡ map taken_back (filter is_of_pair facts.now)) }
+    ensures { OnOk result (IsSortedMail facts.now orders.new.items pairs.new.items) }
 {
     orders.clear();
     pairs.clear();
     if are_of_orders(facts) {
-        orders.extend_from_slice(facts)?;
         return Ok(());
     }
     for placed in facts {

@@ -20,13 +20,6 @@ use Rattle.kin_tourney.proofs.Doubts.{here_is_doubt, count_kept, count_lowered}
 use Rattle.kin_tourney.proofs.Placements.{changed_on}
 use Rattle.kin_tourney.proofs.Trees.{above_in_doubt}
 
--- the measure falls where a node is cleared
-falls : (n count less at : ℕ) → less + 1 ≡ count → at < n → less * n + (n - at / 2) < count * n + (n - at)
-falls n count less at e inside = let k : count * n ≡ less * n + n = ap (λ c. c * n) (sym e) ∙ more less n in omega arith
-  where
-    more : (a b : ℕ) → (a + 1) * b ≡ a * b + b
-    more a b = omega arith
-
 -- the match of the same halves
 module _ {Item : Type 0} (key : Key Item) (sign : Form → Sign) where
   entry_same : (t u : Standings Item) → t.items ≡ u.items → (v : ℕ) → best_in t.best v ≡ best_in u.best v → entry_at t v ≡ entry_at u v
@@ -234,7 +227,14 @@ module _ {Item : Type 0} (all : Bool) (key : Key Item) (sign : Form → Sign) wh
     pub count_cleared : doubt_count next.doubts + 1 ≡ doubt_count t.doubts
     count_cleared = ap (λ ds. doubt_count ds + 1) doubts_are ∙ count_lowered t.doubts node room doubted
 
-    -- one goes on with the node above
+    pub clear_now : doubt_in next.doubts node ≡ Clear
+    clear_now = at (doubt_next node)
+      where
+        at : ((node ≡ node) × (doubt_in next.doubts node ≡ Clear)) ⊎ ((node ≢ node) × (doubt_in next.doubts node ≡ doubt_in t.doubts node)) → doubt_in next.doubts node ≡ Clear
+        at (inl k) = k.1
+        at (inr k) = absurd (k.0 refl)
+
+    -- the node above is still in doubt
     pub up_in_doubt : 0 < node / 2 → (node / 2 < length next.items) × (doubt_in next.doubts (node / 2) ≢ Clear)
     up_in_doubt big = (let e = ap length items_are in omega arith, λ e. at e (doubt_next (node / 2)))
       where
@@ -286,7 +286,8 @@ module _ {Item : Type 0} (all : Bool) (key : Key Item) (sign : Form → Sign) wh
     pub place : 0 < node / 2 → (node / 2 < length next.items) × (doubt_in next.doubts (node / 2) ≢ Clear)
     pub ended : node / 2 ≡ 0 → doubt_in next.doubts 1 ≡ Clear
     pub count : doubt_count next.doubts + 1 ≡ doubt_count t.doubts
-    pub smaller : doubt_count next.doubts * length next.items + (length next.items - node / 2) < doubt_count t.doubts * length t.items + (length t.items - node)
+    pub inside : node < length next.items
+    pub clear : doubt_in next.doubts node ≡ Clear
 
   pub stepped : (start t mid next : Standings Item) (before after : Change) (node : ℕ) → 0 < node → node < length t.items
       → IsPassed start mid node before after (doubt_count t.doubts) (length t.items) → IsTree next → IsCleared node mid next → IsStepped start t next node before after
@@ -299,5 +300,6 @@ module _ {Item : Type 0} (all : Bool) (key : Key Item) (sign : Form → Sign) wh
         place = up_in_doubt start mid next before after node some here p.doubted p.mending p.own tree c;
         ended = root_cleared start mid next before after node some here p.doubted p.mending p.own tree c;
         count = less;
-        smaller = subst (λ n. doubt_count next.doubts * n + (n - node / 2) < doubt_count t.doubts * length t.items + (length t.items - node)) (sym room) (falls (length t.items) (doubt_count t.doubts) (doubt_count next.doubts) node less inside);
+        inside = omega (arith, room, inside);
+        clear = clear_now start mid next before after node some here p.doubted p.mending p.own tree c;
       }

@@ -1,7 +1,7 @@
 -- Doubts above a marked slot: the matches that it had won are to be played again.
 use Rattle.std.proofs.Common.{◌≡◌, ◌≢◌, ◌⊎◌, inl, inr, refl, sym, ap, ◌∙◌, subst, arith, ℕ, zero, suc, ◌+◌, ◌*◌, ◌/◌, ◌<◌, ◌≤◌, length, true, nat_eq, set, List, ◌-◌, ◌^◌, Bool, false, cond, nat_lt}
 use Rattle.std.specs.Prelude.{Some}
-use Rattle.std.proofs.lemmas.Bool.{or_cases, cases_eq}
+use Rattle.std.proofs.lemmas.Bool.{or_cases, cases_eq, cases_lt}
 use Rattle.std.proofs.lemmas.Bool.Decides.{nat_tests}
 use Rattle.std.proofs.lemmas.List.{get_or-set_same, length-set}
 use Rattle.kin_motion.specs.Tournaments.{comes_to, is_under}
@@ -235,3 +235,13 @@ raising_ends {Item} slot old mid now node tree inside same spread ended h = (
     clear_first : (v : ℕ) → doubt_in mid.doubts v ≡ Clear → (doubt_in mid.doubts v ≡ doubt_in old.doubts v) ⊎ ((doubt_in old.doubts v ≡ Clear) × (doubt_in mid.doubts v ≡ Below)) → doubt_in old.doubts v ≡ Clear
     clear_first v e (inl k) = sym k ∙ e
     clear_first v e (inr k) = k.0
+
+-- and so it is where another slot is the best
+pub raising_done : {Item : Type 0} (slot : ℕ) (old mid now : Standings Item) (node : ℕ) → IsTree old → slot < length old.items → IsTree mid → slot < length mid.items → mid ≡ record old { doubts = mid.doubts } → IsSpread old.doubts mid.doubts Below ((length old.items + slot) / 2)
+    → (node ≤ 1) ⊎ (named_at now node ≢ Some slot) → IsRaising slot mid now node → (now ≡ record old { doubts = now.doubts }) × IsMarkedUp slot old now.doubts
+raising_done slot old mid now node tree inside first among same spread ended h = at (cases_lt 1 node) ended
+  where
+    at : (1 < node) ⊎ (node ≤ 1) → (node ≤ 1) ⊎ (named_at now node ≢ Some slot) → (now ≡ record old { doubts = now.doubts }) × IsMarkedUp slot old now.doubts
+    at (inr low) e = raising_ends slot old mid now node tree inside same spread low h
+    at (inl big) (inl low) = absurd (omega (arith, big, low))
+    at (inl big) (inr lost) = raising_ends slot old mid now 0 tree inside same spread (omega arith) (stopped slot mid now now node big h h.tree first among refl lost)

@@ -60,6 +60,12 @@ IsMatchSign {Item} key sign t v s = (l r : Entry Item) → entry_at t (2 * v) �
 abbrev pub IsRightOnce : {Item : Type 0} → Key Item → Standings Item → ℕ → Type 0
 IsRightOnce key t v = (sign : Sign) × IsRight key (λ f. sign) t v
 
+-- a node in doubt whose halves are clear
+pub record IsLowest {Item : Type 0} (t : Standings Item) (node : ℕ) : Type 0 where
+  pub inside : node < length t.items
+  pub doubted : doubt_in t.doubts node ≢ Clear
+  pub halves_clear : (v : ℕ) → 0 < v → v / 2 ≡ node → doubt_in t.doubts v ≡ Clear
+
 -- how many signs a match asks for: none where it is known
 abbrev pub asked_for : Option Sign → ℕ
 asked_for None = 1

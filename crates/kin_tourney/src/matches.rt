@@ -1,6 +1,6 @@
 //! Matches are played again.
 
-ghost use Rattle.std.specs.Prelude.{◌≡◌, ◌≢◌, ℕ, ◌+◌, ◌*◌, ◌/◌, ◌^◌, ◌<◌, ◌≤◌, false, length, slice_set, IfOk, OnOk, MatchOption, Some, None};
+ghost use Rattle.std.specs.Prelude.{◌≡◌, ◌≢◌, ℕ, ◌+◌, ◌*◌, ◌/◌, ◌^◌, ◌<◌, ◌≤◌, false, length, slice_set, IfOk, OnOk, Some, None};
 ghost use Rattle.kin_algebra.specs.declared.sign.Sign.{Sign as Signum};
 ghost use Rattle.kin_motion.specs.declared.fact.Fact.{Fact as Told};
 ghost use Rattle.kin_motion.specs.Forms.{IsAskable};
@@ -199,30 +199,8 @@ impl<I: Copy> Tree<I> {
         self.doubts[node] = Doubt::Clear;
     }
 
-    /// The first inner half of a node that isn't clear.
-    fn doubted_half(&self, node: usize) -> Option<usize>
-        requires tree { IsTree self.now }
-        requires root { 0 < node }
-        requires inner { node < length self.now.items }
-        ensures { MatchOption result
-            ((v : ℕ) → 0 < v → v / 2 ≡ node → doubt_in self.now.doubts v ≡ Doubt.Clear)
-            (λ half. (half / 2 ≡ node) × (node < half) × (half < length self.now.items) × (doubt_in self.now.doubts half ≢ Doubt.Clear)) }
-    {
-        let left = 2 * node;
-        if left >= self.slots() {
-            return None;
-        }
-        if !self.is_clear(left) {
-            return Some(left);
-        }
-        if !self.is_clear(left + 1) {
-            return Some(left + 1);
-        }
-        None
-    }
-
     /// Plays the matches again that are in doubt themselves, and with `all` those in doubt whose facts
-    /// don't hold, the halves of a node before the node. The doubts lead the way down, and only nodes in doubt are visited.
+    /// don't hold, the halves of a node before the node. The doubts lead the way, and only nodes in doubt are visited.
     pub fn repair<K: Keyed<Item = I>, O: Signs, L: Ledger>(
         &mut self,
         all: bool,
@@ -242,15 +220,11 @@ impl<I: Copy> Tree<I> {
         ensures delta { OnOk result (HasChanged (placed_facts self.old) (placed_facts self.new) out.old out.new) }
         ensures cost { OnOk result (steps.new + 1 ≤ steps.old + doubt_count self.old.doubts) }
     {
-        let mut node = self.doubted_node();
+        let mut node = self.first_doubt();
         while node > 0 {
-            if let Some(half) = self.doubted_half(node) {
-                node = half;
-            } else {
-                self.renew(node, all, key, now, out, steps)?;
-                self.settle_node(node);
-                node /= 2;
-            }
+            self.renew(node, all, key, now, out, steps)?;
+            self.settle_node(node);
+            node = self.next_doubt(node);
         }
         Ok(())
     }

@@ -35,8 +35,11 @@ pub fn tell(
         }
         out.report_dropped(Placed { part, fact: *old })?;
     }
-    out.report_born(Placed { part, fact })?;
     facts[node] = Some(fact);
+    // What is reported is copied from where it was written, whole.
+    if let Some(fact) = facts[node] {
+        out.report_born(Placed { part, fact })?;
+    }
     Ok(())
 }
 

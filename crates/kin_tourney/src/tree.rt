@@ -134,13 +134,17 @@ impl<I: Copy> Tree<I> {
         self.is_clear(1)
     }
 
-    /// Whether a slot is the best of a node, or the node is its leaf.
-    fn is_best_of(&self, slot: u32, node: usize) -> bool
+    /// Whether a node has a node above it, and a slot is its best.
+    fn is_won_below_root(&self, slot: u32, node: usize) -> bool
         requires tree { IsTree self.now }
-        requires node { node < 2 * length self.now.items }
-        ensures { IsTrue result ↔ (named_at self.now node ≡ Some slot) }
+        requires inner { node < length self.now.items }
+        ensures won { result ≡ true → 1 < node }
+        ensures lost { result ≡ false → (node ≤ 1) ⊎ (named_at self.now node ≢ Some slot) }
     {
-        match self.named(node) {
+        if node <= 1 {
+            return false;
+        }
+        match self.best[node] {
             Some(best) => best == slot,
             None => false,
         }
@@ -179,13 +183,12 @@ impl<I: Copy> Tree<I> {
     {
         let mut node = self.slots() + slot as usize;
         self.lead_to(node / 2);
-        while node > 1 {
-            if self.is_best_of(slot, node) {
-                self.raise(node / 2);
-                node /= 2;
-            } else {
-                node = 0;
-            }
+        // The slot is the best of its leaf.
+        let mut is_won = node > 1;
+        while is_won {
+            self.raise(node / 2);
+            node /= 2;
+            is_won = self.is_won_below_root(slot, node);
         }
     }
 

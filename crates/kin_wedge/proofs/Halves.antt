@@ -1,5 +1,5 @@
 -- The first four orders bound the octants, and the last four rank their members.
-use Rattle.std.proofs.Common.{◌≡◌, refl, subst, arith, ℕ, zero, suc, ◌+◌, ◌%◌, ◌<◌, ◌≤◌, Some}
+use Rattle.std.proofs.Common.{◌≡◌, refl, subst, arith, ℕ, zero, suc, ◌+◌, ◌%◌, ◌<◌, ◌≤◌, Some, true, false, inl, inr, ◌⊎◌}
 use Rattle.std.specs.Prelude.{slice_get}
 use Rattle.kin_motion.specs.Octants.{Octant, octants}
 
@@ -8,19 +8,20 @@ record IsSplit (w : ℕ) (o : Octant) : Type 0 where
   pub bounds : (o.first.part < 4) × (o.second.part < 4)
   pub third : 4 ≤ o.third.part
   pub rank : o.third.part ≡ w % 4 + 4
+  pub read : ((w + 4 ≡ o.third.part) × (o.third.from_end ≡ false)) ⊎ ((w ≡ o.third.part) × (o.third.from_end ≡ true))
 
 same_split : (w : ℕ) (a o : Octant) → IsSplit w a → Some a ≡ Some o → IsSplit w o
 same_split w a o h e = let same : a ≡ o = cc in subst (IsSplit w) same h
 
 split : (w : ℕ) (o : Octant) → slice_get octants w ≡ Some o → IsSplit w o
-split zero o e = same_split _ _ o (record { bounds = (omega arith, omega arith); third = omega arith; rank = refl }) e
-split (suc zero) o e = same_split _ _ o (record { bounds = (omega arith, omega arith); third = omega arith; rank = refl }) e
-split (suc (suc zero)) o e = same_split _ _ o (record { bounds = (omega arith, omega arith); third = omega arith; rank = refl }) e
-split (suc (suc (suc zero))) o e = same_split _ _ o (record { bounds = (omega arith, omega arith); third = omega arith; rank = refl }) e
-split (suc (suc (suc (suc zero)))) o e = same_split _ _ o (record { bounds = (omega arith, omega arith); third = omega arith; rank = refl }) e
-split (suc (suc (suc (suc (suc zero))))) o e = same_split _ _ o (record { bounds = (omega arith, omega arith); third = omega arith; rank = refl }) e
-split (suc (suc (suc (suc (suc (suc zero)))))) o e = same_split _ _ o (record { bounds = (omega arith, omega arith); third = omega arith; rank = refl }) e
-split (suc (suc (suc (suc (suc (suc (suc zero))))))) o e = same_split _ _ o (record { bounds = (omega arith, omega arith); third = omega arith; rank = refl }) e
+split zero o e = same_split _ _ o (record { bounds = (omega arith, omega arith); third = omega arith; rank = refl; read = inl (refl, refl) }) e
+split (suc zero) o e = same_split _ _ o (record { bounds = (omega arith, omega arith); third = omega arith; rank = refl; read = inl (refl, refl) }) e
+split (suc (suc zero)) o e = same_split _ _ o (record { bounds = (omega arith, omega arith); third = omega arith; rank = refl; read = inl (refl, refl) }) e
+split (suc (suc (suc zero))) o e = same_split _ _ o (record { bounds = (omega arith, omega arith); third = omega arith; rank = refl; read = inl (refl, refl) }) e
+split (suc (suc (suc (suc zero)))) o e = same_split _ _ o (record { bounds = (omega arith, omega arith); third = omega arith; rank = refl; read = inr (refl, refl) }) e
+split (suc (suc (suc (suc (suc zero))))) o e = same_split _ _ o (record { bounds = (omega arith, omega arith); third = omega arith; rank = refl; read = inr (refl, refl) }) e
+split (suc (suc (suc (suc (suc (suc zero)))))) o e = same_split _ _ o (record { bounds = (omega arith, omega arith); third = omega arith; rank = refl; read = inr (refl, refl) }) e
+split (suc (suc (suc (suc (suc (suc (suc zero))))))) o e = same_split _ _ o (record { bounds = (omega arith, omega arith); third = omega arith; rank = refl; read = inr (refl, refl) }) e
 split (suc (suc (suc (suc (suc (suc (suc (suc w)))))))) o e = absurd cc
 
 pub bounds_low : (w : ℕ) (o : Octant) → slice_get octants w ≡ Some o → (o.first.part < 4) × (o.second.part < 4)
@@ -31,3 +32,7 @@ third_high w o e = (split w o e).third
 
 pub ranked_by : (w : ℕ) (o : Octant) → slice_get octants w ≡ Some o → o.third.part ≡ w % 4 + 4
 ranked_by w o e = (split w o e).rank
+
+-- of the two octants that an order ranks, one reads it from the front and one from the end
+pub read_by : (w : ℕ) (o : Octant) → slice_get octants w ≡ Some o → ((w + 4 ≡ o.third.part) × (o.third.from_end ≡ false)) ⊎ ((w ≡ o.third.part) × (o.third.from_end ≡ true))
+read_by w o e = (split w o e).read

@@ -1,5 +1,5 @@
 -- An offer to all slots whose candidate a number is.
-use Rattle.std.proofs.Common.{◌≡◌, refl, sym, ap, ◌∙◌, subst, arith, List, [], ◌∷◌, ℕ, ◌+◌, ◌*◌, ◌/◌, ◌%◌, ◌<◌, length, Some, Option, inl, inr, ◌⊎◌}
+use Rattle.std.proofs.Common.{◌≡◌, refl, sym, ap, ◌∙◌, subst, arith, List, [], ◌∷◌, ℕ, ◌+◌, ◌*◌, ◌/◌, ◌%◌, ◌<◌, length, true, Some, Option, inl, inr, ◌⊎◌}
 use Rattle.std.specs.Prelude.{slice_get, Contains}
 use Rattle.std.proofs.lemmas.Option.{slice_get_within}
 use Rattle.std.proofs.Math.Nat.{div-add-mod}
@@ -7,7 +7,8 @@ use Rattle.kin_basics.proofs.Members.{contains_tail, contains_cases}
 use Rattle.kin_motion.specs.Octants.{Octant, octants}
 use Rattle.kin_wedge.specs.declared.touch.Touch.{Touch}
 use Rattle.kin_wedge.specs.Tables.{AreHits}
-use Rattle.kin_wedge.specs.Touched.{IsOffered, HasPassedBy, HasTouched}
+use Rattle.kin_wedge.specs.Rows.{is_in_wedge}
+use Rattle.kin_wedge.specs.Touched.{IsOffered, HasTouched}
 use Rattle.kin_wedge.proofs.Slots.{octant_again}
 use Rattle.kin_wedge.proofs.Touching.{touched_none, touched_through}
 
@@ -55,16 +56,16 @@ module _ (candidates : List (Option ℕ)) (c : ℕ) (Wanted : ℕ → Type 0) (x
       at (inl h) = absurd (let z = subst (λ (xs : List (ℕ × ℕ)). Contains xs (slot / 8, slot % 8)) e h in omega (arith, z.1))
       at (inr h) = h
 
--- an order ranks the octant of a slot, and there a number has passed another by
-abbrev pub IsPassedAt : List (List ℕ) → ℕ → ℕ → ℕ → ℕ → Type 0
-IsPassedAt rows part a b slot = (o : Octant) × (slice_get octants (slot % 8) ≡ Some o) × (o.third.part ≡ part) × HasPassedBy rows o (slot / 8) a b
+-- the slot is of an octant, and a number is in it
+abbrev pub IsWithinAt : List (List ℕ) → ℕ → ℕ → ℕ → Type 0
+IsWithinAt rows w b slot = (slot % 8 ≡ w) × (o : Octant) × (slice_get octants w ≡ Some o) × (is_in_wedge rows o (slot / 8) b ≡ true)
 
-module _ (rows : List (List ℕ)) (part a b apex w : ℕ) (small : w < 8) where
-  apex_is : (8 * apex + w) / 8 ≡ apex
+module _ (rows : List (List ℕ)) (w b apex v : ℕ) (small : v < 8) where
+  apex_is : (8 * apex + v) / 8 ≡ apex
   apex_is = omega (arith, small)
 
-  pub passed_here : IsPassedAt rows part a b (8 * apex + w) → (o : Octant) × (slice_get octants w ≡ Some o) × (o.third.part ≡ part) × HasPassedBy rows o apex a b
-  passed_here r = (r.0, sym (ap (slice_get octants) (octant_again apex w small)) ∙ r.1, r.2, subst (λ (n : ℕ). HasPassedBy rows r.0 n a b) apex_is r.3)
+  pub within_here : IsWithinAt rows w b (8 * apex + v) → (v ≡ w) × (o : Octant) × (slice_get octants w ≡ Some o) × (is_in_wedge rows o apex b ≡ true)
+  within_here r = (sym (octant_again apex v small) ∙ r.0, r.1, r.2, subst (λ (n : ℕ). is_in_wedge rows r.1 n b ≡ true) apex_is r.3)
 
-  pub passed_there : (o : Octant) → slice_get octants w ≡ Some o → o.third.part ≡ part → HasPassedBy rows o apex a b → IsPassedAt rows part a b (8 * apex + w)
-  passed_there o e f h = (o, ap (slice_get octants) (octant_again apex w small) ∙ e, f, subst (λ (n : ℕ). HasPassedBy rows o n a b) (sym apex_is) h)
+  pub within_there : (o : Octant) → v ≡ w → slice_get octants w ≡ Some o → is_in_wedge rows o apex b ≡ true → IsWithinAt rows w b (8 * apex + v)
+  within_there o s e h = (octant_again apex v small ∙ s, o, e, subst (λ (n : ℕ). is_in_wedge rows o n b ≡ true) (sym apex_is) h)

@@ -1,13 +1,15 @@
 -- Touches that are added.
-use Rattle.std.proofs.Common.{◌≡◌, ◌≢◌, ◌+◌, ◌*◌, ◌<◌, ◌≤◌, None, refl, sym, subst, List, [], ◌∷◌, ◌++◌, ℕ, Some, Option, inl, inr, ◌⊎◌, arith}
+use Rattle.std.proofs.Common.{◌≡◌, ◌≢◌, ◌+◌, ◌*◌, ◌<◌, ◌≤◌, None, refl, sym, ◌∙◌, ◌-◌, Bool, true, false, cond, subst, List, [], ◌∷◌, ◌++◌, ℕ, Some, Option, inl, inr, ◌⊎◌, arith}
 use Rattle.std.specs.Prelude.{Contains, slice_get}
 use Rattle.std.proofs.lemmas.Bool.{cases_eq}
 use Rattle.std.proofs.lemmas.List.Elements.{Contains-append_left}
 use Rattle.kin_basics.proofs.Members.{contains_tail, contains_cases}
 use Rattle.kin_motion.specs.Octants.{Octant, octants}
+use Rattle.kin_motion.specs.Changes.{stands_before}
 use Rattle.kin_wedge.specs.declared.touch.Touch.{Touch}
-use Rattle.kin_wedge.specs.Touched.{IsOffered, AreKnown, HasTouched, HasOfferedBoth, IsBoundedBy, ComesFirst, ComesOrGoes, HasPassedBy}
-use Rattle.kin_wedge.proofs.Halves.{bounds_low, third_high}
+use Rattle.kin_wedge.specs.Rows.{row_of}
+use Rattle.kin_wedge.specs.Touched.{IsOffered, AreKnown, HasTouched, HasOfferedBoth, IsOfferedIn, IsBoundedBy, ComesFirst, ComesOrGoes, HasPassedBy}
+use Rattle.kin_wedge.proofs.Halves.{bounds_low, read_by, third_high}
 use Rattle.kin_wedge.proofs.Slots.{below_eight}
 
 at_end : (xs : List Touch) (y : Touch) → Contains (xs ++ y ∷ []) y
@@ -110,6 +112,19 @@ abbrev pub IsOfferedBeside : List (List ℕ) → List (Option ℕ) → List Touc
 IsOfferedBeside rows candidates ts part a b = (apex w : ℕ) (o : Octant) → slice_get octants w ≡ Some o → o.third.part ≡ part → slice_get candidates (8 * apex + w) ≡ Some (Some a) → HasPassedBy rows o apex a b → IsOffered ts (8 * apex + w) (Some b)
 
 module _ (rows : List (List ℕ)) (candidates : List (Option ℕ)) (s t : List Touch) (part a b : ℕ) (h : HasTouched candidates s t) where
+  -- it is offered in each of the two octants that the order ranks, where the other doesn't stand before it as the octant reads the order
+  pub both_read : (stands_before (row_of rows part) a b ≡ false → IsOfferedIn rows candidates s (part - 4) a b) → (stands_before (row_of rows part) b a ≡ false → IsOfferedIn rows candidates t part a b) → IsOfferedBeside rows candidates t part a b
+  both_read front back apex w o e p k m = at (read_by w o e)
+    where
+      read : (from_end : Bool) → o.third.from_end ≡ from_end → cond from_end (stands_before (row_of rows part) b a) (stands_before (row_of rows part) a b) ≡ false
+      read from_end f = subst (λ (n : ℕ). cond from_end (stands_before (row_of rows n) b a) (stands_before (row_of rows n) a b) ≡ false) p (subst (λ (x : Bool). cond x (stands_before (row_of rows o.third.part) b a) (stands_before (row_of rows o.third.part) a b) ≡ false) f m.1)
+
+      at : ((w + 4 ≡ o.third.part) × (o.third.from_end ≡ false)) ⊎ ((w ≡ o.third.part) × (o.third.from_end ≡ true)) → IsOffered t (8 * apex + w) (Some b)
+      at (inl r) =
+          let here : part - 4 ≡ w = let z = r.0 in omega (arith, z, p) in
+          h.keeps _ _ (subst (λ (n : ℕ). IsOfferedIn rows candidates s n a b) here (front (read false r.1)) apex o e k m.0)
+      at (inr r) = subst (λ (n : ℕ). IsOfferedIn rows candidates t n a b) (sym (r.0 ∙ p)) (back (read true r.1)) apex o e k m.0
+
   -- the first four orders rank no octant
   pub both_within : part < 4 → IsOfferedWithin rows candidates s a b → IsOfferedWithin rows candidates t b a → HasOfferedBoth rows candidates part a b t
   both_within small p q = (

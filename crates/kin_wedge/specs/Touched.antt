@@ -53,6 +53,10 @@ ComesOrGoes rows candidates o p w b = ComesFirst rows candidates o p w b ⊎ (sl
 abbrev pub HasPassedBy : List (List ℕ) → Octant → ℕ → ℕ → ℕ → Type 0
 HasPassedBy rows o p a b = (is_in_wedge rows o p b ≡ true) × (stands_after rows o.third a b ≡ false)
 
+-- b is offered to the slots of an octant whose candidate a is and that b is in
+abbrev pub IsOfferedIn : List (List ℕ) → List (Option ℕ) → List Touch → ℕ → ℕ → ℕ → Type 0
+IsOfferedIn rows candidates ts w a b = (apex : ℕ) (o : Octant) → slice_get octants w ≡ Some o → slice_get candidates (8 * apex + w) ≡ Some (Some a) → is_in_wedge rows o apex b ≡ true → IsOffered ts (8 * apex + w) (Some b)
+
 -- of the exchange of a and b in an order, b is offered to those slots of a in the octants that the order bounds where it comes or goes, and to the slots whose candidate a is in the octants that it ranks where b has passed by
 pub record HasOffered (rows : List (List ℕ)) (candidates : List (Option ℕ)) (part a b : ℕ) (ts : List Touch) : Type 0 where
   pub bounded : (w : ℕ) (o : Octant) → slice_get octants w ≡ Some o → IsBoundedBy o part → ComesOrGoes rows candidates o a w b → IsOffered ts (8 * a + w) (Some b)

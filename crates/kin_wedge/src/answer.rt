@@ -46,11 +46,16 @@ impl Orders {
             return None;
         };
         let place = place as usize;
-        let first = self.place_in(octant.first.part, apex);
-        let second = self.place_in(octant.second.part, apex);
+        // Who has no place in them is the apex of no octant.
+        let Some(first) = self.place_in(octant.first.part, apex) else {
+            return None;
+        };
+        let Some(second) = self.place_in(octant.second.part, apex) else {
+            return None;
+        };
         for k in 0..steps_in(octant.third.from_end, place, items.len()) {
             let no = items[step_to(octant.third.from_end, place, k, items.len())];
-            if self.is_in_octant_of_places(octant, first, second, no) {
+            if self.is_in_octant_of_places(octant, Some(first), Some(second), no) {
                 return Some(no);
             }
         }

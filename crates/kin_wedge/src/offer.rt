@@ -2,9 +2,9 @@
 
 ghost use Rattle.std.specs.Prelude.{◌%◌, ℕ, ◌≡◌, ◌+◌, ◌*◌, ◌<◌, ◌^◌, Some, true, length, slice_get};
 ghost use Rattle.kin_motion.specs.Octants.{Octant as Bounds, octants};
-ghost use Rattle.kin_wedge.specs.Rows.{row_of, AreRows};
+ghost use Rattle.kin_wedge.specs.Rows.{row_of, is_in_wedge, AreRows};
 ghost use Rattle.kin_wedge.specs.Seen.{rows_of};
-ghost use Rattle.kin_wedge.specs.Touched.{ComesFirst, HasPassedBy};
+ghost use Rattle.kin_wedge.specs.Touched.{ComesFirst};
 
 use crate::octant::{orders_of, third_of};
 use crate::orders::Orders;
@@ -25,28 +25,11 @@ pub fn leads(orders: &Orders, table: &Table, apex: u32, w: u32, rank: usize) -> 
     }
 }
 
-/// Whether an order ranks the members of an octant.
-fn is_ranked_by(w: u32, part: u32) -> bool
-    requires { w < 8 }
-    ensures { (o : Bounds) → slice_get octants w ≡ Some o → o.third.part ≡ part → result ≡ true }
-{
-    w % 4 + 4 == part
-}
-
-/// Whether a number is in an octant, and another doesn't stand before it there.
-fn is_not_behind(orders: &Orders, apex: u32, w: u32, of: u32, no: u32) -> bool
+/// Whether an octant is the one that is asked for, and a number is in it.
+pub fn is_within(orders: &Orders, apex: u32, v: u32, w: u32, no: u32) -> bool
     requires rows { AreRows (rows_of orders.now.lists.items) }
     requires octant { w < 8 }
-    ensures { (o : Bounds) → slice_get octants w ≡ Some o → HasPassedBy (rows_of orders.now.lists.items) o apex of no → result ≡ true }
+    ensures { (o : Bounds) → slice_get octants w ≡ Some o → v ≡ w → is_in_wedge (rows_of orders.now.lists.items) o apex no ≡ true → result ≡ true }
 {
-    !orders.comes_after(third_of(w), of, no) && orders.is_in_octant(orders_of(w), apex, no)
-}
-
-/// Whether an order ranks an octant in which a number is now, and another doesn't stand before it there.
-pub fn has_passed_by(orders: &Orders, part: u32, apex: u32, w: u32, of: u32, no: u32) -> bool
-    requires rows { AreRows (rows_of orders.now.lists.items) }
-    requires octant { w < 8 }
-    ensures { (o : Bounds) → slice_get octants w ≡ Some o → o.third.part ≡ part → HasPassedBy (rows_of orders.now.lists.items) o apex of no → result ≡ true }
-{
-    is_ranked_by(w, part) && is_not_behind(orders, apex, w, of, no)
+    v == w && orders.is_in_octant(orders_of(w), apex, no)
 }

@@ -44,6 +44,7 @@ fn follow_one(
     requires parted { AreParted (rows_of orders.now.lists.items) }
     requires alike { AreAlike (rows_of orders.now.lists.items) }
     requires members { HaveSlots (rows_of orders.now.lists.items) (length table.now) }
+    requires part { part < 8 }
     requires still_there { (x : ℕ) → is_in x row.old.items ≡ true → is_in x (row_of (rows_of orders.now.lists.items) 0) ≡ true }
     requires small { length table.now < 2 ^ 32 }
     ensures row { OnOk result (row.new.items ≡ exchange place row.old.items) }
@@ -72,6 +73,7 @@ pub fn follow_row(
     requires parted { AreParted (rows_of orders.now.lists.items) }
     requires alike { AreAlike (rows_of orders.now.lists.items) }
     requires members { HaveSlots (rows_of orders.now.lists.items) (length table.now) }
+    requires part { part < 8 }
     requires still_there { (x : ℕ) → is_in x row.old.items ≡ true → is_in x (row_of (rows_of orders.now.lists.items) 0) ≡ true }
     requires small { length table.now < 2 ^ 32 }
     ensures row { OnOk result (row.new.items ≡ exchanged swaps.now row.old.items) }

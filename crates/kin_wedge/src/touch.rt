@@ -6,9 +6,9 @@ ghost use Rattle.kin_motion.specs.Numbers.{is_in};
 ghost use Rattle.kin_wedge.specs.Rows.{row_of, is_in_wedge, AreAlike, AreRows, HaveSlots};
 ghost use Rattle.kin_wedge.specs.Seen.{rows_of};
 ghost use Rattle.kin_wedge.specs.Sides.{AreParted, IsSpot};
-ghost use Rattle.kin_wedge.specs.Touched.{IsOffered, ComesFirst, ComesOrGoes, HasPassedBy, HasTouched, HasOfferedBoth};
+ghost use Rattle.kin_wedge.specs.Touched.{IsOffered, IsOfferedIn, ComesFirst, ComesOrGoes, HasPassedBy, HasTouched, HasOfferedBoth};
 
-use crate::offer::{has_passed_by, leads};
+use crate::offer::{is_within, leads};
 use crate::orders::Orders;
 use crate::sides::Spot;
 use crate::table::Table;
@@ -117,6 +117,53 @@ impl Touches {
         Ok(())
     }
 
+    /// Offers a number to the slots of an octant whose candidate another is and that it is in.
+    #[inline(never)]
+    fn offer_in(
+        &mut self,
+        orders: &Orders,
+        table: &Table,
+        w: u32,
+        of: u32,
+        no: u32,
+    ) -> Result<(), NoMemory>
+        requires rows { AreRows (rows_of orders.now.lists.items) }
+        requires octant { w < 8 }
+        requires small { length table.now < 2 ^ 32 }
+        ensures offered { OnOk result (IsOfferedIn (rows_of orders.now.lists.items) table.now self.new.all.items w of no) }
+        ensures touched { OnOk result (HasTouched table.now self.old.all.items self.new.all.items) }
+    {
+        for (apex, v) in table.hits(of) {
+            let wanted = is_within(orders, apex, v, w, no);
+            self.add_if(wanted, table, apex, v, no)?;
+        }
+        Ok(())
+    }
+
+    /// The same, where it is wanted.
+    #[inline(always)]
+    fn offer_in_if(
+        &mut self,
+        is_wanted: bool,
+        orders: &Orders,
+        table: &Table,
+        w: u32,
+        of: u32,
+        no: u32,
+    ) -> Result<(), NoMemory>
+        requires rows { AreRows (rows_of orders.now.lists.items) }
+        requires octant { w < 8 }
+        requires small { length table.now < 2 ^ 32 }
+        ensures offered { OnOk result (is_wanted ≡ true → IsOfferedIn (rows_of orders.now.lists.items) table.now self.new.all.items w of no) }
+        ensures touched { OnOk result (HasTouched table.now self.old.all.items self.new.all.items) }
+    {
+        if is_wanted {
+            self.offer_in(orders, table, w, of, no)
+        } else {
+            Ok(())
+        }
+    }
+
     /// Offers a number to the slots whose candidate another is, in the octants that an order ranks, where it
     /// has passed the other by.
     fn offer_beside(
@@ -128,14 +175,17 @@ impl Touches {
         no: u32,
     ) -> Result<(), NoMemory>
         requires rows { AreRows (rows_of orders.now.lists.items) }
+        requires low { 4 ≤ part }
+        requires high { part < 8 }
         requires small { length table.now < 2 ^ 32 }
         ensures offered { OnOk result ((apex w : ℕ) (o : Bounds) → slice_get octants w ≡ Some o → o.third.part ≡ part → slice_get table.now (8 * apex + w) ≡ Some (Some of) → HasPassedBy (rows_of orders.now.lists.items) o apex of no → IsOffered self.new.all.items (8 * apex + w) (Some no)) }
         ensures touched { OnOk result (HasTouched table.now self.old.all.items self.new.all.items) }
     {
-        for (apex, w) in table.hits(of) {
-            let wanted = has_passed_by(orders, part, apex, w, of, no);
-            self.add_if(wanted, table, apex, w, no)?;
-        }
+        // Of the two octants that the order ranks, one reads it from the front and one from the end.
+        let from_front = !orders.stands_before(part, of, no);
+        let from_end = !orders.stands_before(part, no, of);
+        self.offer_in_if(from_front, orders, table, part - 4, of, no)?;
+        self.offer_in_if(from_end, orders, table, part, of, no)?;
         Ok(())
     }
 
@@ -166,6 +216,7 @@ impl Touches {
     }
 
     /// Offers a number to the slots of an apex whose candidate it was.
+    #[inline(always)]
     fn offer_again(&mut self, table: &Table, apex: u32, no: u32) -> Result<(), NoMemory>
         requires slot { 8 * apex + 7 < length table.now }
         requires small { length table.now < 2 ^ 32 }
@@ -181,6 +232,7 @@ impl Touches {
 
     /// Offers a member to the slots of another where it comes or goes. Both stand at these
     /// spots.
+    #[inline(always)]
     fn offer_within(
         &mut self,
         orders: &Orders,
@@ -223,6 +275,7 @@ impl Touches {
         requires members { HaveSlots (rows_of orders.now.lists.items) (length table.now) }
         requires a { is_in a (row_of (rows_of orders.now.lists.items) 0) ≡ true }
         requires b { is_in b (row_of (rows_of orders.now.lists.items) 0) ≡ true }
+        requires part { part < 8 }
         requires small { length table.now < 2 ^ 32 }
         ensures offered { OnOk result (HasOfferedBoth (rows_of orders.now.lists.items) table.now part a b self.new.all.items) }
         ensures touched { OnOk result (HasTouched table.now self.old.all.items self.new.all.items) }

@@ -1,7 +1,0 @@
-use Rattle.std.specs.Prelude.{Some}
-use Rattle.kin_wedge.specs.Seen.{rows_of}
-use Rattle.kin_wedge.proofs.Lost.{AreOfferedBut, IsPassedAt}
-use Rattle.kin_wedge.proofs.touch.Touches.offer_beside.Given as goal
-
-abbrev pub invariant-loop-apex : goal.invariant-loop-apex
-invariant-loop-apex l = AreOfferedBut l.table l.of (IsPassedAt (rows_of l.orders.lists.items) l.part l.of l.no) (Some l.no) l.fn.self.all.items l.self.all.items l.apex-iterator
