@@ -23,8 +23,7 @@ fn first_outside(alloc: Global, bytes: &[u8]) -> Result<u32, NoMemory> {
 
 #[test]
 fn spelling_is_free_within_a_line(rt: HostRuntime) -> Result<(), Fail> {
-    let bytes =
-        b"size 01\r\n\tkeep order 1 -0 # east\r\n\r\ninsert 0 4096 -4096 -0 007\r\norder 0";
+    let bytes = b"size 01\r\n\tkeep order 1 -0 # east\r\n\r\ninsert 0 4096 -4096 -0 007\r\norder 0";
     let script = read(rt.alloc(), bytes)?;
     assert_eq!(rt; script.size, 1);
     assert_eq!(rt;
