@@ -38,8 +38,9 @@ impl Signs for Now<'_> {
     }
 }
 
-/// The sign of a form of any degree, out of the way of lines.
-#[inline(never)]
+/// The sign of a form of any degree. It is asked in line, so that a form whose kind is known where it is
+/// asked for is never made.
+#[inline(always)]
 #[tactic(auto, unfolding(kin_motion::specs::Forms::sign_of_form))]
 fn curved_sign<L: Ledger>(
     form: &Form,

@@ -36,6 +36,7 @@ pub struct Key {
 }
 
 /// The key of a moment. Takes a division, and at an irrational instant a whole square root.
+#[inline(always)]
 pub fn key_of(m: &Moment) -> Key
     ensures key { IsKeyOf result m.now }
     ensures canonical { IsCanonical m.now.at }

@@ -170,7 +170,7 @@ fn of_slope(motions: &Motions, i: u32, j: u32, k: u32, l: u32) -> Poly
 }
 
 /// The polynomial of a comparison of distances.
-#[inline(never)]
+#[inline(always)]
 #[tactic(auto, unfolding(crate::specs::Forms::polynomial_of))]
 fn of_dist(motions: &Motions, i: u32, j: u32, k: u32, l: u32) -> Poly
     requires askable { IsAskable (live_of motions.now) (Dist i j k l) }
