@@ -1,6 +1,5 @@
 -- The certificate of an owner and a form.
-use Rattle.std.proofs.Common.{◌≡◌, refl, sym, ap, subst, ℕ, List, Option, Some, None}
-use Rattle.std.specs.Prelude.{Contains, ◌↔◌, IsNone, IfSome}
+use Rattle.std.proofs.Common.{◌≡◌, refl, sym, ap, subst, ℕ, List, Option, Some, None, Contains, ◌↔◌, IsNone, IfSome}
 use Rattle.kin_algebra.specs.declared.sign.Sign.{Sign}
 use Rattle.kin_motion.specs.declared.form.Form.{Form}
 use Rattle.kin_motion.specs.Live.{Certificate}

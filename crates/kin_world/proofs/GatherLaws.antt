@@ -1,24 +1,18 @@
 -- Failed facts are gathered structure by structure, from the least one on.
-use Rattle.std.proofs.Common.{◌≡◌, ◌≢◌, ◌⊎◌, inl, inr, refl, sym, ap, ap₂, ◌∙◌, subst, arith, ℕ, ◌+◌, ◌-◌, ◌<◌, ◌≤◌, Bool, true, false, cond, List, [], ◌∷◌, ◌++◌, map, length, suc, Option, Some, None}
-use Rattle.std.specs.Prelude.{Contains, IsTrue, filter, nat_eq, MatchOption}
+use Rattle.std.proofs.Common.{append_assoc, append-nil, ◌≡◌, ◌≢◌, ◌⊎◌, inl, inr, refl, sym, ap, ap₂, ◌∙◌, subst, arith, ℕ, ◌+◌, ◌-◌, ◌<◌, ◌≤◌, Bool, true, false, cond, List, [], ◌∷◌, ◌++◌, map, length, suc, Option, Some, None, Contains, IsTrue, filter, nat_eq}
 use Rattle.std.proofs.lemmas.Bool.{cases_lt}
 use Rattle.std.proofs.lemmas.Bool.Decides.{nat_tests}
 use Rattle.std.proofs.lemmas.List.{length-map}
 use Rattle.std.proofs.lemmas.List.Elements.{Contains-append_left, Contains-append_right, Contains-append_cases}
 use Rattle.kin_motion.specs.declared.fact.Placed.{Placed}
 use Rattle.kin_motion.specs.Live.{Certificate, owned_by}
-use Rattle.kin_motion.specs.Sets.{AreDistinct}
 use Rattle.kin_basics.proofs.Members.{contains_head, contains_none, contains_cases}
-use Rattle.kin_motion.proofs.SetLaws.{contains_map, contains_mapped, distinct_mapped_on, distinct_none, distinct_cons, distinct_head, distinct_tail, filter-sound, filter-complete}
+use Rattle.kin_motion.proofs.SetLaws.{contains_map, contains_mapped, distinct_mapped_on, distinct_filter, filter-sound, filter-complete}
 use Rattle.kin_cert.specs.declared.owned.Owned.{Owned}
 use Rattle.kin_cert.specs.Facts.{LiveFact, certificate_of}
-use Rattle.kin_world.specs.Upkeep.{Stage, HasSameFrame, HasSettled, HasRepaired, ListsWaiting, AreWaiting, IsRepairing, IsAtTurn, NoneFrom, IsNextFrom, IsTurn, IsSooner, gathered, is_of, placed_of, turns_left}
+use Rattle.kin_world.specs.Upkeep.{Stage, HasSameFrame, HasSettled, HasRepaired, ListsWaiting, AreWaiting, IsAtTurn, NoneFrom, IsNextFrom, IsTurn, IsSooner, gathered, is_of, placed_of, turns_left}
 use Rattle.kin_world.proofs.MadeLaws.{come_on}
 use Rattle.kin_world.proofs.RepairLaws.{sound_when_none_waits}
-
-joined : {A : Type 0} (xs : List A) (y : A) (zs : List A) → (xs ++ y ∷ []) ++ zs ≡ xs ++ y ∷ zs
-joined {A} [] y zs = refl
-joined {A} (x ∷ xs) y zs = ap (λ ws. x ∷ ws) (joined xs y zs)
 
 -- the structure and the fact in its part tell the owned fact
 by_parts : (o p : Owned) → o.structure ≡ p.structure → placed_of o ≡ placed_of p → o ≡ p
@@ -100,23 +94,19 @@ seen_none k taken = record { front = []; split = refl; turn_is = turn_of_none k 
 pub seen_more : (k : ℕ) (taken rest tail : List Owned) (turn turn' : Option ℕ) (o : Owned) → IsSeen k taken rest turn → rest ≡ o ∷ tail → IsSooner k o.structure turn turn' → IsSeen k taken tail turn'
 seen_more k taken rest tail turn turn' o h here is = record {
   front = h.front ++ o ∷ [];
-  split = h.split ∙ ap (λ os. h.front ++ os) here ∙ sym (joined h.front o tail);
+  split = h.split ∙ ap (λ os. h.front ++ os) here ∙ sym (append_assoc h.front (o ∷ []) tail);
   turn_is = turn_more k h.front turn turn' o h.turn_is is;
 }
 
-none_behind : {A : Type 0} (xs ys : List A) → length ys ≡ 0 → xs ++ ys ≡ xs
-none_behind {A} [] [] e = refl
-none_behind {A} (x ∷ xs) [] e = ap (λ zs. x ∷ zs) (none_behind xs [] e)
-none_behind {A} xs (y ∷ ys) e = absurd (omega (arith, e))
-
 pub seen_all : (k : ℕ) (taken rest : List Owned) (turn : Option ℕ) → IsSeen k taken rest turn → length rest ≡ 0 → IsTurn k taken turn
-seen_all k taken rest turn h none = subst (λ (os : List Owned). IsTurn k os turn) (sym (h.split ∙ none_behind h.front rest none)) h.turn_is
+seen_all k taken [] turn h none = subst (λ (os : List Owned). IsTurn k os turn) (sym (h.split ∙ append-nil h.front)) h.turn_is
+seen_all k taken (o ∷ os) turn h none = absurd (omega (arith, none))
 
 -- ---- the facts of one structure
 pub gathers_more : (k : ℕ) (failed all : List Placed) (rest tail : List Owned) (o : Owned) → failed ++ gathered k rest ≡ all → rest ≡ o ∷ tail → o.structure ≡ k
     → (failed ++ placed_of o ∷ []) ++ gathered k tail ≡ all
 gathers_more k failed all rest tail o h here is =
-    joined failed (placed_of o) (gathered k tail) ∙ ap (λ ps. failed ++ ps) (sym (own (nat_eq o.structure k) (grind (arith, nat_tests, is)) ∙ refl)) ∙ ap (λ (os : List Owned). failed ++ gathered k os) (sym here) ∙ h
+    append_assoc failed (placed_of o ∷ []) (gathered k tail) ∙ ap (λ ps. failed ++ ps) (sym (own (nat_eq o.structure k) (grind (arith, nat_tests, is)) ∙ refl)) ∙ ap (λ (os : List Owned). failed ++ gathered k os) (sym here) ∙ h
   where
     own : (b : Bool) → b ≡ true → map placed_of (cond b (o ∷ filter (is_of k) tail) (filter (is_of k) tail)) ≡ placed_of o ∷ gathered k tail
     own true e = refl
@@ -132,7 +122,7 @@ gathers_less k failed all rest tail o h here is_not =
     other false e = refl
 
 pub gathers_all : (k : ℕ) (failed all : List Placed) (rest : List Owned) → failed ++ gathered k rest ≡ all → length rest ≡ 0 → failed ≡ all
-gathers_all k failed all [] h none = sym (none_behind failed [] refl) ∙ h
+gathers_all k failed all [] h none = sym (append-nil failed) ∙ h
 gathers_all k failed all (o ∷ os) h none = absurd (omega (arith, none))
 
 no_longer : (test : Owned → Bool) (os : List Owned) → length (filter test os) ≤ length os
@@ -159,27 +149,22 @@ all_of_one k taken e o there more =
     let same : o.structure ≡ k = grind (arith, nat_tests, own) in
     absurd (omega (arith, same, more))
 
-distinct_filtered : (test : Owned → Bool) (os : List Owned) → AreDistinct os → AreDistinct (filter test os)
-distinct_filtered test [] d = distinct_none
-distinct_filtered test (o ∷ os) d = at (distinct_filtered test os (distinct_tail o os d)) (test o)
-  where
-    at : AreDistinct (filter test os) → (b : Bool) → AreDistinct (cond b (o ∷ filter test os) (filter test os))
-    at rest true = distinct_cons o (filter test os) (λ h. distinct_head o os d (filter-sound test os o h).0) rest
-    at rest false = rest
-
 -- ---- one turn: the facts of the structure are gathered, and it is repaired
-module _ {start s : Stage} {reached : ℕ} {taken : List Owned} (repairing : IsRepairing start s reached taken) (k : ℕ) (next : IsNextFrom reached taken k) where
-  waiting : AreWaiting reached s.table.live taken
-  waiting = repairing.waiting
+module _ {start s : Stage} {taken : List Owned} {k : ℕ} (turn : IsAtTurn start s taken (Some k)) where
+  waiting : AreWaiting turn.reached s.table.live taken
+  waiting = turn.repairing.waiting
 
-  reached_by : (o : Owned) → o.structure ≡ k → reached ≤ o.structure
-  reached_by o e = let low : reached ≤ k = next.from in omega (arith, e, low)
+  next : IsNextFrom turn.reached taken k
+  next = turn.turn_is
+
+  reached_by : (o : Owned) → o.structure ≡ k → turn.reached ≤ o.structure
+  reached_by o e = let low : turn.reached ≤ k = next.from in omega (arith, e, low)
 
   -- the fact is live, so its structure is there
   pub turn_within : k < length s.structures
   turn_within =
       let l = waiting.only next.some.0 next.some.1 (reached_by next.some.0 next.some.2) in
-      subst (λ n. n < length s.structures) (ap (λ (c : Certificate). c.structure) l.3 ∙ next.some.2) (repairing.repair.owned l.0 l.1)
+      subst (λ n. n < length s.structures) (ap (λ (c : Certificate). c.structure) l.3 ∙ next.some.2) (turn.repairing.repair.owned l.0 l.1)
 
   of_structure : (o : Owned) → Contains (filter (is_of k) taken) o → o.structure ≡ k
   of_structure o there = let t = (filter-sound (is_of k) taken o there).1 in grind (arith, nat_tests, t)
@@ -187,7 +172,7 @@ module _ {start s : Stage} {reached : ℕ} {taken : List Owned} (repairing : IsR
   -- the gathered facts are all that wait of their structure
   pub turn_failed : ListsWaiting k s.table.live (gathered k taken)
   turn_failed = record {
-    once = distinct_mapped_on placed_of (filter (is_of k) taken) (λ o p in_o in_p e. by_parts o p (of_structure o in_o ∙ sym (of_structure p in_p)) e) (distinct_filtered (is_of k) taken waiting.once);
+    once = distinct_mapped_on placed_of (filter (is_of k) taken) (λ o p in_o in_p e. by_parts o p (of_structure o in_o ∙ sym (of_structure p in_p)) e) (distinct_filter (is_of k) taken waiting.once);
     each = λ p. (to p, from p);
   }
     where
@@ -211,7 +196,7 @@ module _ {start s : Stage} {reached : ℕ} {taken : List Owned} (repairing : IsR
       once = waiting.once;
       each = each;
       only = λ o there more.
-          let low : reached ≤ k = next.from in
+          let low : turn.reached ≤ k = next.from in
           let l = waiting.only o there (omega (arith, low, more)) in
           (l.0, (did.others l.0 (λ e. let s : o.structure ≡ k = sym (ap (λ (c : Certificate). c.structure) l.3) ∙ e in omega (arith, more, s))).0 l.1, l.2, l.3);
     }
@@ -222,7 +207,7 @@ module _ {start s : Stage} {reached : ℕ} {taken : List Owned} (repairing : IsR
             away : l.certificate.structure ≢ k
             away e = let no_wait : l.waits ≡ false = did.own l there e in let w : l.waits ≡ true = waits in absurd cc
 
-            o : (o : Owned) × Contains taken o × (reached ≤ o.structure) × (l.certificate ≡ certificate_of o)
+            o : (o : Owned) × Contains taken o × (turn.reached ≤ o.structure) × (l.certificate ≡ certificate_of o)
             o = waiting.each l ((did.others l away).1 there) waits
 
             further : k + 1 ≤ o.0.structure
@@ -231,19 +216,23 @@ module _ {start s : Stage} {reached : ℕ} {taken : List Owned} (repairing : IsR
                 let other : o.0.structure ≢ k = λ e. away (ap (λ (c : Certificate). c.structure) o.3 ∙ e) in
                 omega (arith, least, other)
 
-    -- the structure is repaired
-    pub turn_repaired : IsRepairing start t (k + 1) taken
-    turn_repaired = record {
-      repair = did.repair;
-      waiting = waiting_after;
-      come = come_on reached k start.table s.table t.table next.from repairing.come did.others did.made;
-      frame = frame_through start s t repairing.frame frame;
+    -- the structure is repaired, and it is another one's turn
+    pub turn_over : (after : Option ℕ) → IsTurn (k + 1) taken after → IsAtTurn start t taken after
+    turn_over after is = record {
+      reached = k + 1;
+      repairing = record {
+        repair = did.repair;
+        waiting = waiting_after;
+        come = come_on turn.reached k start.table s.table t.table next.from turn.repairing.come did.others did.made;
+        frame = frame_through start s t turn.repairing.frame frame;
+      };
+      turn_is = is;
     }
 
     same_count : length t.structures ≡ length s.structures
-    same_count = did.repair.count ∙ ap (λ (x : Stage). length x.keeps) frame ∙ sym repairing.repair.count
+    same_count = did.repair.count ∙ ap (λ (x : Stage). length x.keeps) frame ∙ sym turn.repairing.repair.count
 
-    pub turn_shorter : (turn : Option ℕ) → IsTurn (k + 1) taken turn → turns_left (length t.structures) turn < turns_left (length s.structures) (Some k)
+    pub turn_shorter : (after : Option ℕ) → IsTurn (k + 1) taken after → turns_left (length t.structures) after < turns_left (length s.structures) (Some k)
     turn_shorter None none = let within = turn_within in omega (arith, within)
     turn_shorter (Some j) later = let within = turn_within in let h : IsNextFrom (k + 1) taken j = later in let more : k + 1 ≤ j = h.from in omega (arith, within, more, same_count)
 

@@ -1,19 +1,20 @@
 -- What stands at a place, who owns a live fact, and one structure put in the place of another.
-use Rattle.std.proofs.Common.{◌≡◌, ◌≢◌, ◌⊎◌, inl, inr, refl, sym, ap, ◌∙◌, subst, arith, ℕ, ◌+◌, ◌-◌, ◌^◌, ◌<◌, List, length, get_or, slice_set, map}
-use Rattle.std.specs.Prelude.{slice_get, Some, Contains, min, false, true}
+use Rattle.std.proofs.Common.{◌≡◌, ◌≢◌, ◌⊎◌, inl, inr, refl, sym, ap, ◌∙◌, subst, arith, ℕ, ◌+◌, ◌-◌, ◌^◌, ◌<◌, ◌≤◌, List, Option, length, get_or, slice_set, map, slice_get, Some, Contains, min, false, true, length-set}
 use Rattle.std.proofs.lemmas.Bool.{cases_eq}
-use Rattle.std.proofs.lemmas.List.{length-map, length-set}
+use Rattle.std.proofs.lemmas.List.{length-map}
 use Rattle.std.proofs.lemmas.List.Elements.{Contains-get_or}
 use Rattle.std.proofs.lemmas.Option.{same_Some, slice_get_read, slice_get_within}
 use Rattle.kin_basics.proofs.Places.{get_within, get-set_same, get-set_other}
 use Rattle.kin_num.specs.declared.instant.Moment.{Moment}
 use Rattle.kin_motion.specs.declared.fact.Placed.{Placed}
 use Rattle.kin_motion.specs.declared.keep.Keep.{Keep}
+use Rattle.kin_num.specs.Canonical.{IsCanonical}
+use Rattle.kin_motion.specs.Course.{Course, AreSlow}
 use Rattle.kin_motion.specs.Deltas.{Change}
 use Rattle.kin_motion.specs.Kinetics.{AllHold, HasChanged}
 use Rattle.kin_motion.specs.Live.{Certificate, owned_by}
 use Rattle.kin_motion.specs.Scene.{Scene, Holds, scene_at}
-use Rattle.kin_cert.specs.Facts.{LiveFact, Facts}
+use Rattle.kin_cert.specs.Facts.{LiveFact, Facts, NoneAlike}
 use Rattle.kin_cert.specs.Taken.{NoneWaits}
 use Rattle.kin_cert.specs.Told.{HasFactsOf, IsTimed, MayTell, nothing}
 use Rattle.kin_cert.proofs.NextLaws.{timed_holds}
@@ -21,6 +22,7 @@ use Rattle.kin_world.specs.declared.structure.Structure.{Structure}
 use Rattle.kin_world.specs.Kinds.{placed_facts}
 use Rattle.kin_world.specs.Structures.{IsSettledFor}
 use Rattle.kin_world.specs.Upkeep.{Stage, sight, IsInPlace, IsInOrder, IsTimedOrFailed, HasTimedNew, HasUpdated}
+use Rattle.kin_world.proofs.Certificates.{HaveSameCertificates, same_itself, same_tabled}
 use Rattle.kin_world.proofs.StructureLaws.{settled_holds, settled_askable}
 
 -- what is so of the certificate's fact is so of the fact
@@ -71,18 +73,31 @@ module _ {is_fine : ℕ → Keep → Structure → Type 0} {s : Stage} (o : IsIn
   pub all_hold : NoneWaits s.table.live → (j : ℕ) (facts : List Placed) → HasFactsOf s.table.live j facts → AllHold (sight s) facts
   all_hold none j facts tabled = facts_hold (sight s) s.table.live j facts tabled (λ l there. timed_holds (scene_at s.motions) s.moment o.canonical l (timed none l there))
 
+  -- the motions, the moment and the failure moments may become others, where the certificates stay
+  pub retimed : {is_fine' : ℕ → Keep → Structure → Type 0} (motions : List (Option Course)) (m : Moment) (table : Facts) → length motions ≡ length s.motions → AreSlow motions → IsCanonical m.at
+      → NoneAlike table.live → table.made ≤ 2 ^ 64 - 1 → HaveSameCertificates s.table.live table.live
+      → ((j : ℕ) (keep : Keep) (st : Structure) → slice_get s.structures j ≡ Some st → IsInPlace is_fine s.table.live j keep st → is_fine' j keep st)
+      → ((l : LiveFact) → Contains table.live l → IsTimedOrFailed (scene_at motions) m l) → IsInOrder is_fine' (record s { motions = motions; moment = m; table = table })
+  retimed motions m table room slow canonical once counted same finer timely = record {
+    fit = record { low = o.fit.low; high = o.fit.high; keepable = o.fit.keepable; room = room ∙ o.fit.room; slow = slow };
+    canonical = canonical;
+    counted = counted;
+    count = o.count;
+    each = λ j keep st kept there. let was = o.each j keep st kept there in record { fine = finer j keep st there was; tabled = same_tabled same j (placed_facts st) was.tabled };
+    once = once;
+    owned = λ l there. let k = same.only.each l there in subst (λ (c : Certificate). c.structure < length s.structures) k.2 (o.owned k.0 k.1);
+    timely = timely;
+  }
+
+  -- the motions and the moment alone
+  pub seen_anew : {is_fine' : ℕ → Keep → Structure → Type 0} (motions : List (Option Course)) (m : Moment) → length motions ≡ length s.motions → AreSlow motions → IsCanonical m.at
+      → ((j : ℕ) (keep : Keep) (st : Structure) → slice_get s.structures j ≡ Some st → IsInPlace is_fine s.table.live j keep st → is_fine' j keep st)
+      → ((l : LiveFact) → Contains s.table.live l → IsTimedOrFailed (scene_at motions) m l) → IsInOrder is_fine' (record s { motions = motions; moment = m })
+  seen_anew motions m room slow canonical finer timely = retimed motions m s.table room slow canonical o.once o.counted (same_itself s.table.live) finer timely
+
   -- what is fine in one sense is fine in another
   pub restated : {is_fine' : ℕ → Keep → Structure → Type 0} → ((j : ℕ) (keep : Keep) (st : Structure) → slice_get s.structures j ≡ Some st → IsInPlace is_fine s.table.live j keep st → is_fine' j keep st) → IsInOrder is_fine' s
-  restated finer = record {
-    fit = o.fit;
-    canonical = o.canonical;
-    counted = o.counted;
-    count = o.count;
-    each = λ j keep st kept there. let was = o.each j keep st kept there in record { fine = finer j keep st there was; tabled = was.tabled };
-    once = o.once;
-    owned = o.owned;
-    timely = o.timely;
-  }
+  restated finer = seen_anew s.motions s.moment refl o.fit.slow o.canonical finer o.timely
 
   -- the change of a structure that is settled now may be told
   pub may_tell : (now : Scene) (k : ℕ) (keep : Keep) (st after : Structure) (change : Change) → slice_get s.keeps k ≡ Some keep → IsInPlace is_fine s.table.live k keep st → IsSettledFor s.size keep now after

@@ -1,13 +1,12 @@
 -- Where a leap lands, all is as a repair needs it.
-use Rattle.std.proofs.Common.{◌≡◌, inl, inr, refl, sym, ◌∙◌, subst, true, false, pos, List, Option}
-use Rattle.std.specs.Prelude.{Contains, ◌↔◌}
+use Rattle.std.proofs.Common.{◌≡◌, inl, inr, refl, sym, ◌∙◌, subst, true, false, pos, List, Option, Contains, ◌↔◌}
 use Rattle.std.proofs.lemmas.Bool.{cases_Bool}
 use Rattle.std.proofs.lemmas.List.Elements.{All-contains}
 use Rattle.kin_num.specs.declared.instant.Moment.{Moment}
 use Rattle.kin_num.specs.Canonical.{IsCanonical}
 use Rattle.kin_num.specs.Order.{IsEarlier}
 use Rattle.kin_num.proofs.MomentLaws.{never, through}
-use Rattle.kin_instant.proofs.Crossing.{at_it, just_after}
+use Rattle.kin_instant.proofs.Crossing.{at_it}
 use Rattle.kin_motion.specs.declared.form.Form.{Form}
 use Rattle.kin_motion.specs.declared.form.Form.TheVariants.{Line, Turn, Slope, Dist}
 use Rattle.kin_motion.specs.Course.{Course}
@@ -15,10 +14,10 @@ use Rattle.kin_motion.specs.Forms.{polynomial_of}
 use Rattle.kin_motion.specs.Moments.{HoldsAt, FailsFirst}
 use Rattle.kin_motion.specs.Scene.{scene_at}
 use Rattle.kin_cert.specs.declared.owned.Owned.{Owned}
-use Rattle.kin_cert.specs.Facts.{LiveFact, Facts, NoneAlike}
+use Rattle.kin_cert.specs.Facts.{Facts, NoneAlike}
 use Rattle.kin_cert.specs.Taken.{IsLeastFailure, HasTaken}
 use Rattle.kin_cert.proofs.JustAfter.{follows, next_or_later, fails_not_just_after, line_fails_on}
-use Rattle.kin_world.specs.Upkeep.{Stage, IsSound, IsUnderRepair, IsBeyond, IsLanding, is_line}
+use Rattle.kin_world.specs.Upkeep.{Stage, IsSound, IsUnderRepair, IsBeyond, IsLanding, HasSettled, HasLanded, is_line}
 use Rattle.kin_world.proofs.SoundLaws.{failure_at, least_fails}
 use Rattle.kin_world.proofs.TakeLaws.{IsReached, at_once, at_moment, reached_under_repair, taken_under_repair}
 
@@ -72,14 +71,19 @@ module _ {s : Stage} (sound : IsSound s) (table : Facts) {taken : List Owned} (h
     landing_under_repair (inl is) once made = subst (λ (x : Moment). IsUnderRepair (record s { moment = x; table = table })) (sym is) (taken_under_repair sound table has due least once made)
     landing_under_repair (inr beyond) once made = reached_under_repair sound table has m (reached beyond) once made
 
-    pub landing_later : IsLanding (scene_at s.motions) due limit given m → IsEarlier s.moment m
-    landing_later (inl is) = subst (IsEarlier s.moment) (sym is) first.later_is_later
-    landing_later (inr beyond) = (reached beyond).later
+    -- later, not before the moment that was due and not after the limit
+    record IsPlaced (x : Moment) : Type 0 where
+      later : IsEarlier s.moment x
+      past : ¬ (IsEarlier x due)
+      within : ¬ (IsEarlier limit x)
 
-    pub landing_past : IsLanding (scene_at s.motions) due limit given m → ¬ (IsEarlier m due)
-    landing_past (inl is) = subst (λ (x : Moment). ¬ (IsEarlier x due)) (sym is) (never due first.canonical)
-    landing_past (inr beyond) = λ e. never due first.canonical (through due m due first.canonical (reached beyond).canonical first.canonical (past_due beyond) e)
+    placed : IsLanding (scene_at s.motions) due limit given m → ¬ (IsEarlier limit due) → IsPlaced m
+    placed (inl is) within = subst IsPlaced (sym is) (record { later = first.later_is_later; past = never due first.canonical; within = within })
+    placed (inr beyond) within = record {
+      later = (reached beyond).later;
+      past = λ e. never due first.canonical (through due m due first.canonical (reached beyond).canonical first.canonical (past_due beyond) e);
+      within = beyond.within;
+    }
 
-    pub landing_within : IsLanding (scene_at s.motions) due limit given m → ¬ (IsEarlier limit due) → ¬ (IsEarlier limit m)
-    landing_within (inl is) within = subst (λ (x : Moment). ¬ (IsEarlier limit x)) (sym is) within
-    landing_within (inr beyond) within = beyond.within
+    pub has_landed : {t : Stage} → IsLanding (scene_at s.motions) due limit given m → ¬ (IsEarlier limit due) → t.moment ≡ m → HasSettled s.table t → HasLanded due limit s t
+    has_landed landing within there settled = let at = subst IsPlaced (sym there) (placed landing within) in record { later = at.later; past = at.past; within = at.within; settled = settled }

@@ -1,5 +1,6 @@
 pub mod ApproachLaws
 pub mod StructureLaws
+pub mod Certificates
 pub mod InOrder
 pub mod SoundLaws
 pub mod TakeLaws
@@ -11,6 +12,7 @@ pub mod OverLaws
 pub mod Unnamed
 pub mod OneMore
 pub mod MarkLaws
+pub mod Inside
 pub mod StartLaws
 pub mod AskLaws
 pub mod RootLaws

@@ -1,6 +1,5 @@
 -- What was made adds up, if the structures are changed in turn.
-use Rattle.std.proofs.Common.{◌≡◌, ℕ, ◌+◌, ◌-◌, ◌^◌, ◌≤◌, ◌⊎◌, inl, inr, sym, ap, ◌∙◌, subst, arith, List, [], ◌++◌, length-append}
-use Rattle.std.specs.Prelude.{◌≢◌, ◌↔◌, Contains}
+use Rattle.std.proofs.Common.{◌≡◌, ℕ, ◌+◌, ◌-◌, ◌^◌, ◌≤◌, ◌⊎◌, inl, inr, sym, ap, ◌∙◌, subst, arith, List, [], ◌++◌, length-append, ◌≢◌, ◌↔◌, Contains}
 use Rattle.std.proofs.lemmas.Bool.{cases_eq}
 use Rattle.kin_motion.specs.Live.{Certificate}
 use Rattle.kin_motion.proofs.SetLaws.{contains_map, contains_mapped, exactly_none, exactly_both, exactly_in_words}

@@ -1,16 +1,15 @@
 -- A number comes or goes, and one structure after another carries the mark out. Going is coming turned round: the motions that have the number are then those before.
-use Rattle.std.proofs.Common.{◌≡◌, ◌≢◌, ◌⊎◌, inl, inr, refl, sym, ap, ◌∙◌, subst, arith, ℕ, zero, suc, ◌<◌, ◌≤◌, ◌^◌, true, false, List, [], ◌∷◌, length, slice_set}
-use Rattle.std.specs.Prelude.{Option, Some, None, is_some, slice_get, Contains}
-use Rattle.std.proofs.lemmas.Bool.{cases_eq}
-use Rattle.std.proofs.lemmas.List.{get_or-set_same, get_or-set_other, set-get_or, set-set, length-set}
+use Rattle.std.proofs.Common.{◌≡◌, ◌⊎◌, inl, inr, refl, sym, ap, ◌∙◌, subst, arith, ℕ, zero, suc, ◌<◌, ◌≤◌, ◌^◌, true, false, List, [], ◌∷◌, length, slice_set, Option, Some, None, is_some, slice_get, Contains, get_or-set_same, set-set, length-set}
+use Rattle.std.proofs.lemmas.List.{set-get_or}
 use Rattle.std.proofs.lemmas.List.Elements.{All-contains}
 use Rattle.std.proofs.lemmas.Option.{slice_get_within}
 use Rattle.kin_motion.specs.declared.fact.Placed.{Placed}
 use Rattle.kin_motion.specs.declared.keep.Keep.{Keep}
-use Rattle.kin_motion.specs.Course.{Course, IsSlow, AreSlow, motion_of, is_live, live_of}
+use Rattle.kin_motion.specs.Course.{Course, AreSlow, motion_of, is_live, live_of}
 use Rattle.kin_motion.specs.Forms.{IsAskable, names}
 use Rattle.kin_motion.specs.Live.{owned_by}
-use Rattle.kin_motion.specs.Scene.{Holds, scene_at}
+use Rattle.kin_motion.specs.Scene.{Scene, Holds, scene_at}
+use Rattle.kin_motion.proofs.MotionLaws.{slow-clear}
 use Rattle.kin_cert.specs.Facts.{LiveFact, Facts}
 use Rattle.kin_cert.specs.Told.{IsTimed}
 use Rattle.kin_world.specs.declared.structure.Structure.{Structure}
@@ -20,7 +19,7 @@ use Rattle.kin_world.specs.Kinds.{placed_facts}
 use Rattle.kin_world.specs.Structures.{IsSettledFor, AreLiveAfter, HoldFor}
 use Rattle.kin_world.specs.Upkeep.{Stage, sight, IsSound, HasOneMore, IsMarked, IsCarriedOut, with_marked, IsInOrder, IsInPlace, HasGoneOver, HasUpdated, HasGoneOn}
 use Rattle.kin_world.specs.Worlds.{World, HasRemoved}
-use Rattle.kin_world.proofs.InOrder.{all_hold, owner, restated, timed, timed_new, timely_from_timed}
+use Rattle.kin_world.proofs.InOrder.{all_hold, owner, restated, seen_anew, timed, timed_new, timely_from_timed}
 use Rattle.kin_world.proofs.OneMore.{askable_without, one_more, same_room, sign_alike, timed_with, timed_without}
 use Rattle.kin_world.proofs.OverLaws.{gone_over, none_waits_after}
 use Rattle.kin_world.proofs.SoundLaws.{live_askable}
@@ -37,37 +36,18 @@ live_within [] i live = absurd cc
 live_within (o ∷ ms) zero live = omega arith
 live_within (o ∷ ms) (suc i) live = let low = live_within ms i live in omega (arith, low)
 
--- what is cleared is slow
-slow_without : (ms : List (Option Course)) (i : ℕ) → i < length ms → AreSlow ms → AreSlow (slice_set ms i None)
-slow_without ms i low slow = record { each = λ j c there. at j c there (cases_eq j i) }
-  where
-    at : (j : ℕ) (c : Course) → motion_of (slice_set ms i None) j ≡ Some c → (j ≡ i) ⊎ (j ≢ i) → IsSlow c
-    at j c there (inl is) = let clash : None ≡ Some c = sym (get_or-set_same ms i None None low) ∙ ap (λ n. motion_of (slice_set ms i None) n) (sym is) ∙ there in absurd cc
-    at j c there (inr apart) = slow.each j c (sym (get_or-set_other ms i j None None apart) ∙ there)
-
 -- every live fact is seen as before, and the number may enter
 pub may_insert : {s : Stage} (sound : IsSound s) (entering : ℕ) (c : Course) (motions : List (Option Course)) → is_live s.motions entering ≡ false → entering < 2 ^ s.size → motions ≡ slice_set s.motions entering (Some c) → AreSlow motions
     → IsMarked (Enters entering) 0 s.motions (record s { motions = motions })
 may_insert {s} sound entering c motions free low written slow = record {
-  in_order = record {
-    fit = record { low = o.fit.low; high = o.fit.high; keepable = o.fit.keepable; room = same_room one ∙ o.fit.room; slow = slow };
-    canonical = o.canonical;
-    counted = o.counted;
-    count = o.count;
-    each = λ j keep st kept there. let was = o.each j keep st kept there in record { fine = record { done = λ less. absurd (omega (arith, less)); ahead = λ more. was.fine }; tabled = was.tabled };
-    once = o.once;
-    owned = o.owned;
-    timely = λ l there. timely_from_timed (scene_at motions) s.moment l (timed_with one s.moment l (live_askable sound l there) (timed o sound.none_waits l there));
-  };
+  in_order = seen_anew sound.in_order motions s.moment (same_room one) slow sound.in_order.canonical (λ j keep st there was. record { done = λ less. absurd (omega (arith, less)); ahead = λ more. was.fine })
+      (λ l there. timely_from_timed (scene_at motions) s.moment l (timed_with one s.moment l (live_askable sound l there) (timed sound.in_order sound.none_waits l there)));
   none_waits = sound.none_waits;
   room = low;
   changed = one;
   slow = slow;
 }
   where
-    o : IsInOrder (λ j keep st. IsSettledFor s.size keep (sight s) st) s
-    o = sound.in_order
-
     one : HasOneMore entering s.motions motions
     one = record { free = free; motion = c; is = written }
 
@@ -83,7 +63,7 @@ may_remove {s} sound leaving motions live low written = record {
     motion = had.0;
     is = sym (subst (λ ms. slice_set ms leaving (Some had.0) ≡ s.motions) (sym written) (set-set s.motions leaving None (Some had.0) ∙ ap (λ (o : Option Course). slice_set s.motions leaving o) (sym had.1) ∙ set-get_or s.motions leaving None));
   };
-  slow = subst AreSlow (sym written) (slow_without s.motions leaving within sound.in_order.fit.slow);
+  slow = subst AreSlow (sym written) (slow-clear s.motions leaving sound.in_order.fit.slow);
 }
   where
     within : leaving < length s.motions
@@ -160,26 +140,16 @@ carried_on mark {k} {s} one {keep} st {after} {table} r = record {
   made = timed_new one.1.in_order (seen mark one.1 st r);
 }
 
--- all structures have
+-- where all structures have gone over, each is settled
+all_over : (k : ℕ) (before now : Scene) (s : Stage) → length s.structures ≤ k
+    → (j : ℕ) (keep : Keep) (st : Structure) → slice_get s.structures j ≡ Some st → IsInPlace (HasGoneOver s.size k before now) s.table.live j keep st → IsSettledFor s.size keep now st
+all_over k before now s all j keep st there was = let low : j < length s.structures = slice_get_within s.structures j st there in was.fine.done (omega (arith, low, all))
+
 pub carried_out_all : (mark : Mark) {k : ℕ} {s : Stage} → IsCarriedOut mark k s → length s.structures ≤ k → IsSound s
-carried_out_all (Enters n) {k} {s} (before, h) all = record {
-  in_order = restated h.in_order (λ j keep st there was. let low : j < length s.structures = slice_get_within s.structures j st there in was.fine.done (omega (arith, low, all)));
-  none_waits = h.none_waits;
-}
+carried_out_all (Enters n) {k} {s} (before, h) all = record { in_order = restated h.in_order (all_over k (scene_at before s.moment) (sight s) s all); none_waits = h.none_waits }
 carried_out_all (Leaves n) {k} {s} (before, h) all = record {
-  in_order = record {
-    fit = record { low = o.fit.low; high = o.fit.high; keepable = o.fit.keepable; room = sym (same_room h.changed) ∙ o.fit.room; slow = h.slow };
-    canonical = o.canonical;
-    counted = o.counted;
-    count = o.count;
-    each = λ j keep st kept there.
-        let was = o.each j keep st kept there in
-        let within = slice_get_within s.structures j st there in
-        record { fine = was.fine.done (omega (arith, within, all)); tabled = was.tabled };
-    once = o.once;
-    owned = o.owned;
-    timely = λ l there. timely_from_timed (scene_at s.motions) s.moment l (timed_without h.changed s.moment l (asked l there) (timed o h.none_waits l there));
-  };
+  in_order = seen_anew o s.motions s.moment (sym (same_room h.changed)) h.slow o.canonical (all_over k (scene_at before s.moment) (sight s) s all)
+      (λ l there. timely_from_timed (scene_at s.motions) s.moment l (timed_without h.changed s.moment l (asked l there) (timed o h.none_waits l there)));
   none_waits = h.none_waits;
 }
   where

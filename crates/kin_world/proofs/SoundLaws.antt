@@ -1,6 +1,5 @@
 -- What a sound world has: its live facts are those of the definition, and the table tells what comes next.
-use Rattle.std.proofs.Common.{◌≡◌, ◌⊎◌, inl, inr, refl, sym, ap, ◌∙◌, subst, arith, ℕ, suc, ◌<◌, true, List, [], ◌∷◌, Option, Some, None, slice_set, get_or}
-use Rattle.std.specs.Prelude.{slice_get, Contains, ◌↔◌, IsTrue, IfSome}
+use Rattle.std.proofs.Common.{◌≡◌, ◌⊎◌, inl, inr, refl, sym, ap, ◌∙◌, subst, arith, ℕ, suc, ◌<◌, true, List, [], ◌∷◌, Option, Some, None, slice_set, get_or, slice_get, Contains, ◌↔◌, IfSome}
 use Rattle.std.proofs.lemmas.List.Elements.{All-contains}
 use Rattle.std.proofs.lemmas.Option.{slice_get_within, slice_get_read}
 use Rattle.kin_num.specs.declared.instant.Moment.{Moment}
@@ -29,12 +28,11 @@ use Rattle.kin_cert.specs.Told.{certificates_of}
 use Rattle.kin_cert.proofs.JournalExistence.{least_block}
 use Rattle.kin_cert.proofs.NextLaws.{IsInTime, nothing_fails, nothing_until, hold_before_least, fails_first, holds_until_failure, earlier_still, later_start}
 use Rattle.kin_world.specs.declared.structure.Structure.{Structure}
-use Rattle.kin_world.specs.declared.world.World.TheInside.{Inside}
 use Rattle.kin_world.specs.Kinds.{placed_facts}
 use Rattle.kin_world.specs.Structures.{IsSettledFor}
-use Rattle.kin_world.specs.Upkeep.{Stage, IsSound, HasSameFrame, HasSettled, HasLanded, meaning, setting, sight, stage_of}
-use Rattle.kin_world.specs.Worlds.{World, IsWhole, IsNextMoment, HasInserted, HasRemoved, HasMoved, HasPassed, HasLeftBehind, FailsWithin, with_facts_of}
-use Rattle.kin_world.proofs.InOrder.{facts_hold, owner, standing, timed, timely_from_timed}
+use Rattle.kin_world.specs.Upkeep.{Stage, IsSound, HasSameFrame, HasSettled, HasLanded, meaning, setting, sight}
+use Rattle.kin_world.specs.Worlds.{IsWhole, IsNextMoment, HasInserted, HasRemoved, HasMoved, HasPassed, HasLeftBehind, FailsWithin, with_facts_of}
+use Rattle.kin_world.proofs.InOrder.{facts_hold, owner, seen_anew, standing, timed, timely_from_timed}
 use Rattle.kin_world.proofs.StructureLaws.{settled_askable, settled_facts, settled_later}
 
 -- no owner has a form twice, so no certificate stands twice
@@ -190,23 +188,11 @@ module _ {s : Stage} (sound : IsSound s) where
     -- until something fails all structures stay settled, and all failure moments stay the first
     pub sound_later : IsSound (record s { moment = limit })
     sound_later = record {
-      in_order = record {
-        fit = sound.in_order.fit;
-        canonical = canonical;
-        counted = sound.in_order.counted;
-        count = sound.in_order.count;
-        each = λ j keep st kept there.
-            let was = sound.in_order.each j keep st kept there in
-            record {
-              fine = settled_later s.size keep (sight s) (scene_at s.motions limit) st real (real_at s.motions limit canonical) was.fine refl
-                  (facts_hold (scene_at s.motions limit) s.table.live j (placed_facts st) was.tabled
-                  (λ l live. holds_until_failure (scene_at s.motions) s.moment sound.in_order.canonical l (timed sound.in_order sound.none_waits l live) limit canonical from (λ n e c. later l live n e)));
-              tabled = was.tabled;
-            };
-        once = sound.in_order.once;
-        owned = sound.in_order.owned;
-        timely = λ l there. timely_from_timed (scene_at s.motions) limit l (record { waits_not = sound.none_waits l there; fails = fails_later l there (total s.moment limit sound.in_order.canonical canonical) });
-      };
+      in_order = seen_anew sound.in_order s.motions limit refl sound.in_order.fit.slow canonical
+          (λ j keep st there was. settled_later s.size keep (sight s) (scene_at s.motions limit) st real (real_at s.motions limit canonical) was.fine refl
+          (facts_hold (scene_at s.motions limit) s.table.live j (placed_facts st) was.tabled
+          (λ l live. holds_until_failure (scene_at s.motions) s.moment sound.in_order.canonical l (timed sound.in_order sound.none_waits l live) limit canonical from (λ n e c. later l live n e))))
+          (λ l there. timely_from_timed (scene_at s.motions) limit l (record { waits_not = sound.none_waits l there; fails = fails_later l there (total s.moment limit sound.in_order.canonical canonical) }));
       none_waits = sound.none_waits;
     }
 
@@ -268,17 +254,3 @@ has_left_behind {s} {t} sound due limit least landed frame =
       whole = whole did.sound;
       made = record { born = did.made.born; exactly = did.made.exactly; count = did.made.count };
     }
-
--- what is inside a world that is seen as whole is sound
-module _ (w : Inside) (v : World) (is : meaning (stage_of w.upkeep) w.whole ≡ v) (sound : IsTrue w.whole → IsSound (stage_of w.upkeep)) (there : IsTrue v.whole) where
-  here : w.whole ≡ true
-  here = ap (λ (x : World). x.whole) is ∙ there
-
-  pub sound_inside : IsSound (stage_of w.upkeep)
-  sound_inside = sound here
-
-  pub seen_inside : meaning (stage_of w.upkeep) true ≡ v
-  seen_inside = ap (λ b. meaning (stage_of w.upkeep) b) (sym here) ∙ is
-
-  pub whole_inside : IsWhole v
-  whole_inside = subst (λ (x : World). IsWhole x) seen_inside (whole sound_inside)

@@ -1,7 +1,5 @@
 -- Laws of a kept structure, whatever its kind.
-use Rattle.std.proofs.Common.{◌≡◌, sym, subst, List, [], ℕ}
-use Rattle.std.specs.Prelude.{Contains}
-use Rattle.std.specs.List.{All}
+use Rattle.std.proofs.Common.{◌≡◌, sym, subst, List, [], ℕ, Contains, All}
 use Rattle.std.proofs.lemmas.List.Elements.{Contains-get_or}
 use Rattle.kin_motion.specs.declared.fact.Placed.{Placed}
 use Rattle.kin_motion.specs.declared.keep.Keep.{Keep}

@@ -1,14 +1,11 @@
 -- What fails at the least failure moment is taken out, and all else is seen from there.
-use Rattle.std.proofs.Common.{◌≡◌, ◌≢◌, inl, inr, refl, sym, ap, ◌∙◌, subst, arith, ℕ, false, ◌<◌, ◌≤◌, ◌+◌, ◌-◌, ◌^◌, List, length, get_or, map, Option, Some}
-use Rattle.std.specs.Prelude.{Contains, ◌↔◌, IsTrue, min, true}
-use Rattle.std.specs.List.{All}
+use Rattle.std.proofs.Common.{◌≡◌, ◌≢◌, inl, inr, refl, sym, ap, ◌∙◌, subst, arith, false, ◌≤◌, ◌+◌, ◌-◌, ◌^◌, List, length, get_or, map, Option, Some, Contains, ◌↔◌, IsTrue, min, true, All}
 use Rattle.std.proofs.lemmas.List.Elements.{Contains-get_or}
 use Rattle.std.proofs.lemmas.List.Sorted.{Contains-permutation, IsPermutation-sym}
 use Rattle.kin_num.specs.declared.instant.Moment.{Moment}
 use Rattle.kin_num.specs.Canonical.{IsCanonical}
 use Rattle.kin_num.specs.Order.{IsEarlier}
 use Rattle.kin_num.proofs.MomentLaws.{total}
-use Rattle.kin_motion.specs.declared.fact.Placed.{Placed}
 use Rattle.kin_motion.specs.Course.{live_of}
 use Rattle.kin_motion.specs.Forms.{IsAskable}
 use Rattle.kin_motion.specs.Journal.{Block, IsNextBlock, seen_in}
@@ -19,16 +16,16 @@ use Rattle.kin_motion.specs.Sets.{AreDistinct}
 use Rattle.kin_motion.proofs.JournalLaws.{never_less_rank, less_rank_through}
 use Rattle.kin_motion.proofs.ListChains.{chain_distinct}
 use Rattle.kin_motion.proofs.MotionScenes.{real_at}
-use Rattle.kin_motion.proofs.SetLaws.{contains_map, contains_mapped, exactly_in_words}
+use Rattle.kin_motion.proofs.SetLaws.{exactly_in_words}
 use Rattle.kin_cert.specs.declared.owned.Owned.{Owned}
 use Rattle.kin_cert.specs.Facts.{LiveFact, Facts, NoneAlike, certificate_of}
 use Rattle.kin_cert.specs.Failures.{IsFirstFailure}
-use Rattle.kin_cert.specs.Taken.{IsLeastFailure, IsMarked, HasTaken, HasGivenOut, is_taken_before, certificate_rank}
-use Rattle.kin_cert.specs.Told.{HasFactsOf, IsTimed, certificates_of}
+use Rattle.kin_cert.specs.Taken.{IsLeastFailure, HasTaken, HasGivenOut, is_taken_before, certificate_rank}
+use Rattle.kin_cert.specs.Told.{IsTimed}
 use Rattle.kin_cert.proofs.NextLaws.{fails_now, later_start, next_block}
-use Rattle.kin_world.specs.Kinds.{placed_facts}
-use Rattle.kin_world.specs.Upkeep.{Stage, IsSound, IsUnderRepair, AreWaiting, HasTimedNew, setting, sight}
-use Rattle.kin_world.proofs.InOrder.{timed}
+use Rattle.kin_world.specs.Upkeep.{Stage, IsSound, IsUnderRepair, AreWaiting, HasSettled, setting, sight}
+use Rattle.kin_world.proofs.Certificates.{HaveSameCertificates, same_listed}
+use Rattle.kin_world.proofs.InOrder.{retimed, timed}
 use Rattle.kin_world.proofs.SoundLaws.{failure_at, in_time, least_fails, live_askable, one_least, real}
 use Rattle.kin_world.proofs.StructureLaws.{settled_where_hold}
 
@@ -50,11 +47,11 @@ module _ {s : Stage} (sound : IsSound s) (table : Facts) {taken : List Owned} (h
   first : FailsFirst (scene_at s.motions) s.moment has.moment has.least.some.0.certificate.placed.fact
   first = least_fails sound has.moment has.least
 
-  facts_after : (j : ℕ) (facts : List Placed) → HasFactsOf s.table.live j facts → HasFactsOf table.live j facts
-  facts_after j facts tabled p = (
-    λ h. let l = (tabled p).0 h in let k = has.stays l.0 l.1 in (k.0, k.1, k.2.certificate ∙ l.2),
-    λ k. let l = has.only k.0 k.1 in (tabled p).1 (l.0, l.1, sym l.2.certificate ∙ k.2),
-  )
+  same_facts : HaveSameCertificates s.table.live table.live
+  same_facts = record {
+    stay = record { each = λ l there. let k = has.stays l there in (k.0, k.1, k.2.certificate) };
+    only = record { each = λ k there. let l = has.only k there in (l.0, l.1, sym l.2.certificate) };
+  }
 
   -- Seen from such a moment: what was taken out doesn't hold, and all else has yet to fail.
   pub record IsReached (m : Moment) : Type 0 where
@@ -124,21 +121,10 @@ module _ {s : Stage} (sound : IsSound s) (table : Facts) {taken : List Owned} (h
         subst (λ (c : Certificate). ¬ (HoldsAt (scene_at s.motions) m c.placed.fact)) (sym was.2.certificate) (reached.failed was.0 was.1 (was.2.waits.0 waits))
 
     pub reached_under_repair : NoneAlike table.live → table.made ≡ s.table.made → IsUnderRepair (record s { moment = m; table = table })
-    reached_under_repair once made = record {
-      fit = sound.in_order.fit;
-      canonical = reached.canonical;
-      counted = subst (λ n. n ≤ 2 ^ 64 - 1) (sym made) sound.in_order.counted;
-      count = sound.in_order.count;
-      each = λ j keep st kept there.
-          let was = sound.in_order.each j keep st kept there in
-          record {
-            fine = settled_where_hold s.size keep (sight s) (scene_at s.motions m) st (real sound) (real_at s.motions m reached.canonical) was.fine refl;
-            tabled = facts_after j (placed_facts st) was.tabled;
-          };
-      once = once;
-      owned = λ l there. let was = has.only l there in subst (λ (c : Certificate). c.structure < length s.structures) (sym was.2.certificate) (sound.in_order.owned was.0 was.1);
-      timely = λ l there. record { timed = timed_after l there; failed = failed_after l there };
-    }
+    reached_under_repair once made =
+        retimed sound.in_order s.motions m table refl sound.in_order.fit.slow reached.canonical once (subst (λ n. n ≤ 2 ^ 64 - 1) (sym made) sound.in_order.counted) same_facts
+        (λ j keep st there was. settled_where_hold s.size keep (sight s) (scene_at s.motions m) st (real sound) (real_at s.motions m reached.canonical) was.fine refl)
+        (λ l there. record { timed = timed_after l there; failed = failed_after l there })
 
   module _ (m : Moment) (least : IsLeastFailure s.table.live m) where
     pub at_moment : has.moment ≡ m
@@ -153,28 +139,16 @@ module _ {s : Stage} (sound : IsSound s) (table : Facts) {taken : List Owned} (h
         (ap (λ (n : Moment). record { moment = n; failures = map (λ o. seen_in (scene_at s.motions n) (certificate_of o)) taken }) at_moment ∙ sym is)
         (next_block (setting s) s.moment s.table.live table.live (in_time sound) taken has _ refl)
 
-  certificates_taken : (c : Certificate) → Contains (certificates_of s.table.live) c ↔ Contains (certificates_of table.live) c
-  certificates_taken c = (to, from)
-    where
-      to : Contains (certificates_of s.table.live) c → Contains (certificates_of table.live) c
-      to h =
-          let l = contains_mapped (λ (x : LiveFact). x.certificate) s.table.live c h in
-          let k = has.stays l.0 l.1 in
-          subst (λ (x : Certificate). Contains (certificates_of table.live) x) (k.2.certificate ∙ sym l.2) (contains_map (λ (x : LiveFact). x.certificate) table.live k.0 k.1)
-
-      from : Contains (certificates_of table.live) c → Contains (certificates_of s.table.live) c
-      from h =
-          let k = contains_mapped (λ (x : LiveFact). x.certificate) table.live c h in
-          let l = has.only k.0 k.1 in
-          subst (λ (x : Certificate). Contains (certificates_of s.table.live) x) (sym l.2.certificate ∙ sym k.2) (contains_map (λ (x : LiveFact). x.certificate) s.table.live l.0 l.1)
-
   -- to take facts out makes nothing
-  pub made_since : (after : Facts) → table.made ≡ s.table.made → HasTimedNew table after → HasTimedNew s.table after
-  made_since after same made = record {
-    born = made.born;
-    exactly = exactly_in_words made.born _ _ (λ c. (
-      (λ h. (h.0, λ old. h.1 ((certificates_taken c).0 old))),
-      (λ h. (h.0, λ old. h.1 ((certificates_taken c).1 old))),
-    )) made.exactly;
-    count = made.count ∙ ap (λ n. min (n + length made.born) (2 ^ 64 - 1)) same;
+  pub settled_since : {t : Stage} → table.made ≡ s.table.made → HasSettled table t → HasSettled s.table t
+  settled_since made done = record {
+    sound = done.sound;
+    made = record {
+      born = done.made.born;
+      exactly = exactly_in_words done.made.born _ _ (λ c. (
+        (λ h. (h.0, λ old. h.1 ((same_listed same_facts c).0 old))),
+        (λ h. (h.0, λ old. h.1 ((same_listed same_facts c).1 old))),
+      )) done.made.exactly;
+      count = done.made.count ∙ ap (λ n. min (n + length done.made.born) (2 ^ 64 - 1)) made;
+    };
   }

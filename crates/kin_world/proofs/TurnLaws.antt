@@ -1,7 +1,5 @@
 -- A number turns: what is seen now is as before, so every structure stays settled, and the facts that don't name it fail as before.
-use Rattle.std.proofs.Common.{◌≡◌, ◌⊎◌, inl, inr, refl, sym, ap, ◌∙◌, subst, arith, ℕ, ◌+◌, ◌-◌, ◌^◌, ◌<◌, true, false, cond, List, [], ◌∷◌, length, slice_set}
-use Rattle.std.specs.Prelude.{Bool, Result, Ok, Err, IfOk, Option, Some, ℤ, min, count_by, Contains, ◌↔◌, IsTrue, IsFalse}
-use Rattle.std.proofs.lemmas.List.{length-set}
+use Rattle.std.proofs.Common.{◌≡◌, ◌⊎◌, inl, inr, refl, sym, ap, ◌∙◌, subst, arith, ℕ, ◌+◌, ◌-◌, ◌^◌, true, false, cond, List, [], ◌∷◌, length, slice_set, Bool, Result, Ok, Err, IfOk, Option, Some, ℤ, min, count_by, Contains, ◌↔◌, IsTrue, IsFalse, length-set}
 use Rattle.std.proofs.lemmas.List.Sums.{sum_by-cons}
 use Rattle.std.proofs.lemmas.Option.{same_Some}
 use Rattle.kin_num.specs.declared.instant.Moment.{Moment}
@@ -12,20 +10,18 @@ use Rattle.kin_motion.specs.Forms.{IsAskable}
 use Rattle.kin_motion.specs.Live.{Certificate}
 use Rattle.kin_motion.specs.Scene.{Scene, Holds, scene_at}
 use Rattle.kin_motion.specs.Turning.{TurnsTo, IsNotWhole, IsOutOfBounds, just_at}
-use Rattle.kin_motion.proofs.SetLaws.{contains_map, contains_mapped}
 use Rattle.kin_motion.proofs.TurningLaws.{turn_keeps_scene, one_turn}
 use Rattle.kin_cert.specs.Facts.{LiveFact, Facts, NoneAlike}
 use Rattle.kin_cert.specs.Remade.{HasRemade, IsRemade, names_number}
-use Rattle.kin_cert.specs.Told.{HasFactsOf, IsTimed, certificates_of}
+use Rattle.kin_cert.specs.Told.{IsTimed, certificates_of}
 use Rattle.kin_cert.proofs.NextLaws.{timed_holds}
 use Rattle.kin_turn.specs.declared.turned.TurnError.{TurnError}
 use Rattle.kin_turn.specs.declared.turned.TurnError.TheVariants.{NotWhole, OutOfBounds}
-use Rattle.kin_world.specs.declared.structure.Structure.{Structure}
-use Rattle.kin_world.specs.Kinds.{placed_facts}
 use Rattle.kin_world.specs.Structures.{IsSettledFor}
-use Rattle.kin_world.specs.Upkeep.{Stage, IsSound, IsInOrder, meaning, sight}
+use Rattle.kin_world.specs.Upkeep.{Stage, IsSound, meaning, sight}
 use Rattle.kin_world.specs.Worlds.{World, CanTurn, HasTurned, is_about, with_facts_of}
-use Rattle.kin_world.proofs.InOrder.{timed, timely_from_timed}
+use Rattle.kin_world.proofs.Certificates.{HaveSameCertificates, same_listed}
+use Rattle.kin_world.proofs.InOrder.{retimed, timed, timely_from_timed}
 use Rattle.kin_world.proofs.MarkLaws.{motion_there}
 use Rattle.kin_world.proofs.SoundLaws.{live_askable, whole}
 use Rattle.kin_world.proofs.Unnamed.{timed_with}
@@ -119,42 +115,16 @@ module _ {s : Stage} (sound : IsSound s) (n : ℕ) (u v : ℤ) (motion : Course)
         at (inl old) = subst (λ (ms : List (Option Course)). IsTimed (scene_at ms) s.moment l) (sym written) (timed_with s.motions n (Some motion) s.moment l old.1 (timed sound.in_order sound.none_waits l old.0))
         at (inr anew) = record { waits_not = anew.3.waits_not; fails = anew.3.fails }
 
-    -- a structure's facts are tabled as they were
-    tabled : (j : ℕ) (st : Structure) → HasFactsOf s.table.live j (placed_facts st) → HasFactsOf table.live j (placed_facts st)
-    tabled j st h p = (
-      λ there. let l = (h p).0 there in let k = stays l.0 l.1 in (k.0, k.1, k.2 ∙ l.2),
-      λ l. let k = was l.0 l.1 in (h p).1 (k.0, k.1, k.2 ∙ l.2),
-    )
+    same : HaveSameCertificates s.table.live table.live
+    same = record { stay = record { each = stays }; only = record { each = was } }
 
     pub sound_turned : IsSound (record s { motions = motions; table = table })
     sound_turned = record {
-      in_order = record {
-        fit = record { low = o.fit.low; high = o.fit.high; keepable = o.fit.keepable; room = ap length written ∙ length-set s.motions n (Some motion) ∙ o.fit.room; slow = slow };
-        canonical = o.canonical;
-        counted = omega (arith, remade.made);
-        count = o.count;
-        each = λ j keep st kept there.
-            let place = o.each j keep st kept there in
-            record { fine = subst (λ (x : Scene). IsSettledFor s.size keep x st) (sym same_sight) place.fine; tabled = tabled j st place.tabled };
-        once = once;
-        owned = λ l there. let k = was l there in subst (λ (c : Certificate). c.structure < length s.structures) k.2 (o.owned k.0 k.1);
-        timely = λ l there. timely_from_timed (scene_at motions) s.moment l (timed_now l there);
-      };
+      in_order = retimed sound.in_order motions s.moment table (ap length written ∙ length-set s.motions n (Some motion)) slow sound.in_order.canonical once (omega (arith, remade.made)) same
+          (λ j keep st there place. subst (λ (x : Scene). IsSettledFor s.size keep x st) (sym same_sight) place.fine)
+          (λ l there. timely_from_timed (scene_at motions) s.moment l (timed_now l there));
       none_waits = λ l there. (timed_now l there).waits_not;
     }
-      where
-        o : IsInOrder (λ j keep st. IsSettledFor s.size keep (sight s) st) s
-        o = sound.in_order
-
-    -- every live fact stays
-    stay : (c : Certificate) → Contains (certificates_of table.live) c ↔ Contains (certificates_of s.table.live) c
-    stay c = (through table.live s.table.live was, through s.table.live table.live stays)
-      where
-        through : (from to : List LiveFact) → ((l : LiveFact) → Contains from l → (k : LiveFact) × Contains to k × (k.certificate ≡ l.certificate)) → Contains (certificates_of from) c → Contains (certificates_of to) c
-        through from to each there =
-            let l = contains_mapped (λ (x : LiveFact). x.certificate) from c there in
-            let k = each l.0 l.1 in
-            subst (λ (x : Certificate). Contains (certificates_of to) x) (k.2 ∙ sym l.2) (contains_map (λ (x : LiveFact). x.certificate) to k.0 k.1)
 
     pub has_turned : HasTurned n u v (meaning s true) (meaning (record s { motions = motions; table = table }) true)
     has_turned = record {
@@ -162,6 +132,6 @@ module _ {s : Stage} (sound : IsSound s) (n : ℕ) (u v : ℤ) (motion : Course)
       turned = can;
       state = ap (λ (ms : List (Option Course)). with_facts_of (record (meaning s true) { motions = ms }) (meaning (record s { motions = motions; table = table }) true)) written;
       whole = whole sound_turned;
-      stay = stay;
+      stay = λ c. let both = same_listed same c in (both.1, both.0);
       made = subst (λ k. table.made ≡ min (s.table.made + k) (2 ^ 64 - 1)) (same_count n s.table.live) remade.made;
     }

@@ -1,9 +1,7 @@
 -- A motion is written at one number: a form that doesn't name it has the same sign at each moment, and a fact of such a form the same first failure.
-use Rattle.std.proofs.Common.{◌≡◌, refl, sym, ◌∙◌, arith, ℕ, true, false, nat_eq, List, slice_set}
-use Rattle.std.specs.Prelude.{Option, None, Some}
+use Rattle.std.proofs.Common.{◌≡◌, refl, sym, ◌∙◌, arith, ℕ, true, false, nat_eq, List, slice_set, Option, None, Some, get_or-set_other}
 use Rattle.std.proofs.lemmas.Bool.{or_parts}
 use Rattle.std.proofs.lemmas.Bool.Decides.{nat_tests}
-use Rattle.std.proofs.lemmas.List.{get_or-set_other}
 use Rattle.kin_num.specs.declared.instant.Moment.{Moment}
 use Rattle.kin_motion.specs.declared.fact.Fact.{Fact}
 use Rattle.kin_motion.specs.declared.form.Form.{Form}
@@ -24,6 +22,9 @@ same_failure v w now f (Some later) alike first = record {
   holds_until = λ m until. alike m ∙ first.holds_until m until;
   fails = λ holds. first.fails (sym (alike later) ∙ holds);
 }
+
+timed_alike : (v w : Moment → Scene) (now : Moment) (l : LiveFact) → ((m : Moment) → (w m).sign l.certificate.placed.fact.form ≡ (v m).sign l.certificate.placed.fact.form) → IsTimed v now l → IsTimed w now l
+timed_alike v w now l alike timed = record { waits_not = timed.waits_not; fails = same_failure v w now l.certificate.placed.fact l.fails alike timed.fails }
 
 module _ (ms : List (Option Course)) (n : ℕ) (o : Option Course) where
   moves_alike : (a : ℕ) → nat_eq n a ≡ false → motion_of (slice_set ms n o) a ≡ motion_of ms a
@@ -51,13 +52,7 @@ module _ (ms : List (Option Course)) (n : ℕ) (o : Option Course) where
 
   -- the fact has its first failure with the motion exactly where it has it without
   pub timed_with : (now : Moment) (l : LiveFact) → names l.certificate.placed.fact.form n ≡ false → IsTimed (scene_at ms) now l → IsTimed (scene_at (slice_set ms n o)) now l
-  timed_with now l unnamed timed = record {
-    waits_not = timed.waits_not;
-    fails = same_failure (scene_at ms) (scene_at (slice_set ms n o)) now l.certificate.placed.fact l.fails (λ m. unnamed_sign m l.certificate.placed.fact.form unnamed) timed.fails;
-  }
+  timed_with now l unnamed timed = timed_alike (scene_at ms) (scene_at (slice_set ms n o)) now l (λ m. unnamed_sign m l.certificate.placed.fact.form unnamed) timed
 
   pub timed_without : (now : Moment) (l : LiveFact) → names l.certificate.placed.fact.form n ≡ false → IsTimed (scene_at (slice_set ms n o)) now l → IsTimed (scene_at ms) now l
-  timed_without now l unnamed timed = record {
-    waits_not = timed.waits_not;
-    fails = same_failure (scene_at (slice_set ms n o)) (scene_at ms) now l.certificate.placed.fact l.fails (λ m. sym (unnamed_sign m l.certificate.placed.fact.form unnamed)) timed.fails;
-  }
+  timed_without now l unnamed timed = timed_alike (scene_at (slice_set ms n o)) (scene_at ms) now l (λ m. sym (unnamed_sign m l.certificate.placed.fact.form unnamed)) timed

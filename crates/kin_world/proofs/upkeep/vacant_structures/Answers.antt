@@ -1,5 +1,4 @@
-use Rattle.std.proofs.Common.{◌≡◌, sym, ap, ◌∙◌, subst, ◌+◌, ◌++◌, ◌∷◌, [], rules, length}
-use Rattle.std.specs.Prelude.{Some, pos, slice_get, slice_index_or}
+use Rattle.std.proofs.Common.{◌≡◌, sym, ap, ◌∙◌, subst, ◌+◌, ◌++◌, ◌∷◌, [], rules, length, Some, pos, slice_get, slice_index_or}
 use Rattle.std.proofs.lemmas.List.{length_push}
 use Rattle.std.proofs.lemmas.Option.{slice_get-get_or}
 use Rattle.kin_motion.specs.declared.keep.Keep.TheVariants.{Order}

@@ -1,5 +1,4 @@
-use Rattle.std.proofs.Common.{sym, subst, ℕ}
-use Rattle.std.specs.Prelude.{OnOk}
+use Rattle.std.proofs.Common.{sym, subst, ℕ, OnOk}
 use Rattle.kin_motion.specs.declared.keep.Keep.{Keep}
 use Rattle.kin_hull.specs.Hulls.{IsHullFor}
 use Rattle.kin_world.specs.declared.structure.Structure.{Structure as Either}

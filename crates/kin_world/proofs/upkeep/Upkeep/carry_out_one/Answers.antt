@@ -3,6 +3,7 @@ use Rattle.kin_basics.proofs.Results.{from_two}
 use Rattle.kin_motion.specs.Deltas.{Change}
 use Rattle.kin_motion.specs.Kinetics.{HasChanged}
 use Rattle.kin_motion.specs.Scene.{scene_at}
+use Rattle.kin_motion.proofs.MotionScenes.{real_at}
 use Rattle.kin_world.specs.Kinds.{placed_facts}
 use Rattle.kin_world.specs.Upkeep.{stage_of, sight}
 use Rattle.kin_world.proofs.MarkLaws.{live_after, hold_for, carried_on}
@@ -10,28 +11,18 @@ use Rattle.kin_world.proofs.InOrder.{standing_read, may_tell}
 use Rattle.kin_world.proofs.StructureLaws.{settled_now}
 use Rattle.kin_world.proofs.upkeep.Upkeep.carry_out_one.Goals as goal
 
-pub carry_out-requires-clause-rest : goal.carry_out-requires-clause-rest
-carry_out-requires-clause-rest g c =
-    let s = standing_read c.requires.marked.1.in_order c.args.k c.index_mut.result.now c.requires.within c.index_mut.ensures.value in
-    (s.3.fine.ahead (omega arith)).rest
-
-pub carry_out-requires-clause-room : goal.carry_out-requires-clause-room
-carry_out-requires-clause-room g c =
-    let s = standing_read c.requires.marked.1.in_order c.args.k c.index_mut.result.now c.requires.within c.index_mut.ensures.value in
-    (c.args.self.now.size, s.0, (s.3.fine.ahead (omega arith)).kind, c.requires.marked.1.room)
-
-pub carry_out-requires-clause-marked : goal.carry_out-requires-clause-marked
-carry_out-requires-clause-marked g c =
+pub carry_out-requires : goal.carry_out-requires
+carry_out-requires g c =
     let h = c.requires.marked in
     let s = standing_read h.1.in_order c.args.k c.index_mut.result.now c.requires.within c.index_mut.ensures.value in
     let was = s.3.fine.ahead (omega arith) in
-    (scene_at h.0 c.args.self.now.moment, was.members, was.settled, live_after c.args.mark h.1)
-
-pub carry_out-requires-clause-hold : goal.carry_out-requires-clause-hold
-carry_out-requires-clause-hold g c =
-    let h = c.requires.marked in
-    let s = standing_read h.1.in_order c.args.k c.index_mut.result.now c.requires.within c.index_mut.ensures.value in
-    hold_for c.args.mark h.1 s.0 c.index_mut.result.now s.3 s.1
+    record {
+      real = real_at c.args.self.now.motions c.args.self.now.moment h.1.in_order.canonical;
+      rest = was.rest;
+      room = (c.args.self.now.size, s.0, was.kind, h.1.room);
+      marked = (scene_at h.0 c.args.self.now.moment, was.members, was.settled, live_after c.args.mark h.1);
+      hold = hold_for c.args.mark h.1 s.0 c.index_mut.result.now s.3 s.1;
+    }
 
 pub tell-requires : goal.tell-requires
 tell-requires g c =

@@ -1,5 +1,4 @@
-use Rattle.std.proofs.Common.{◌≡◌, sym, ap, subst, []}
-use Rattle.std.specs.Prelude.{true, ◌^◌}
+use Rattle.std.proofs.Common.{◌≡◌, sym, ap, subst, [], true, ◌^◌}
 use Rattle.kin_num.specs.declared.instant.Moment.{Moment}
 use Rattle.kin_num.specs.declared.instant.Phase.TheVariants.{At}
 use Rattle.kin_num.specs.Canonical.{IsCanonical}

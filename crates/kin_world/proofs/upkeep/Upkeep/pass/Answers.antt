@@ -1,6 +1,4 @@
-use Rattle.std.proofs.Common.{sym, ap, subst, ◌∙◌, List}
-use Rattle.std.specs.Prelude.{map}
-use Rattle.std.specs.List.{All}
+use Rattle.std.proofs.Common.{sym, ap, subst, ◌∙◌, List, All, map}
 use Rattle.kin_motion.specs.Course.{live_of}
 use Rattle.kin_motion.specs.Forms.{IsAskable}
 use Rattle.kin_motion.specs.Journal.{seen_in}
@@ -8,7 +6,7 @@ use Rattle.kin_motion.specs.Scene.{scene_at}
 use Rattle.kin_cert.specs.declared.owned.Owned.{Owned}
 use Rattle.kin_cert.specs.Facts.{certificate_of}
 use Rattle.kin_world.specs.Upkeep.{AreWaiting}
-use Rattle.kin_world.proofs.TakeLaws.{taken_waiting, taken_askable, taken_under_repair, taken_block, made_since}
+use Rattle.kin_world.proofs.TakeLaws.{taken_waiting, taken_askable, taken_under_repair, taken_block, settled_since}
 use Rattle.kin_world.proofs.upkeep.Upkeep.pass.Goals as goal
 
 pub take_failing-requires-clause-none_waits : goal.take_failing-requires-clause-none_waits
@@ -19,12 +17,13 @@ block_of-requires g c =
     subst (λ (os : List Owned). All (λ o. IsAskable (live_of c.args.self.now.motions) o.fact.form) os) (sym c.deref.ensures.value)
     (taken_askable c.requires.sound c.take_failing.new.self c.in_ok-taken.ensures.taken)
 
-pub repair_each-requires-clause-repair : goal.repair_each-requires-clause-repair
-repair_each-requires-clause-repair g c = taken_under_repair c.requires.sound c.take_failing.new.self c.in_ok-taken.ensures.taken c.args.moment.now c.requires.failing c.in_ok-taken.ensures.once c.take_failing.ensures.made
-
-pub repair_each-requires-clause-waiting : goal.repair_each-requires-clause-waiting
-repair_each-requires-clause-waiting g c =
-    subst (λ (os : List Owned). AreWaiting 0 c.take_failing.new.self.live os) (sym c.deref-2.ensures.value) (taken_waiting c.requires.sound c.take_failing.new.self c.in_ok-taken.ensures.taken)
+pub repair_each-requires : goal.repair_each-requires
+repair_each-requires g c =
+    let taken = c.in_ok-taken.ensures.taken in
+    record {
+      repair = taken_under_repair c.requires.sound c.take_failing.new.self taken c.args.moment.now c.requires.failing c.in_ok-taken.ensures.once c.take_failing.ensures.made;
+      waiting = subst (λ (os : List Owned). AreWaiting 0 c.take_failing.new.self.live os) (sym c.deref-2.ensures.value) (taken_waiting c.requires.sound c.take_failing.new.self taken);
+    }
 
 pub returns-clause-next : goal.returns-clause-next
 returns-clause-next g c =
@@ -32,6 +31,4 @@ returns-clause-next g c =
     (c.in_ok-block.ensures ∙ ap (λ (os : List Owned). record { moment = c.args.moment.now; failures = map (λ (o : Owned). seen_in (scene_at c.args.self.now.motions c.args.moment.now) (certificate_of o)) os }) c.deref.ensures.value)
 
 pub returns-clause-settled : goal.returns-clause-settled
-returns-clause-settled g c =
-    let done = c.in_ok-repair_each.ensures.settled in
-    record { sound = done.sound; made = made_since c.requires.sound c.take_failing.new.self c.in_ok-taken.ensures.taken c.repair_each.new.self.table c.take_failing.ensures.made done.made }
+returns-clause-settled g c = settled_since c.requires.sound c.take_failing.new.self c.in_ok-taken.ensures.taken c.take_failing.ensures.made c.in_ok-repair_each.ensures.settled

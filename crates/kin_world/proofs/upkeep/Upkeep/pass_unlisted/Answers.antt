@@ -1,5 +1,4 @@
-use Rattle.std.proofs.Common.{length, refl, sym, ap, subst, ◌∙◌, List}
-use Rattle.std.specs.Prelude.{map}
+use Rattle.std.proofs.Common.{length, map, refl, sym, ap, subst, ◌∙◌, List}
 use Rattle.std.proofs.lemmas.List.{length-map}
 use Rattle.std.proofs.lemmas.List.Sorted.{length_permutation}
 use Rattle.kin_motion.specs.Journal.{Block, Failure, seen_in}
@@ -7,22 +6,20 @@ use Rattle.kin_motion.specs.Scene.{scene_at}
 use Rattle.kin_cert.specs.declared.owned.Owned.{Owned}
 use Rattle.kin_cert.specs.Facts.{certificate_of}
 use Rattle.kin_world.specs.Upkeep.{AreWaiting}
-use Rattle.kin_world.proofs.TakeLaws.{given_same, given_waiting, taken_under_repair, taken_block, made_since}
+use Rattle.kin_world.proofs.TakeLaws.{given_same, given_waiting, taken_under_repair, taken_block, settled_since}
 use Rattle.kin_world.proofs.upkeep.Upkeep.pass_unlisted.Goals as goal
 
 pub give_failing-requires-clause-none_waits : goal.give_failing-requires-clause-none_waits
 give_failing-requires-clause-none_waits g c = c.requires.sound.none_waits
 
-pub repair_each-requires-clause-repair : goal.repair_each-requires-clause-repair
-repair_each-requires-clause-repair g c =
+pub repair_each-requires : goal.repair_each-requires
+repair_each-requires g c =
     let out = c.in_ok-give_failing.ensures.given in
-    taken_under_repair c.requires.sound c.give_failing.new.self out.has_taken c.args.moment.now c.requires.failing c.in_ok-give_failing.ensures.once c.give_failing.ensures.made
-
-pub repair_each-requires-clause-waiting : goal.repair_each-requires-clause-waiting
-repair_each-requires-clause-waiting g c =
-    let out = c.in_ok-give_failing.ensures.given in
-    subst (λ (os : List Owned). AreWaiting 0 c.give_failing.new.self.live os) (sym c.deref.ensures.value)
-    (given_waiting c.requires.sound c.give_failing.new.self out.has_taken c.give_failing.new.given.items out.once (given_same out))
+    record {
+      repair = taken_under_repair c.requires.sound c.give_failing.new.self out.has_taken c.args.moment.now c.requires.failing c.in_ok-give_failing.ensures.once c.give_failing.ensures.made;
+      waiting = subst (λ (os : List Owned). AreWaiting 0 c.give_failing.new.self.live os) (sym c.deref.ensures.value)
+          (given_waiting c.requires.sound c.give_failing.new.self out.has_taken c.give_failing.new.given.items out.once (given_same out));
+    }
 
 pub returns-clause-next : goal.returns-clause-next
 returns-clause-next g c =
@@ -37,6 +34,4 @@ returns-clause-next g c =
     )
 
 pub returns-clause-settled : goal.returns-clause-settled
-returns-clause-settled g c =
-    let done = c.in_ok-repair_each.ensures.settled in
-    record { sound = done.sound; made = made_since c.requires.sound c.give_failing.new.self c.in_ok-give_failing.ensures.given.has_taken c.repair_each.new.self.table c.give_failing.ensures.made done.made }
+returns-clause-settled g c = settled_since c.requires.sound c.give_failing.new.self c.in_ok-give_failing.ensures.given.has_taken c.give_failing.ensures.made c.in_ok-repair_each.ensures.settled

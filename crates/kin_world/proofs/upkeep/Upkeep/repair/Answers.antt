@@ -3,6 +3,7 @@ use Rattle.kin_basics.proofs.Results.{from_two}
 use Rattle.kin_motion.specs.declared.fact.Placed.{Placed}
 use Rattle.kin_motion.specs.Deltas.{Change}
 use Rattle.kin_motion.specs.Kinetics.{HasChanged}
+use Rattle.kin_motion.proofs.MotionScenes.{real_at}
 use Rattle.kin_world.specs.Kinds.{placed_facts}
 use Rattle.kin_world.specs.Structures.{AreFailing}
 use Rattle.kin_world.specs.Upkeep.{stage_of, sight}
@@ -11,17 +12,16 @@ use Rattle.kin_world.proofs.RepairLaws.{waiting_fail, repaired}
 use Rattle.kin_world.proofs.StructureLaws.{settled_now}
 use Rattle.kin_world.proofs.upkeep.Upkeep.repair.Goals as goal
 
-pub settle-requires-clause-rest : goal.settle-requires-clause-rest
-settle-requires-clause-rest g c = (standing_read c.requires.repair c.args.k c.index_mut.result.now c.requires.within c.index_mut.ensures.value).3.fine.rest
-
-pub settle-requires-clause-members : goal.settle-requires-clause-members
-settle-requires-clause-members g c = (standing_read c.requires.repair c.args.k c.index_mut.result.now c.requires.within c.index_mut.ensures.value).3.fine.members
-
-pub settle-requires-clause-failing : goal.settle-requires-clause-failing
-settle-requires-clause-failing g c =
+pub settle-requires : goal.settle-requires
+settle-requires g c =
     let s = standing_read c.requires.repair c.args.k c.index_mut.result.now c.requires.within c.index_mut.ensures.value in
-    subst (λ (ps : List Placed). AreFailing (placed_facts c.index_mut.result.now) (sight (stage_of c.args.self.now)) ps) (sym c.deref.ensures.value)
-    (record { listed = waiting_fail c.requires.repair c.args.k (placed_facts c.index_mut.result.now) c.args.self.now.failed.items s.3.tabled c.requires.failed })
+    record {
+      real = real_at c.args.self.now.motions c.args.self.now.moment c.requires.repair.canonical;
+      rest = s.3.fine.rest;
+      members = s.3.fine.members;
+      failing = subst (λ (ps : List Placed). AreFailing (placed_facts c.index_mut.result.now) (sight (stage_of c.args.self.now)) ps) (sym c.deref.ensures.value)
+          (record { listed = waiting_fail c.requires.repair c.args.k (placed_facts c.index_mut.result.now) c.args.self.now.failed.items s.3.tabled c.requires.failed });
+    }
 
 pub tell-requires : goal.tell-requires
 tell-requires g c =

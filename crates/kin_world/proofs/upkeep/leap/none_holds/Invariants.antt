@@ -1,5 +1,4 @@
-use Rattle.std.proofs.Common.{◌≡◌, false, take}
-use Rattle.std.specs.List.{All}
+use Rattle.std.proofs.Common.{◌≡◌, false, take, All}
 use Rattle.kin_motion.specs.Scene.{scene_at, Holds}
 use Rattle.kin_world.specs.Upkeep.{is_line}
 use Rattle.kin_world.proofs.upkeep.leap.none_holds.Given as goal

@@ -1,7 +1,7 @@
 use Rattle.std.proofs.Common.{ap, sym, ◌∙◌}
 use Rattle.kin_world.specs.Worlds.{World}
-use Rattle.kin_world.proofs.SoundLaws.{whole_inside}
+use Rattle.kin_world.proofs.Inside.{whole_inside}
 use Rattle.kin_world.proofs.world.World.is_whole.Goals as goal
 
 pub returns-clause-whole : goal.returns-clause-whole
-returns-clause-whole c = λ is. whole_inside c.self.inside c.args.self.now c.self.view_is c.self.invariant (ap (λ (v : World). v.whole) (sym c.self.view_is) ∙ is)
+returns-clause-whole c = λ is. whole_inside c.self.inside c.self.view_is c.self.invariant (ap (λ (v : World). v.whole) (sym c.self.view_is) ∙ is)

@@ -1,26 +1,24 @@
-use Rattle.std.proofs.Common.{◌≡◌, ap, ◌∙◌, subst, ◌<◌, true}
+use Rattle.std.proofs.Common.{ap, ◌∙◌, subst, ◌<◌, true}
 use Rattle.kin_motion.specs.Course.{is_live}
-use Rattle.kin_world.specs.Upkeep.{IsSound, meaning, stage_of}
+use Rattle.kin_world.specs.Upkeep.{meaning, stage_of}
 use Rattle.kin_world.specs.Worlds.{World, HasRemoved}
+use Rattle.kin_world.proofs.Inside.{sound_inside, as_seen}
 use Rattle.kin_world.proofs.MarkLaws.{live_within, may_remove}
-use Rattle.kin_world.proofs.SoundLaws.{sound_inside, seen_inside, has_removed}
+use Rattle.kin_world.proofs.SoundLaws.{has_removed}
 use Rattle.kin_world.proofs.world.World.remove.Goals as goal
 
 pub clear-requires : goal.clear-requires
-clear-requires g c =
-    let live = ap (λ (v : World). is_live v.motions c.args.no) c.self.view_is ∙ c.requires.live in
-    record { room = live_within c.self.inside.upkeep.motions c.args.no live }
+clear-requires g c = record { room = live_within c.self.inside.upkeep.motions c.args.no (ap (λ (v : World). is_live v.motions c.args.no) c.self.view_is ∙ c.requires.live) }
 
 pub carry_out_each-requires : goal.carry_out_each-requires
 carry_out_each-requires g c =
-    let s = stage_of c.self.inside.upkeep in
-    let sound : IsSound (stage_of c.self.inside.upkeep) = sound_inside c.self.inside c.args.self.now c.self.view_is c.self.invariant c.requires.whole in
-    let live : is_live s.motions c.args.no ≡ true = ap (λ (v : World). is_live v.motions c.args.no) c.self.view_is ∙ c.requires.live in
-    let low = subst (λ n. c.args.no < n) sound.in_order.fit.room (live_within s.motions c.args.no live) in
-    record { marked = (s.motions, may_remove sound c.args.no c.clear.new.self live low c.clear.ensures) }
+    let sound = sound_inside c.self.inside c.self.view_is c.self.invariant c.requires.whole in
+    let live = ap (λ (v : World). is_live v.motions c.args.no) c.self.view_is ∙ c.requires.live in
+    let low = subst (λ n. c.args.no < n) sound.in_order.fit.room (live_within c.self.inside.upkeep.motions c.args.no live) in
+    record { marked = (c.self.inside.upkeep.motions, may_remove sound c.args.no c.clear.new.self live low c.clear.ensures) }
 
 pub returns-clause-removed : goal.returns-clause-removed
 returns-clause-removed g c =
     let s = stage_of c.self.inside.upkeep in
-    subst (λ (v : World). HasRemoved c.args.no v (meaning (stage_of c.carry_out_each.new.self) true)) (seen_inside c.self.inside c.args.self.now c.self.view_is c.self.invariant c.requires.whole)
+    as_seen c.self.inside c.self.view_is c.self.invariant c.requires.whole (λ v. HasRemoved c.args.no v (meaning (stage_of c.carry_out_each.new.self) true))
     (has_removed (record s { motions = c.clear.new.self }) c.in_ok-carry_out_each.ensures.settled c.carry_out_each.ensures.frame s.motions c.args.no c.clear.ensures)

@@ -1,5 +1,4 @@
-use Rattle.std.proofs.Common.{subst}
-use Rattle.std.specs.Prelude.{IsNone, IfSome, ◌↔◌, Contains}
+use Rattle.std.proofs.Common.{subst, IsNone, IfSome, ◌↔◌, Contains}
 use Rattle.kin_algebra.specs.declared.sign.Sign.{Sign}
 use Rattle.kin_world.specs.Worlds.{World, certificate}
 use Rattle.kin_world.proofs.AskLaws.{some_certificate, no_certificate}

@@ -1,5 +1,4 @@
-use Rattle.std.proofs.Common.{◌≡◌, sym, ◌∙◌, w32, Err}
-use Rattle.std.specs.Prelude.{IfOk, ◌↔◌}
+use Rattle.std.proofs.Common.{◌≡◌, sym, ◌∙◌, w32, Err, IfOk, ◌↔◌}
 use Rattle.kin_num.specs.declared.instant.Phase.TheVariants.{At}
 use Rattle.kin_instant.proofs.Widths.{clean}
 use Rattle.kin_motion.specs.Course.{IsSlow}

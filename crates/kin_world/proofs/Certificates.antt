@@ -1,0 +1,35 @@
+-- Live facts that are told apart by their certificates alone.
+use Rattle.std.proofs.Common.{◌≡◌, ◌↔◌, refl, sym, ◌∙◌, subst, ℕ, List, Contains}
+use Rattle.kin_motion.specs.declared.fact.Placed.{Placed}
+use Rattle.kin_motion.specs.Live.{Certificate}
+use Rattle.kin_motion.proofs.SetLaws.{contains_map, contains_mapped}
+use Rattle.kin_cert.specs.Facts.{LiveFact}
+use Rattle.kin_cert.specs.Told.{HasFactsOf, certificates_of}
+
+-- each certificate of the first is one of the second
+pub record AreAmong (from to : List LiveFact) : Type 0 where
+  pub each : (l : LiveFact) → Contains from l → (k : LiveFact) × Contains to k × (k.certificate ≡ l.certificate)
+
+listed_through : {from to : List LiveFact} → AreAmong from to → (c : Certificate) → Contains (certificates_of from) c → Contains (certificates_of to) c
+listed_through {from} {to} among c there =
+    let l = contains_mapped (λ (x : LiveFact). x.certificate) from c there in
+    let k = among.each l.0 l.1 in
+    subst (λ (x : Certificate). Contains (certificates_of to) x) (k.2 ∙ sym l.2) (contains_map (λ (x : LiveFact). x.certificate) to k.0 k.1)
+
+-- both have the same certificates
+pub record HaveSameCertificates (old new : List LiveFact) : Type 0 where
+  pub stay : AreAmong old new
+  pub only : AreAmong new old
+
+pub same_itself : (live : List LiveFact) → HaveSameCertificates live live
+same_itself live = record { stay = record { each = λ l there. (l, there, refl) }; only = record { each = λ l there. (l, there, refl) } }
+
+pub same_listed : {old new : List LiveFact} → HaveSameCertificates old new → (c : Certificate) → Contains (certificates_of old) c ↔ Contains (certificates_of new) c
+same_listed same c = (listed_through same.stay c, listed_through same.only c)
+
+-- so a structure's facts are tabled as they were
+pub same_tabled : {old new : List LiveFact} → HaveSameCertificates old new → (j : ℕ) (facts : List Placed) → HasFactsOf old j facts → HasFactsOf new j facts
+same_tabled same j facts tabled p = (
+  λ there. let l = (tabled p).0 there in let k = same.stay.each l.0 l.1 in (k.0, k.1, k.2 ∙ l.2),
+  λ l. let k = same.only.each l.0 l.1 in (tabled p).1 (k.0, k.1, k.2 ∙ l.2),
+)
