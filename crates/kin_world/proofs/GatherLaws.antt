@@ -1,8 +1,9 @@
 -- Failed facts are gathered structure by structure, from the least one on.
-use Rattle.std.proofs.Common.{append_assoc, append-nil, ◌≡◌, ◌≢◌, ◌⊎◌, inl, inr, refl, sym, ap, ap₂, ◌∙◌, subst, arith, ℕ, ◌+◌, ◌-◌, ◌<◌, ◌≤◌, Bool, true, false, cond, List, [], ◌∷◌, ◌++◌, map, length, suc, Option, Some, None, Contains, IsTrue, filter, nat_eq}
-use Rattle.std.proofs.lemmas.Bool.{cases_lt}
+use Rattle.std.proofs.Common.{not, append_assoc, append-nil, ◌≡◌, ◌≢◌, ◌⊎◌, inl, inr, refl, sym, ap, ap₂, ◌∙◌, subst, arith, ℕ, ◌+◌, ◌-◌, ◌<◌, ◌≤◌, Bool, true, false, List, [], ◌∷◌, ◌++◌, length, Option, Some, None, Contains, IsTrue, filter}
+use Rattle.std.proofs.lemmas.Bool.{cases_Bool, cases_lt}
 use Rattle.std.proofs.lemmas.Bool.Decides.{nat_tests}
 use Rattle.std.proofs.lemmas.List.{length-map}
+use Rattle.std.proofs.lemmas.List.Filters.{length-filter_both}
 use Rattle.std.proofs.lemmas.List.Elements.{Contains-append_left, Contains-append_right, Contains-append_cases}
 use Rattle.kin_motion.specs.declared.fact.Placed.{Placed}
 use Rattle.kin_motion.specs.Live.{Certificate, owned_by}
@@ -10,6 +11,7 @@ use Rattle.kin_basics.proofs.Members.{contains_head, contains_none, contains_cas
 use Rattle.kin_motion.proofs.SetLaws.{contains_map, contains_mapped, distinct_mapped_on, distinct_filter, filter-sound, filter-complete}
 use Rattle.kin_cert.specs.declared.owned.Owned.{Owned}
 use Rattle.kin_cert.specs.Facts.{LiveFact, certificate_of}
+use Rattle.kin_cert.specs.Taken.{NoneWaits}
 use Rattle.kin_world.specs.Upkeep.{Stage, HasSameFrame, HasSettled, HasRepaired, ListsWaiting, AreWaiting, IsAtTurn, NoneFrom, IsNextFrom, IsTurn, IsSooner, gathered, is_of, placed_of, turns_left}
 use Rattle.kin_world.proofs.MadeLaws.{come_on}
 use Rattle.kin_world.proofs.RepairLaws.{sound_when_none_waits}
@@ -106,41 +108,25 @@ seen_all k taken (o ∷ os) turn h none = absurd (omega (arith, none))
 pub gathers_more : (k : ℕ) (failed all : List Placed) (rest tail : List Owned) (o : Owned) → failed ++ gathered k rest ≡ all → rest ≡ o ∷ tail → o.structure ≡ k
     → (failed ++ placed_of o ∷ []) ++ gathered k tail ≡ all
 gathers_more k failed all rest tail o h here is =
-    append_assoc failed (placed_of o ∷ []) (gathered k tail) ∙ ap (λ ps. failed ++ ps) (sym (own (nat_eq o.structure k) (grind (arith, nat_tests, is)) ∙ refl)) ∙ ap (λ (os : List Owned). failed ++ gathered k os) (sym here) ∙ h
-  where
-    own : (b : Bool) → b ≡ true → map placed_of (cond b (o ∷ filter (is_of k) tail) (filter (is_of k) tail)) ≡ placed_of o ∷ gathered k tail
-    own true e = refl
-    own false e = absurd cc
+    let own : is_of k o ≡ true = grind (arith, nat_tests, is) in
+    append_assoc failed (placed_of o ∷ []) (gathered k tail) ∙ rw (here, own) at h
 
 pub gathers_less : (k : ℕ) (failed all : List Placed) (rest tail : List Owned) (o : Owned) → failed ++ gathered k rest ≡ all → rest ≡ o ∷ tail → o.structure ≢ k
     → failed ++ gathered k tail ≡ all
-gathers_less k failed all rest tail o h here is_not =
-    ap (λ ps. failed ++ ps) (sym (other (nat_eq o.structure k) (grind (arith, nat_tests, is_not)))) ∙ ap (λ (os : List Owned). failed ++ gathered k os) (sym here) ∙ h
-  where
-    other : (b : Bool) → b ≡ false → map placed_of (cond b (o ∷ filter (is_of k) tail) (filter (is_of k) tail)) ≡ gathered k tail
-    other true e = absurd cc
-    other false e = refl
+gathers_less k failed all rest tail o h here is_not = let other : is_of k o ≡ false = grind (arith, nat_tests, is_not) in rw (here, other) at h
 
 pub gathers_all : (k : ℕ) (failed all : List Placed) (rest : List Owned) → failed ++ gathered k rest ≡ all → length rest ≡ 0 → failed ≡ all
 gathers_all k failed all [] h none = sym (append-nil failed) ∙ h
 gathers_all k failed all (o ∷ os) h none = absurd (omega (arith, none))
 
-no_longer : (test : Owned → Bool) (os : List Owned) → length (filter test os) ≤ length os
-no_longer test [] = omega arith
-no_longer test (o ∷ os) = at (test o) (no_longer test os)
-  where
-    at : (b : Bool) → length (filter test os) ≤ length os → length (cond b (o ∷ filter test os) (filter test os)) ≤ suc (length os)
-    at true l = omega (arith, l)
-    at false l = omega (arith, l)
-
 all_pass : (test : Owned → Bool) (os : List Owned) (p : Owned) → length (filter test os) ≡ length os → Contains os p → test p ≡ true
-all_pass test [] p e there = absurd (contains_none p there)
-all_pass test (o ∷ os) p e there = at (test o) refl e (all_pass test os p) (contains_cases o p os there)
+all_pass test os p e there = at (test p) refl
   where
-    at : (b : Bool) → test o ≡ b → length (cond b (o ∷ filter test os) (filter test os)) ≡ suc (length os) → (length (filter test os) ≡ length os → Contains os p → test p ≡ true) → (o ≡ p) ⊎ Contains os p → test p ≡ true
-    at true is e later (inl same) = ap test (sym same) ∙ is
-    at true is e later (inr rest) = later (omega (arith, e)) rest
-    at false is e later side = absurd (let l = no_longer test os in omega (arith, l, e))
+    at : (b : Bool) → test p ≡ b → test p ≡ true
+    at true is = is
+    at false is =
+        let out = filter-complete (λ o. not (test o)) os p there (ap not is) in
+        absurd (omega (arith, e, out.1, length-filter_both test (λ o. not (test o)) (λ o. refl) os))
 
 -- where as many are of one structure as there are, none is of a later one
 pub all_of_one : (k : ℕ) (taken : List Owned) → length (gathered k taken) ≡ length taken → NoneFrom (k + 1) taken
@@ -238,8 +224,10 @@ module _ {start s : Stage} {taken : List Owned} {k : ℕ} (turn : IsAtTurn start
 
 -- at the end no fact waits
 pub repaired_all : {start s : Stage} {taken : List Owned} → IsAtTurn start s taken None → HasSettled start.table s
-repaired_all {start} {s} {taken} h = record { sound = sound_when_none_waits h.repairing.repair (λ l there. at l there l.waits refl); made = h.repairing.come.made }
+repaired_all {start} {s} {taken} h = record { sound = sound_when_none_waits h.repairing.repair none_waits; made = h.repairing.come.made }
   where
-    at : (l : LiveFact) → Contains s.table.live l → (w : Bool) → l.waits ≡ w → l.waits ≡ false
-    at l there false is = is
-    at l there true is = let o = h.repairing.waiting.each l there is in let none : NoneFrom h.reached taken = h.turn_is in absurd (none o.0 o.1 o.2)
+    none_waits : NoneWaits s.table.live
+    none_waits l there = elim (cases_Bool l.waits) [
+      | inl is ↦ let o = h.repairing.waiting.each l there is in let none : NoneFrom h.reached taken = h.turn_is in absurd (none o.0 o.1 o.2)
+      | inr is ↦ is
+    ]

@@ -135,16 +135,17 @@ module _ {is_fine : ℕ → Keep → Structure → Type 0} {s : Stage} (o : IsIn
         away l e is = apart (sym (ap (λ (c : Certificate). c.structure) e) ∙ is)
 
     -- a fact that is live now was live, or has its first failure
-    timely_after : (l : LiveFact) → Contains table.live l → IsTimedOrFailed (scene_at s.motions) s.moment l
-    timely_after l there = at (cases_eq l.certificate.structure k)
-      where
-        by_age : Contains s.table.live l ⊎ IsTimed (scene_at s.motions) s.moment l → IsTimedOrFailed (scene_at s.motions) s.moment l
-        by_age (inl old) = o.timely l old
-        by_age (inr new) = timely_from_timed (scene_at s.motions) s.moment l new
+    pub by_age : (l : LiveFact) → Contains table.live l → Contains s.table.live l ⊎ IsTimed (scene_at s.motions) s.moment l
+    by_age l there = elim (cases_eq l.certificate.structure k) [
+      | inl is ↦ r.told.own l there is
+      | inr other ↦ inl ((r.told.others l other).1 there)
+    ]
 
-        at : (l.certificate.structure ≡ k) ⊎ (l.certificate.structure ≢ k) → IsTimedOrFailed (scene_at s.motions) s.moment l
-        at (inl is) = by_age (r.told.own l there is)
-        at (inr other) = o.timely l ((r.told.others l other).1 there)
+    timely_after : (l : LiveFact) → Contains table.live l → IsTimedOrFailed (scene_at s.motions) s.moment l
+    timely_after l there = elim (by_age l there) [
+      | inl old ↦ o.timely l old
+      | inr new ↦ timely_from_timed (scene_at s.motions) s.moment l new
+    ]
 
     -- the new structure is fine, and the others stay fine
     pub replaced : {is_fine' : ℕ → Keep → Structure → Type 0} → is_fine' k keep after → ((j : ℕ) (x : Keep) (y : Structure) → j ≢ k → is_fine j x y → is_fine' j x y)

@@ -8,7 +8,6 @@ pub mod LeapLaws
 pub mod RepairLaws
 pub mod MadeLaws
 pub mod GatherLaws
-pub mod OverLaws
 pub mod Unnamed
 pub mod OneMore
 pub mod MarkLaws

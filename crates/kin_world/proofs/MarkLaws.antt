@@ -1,5 +1,5 @@
 -- A number comes or goes, and one structure after another carries the mark out. Going is coming turned round: the motions that have the number are then those before.
-use Rattle.std.proofs.Common.{◌≡◌, ◌⊎◌, inl, inr, refl, sym, ap, ◌∙◌, subst, arith, ℕ, zero, suc, ◌<◌, ◌≤◌, ◌^◌, true, false, List, [], ◌∷◌, length, slice_set, Option, Some, None, is_some, slice_get, Contains, get_or-set_same, set-set, length-set}
+use Rattle.std.proofs.Common.{◌≡◌, ◌⊎◌, inl, inr, refl, sym, ap, ◌∙◌, subst, arith, ℕ, zero, suc, ◌+◌, ◌<◌, ◌≤◌, ◌^◌, true, false, List, [], ◌∷◌, length, slice_set, Option, Some, None, is_some, slice_get, Contains, get_or-set_same, set-set, length-set}
 use Rattle.std.proofs.lemmas.List.{set-get_or}
 use Rattle.std.proofs.lemmas.List.Elements.{All-contains}
 use Rattle.std.proofs.lemmas.Option.{slice_get_within}
@@ -11,6 +11,7 @@ use Rattle.kin_motion.specs.Live.{owned_by}
 use Rattle.kin_motion.specs.Scene.{Scene, Holds, scene_at}
 use Rattle.kin_motion.proofs.MotionLaws.{slow-clear}
 use Rattle.kin_cert.specs.Facts.{LiveFact, Facts}
+use Rattle.kin_cert.specs.Taken.{NoneWaits}
 use Rattle.kin_cert.specs.Told.{IsTimed}
 use Rattle.kin_world.specs.declared.structure.Structure.{Structure}
 use Rattle.kin_world.specs.declared.structure.Mark.{Mark}
@@ -19,9 +20,8 @@ use Rattle.kin_world.specs.Kinds.{placed_facts}
 use Rattle.kin_world.specs.Structures.{IsSettledFor, AreLiveAfter, HoldFor}
 use Rattle.kin_world.specs.Upkeep.{Stage, sight, IsSound, HasOneMore, IsMarked, IsCarriedOut, with_marked, IsInOrder, IsInPlace, HasGoneOver, HasUpdated, HasGoneOn}
 use Rattle.kin_world.specs.Worlds.{World, HasRemoved}
-use Rattle.kin_world.proofs.InOrder.{all_hold, owner, restated, seen_anew, timed, timed_new, timely_from_timed}
+use Rattle.kin_world.proofs.InOrder.{all_hold, by_age, owner, replaced, restated, seen_anew, timed, timed_new, timely_from_timed}
 use Rattle.kin_world.proofs.OneMore.{askable_without, one_more, same_room, sign_alike, timed_with, timed_without}
-use Rattle.kin_world.proofs.OverLaws.{gone_over, none_waits_after}
 use Rattle.kin_world.proofs.SoundLaws.{live_askable}
 use Rattle.kin_world.proofs.StructureLaws.{settled_holds, settled_askable}
 
@@ -92,6 +92,21 @@ hold_for (Leaves n) {k} {before} {s} h keep st place kept = record { hold = hold
         let held = All-contains (λ (q : Placed). Holds (scene_at before s.moment) q.fact) (placed_facts st) p (settled_holds s.size keep (scene_at before s.moment) st was) there in
         sym (sign_alike h.changed s.moment p.fact.form (askable_without n (live_of s.motions) (live_of before) p.fact.form (live_after (Leaves n) h) asked unnamed)) ∙ held
 
+-- a structure goes over to the scene now, and no fact waits
+module _ {k : ℕ} {now : Scene} {s : Stage} {keep : Keep} {st after : Structure} {table : Facts} (r : HasUpdated k now s keep st after table) where
+  -- the structure k goes over, after those below it
+  pub gone_over : {before : Scene} → IsInOrder (HasGoneOver s.size k before now) s → IsInOrder (HasGoneOver s.size (k + 1) before now) (record s { structures = slice_set s.structures k after; table = table })
+  gone_over o =
+      replaced o r (record { done = λ less. r.settled; ahead = λ more. absurd (omega (arith, more)) })
+      (λ j x y apart was. record { done = λ less. was.done (omega (arith, less, apart)); ahead = λ more. was.ahead (omega (arith, more)) })
+
+  -- and no fact waits
+  pub none_waits_after : {is_fine : ℕ → Keep → Structure → Type 0} → IsInOrder is_fine s → NoneWaits s.table.live → NoneWaits table.live
+  none_waits_after o none l there = elim (by_age o r l there) [
+    | inl old ↦ none l old
+    | inr new ↦ new.waits_not
+  ]
+
 -- what was told of the structure is so as well where failures are seen with the number
 seen : (mark : Mark) {k : ℕ} {before : List (Option Course)} {s : Stage} → IsMarked mark k before s → {keep : Keep} (st : Structure) {after : Structure} {table : Facts} → HasUpdated k (sight s) s keep st after table
     → HasUpdated k (sight s) (record s { motions = with_marked mark before s.motions }) keep st after table
@@ -130,7 +145,7 @@ carried_on mark {k} {s} one {keep} st {after} {table} r = record {
     h.0,
     record {
       in_order = gone_over (seen mark h.1 st r) h.1.in_order;
-      none_waits = none_waits_after (seen mark h.1 st r) h.1.none_waits;
+      none_waits = none_waits_after (seen mark h.1 st r) h.1.in_order h.1.none_waits;
       room = h.1.room;
       changed = h.1.changed;
       slow = h.1.slow;

@@ -1,5 +1,6 @@
 -- One structure is repaired, and the others stand as they were.
-use Rattle.std.proofs.Common.{◌≡◌, ◌⊎◌, inl, inr, refl, ap, ℕ, Bool, true, false, List, slice_set, Contains, IsTrue}
+use Rattle.std.proofs.Common.{◌≡◌, ◌⊎◌, inl, inr, ap, ℕ, false, List, slice_set, Contains, IsTrue}
+use Rattle.std.proofs.lemmas.Bool.{cases_Bool}
 use Rattle.std.proofs.lemmas.List.Elements.{All-contains}
 use Rattle.kin_motion.specs.declared.fact.Placed.{Placed}
 use Rattle.kin_motion.specs.declared.keep.Keep.{Keep}
@@ -18,14 +19,6 @@ use Rattle.kin_world.specs.Upkeep.{Stage, sight, IsSound, IsUnderRepair, ListsWa
 use Rattle.kin_world.proofs.InOrder.{by_certificate, all_hold, restated, replaced, tabled_here, timed_new}
 use Rattle.kin_world.proofs.StructureLaws.{settled_holds, settled_from_hold}
 
--- whether a live fact waits
-waits_or_not : (l : LiveFact) → IsTrue l.waits ⊎ (l.waits ≡ false)
-waits_or_not l = at l.waits refl
-  where
-    at : (w : Bool) → l.waits ≡ w → IsTrue l.waits ⊎ (l.waits ≡ false)
-    at true e = inl e
-    at false e = inr e
-
 module _ {s : Stage} (repair : IsUnderRepair s) where
   -- the facts that wait are those of the structure that don't hold
   pub waiting_fail : (k : ℕ) (facts failed : List Placed) → HasFactsOf s.table.live k facts → ListsWaiting k s.table.live failed → ListsExactly failed (λ p. Contains facts p × ¬ (Holds (sight s) p.fact))
@@ -35,7 +28,7 @@ module _ {s : Stage} (repair : IsUnderRepair s) where
       to p (l, there, waits, is) = ((tabled p).1 (l, there, is), by_certificate (λ q. ¬ (Holds (sight s) q.fact)) k p l.certificate is ((repair.timely l there).failed waits))
 
       from : (p : Placed) → Contains facts p × ¬ (Holds (sight s) p.fact) → (l : LiveFact) × Contains s.table.live l × IsTrue l.waits × (l.certificate ≡ owned_by k p)
-      from p (there, fails) = let l = (tabled p).0 there in by_wait l.0 l.1 l.2 (waits_or_not l.0)
+      from p (there, fails) = let l = (tabled p).0 there in by_wait l.0 l.1 l.2 (cases_Bool l.0.waits)
         where
           by_wait : (l : LiveFact) → Contains s.table.live l → l.certificate ≡ owned_by k p → IsTrue l.waits ⊎ (l.waits ≡ false) → (l : LiveFact) × Contains s.table.live l × IsTrue l.waits × (l.certificate ≡ owned_by k p)
           by_wait l live is (inl waits) = (l, live, waits, is)
@@ -57,7 +50,7 @@ module _ {s : Stage} (repair : IsUnderRepair s) where
 
       by_age : (l : LiveFact) → Contains table.live l → l.certificate.structure ≡ k → Contains s.table.live l ⊎ IsTimed (scene_at s.motions) s.moment l → l.waits ≡ false
       by_age l there is (inr timed) = timed.waits_not
-      by_age l there is (inl old) = by_wait (waits_or_not l)
+      by_age l there is (inl old) = by_wait (cases_Bool l.waits)
         where
           by_wait : IsTrue l.waits ⊎ (l.waits ≡ false) → l.waits ≡ false
           by_wait (inl waits) = absurd ((repair.timely l old).failed waits (holds l there is))

@@ -1,5 +1,6 @@
 -- The start: no number is live, at the instant 0, and the structures have no members.
-use Rattle.std.proofs.Common.{◌≡◌, ◌⊎◌, inl, inr, refl, sym, ap, ap₂, ◌∙◌, subst, arith, ℕ, zero, suc, ◌+◌, List, [], ◌∷◌, ◌++◌, length, Option, Some, None, replicate, slice_get, Contains}
+use Rattle.std.proofs.Common.{ext_get_or, ◌≡◌, ◌⊎◌, inl, inr, refl, sym, ap, ◌∙◌, subst, arith, ℕ, zero, suc, ◌+◌, List, [], ◌∷◌, ◌++◌, length, Option, Some, None, replicate, slice_get, Contains}
+use Rattle.std.proofs.lemmas.List.{length-replicate}
 use Rattle.std.proofs.lemmas.Option.{same_Some}
 use Rattle.kin_basics.proofs.Members.{contains_none}
 use Rattle.kin_basics.proofs.Places.{get-push_cases}
@@ -10,6 +11,7 @@ use Rattle.kin_motion.specs.declared.keep.Keep.{Keep}
 use Rattle.kin_motion.specs.Course.{Course, motion_of, live_of}
 use Rattle.kin_motion.specs.Numbers.{filled_from}
 use Rattle.kin_motion.specs.Scene.{scene_at}
+use Rattle.kin_motion.proofs.SlotLaws.{none_live as none_live_at}
 use Rattle.kin_cert.specs.Told.{HasFactsOf}
 use Rattle.kin_world.specs.declared.structure.Structure.{Structure}
 use Rattle.kin_world.specs.Kinds.{placed_facts}
@@ -19,10 +21,7 @@ use Rattle.kin_world.proofs.StructureLaws.{settled_vacant}
 
 -- a list of so many empty slots
 pub empty_slots : (n : ℕ) (ms : List (Option Course)) → length ms ≡ n → ((i : ℕ) → motion_of ms i ≡ None) → ms ≡ replicate n None
-empty_slots zero [] e h = refl
-empty_slots zero (o ∷ ms) e h = absurd cc
-empty_slots (suc n) [] e h = absurd cc
-empty_slots (suc n) (o ∷ ms) e h = ap₂ (λ p ps. p ∷ ps) (h zero) (empty_slots n ms (let same : suc (length ms) ≡ suc n = e in cc) (λ i. h (suc i)))
+empty_slots n ms e h = ext_get_or None ms (replicate n None) (e ∙ sym (length-replicate n None)) (λ i low. h i ∙ sym (none_live_at n i))
 
 none_filled : (n k : ℕ) → filled_from {A = Course} k (replicate n None) ≡ []
 none_filled zero k = refl

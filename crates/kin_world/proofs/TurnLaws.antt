@@ -33,10 +33,6 @@ seen_so P inner seen n motion is there so had shown =
     let same : motion ≡ had = same_Some _ _ (sym there ∙ ap (λ (w : World). motion_of w.motions n) is ∙ shown) in
     subst (λ (c : Course). P seen.moment c) same (subst (λ (w : World). P w.moment motion) is so)
 
--- what is so of two numbers as they were handed on is so of them
-pub handed_on : (P : ℤ → ℤ → Type 0) (u v u' v' : ℤ) → u' ≡ u → v' ≡ v → P u' v' → P u v
-handed_on P u v u' v' e f so = subst (λ x. P x v) e (subst (λ y. P u' y) f so)
-
 -- a motion that a live number turns to may be taken up
 pub can_turn : {E : Type 0} (w : World) (n : ℕ) (u v : ℤ) → is_live w.motions n ≡ true → (r : Result Course E)
     → ((had : Course) → motion_of w.motions n ≡ Some had → IfOk r (λ new. (w.moment.phase ≡ At) × TurnsTo w.moment.at u v had new × IsSlow new))

@@ -1,10 +1,7 @@
-use Rattle.std.proofs.Common.{subst, arith}
+use Rattle.std.proofs.Common.{arith}
 use Rattle.kin_basics.proofs.Results.{from_two}
-use Rattle.kin_motion.specs.Deltas.{Change}
-use Rattle.kin_motion.specs.Kinetics.{HasChanged}
 use Rattle.kin_motion.specs.Scene.{scene_at}
 use Rattle.kin_motion.proofs.MotionScenes.{real_at}
-use Rattle.kin_world.specs.Kinds.{placed_facts}
 use Rattle.kin_world.specs.Upkeep.{stage_of, sight}
 use Rattle.kin_world.proofs.MarkLaws.{live_after, hold_for, carried_on}
 use Rattle.kin_world.proofs.InOrder.{standing_read, may_tell}
@@ -27,7 +24,7 @@ carry_out-requires g c =
 pub tell-requires : goal.tell-requires
 tell-requires g c =
     let s = standing_read c.requires.marked.1.in_order c.args.k c.index_mut.result.now c.requires.within c.index_mut.ensures.value in
-    let changed = subst (λ (out : Change). HasChanged (placed_facts c.index_mut.result.now) (placed_facts c.carry_out.new.self) out c.carry_out.new.out) c.clear.ensures c.in_ok-carry_out.ensures.delta in
+    let changed = rw c.clear.ensures at c.in_ok-carry_out.ensures.delta in
     let e = c.in_ok-carry_out.ensures in
     let settled = settled_now c.args.self.now.size s.0 (sight (stage_of c.args.self.now)) c.carry_out.new.self (e.kind c.args.self.now.size s.0 (s.3.fine.ahead (omega arith)).kind) e.rest e.members e.settled in
     may_tell c.requires.marked.1.in_order (sight (stage_of c.args.self.now)) c.args.k s.0 c.index_mut.result.now c.carry_out.new.self c.carry_out.new.out s.1 s.3 settled changed
@@ -35,7 +32,7 @@ tell-requires g c =
 pub returns-clause-goes_on : goal.returns-clause-goes_on
 returns-clause-goes_on g c =
     let s = standing_read c.requires.marked.1.in_order c.args.k c.index_mut.result.now c.requires.within c.index_mut.ensures.value in
-    let changed = subst (λ (out : Change). HasChanged (placed_facts c.index_mut.result.now) (placed_facts c.carry_out.new.self) out c.carry_out.new.out) c.clear.ensures c.in_ok-carry_out.ensures.delta in
+    let changed = rw c.clear.ensures at c.in_ok-carry_out.ensures.delta in
     let e = c.in_ok-carry_out.ensures in
     let settled = settled_now c.args.self.now.size s.0 (sight (stage_of c.args.self.now)) c.carry_out.new.self (e.kind c.args.self.now.size s.0 (s.3.fine.ahead (omega arith)).kind) e.rest e.members e.settled in
     from_two c.tell.result

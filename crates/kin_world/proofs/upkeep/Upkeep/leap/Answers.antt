@@ -1,8 +1,5 @@
-use Rattle.std.proofs.Common.{ap, sym, subst, List, All}
-use Rattle.kin_motion.specs.Course.{live_of}
-use Rattle.kin_motion.specs.Forms.{IsAskable}
-use Rattle.kin_cert.specs.declared.owned.Owned.{Owned}
-use Rattle.kin_world.specs.Upkeep.{Stage, AreWaiting}
+use Rattle.std.proofs.Common.{ap}
+use Rattle.kin_world.specs.Upkeep.{Stage}
 use Rattle.kin_world.proofs.LeapLaws.{landing_under_repair, has_landed}
 use Rattle.kin_world.proofs.TakeLaws.{given_same, given_waiting, given_askable, settled_since}
 use Rattle.kin_world.proofs.upkeep.Upkeep.leap.Goals as goal
@@ -14,7 +11,7 @@ pub landing-self-requires : goal.landing-self-requires
 landing-self-requires g c =
     let out = c.in_ok-give_failing.ensures.given in
     record {
-      askable = subst (λ (os : List Owned). All (λ o. IsAskable (live_of c.args.self.now.motions) o.fact.form) os) (sym c.deref.ensures.value)
+      askable = rw c.deref.ensures.value
           (given_askable c.requires.sound c.give_failing.new.self out.has_taken c.give_failing.new.given.items (given_same out));
     }
 
@@ -24,7 +21,7 @@ repair_each-requires g c =
     let landing = rw c.deref.ensures.value at c.landing-self.ensures in
     record {
       repair = landing_under_repair c.requires.sound c.give_failing.new.self out.has_taken c.args.due.now c.args.limit.now c.requires.failing c.give_failing.new.given.items (given_same out) c.landing-self.result landing c.in_ok-give_failing.ensures.once c.give_failing.ensures.made;
-      waiting = subst (λ (os : List Owned). AreWaiting 0 c.give_failing.new.self.live os) (sym c.deref-2.ensures.value)
+      waiting = rw c.deref-2.ensures.value
           (given_waiting c.requires.sound c.give_failing.new.self out.has_taken c.give_failing.new.given.items out.once (given_same out));
     }
 

@@ -1,11 +1,8 @@
-use Rattle.std.proofs.Common.{sym, ap, subst, ◌∙◌, List, All, map}
-use Rattle.kin_motion.specs.Course.{live_of}
-use Rattle.kin_motion.specs.Forms.{IsAskable}
+use Rattle.std.proofs.Common.{ap, ◌∙◌, List, map}
 use Rattle.kin_motion.specs.Journal.{seen_in}
 use Rattle.kin_motion.specs.Scene.{scene_at}
 use Rattle.kin_cert.specs.declared.owned.Owned.{Owned}
 use Rattle.kin_cert.specs.Facts.{certificate_of}
-use Rattle.kin_world.specs.Upkeep.{AreWaiting}
 use Rattle.kin_world.proofs.TakeLaws.{taken_waiting, taken_askable, taken_under_repair, taken_block, settled_since}
 use Rattle.kin_world.proofs.upkeep.Upkeep.pass.Goals as goal
 
@@ -14,15 +11,14 @@ take_failing-requires-clause-none_waits g c = c.requires.sound.none_waits
 
 pub block_of-requires : goal.block_of-requires
 block_of-requires g c =
-    subst (λ (os : List Owned). All (λ o. IsAskable (live_of c.args.self.now.motions) o.fact.form) os) (sym c.deref.ensures.value)
-    (taken_askable c.requires.sound c.take_failing.new.self c.in_ok-taken.ensures.taken)
+    rw c.deref.ensures.value (taken_askable c.requires.sound c.take_failing.new.self c.in_ok-taken.ensures.taken)
 
 pub repair_each-requires : goal.repair_each-requires
 repair_each-requires g c =
     let taken = c.in_ok-taken.ensures.taken in
     record {
       repair = taken_under_repair c.requires.sound c.take_failing.new.self taken c.args.moment.now c.requires.failing c.in_ok-taken.ensures.once c.take_failing.ensures.made;
-      waiting = subst (λ (os : List Owned). AreWaiting 0 c.take_failing.new.self.live os) (sym c.deref-2.ensures.value) (taken_waiting c.requires.sound c.take_failing.new.self taken);
+      waiting = rw c.deref-2.ensures.value (taken_waiting c.requires.sound c.take_failing.new.self taken);
     }
 
 pub returns-clause-next : goal.returns-clause-next

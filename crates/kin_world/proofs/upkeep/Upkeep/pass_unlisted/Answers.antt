@@ -1,11 +1,10 @@
-use Rattle.std.proofs.Common.{length, map, refl, sym, ap, subst, ◌∙◌, List}
+use Rattle.std.proofs.Common.{length, map, refl, sym, ap, ◌∙◌}
 use Rattle.std.proofs.lemmas.List.{length-map}
 use Rattle.std.proofs.lemmas.List.Sorted.{length_permutation}
 use Rattle.kin_motion.specs.Journal.{Block, Failure, seen_in}
 use Rattle.kin_motion.specs.Scene.{scene_at}
 use Rattle.kin_cert.specs.declared.owned.Owned.{Owned}
 use Rattle.kin_cert.specs.Facts.{certificate_of}
-use Rattle.kin_world.specs.Upkeep.{AreWaiting}
 use Rattle.kin_world.proofs.TakeLaws.{given_same, given_waiting, taken_under_repair, taken_block, settled_since}
 use Rattle.kin_world.proofs.upkeep.Upkeep.pass_unlisted.Goals as goal
 
@@ -17,7 +16,7 @@ repair_each-requires g c =
     let out = c.in_ok-give_failing.ensures.given in
     record {
       repair = taken_under_repair c.requires.sound c.give_failing.new.self out.has_taken c.args.moment.now c.requires.failing c.in_ok-give_failing.ensures.once c.give_failing.ensures.made;
-      waiting = subst (λ (os : List Owned). AreWaiting 0 c.give_failing.new.self.live os) (sym c.deref.ensures.value)
+      waiting = rw c.deref.ensures.value
           (given_waiting c.requires.sound c.give_failing.new.self out.has_taken c.give_failing.new.given.items out.once (given_same out));
     }
 

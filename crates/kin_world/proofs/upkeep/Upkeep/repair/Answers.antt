@@ -1,11 +1,6 @@
-use Rattle.std.proofs.Common.{sym, subst, List}
 use Rattle.kin_basics.proofs.Results.{from_two}
-use Rattle.kin_motion.specs.declared.fact.Placed.{Placed}
-use Rattle.kin_motion.specs.Deltas.{Change}
-use Rattle.kin_motion.specs.Kinetics.{HasChanged}
 use Rattle.kin_motion.proofs.MotionScenes.{real_at}
 use Rattle.kin_world.specs.Kinds.{placed_facts}
-use Rattle.kin_world.specs.Structures.{AreFailing}
 use Rattle.kin_world.specs.Upkeep.{stage_of, sight}
 use Rattle.kin_world.proofs.InOrder.{standing_read, may_tell}
 use Rattle.kin_world.proofs.RepairLaws.{waiting_fail, repaired}
@@ -19,14 +14,14 @@ settle-requires g c =
       real = real_at c.args.self.now.motions c.args.self.now.moment c.requires.repair.canonical;
       rest = s.3.fine.rest;
       members = s.3.fine.members;
-      failing = subst (λ (ps : List Placed). AreFailing (placed_facts c.index_mut.result.now) (sight (stage_of c.args.self.now)) ps) (sym c.deref.ensures.value)
+      failing = rw c.deref.ensures.value
           (record { listed = waiting_fail c.requires.repair c.args.k (placed_facts c.index_mut.result.now) c.args.self.now.failed.items s.3.tabled c.requires.failed });
     }
 
 pub tell-requires : goal.tell-requires
 tell-requires g c =
     let s = standing_read c.requires.repair c.args.k c.index_mut.result.now c.requires.within c.index_mut.ensures.value in
-    let changed = subst (λ (out : Change). HasChanged (placed_facts c.index_mut.result.now) (placed_facts c.settle.new.self) out c.settle.new.out) c.clear.ensures c.in_ok-settle.ensures.delta in
+    let changed = rw c.clear.ensures at c.in_ok-settle.ensures.delta in
     let e = c.in_ok-settle.ensures in
     let settled = settled_now c.args.self.now.size s.0 (sight (stage_of c.args.self.now)) c.settle.new.self (e.kind c.args.self.now.size s.0 s.3.fine.kind) e.rest e.members e.settled in
     may_tell c.requires.repair (sight (stage_of c.args.self.now)) c.args.k s.0 c.index_mut.result.now c.settle.new.self c.settle.new.out s.1 s.3 settled changed
@@ -34,7 +29,7 @@ tell-requires g c =
 pub returns-clause-repaired : goal.returns-clause-repaired
 returns-clause-repaired g c =
     let s = standing_read c.requires.repair c.args.k c.index_mut.result.now c.requires.within c.index_mut.ensures.value in
-    let changed = subst (λ (out : Change). HasChanged (placed_facts c.index_mut.result.now) (placed_facts c.settle.new.self) out c.settle.new.out) c.clear.ensures c.in_ok-settle.ensures.delta in
+    let changed = rw c.clear.ensures at c.in_ok-settle.ensures.delta in
     let e = c.in_ok-settle.ensures in
     let settled = settled_now c.args.self.now.size s.0 (sight (stage_of c.args.self.now)) c.settle.new.self (e.kind c.args.self.now.size s.0 s.3.fine.kind) e.rest e.members e.settled in
     from_two c.tell.result

@@ -1,7 +1,5 @@
-use Rattle.std.proofs.Common.{◌<◌, ℕ, Option, List, length, refl, sym, subst, arith}
-use Rattle.kin_motion.specs.declared.fact.Placed.{Placed}
+use Rattle.std.proofs.Common.{refl, arith}
 use Rattle.kin_motion.proofs.KeepLaws.{few_at_most}
-use Rattle.kin_world.specs.Upkeep.{ListsWaiting, turns_left}
 use Rattle.kin_world.proofs.GatherLaws.{turn_within, turn_failed, turn_shorter, turn_over, repaired_all}
 use Rattle.kin_world.proofs.MadeLaws.{come_first}
 use Rattle.kin_world.proofs.upkeep.Upkeep.repair_each.Goals as goal
@@ -17,8 +15,7 @@ pub repair-requires-clause-within : goal.repair-requires-clause-within
 repair-requires-clause-within g c = turn_within (rw c.in-Some.is at c.loop-turn.invariant)
 
 pub repair-requires-clause-failed : goal.repair-requires-clause-failed
-repair-requires-clause-failed g c =
-    subst (λ (ps : List Placed). ListsWaiting c.in-Some.k c.loop-turn.self.table.live ps) (sym c.in_ok-gather.ensures) (turn_failed (rw c.in-Some.is at c.loop-turn.invariant))
+repair-requires-clause-failed g c = rw c.in_ok-gather.ensures (turn_failed (rw c.in-Some.is at c.loop-turn.invariant))
 
 pub next_behind-turn-requires-clause-small : goal.next_behind-turn-requires-clause-small
 next_behind-turn-requires-clause-small g c =
@@ -29,7 +26,7 @@ next_behind-turn-requires-clause-small g c =
 
 pub loop-turn-smaller : goal.loop-turn-smaller
 loop-turn-smaller g c =
-    subst (λ (t : Option ℕ). turns_left (length c.repair.new.self.structures.items) c.next_behind-turn.result < turns_left (length c.loop-turn.self.structures.items) t) (sym c.in-Some.is)
+    rw c.in-Some.is
     (turn_shorter (rw c.in-Some.is at c.loop-turn.invariant) c.in_ok-repair.ensures.repaired c.repair.ensures.frame c.next_behind-turn.result c.next_behind-turn.ensures)
 
 pub loop-turn-preserved : goal.loop-turn-preserved

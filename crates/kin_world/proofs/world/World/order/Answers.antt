@@ -1,6 +1,4 @@
-use Rattle.std.proofs.Common.{sym, subst, List, ℕ}
 use Rattle.kin_motion.specs.declared.keep.Keep.TheVariants as keep
-use Rattle.kin_motion.specs.Orders.{IsOrder}
 use Rattle.kin_world.specs.Worlds.{scene_of}
 use Rattle.kin_world.proofs.world.World.order.Goals as goal
 
@@ -12,6 +10,6 @@ order-requires c =
 pub returns : goal.returns
 returns c = record {
   order = λ dx dy there.
-      subst (λ (xs : List ℕ). IsOrder (scene_of c.args.self.now) dx dy xs) (sym c.in-Ok.ensures.items)
+      rw c.in-Ok.ensures.items
       (c.order.ensures c.args.self.now.size dx dy (scene_of c.args.self.now) (c.structure.ensures.kept (keep.Order dx dy) there));
 }

@@ -1,5 +1,3 @@
-use Rattle.std.proofs.Common.{sym, subst, List, ◌≤◌, length}
-use Rattle.kin_motion.specs.declared.keep.Keep.{Keep}
 use Rattle.kin_motion.proofs.KeepLaws.{few_at_most}
 use Rattle.kin_world.proofs.Inside.{sound_inside}
 use Rattle.kin_world.proofs.world.World.place_of.Goals as goal
@@ -7,4 +5,4 @@ use Rattle.kin_world.proofs.world.World.place_of.Goals as goal
 pub place_of-requires-clause-few : goal.place_of-requires-clause-few
 place_of-requires-clause-few c =
     let sound = sound_inside c.self.inside c.self.view_is c.self.invariant c.requires.whole in
-    subst (λ (keeps : List Keep). length keeps ≤ 19) (sym c.deref.ensures.value) (few_at_most c.self.inside.upkeep.keeps.items sound.in_order.fit.keepable.few)
+    rw c.deref.ensures.value (few_at_most c.self.inside.upkeep.keeps.items sound.in_order.fit.keepable.few)

@@ -1,15 +1,12 @@
-use Rattle.std.proofs.Common.{subst, IsNone, IfSome, ◌↔◌, Contains}
-use Rattle.kin_algebra.specs.declared.sign.Sign.{Sign}
-use Rattle.kin_world.specs.Worlds.{World, certificate}
 use Rattle.kin_world.proofs.AskLaws.{some_certificate, no_certificate}
 use Rattle.kin_world.proofs.world.World.sign_of.Goals as goal
 
 pub returns-clause-some : goal.returns-clause-some
 returns-clause-some c =
-    subst (λ (v : World). IfSome c.sign_of.result (λ sign. Contains v.live (certificate c.args.structure c.args.part c.args.form.now sign))) c.self.view_is
+    rw (← c.self.view_is)
     (some_certificate c.self.inside.upkeep.table.live c.args.structure c.args.part c.args.form.now c.sign_of.result c.sign_of.ensures.some)
 
 pub returns-clause-none : goal.returns-clause-none
 returns-clause-none c =
-    subst (λ (v : World). IsNone c.sign_of.result ↔ ((sign : Sign) → ¬ (Contains v.live (certificate c.args.structure c.args.part c.args.form.now sign)))) c.self.view_is
+    rw (← c.self.view_is)
     (no_certificate c.self.inside.upkeep.table.live c.args.structure c.args.part c.args.form.now c.sign_of.result c.sign_of.ensures.some c.sign_of.ensures.none)
