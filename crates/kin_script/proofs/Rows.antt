@@ -14,7 +14,8 @@ use Rattle.kin_script.specs.Commands.{quadratic_at, root_of, at_of, command_of, 
 use Rattle.kin_script.specs.Grammar.{IsScript, IsFirstOutside, commands_of, behind_size, script_of_lines, script_of}
 
 -- carriage returns, a tab, a comment, a line without words, leading zeros and -0; no line feed at the end
-spelling : IsScript
+abbrev Spelling : Type 0
+Spelling = IsScript
     (codes "size 01\r\n\tkeep order 1 -0 # east\r\n\r\ninsert 0 4096 -4096 -0 007\r\norder 0")
     (record {
       size = 1;
@@ -22,25 +23,21 @@ spelling : IsScript
       journal = false;
       lines = (4, Insert 0 (record { x = pos 4096; y = neg_ℤ (pos 4096); u = pos 0; v = pos 7 })) ∷ (5, Order 0) ∷ [];
     })
-unfolding script_of lines_of words_of pieces_of numbered commands_of behind_size script_of_lines command_of question_of insert_of remove_of replace_of turn_of side_at quadratic_at root_of at_of order_of extreme_of box_of motion_at velocity_at number_at natural_at integer_at size_of direction_at keep_of journal_of header_line_of digits_after numeral_of natural_of integer_of ratio_of
-spelling = refl
 
 -- the same with a coordinate one too far out
-too_far : IsFirstOutside (codes "size 01\r\n\tkeep order 1 -0 # east\r\n\r\ninsert 0 4097 -4096 -0 007\r\norder 0") 4
-unfolding script_of lines_of words_of pieces_of numbered commands_of behind_size script_of_lines command_of question_of insert_of remove_of replace_of turn_of side_at quadratic_at root_of at_of order_of extreme_of box_of motion_at velocity_at number_at natural_at integer_at size_of direction_at keep_of journal_of header_line_of digits_after numeral_of natural_of integer_of ratio_of
-too_far = refl
+abbrev TooFar : Type 0
+TooFar = IsFirstOutside (codes "size 01\r\n\tkeep order 1 -0 # east\r\n\r\ninsert 0 4097 -4096 -0 007\r\norder 0") 4
 
 -- a fraction is one word, in lowest terms or not
-fraction : IsScript (codes "size 3\nat 6/004\n") (record { size = 3; keeps = []; journal = false; lines = (2, AtRatio (pos 6) (pos 4)) ∷ [] })
-unfolding script_of lines_of words_of pieces_of numbered commands_of behind_size script_of_lines command_of question_of insert_of remove_of replace_of turn_of side_at quadratic_at root_of at_of order_of extreme_of box_of motion_at velocity_at number_at natural_at integer_at size_of direction_at keep_of journal_of header_line_of digits_after numeral_of natural_of integer_of ratio_of
-fraction = refl
+abbrev Fraction : Type 0
+Fraction = IsScript (codes "size 3\nat 6/004\n") (record { size = 3; keeps = []; journal = false; lines = (2, AtRatio (pos 6) (pos 4)) ∷ [] })
 
-root : IsScript (codes "size 1\nat root 2 -0 -4 hi\n") (record { size = 1; keeps = []; journal = false; lines = (2, AtRoot (pos 2) (pos 0) (neg_ℤ (pos 4)) true) ∷ [] })
-unfolding script_of lines_of words_of pieces_of numbered commands_of behind_size script_of_lines command_of question_of insert_of remove_of replace_of turn_of side_at quadratic_at root_of at_of order_of extreme_of box_of motion_at velocity_at number_at natural_at integer_at size_of direction_at keep_of journal_of header_line_of digits_after numeral_of natural_of integer_of ratio_of
-root = refl
+abbrev Root : Type 0
+Root = IsScript (codes "size 1\nat root 2 -0 -4 hi\n") (record { size = 1; keeps = []; journal = false; lines = (2, AtRoot (pos 2) (pos 0) (neg_ℤ (pos 4)) true) ∷ [] })
 
 -- a point leaves, one starts anew and one turns
-changed : IsScript
+abbrev Changed : Type 0
+Changed = IsScript
     (codes "size 2\nremove 3\nreplace 0 1 -2 3 -4\nturn 1 -4096 007\n")
     (record {
       size = 2;
@@ -52,15 +49,13 @@ changed : IsScript
           ∷ (4, Turn 1 (neg_ℤ (pos 4096)) (pos 7))
           ∷ [];
     })
-unfolding script_of lines_of words_of pieces_of numbered commands_of behind_size script_of_lines command_of question_of insert_of remove_of replace_of turn_of side_at quadratic_at root_of at_of order_of extreme_of box_of motion_at velocity_at number_at natural_at integer_at size_of direction_at keep_of journal_of header_line_of digits_after numeral_of natural_of integer_of ratio_of
-changed = refl
 
-half_a_velocity : IsFirstOutside (codes "size 1\nremove 0\nturn 0 1\n") 3
-unfolding script_of lines_of words_of pieces_of numbered commands_of behind_size script_of_lines command_of question_of insert_of remove_of replace_of turn_of side_at quadratic_at root_of at_of order_of extreme_of box_of motion_at velocity_at number_at natural_at integer_at size_of direction_at keep_of journal_of header_line_of digits_after numeral_of natural_of integer_of ratio_of
-half_a_velocity = refl
+abbrev HalfAVelocity : Type 0
+HalfAVelocity = IsFirstOutside (codes "size 1\nremove 0\nturn 0 1\n") 3
 
 -- the journal is on, and an order and an extreme point are kept
-journal_on : IsScript
+abbrev JournalOn : Type 0
+JournalOn = IsScript
     (codes "size 1\njournal on\nkeep order 1 0\nkeep extreme 0 -1\nlive\nnext\nextreme 1\n")
     (record {
       size = 1;
@@ -68,25 +63,23 @@ journal_on : IsScript
       journal = true;
       lines = (5, Live) ∷ (6, Next) ∷ (7, Extreme 1) ∷ [];
     })
+
+abbrev SecondJournalLine : Type 0
+SecondJournalLine = IsFirstOutside (codes "size 1\njournal on\njournal off\nlive\n") 3
+
+abbrev EmptyInput : Type 0
+EmptyInput = IsFirstOutside [] 1
+
+abbrev NumberOutOfRange : Type 0
+NumberOutOfRange = IsFirstOutside (codes "size 1\ninsert 2 0 0 0 0\n") 2
+
+abbrev LateKeep : Type 0
+LateKeep = IsFirstOutside (codes "size 1\norder 0\nkeep order 1 0\n") 3
+
+abbrev WordsOnlyInComments : Type 0
+WordsOnlyInComments = IsFirstOutside (codes "# one\n\n  # two") 4
+
+-- all of it is so
+rows : Spelling × TooFar × Fraction × Root × Changed × HalfAVelocity × JournalOn × SecondJournalLine × EmptyInput × NumberOutOfRange × LateKeep × WordsOnlyInComments
 unfolding script_of lines_of words_of pieces_of numbered commands_of behind_size script_of_lines command_of question_of insert_of remove_of replace_of turn_of side_at quadratic_at root_of at_of order_of extreme_of box_of motion_at velocity_at number_at natural_at integer_at size_of direction_at keep_of journal_of header_line_of digits_after numeral_of natural_of integer_of ratio_of
-journal_on = refl
-
-second_journal_line : IsFirstOutside (codes "size 1\njournal on\njournal off\nlive\n") 3
-unfolding script_of lines_of words_of pieces_of numbered commands_of behind_size script_of_lines command_of question_of insert_of remove_of replace_of turn_of side_at quadratic_at root_of at_of order_of extreme_of box_of motion_at velocity_at number_at natural_at integer_at size_of direction_at keep_of journal_of header_line_of digits_after numeral_of natural_of integer_of ratio_of
-second_journal_line = refl
-
-empty_input : IsFirstOutside [] 1
-unfolding script_of lines_of numbered script_of_lines
-empty_input = refl
-
-number_out_of_range : IsFirstOutside (codes "size 1\ninsert 2 0 0 0 0\n") 2
-unfolding script_of lines_of words_of pieces_of numbered commands_of behind_size script_of_lines command_of question_of insert_of remove_of replace_of turn_of side_at quadratic_at root_of at_of order_of extreme_of box_of motion_at velocity_at number_at natural_at integer_at size_of direction_at keep_of journal_of header_line_of digits_after numeral_of natural_of integer_of ratio_of
-number_out_of_range = refl
-
-late_keep : IsFirstOutside (codes "size 1\norder 0\nkeep order 1 0\n") 3
-unfolding script_of lines_of words_of pieces_of numbered commands_of behind_size script_of_lines command_of question_of insert_of remove_of replace_of turn_of side_at quadratic_at root_of at_of order_of extreme_of box_of motion_at velocity_at number_at natural_at integer_at size_of direction_at keep_of journal_of header_line_of digits_after numeral_of natural_of integer_of ratio_of
-late_keep = refl
-
-words_only_in_comments : IsFirstOutside (codes "# one\n\n  # two") 4
-unfolding script_of lines_of words_of pieces_of numbered script_of_lines
-words_only_in_comments = refl
+rows = (refl, refl, refl, refl, refl, refl, refl, refl, refl, refl, refl, refl)
