@@ -1,5 +1,5 @@
--- The certificate of an owner and a form.
-use Rattle.std.proofs.Common.{◌≡◌, refl, sym, ap, subst, ℕ, List, Option, Some, None, Contains, ◌↔◌, IsNone, IfSome}
+-- What a table tells of an owner and a form, told of certificates.
+use Rattle.std.proofs.Common.{◌≡◌, ◌↔◌, refl, sym, subst, ℕ, List, Option, Some, None, Contains, IsNone}
 use Rattle.kin_algebra.specs.declared.sign.Sign.{Sign}
 use Rattle.kin_motion.specs.declared.form.Form.{Form}
 use Rattle.kin_motion.specs.Live.{Certificate}
@@ -7,37 +7,23 @@ use Rattle.kin_motion.proofs.SetLaws.{contains_map, contains_mapped}
 use Rattle.kin_cert.specs.Facts.{LiveFact, IsAt}
 use Rattle.kin_cert.specs.Told.{certificates_of}
 use Rattle.kin_world.specs.Worlds.{certificate}
+use Rattle.kin_world.proofs.Certificates.{at_its}
 
--- the certificate of a fact of the owner and the form
-fact_certificate : (structure part : ℕ) (form : Form) (sign : Sign) (l : LiveFact) → IsAt structure part form l → l.certificate.placed.fact.sign ≡ sign → l.certificate ≡ certificate structure part form sign
-fact_certificate structure part form sign l at e = λ i. record { structure = at.structure_is i; placed = record { part = at.part_is i; fact = record { form = at.form_is i; sign = e i } } }
+-- where there is no answer exactly in a case, the answer is none exactly in that case
+pub none_when : {A N : Type 0} (answer : Option A) → (answer ≡ None) ↔ N → IsNone answer ↔ N
+none_when None h = (λ x. h.0 refl, λ n. refl)
+none_when (Some a) h = (λ x. absurd cc, λ n. let e : Some a ≡ None = h.1 n in absurd cc)
 
--- a fact that the table has is a certificate
-pub some_certificate : (live : List LiveFact) (structure part : ℕ) (form : Form) (answer : Option Sign)
-    → IfSome answer (λ sign. (l : LiveFact) × Contains live l × IsAt structure part form l × (l.certificate.placed.fact.sign ≡ sign))
-    → IfSome answer (λ sign. Contains (certificates_of live) (certificate structure part form sign))
-some_certificate live structure part form None some = tt
-some_certificate live structure part form (Some x) (l, there, at, sign_is) =
-    subst (λ (c : Certificate). Contains (certificates_of live) c) (fact_certificate structure part form x l at sign_is) (contains_map (λ (k : LiveFact). k.certificate) live l there)
+module _ (live : List LiveFact) (structure part : ℕ) (form : Form) where
+  -- a live fact of the owner and the form has the certificate with its sign
+  pub has_certificate : (sign : Sign) → (l : LiveFact) × Contains live l × IsAt structure part form l × (l.certificate.placed.fact.sign ≡ sign) → Contains (certificates_of live) (certificate structure part form sign)
+  has_certificate sign (l, there, at, is) =
+      let e : l.certificate ≡ certificate structure part form sign = λ i. record { structure = at.structure_is i; placed = record { part = at.part_is i; fact = record { form = at.form_is i; sign = is i } } } in
+      subst (λ (c : Certificate). Contains (certificates_of live) c) e (contains_map (λ (k : LiveFact). k.certificate) live l there)
 
--- the table has no fact of the owner and the form exactly where no certificate is of them
-pub no_certificate : (live : List LiveFact) (structure part : ℕ) (form : Form) (answer : Option Sign)
-    → IfSome answer (λ sign. (l : LiveFact) × Contains live l × IsAt structure part form l × (l.certificate.placed.fact.sign ≡ sign))
-    → (answer ≡ None) ↔ ((l : LiveFact) → Contains live l → ¬ (IsAt structure part form l))
-    → IsNone answer ↔ ((sign : Sign) → ¬ (Contains (certificates_of live) (certificate structure part form sign)))
-no_certificate live structure part form answer some none = (to answer none, from answer some)
-  where
-    at_certificate : (sign : Sign) (l : LiveFact) → certificate structure part form sign ≡ l.certificate → IsAt structure part form l
-    at_certificate sign l e = record {
-      structure_is = sym (ap (λ (c : Certificate). c.structure) e);
-      part_is = sym (ap (λ (c : Certificate). c.placed.part) e);
-      form_is = sym (ap (λ (c : Certificate). c.placed.fact.form) e);
-    }
-
-    to : (a : Option Sign) → (a ≡ None) ↔ ((l : LiveFact) → Contains live l → ¬ (IsAt structure part form l)) → IsNone a → (sign : Sign) → ¬ (Contains (certificates_of live) (certificate structure part form sign))
-    to None none h sign there = let l = contains_mapped (λ (k : LiveFact). k.certificate) live _ there in none.0 refl l.0 l.1 (at_certificate sign l.0 l.2)
-    to (Some x) none h sign there = absurd cc
-
-    from : (a : Option Sign) → IfSome a (λ sign. (l : LiveFact) × Contains live l × IsAt structure part form l × (l.certificate.placed.fact.sign ≡ sign)) → ((sign : Sign) → ¬ (Contains (certificates_of live) (certificate structure part form sign))) → IsNone a
-    from None some never = refl
-    from (Some x) some never = absurd (never x (some_certificate live structure part form (Some x) some))
+  -- so there is no such fact exactly where there is no such certificate
+  pub no_certificate : ((l : LiveFact) → Contains live l → ¬ (IsAt structure part form l)) ↔ ((sign : Sign) → ¬ (Contains (certificates_of live) (certificate structure part form sign)))
+  no_certificate = (
+    λ none sign there. let l = contains_mapped (λ (k : LiveFact). k.certificate) live _ there in none l.0 l.1 (at_its l.0 (certificate structure part form sign) (sym l.2)),
+    λ never l there at. never l.certificate.placed.fact.sign (has_certificate l.certificate.placed.fact.sign (l, there, at, refl)),
+  )

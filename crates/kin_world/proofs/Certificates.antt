@@ -1,20 +1,26 @@
--- Live facts that are told apart by their certificates alone.
-use Rattle.std.proofs.Common.{◌≡◌, ◌↔◌, refl, sym, ◌∙◌, subst, ℕ, List, Contains}
+-- The certificates of live facts.
+use Rattle.std.proofs.Common.{◌≡◌, ◌↔◌, refl, ap, sym, ◌∙◌, subst, ℕ, List, Contains}
 use Rattle.kin_motion.specs.declared.fact.Placed.{Placed}
 use Rattle.kin_motion.specs.Live.{Certificate}
 use Rattle.kin_motion.proofs.SetLaws.{contains_map, contains_mapped}
-use Rattle.kin_cert.specs.Facts.{LiveFact}
+use Rattle.kin_cert.specs.Facts.{LiveFact, IsAt}
 use Rattle.kin_cert.specs.Told.{HasFactsOf, certificates_of}
+
+-- a fact is at the owner and of the form that its certificate tells
+pub at_its : (l : LiveFact) (c : Certificate) → l.certificate ≡ c → IsAt c.structure c.placed.part c.placed.fact.form l
+at_its l c e = record { structure_is = ap (λ (x : Certificate). x.structure) e; part_is = ap (λ (x : Certificate). x.placed.part) e; form_is = ap (λ (x : Certificate). x.placed.fact.form) e }
+
+-- a certificate of the first is one of the second, where a fact of the second has it, too
+pub listed_through : (from to : List LiveFact) (c : Certificate) → ((l : LiveFact) → Contains from l → l.certificate ≡ c → (k : LiveFact) × Contains to k × (k.certificate ≡ l.certificate))
+    → Contains (certificates_of from) c → Contains (certificates_of to) c
+listed_through from to c each there =
+    let l = contains_mapped (λ (x : LiveFact). x.certificate) from c there in
+    let k = each l.0 l.1 (sym l.2) in
+    subst (λ (x : Certificate). Contains (certificates_of to) x) (k.2 ∙ sym l.2) (contains_map (λ (x : LiveFact). x.certificate) to k.0 k.1)
 
 -- each certificate of the first is one of the second
 pub record AreAmong (from to : List LiveFact) : Type 0 where
   pub each : (l : LiveFact) → Contains from l → (k : LiveFact) × Contains to k × (k.certificate ≡ l.certificate)
-
-listed_through : {from to : List LiveFact} → AreAmong from to → (c : Certificate) → Contains (certificates_of from) c → Contains (certificates_of to) c
-listed_through {from} {to} among c there =
-    let l = contains_mapped (λ (x : LiveFact). x.certificate) from c there in
-    let k = among.each l.0 l.1 in
-    subst (λ (x : Certificate). Contains (certificates_of to) x) (k.2 ∙ sym l.2) (contains_map (λ (x : LiveFact). x.certificate) to k.0 k.1)
 
 -- both have the same certificates
 pub record HaveSameCertificates (old new : List LiveFact) : Type 0 where
@@ -25,7 +31,7 @@ pub same_itself : (live : List LiveFact) → HaveSameCertificates live live
 same_itself live = record { stay = record { each = λ l there. (l, there, refl) }; only = record { each = λ l there. (l, there, refl) } }
 
 pub same_listed : {old new : List LiveFact} → HaveSameCertificates old new → (c : Certificate) → Contains (certificates_of old) c ↔ Contains (certificates_of new) c
-same_listed same c = (listed_through same.stay c, listed_through same.only c)
+same_listed {old} {new} same c = (listed_through old new c (λ l there is. same.stay.each l there), listed_through new old c (λ l there is. same.only.each l there))
 
 -- so a structure's facts are tabled as they were
 pub same_tabled : {old new : List LiveFact} → HaveSameCertificates old new → (j : ℕ) (facts : List Placed) → HasFactsOf old j facts → HasFactsOf new j facts

@@ -1,11 +1,12 @@
 -- What was made adds up, if the structures are changed in turn.
-use Rattle.std.proofs.Common.{◌≡◌, ℕ, ◌+◌, ◌-◌, ◌^◌, ◌≤◌, ◌⊎◌, inl, inr, sym, ap, ◌∙◌, subst, arith, List, [], ◌++◌, length-append, ◌≢◌, ◌↔◌, Contains}
+use Rattle.std.proofs.Common.{refl, ◌≡◌, ℕ, ◌+◌, ◌-◌, ◌^◌, ◌≤◌, ◌⊎◌, inl, inr, sym, ap, ◌∙◌, arith, List, [], ◌++◌, length-append, ◌≢◌, ◌↔◌, Contains}
 use Rattle.std.proofs.lemmas.Bool.{cases_eq}
 use Rattle.kin_motion.specs.Live.{Certificate}
-use Rattle.kin_motion.proofs.SetLaws.{contains_map, contains_mapped, exactly_none, exactly_both, exactly_in_words}
+use Rattle.kin_motion.proofs.SetLaws.{exactly_none, exactly_both, exactly_in_words}
 use Rattle.kin_cert.specs.Facts.{LiveFact, Facts}
 use Rattle.kin_cert.specs.Told.{certificates_of}
 use Rattle.kin_world.specs.Upkeep.{HasTimedNew, HasComeTo, AreLeft}
+use Rattle.kin_world.proofs.Certificates.{listed_through}
 
 -- the certificate is in the second list and not in the first
 abbrev IsNew : List Certificate → List Certificate → Certificate → Type 0
@@ -41,13 +42,13 @@ module _ (a b c : List Certificate) (k : ℕ)
 -- what is so of the other structures' live facts is so of their certificates
 others_listed : (k : ℕ) (old new : List LiveFact) → AreLeft k old new
     → (x : Certificate) → x.structure ≢ k → Contains (certificates_of old) x ↔ Contains (certificates_of new) x
-others_listed k old new others x apart = (through old new (λ l not_k. (others l not_k).0), through new old (λ l not_k. (others l not_k).1))
+others_listed k old new others x apart = (
+  listed_through old new x (λ l there is. (l, (others l (away l is)).0 there, refl)),
+  listed_through new old x (λ l there is. (l, (others l (away l is)).1 there, refl)),
+)
   where
-    through : (from to : List LiveFact) → ((l : LiveFact) → l.certificate.structure ≢ k → Contains from l → Contains to l) → Contains (certificates_of from) x → Contains (certificates_of to) x
-    through from to each there =
-        let l = contains_mapped (λ (y : LiveFact). y.certificate) from x there in
-        let moved = each l.0 (λ is. apart (ap (λ (y : Certificate). y.structure) l.2 ∙ is)) l.1 in
-        subst (λ (y : Certificate). Contains (certificates_of to) y) (sym l.2) (contains_map (λ (y : LiveFact). y.certificate) to l.0 moved)
+    away : (l : LiveFact) → l.certificate ≡ x → l.certificate.structure ≢ k
+    away l is e = apart (sym (ap (λ (y : Certificate). y.structure) is) ∙ e)
 
 -- at the start nothing has come
 pub come_first : (start : Facts) → start.made ≤ 2 ^ 64 - 1 → HasComeTo 0 start start

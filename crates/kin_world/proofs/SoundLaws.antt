@@ -32,6 +32,7 @@ use Rattle.kin_world.specs.Kinds.{placed_facts}
 use Rattle.kin_world.specs.Structures.{IsSettledFor}
 use Rattle.kin_world.specs.Upkeep.{Stage, IsSound, HasSameFrame, HasSettled, HasLanded, meaning, setting, sight}
 use Rattle.kin_world.specs.Worlds.{IsWhole, IsNextMoment, HasInserted, HasRemoved, HasMoved, HasPassed, HasLeftBehind, FailsWithin, with_facts_of}
+use Rattle.kin_world.proofs.Certificates.{at_its}
 use Rattle.kin_world.proofs.InOrder.{facts_hold, owner, seen_anew, standing, timed, timely_from_timed}
 use Rattle.kin_world.proofs.StructureLaws.{settled_askable, settled_facts, settled_later}
 
@@ -41,17 +42,10 @@ certificates_distinct [] once = distinct_none
 certificates_distinct (l ∷ ls) once =
     distinct_cons l.certificate (certificates_of ls) fresh (certificates_distinct ls (λ i j d low in_. once (suc i) (suc j) d (omega (arith, low)) (omega (arith, in_))))
   where
-    alike : (k : LiveFact) → l.certificate ≡ k.certificate → AreAlike l k
-    alike k e = record {
-      structure_is = ap (λ (c : Certificate). c.structure) e;
-      part_is = ap (λ (c : Certificate). c.placed.part) e;
-      form_is = ap (λ (c : Certificate). c.placed.fact.form) e;
-    }
-
     fresh : Contains (certificates_of ls) l.certificate → ⊥
     fresh h =
         let o = contains_mapped (λ (k : LiveFact). k.certificate) ls l.certificate h in
-        once 0 (suc o.1.0) o.0 (omega arith) (omega (arith, o.1.1)) (subst (λ (k : LiveFact). AreAlike l k) (sym o.1.2) (alike o.0 o.2))
+        once 0 (suc o.1.0) o.0 (omega arith) (omega (arith, o.1.1)) (subst (λ (k : LiveFact). AreAlike l k) (sym o.1.2) (at_its l o.0.certificate o.2))
 
 -- what a table answers about its least failure
 pub least_of : (live : List LiveFact) (due : Option Moment) (m : Moment) → IfSome due (IsLeastFailure live) → due ≡ Some m → IsLeastFailure live m

@@ -1,15 +1,9 @@
-use Rattle.std.proofs.Common.{◌≡◌, ◌↔◌, Option, Some, None, IsNone, refl}
 use Rattle.std.proofs.lemmas.Option.{IfSome_then}
-use Rattle.kin_num.specs.declared.instant.Moment.{Moment}
-use Rattle.kin_motion.specs.Journal.{NothingFails}
 use Rattle.kin_world.specs.Worlds.{IsNextMoment, world_setting}
+use Rattle.kin_world.proofs.AskLaws.{none_when}
 use Rattle.kin_world.proofs.Inside.{sound_inside, as_seen}
 use Rattle.kin_world.proofs.SoundLaws.{never_fails, next_moment}
 use Rattle.kin_world.proofs.world.World.next.Goals as goal
-
-none_when : {N : Type 0} (answer : Option Moment) → (answer ≡ None) ↔ N → IsNone answer ↔ N
-none_when None h = (λ x. h.0 refl, λ n. refl)
-none_when (Some m) h = (λ x. absurd cc, λ n. let e : Some m ≡ None = h.1 n in absurd cc)
 
 pub failing-requires : goal.failing-requires
 failing-requires c = (sound_inside c.self.inside c.self.view_is c.self.invariant c.requires).none_waits
@@ -21,6 +15,6 @@ returns-clause-some c =
 
 pub returns-clause-none : goal.returns-clause-none
 returns-clause-none c =
-    let tell = none_when c.failing.result c.failing.ensures.none in
+    let tell = c.failing.ensures.none in
     let all = never_fails (sound_inside c.self.inside c.self.view_is c.self.invariant c.requires) in
-    as_seen c.self.inside c.self.view_is c.self.invariant c.requires (λ v. IsNone c.failing.result ↔ NothingFails (world_setting v) v.moment) (λ h. all.0 (tell.0 h), λ h. tell.1 (all.1 h))
+    rw (← c.self.view_is) (none_when c.failing.result (λ e. all.0 (tell.0 e), λ never. tell.1 (all.1 never)))
