@@ -1,6 +1,5 @@
 -- Leaps lead to the limit.
-use Rattle.std.proofs.Common.{◌≡◌, Bool, true, false, ap, sym, ◌∙◌}
-use Rattle.std.specs.Prelude.{IsTrue}
+use Rattle.std.proofs.Common.{◌≡◌, Bool, true, false, ap, sym, ◌∙◌, IsTrue}
 use Rattle.kin_num.specs.declared.instant.Moment.{Moment}
 use Rattle.kin_num.specs.Order.{IsEarlier}
 use Rattle.kin_world.specs.Worlds.{World, IsWhole, HasLeapt, with_facts_of}

@@ -1,6 +1,5 @@
--- What `at` and `next` print, and where `next` leads, is one.
-use Rattle.std.proofs.Common.{◌≡◌, ◌≢◌, inl, inr, ℕ, List, [], ◌∷◌, ◌++◌, Bool, true, false, refl, sym, ap, ◌∙◌}
-use Rattle.std.specs.Prelude.{Contains, if◌then◌else◌}
+-- What `at` and `next` print is one, and so is what is told of the next block.
+use Rattle.std.proofs.Common.{◌≡◌, ◌≢◌, ◌⊎◌, inl, inr, ℕ, List, [], ◌∷◌, ◌++◌, Bool, true, false, refl, sym, ap, ◌∙◌, Contains, if◌then◌else◌}
 use Rattle.kin_num.specs.declared.instant.Moment.{Moment}
 use Rattle.kin_num.specs.declared.instant.Shape.{Shape}
 use Rattle.kin_num.specs.Canonical.{IsCanonical}
@@ -9,8 +8,7 @@ use Rattle.kin_num.proofs.MomentOrder.{not_earlier_itself, earlier_trans}
 use Rattle.kin_motion.specs.Journal.{Setting, Failure, Block, IsNextBlock, NothingFails, IsJournal}
 use Rattle.kin_motion.proofs.JournalLaws.{next_block_is_one, journal_is_one}
 use Rattle.kin_basics.proofs.Members.{contains_head}
-use Rattle.kin_script.specs.PrintedJournal.{block_lines, journal_lines, now_line}
-use Rattle.kin_script.specs.Replay.{LeadsToNext}
+use Rattle.kin_script.specs.PrintedJournal.{block_lines, journal_lines, none_line, now_line}
 use Rattle.kin_script.specs.States.{State, at, state_setting}
 use Rattle.kin_script.specs.Text.{IsPassedText, IsNextText}
 
@@ -40,16 +38,15 @@ not_reached t now b n nothing =
     let fails = (n.exact f.0).0 f.1 in
     fails.fails (nothing.1 f.0.was fails.live)
 
-pub one_next : (s : State) (x y : List ℕ) → IsCanonical s.moment.at → IsNextText s x → IsNextText s y → x ≡ y
-one_next s x y canonical (inl p) (inl q) =
-    p.2 ∙ ap (λ (b : Block). (if s.journal then block_lines b else []) ++ now_line b.moment) (next_block_is_one (state_setting s) s.moment p.0 q.0 canonical p.1 q.1) ∙ sym q.2
-one_next s x y canonical (inl p) (inr q) = absurd (not_nothing (state_setting s) s.moment p.0 canonical p.1 q.0)
-one_next s x y canonical (inr p) (inl q) = absurd (not_nothing (state_setting s) s.moment q.0 canonical q.1 p.0)
-one_next s x y canonical (inr p) (inr q) = p.1 ∙ sym q.1
+-- what is told of the next block, or else of there being none
+abbrev Tells : {A : Type 0} → State → (Block → A) → A → A → Type 0
+Tells s of_block of_none x = ((b : Block) × IsNextBlock (state_setting s) s.moment b × (x ≡ of_block b)) ⊎ (NothingFails (state_setting s) s.moment × (x ≡ of_none))
 
-pub one_lead : (s t u : State) → IsCanonical s.moment.at → LeadsToNext s t → LeadsToNext s u → t ≡ u
-one_lead s t u canonical (inl p) (inl q) =
-    p.2 ∙ ap (λ (b : Block). record s { moment = b.moment }) (next_block_is_one (state_setting s) s.moment p.0 q.0 canonical p.1 q.1) ∙ sym q.2
-one_lead s t u canonical (inl p) (inr q) = absurd (not_nothing (state_setting s) s.moment p.0 canonical p.1 q.0)
-one_lead s t u canonical (inr p) (inl q) = absurd (not_nothing (state_setting s) s.moment q.0 canonical q.1 p.0)
-one_lead s t u canonical (inr p) (inr q) = p.1 ∙ sym q.1
+pub one_told : {A : Type 0} (s : State) (of_block : Block → A) (of_none x y : A) → IsCanonical s.moment.at → Tells s of_block of_none x → Tells s of_block of_none y → x ≡ y
+one_told s of_block of_none x y canonical (inl p) (inl q) = p.2 ∙ ap of_block (next_block_is_one (state_setting s) s.moment p.0 q.0 canonical p.1 q.1) ∙ sym q.2
+one_told s of_block of_none x y canonical (inl p) (inr q) = absurd (not_nothing (state_setting s) s.moment p.0 canonical p.1 q.0)
+one_told s of_block of_none x y canonical (inr p) (inl q) = absurd (not_nothing (state_setting s) s.moment q.0 canonical q.1 p.0)
+one_told s of_block of_none x y canonical (inr p) (inr q) = p.1 ∙ sym q.1
+
+pub one_next : (s : State) (x y : List ℕ) → IsCanonical s.moment.at → IsNextText s x → IsNextText s y → x ≡ y
+one_next s x y canonical p q = one_told s (λ (b : Block). (if s.journal then block_lines b else []) ++ now_line b.moment) none_line x y canonical p q

@@ -1,7 +1,6 @@
 -- Every change in its range is refused, or has an outcome.
-use Rattle.std.proofs.Common.{◌≡◌, ◌⊎◌, inl, inr, ℕ, ◌≤◌, Bool, true, false, nat_le, ℤ, unsigned_abs, Option, Some, None, refl, sym, ap, ◌∙◌, subst, arith}
-use Rattle.std.specs.Prelude.{is_some}
-use Rattle.std.proofs.lemmas.Bool.Decides.{nat_tests}
+use Rattle.std.proofs.Common.{◌≡◌, ◌⊎◌, inl, inr, ◌<◌, ◌≤◌, true, false, ℤ, unsigned_abs, Option, Some, None, refl, sym, ap, ◌∙◌, subst, arith, is_some}
+use Rattle.std.proofs.lemmas.Bool.{cases_lt}
 use Rattle.std.proofs.lemmas.Option.{same_Some}
 use Rattle.kin_num.specs.declared.instant.Phase.{Phase}
 use Rattle.kin_num.specs.declared.instant.Phase.TheVariants.{At, After}
@@ -33,21 +32,14 @@ slow_some : (c : Course) → IsSlow c → IsSlowIfSome (Some c)
 slow_some c slow d e = subst IsSlow (same_Some c d e) slow
 
 -- ---- whether a motion is slow
-small_or_not : (z : ℤ) → (unsigned_abs z ≤ 4096) ⊎ ¬ (unsigned_abs z ≤ 4096)
-small_or_not z = by_test (unsigned_abs z) (nat_le (unsigned_abs z) 4096) refl
-  where
-    by_test : (n : ℕ) (b : Bool) → nat_le n 4096 ≡ b → (n ≤ 4096) ⊎ ¬ (n ≤ 4096)
-    by_test n true e = inl (grind (arith, nat_tests))
-    by_test n false e = inr (λ h. grind (arith, nat_tests))
-
 -- a motion with a slow velocity is slow or not
 slow_or_not : (c : Course) → unsigned_abs c.u ≤ 4096 → unsigned_abs c.v ≤ 4096 → IsSlow c ⊎ ¬ (IsSlow c)
-slow_or_not c u v = both (small_or_not c.x) (small_or_not c.y)
+slow_or_not c u v = both (cases_lt 4096 (unsigned_abs c.x)) (cases_lt 4096 (unsigned_abs c.y))
   where
-    both : (unsigned_abs c.x ≤ 4096) ⊎ ¬ (unsigned_abs c.x ≤ 4096) → (unsigned_abs c.y ≤ 4096) ⊎ ¬ (unsigned_abs c.y ≤ 4096) → IsSlow c ⊎ ¬ (IsSlow c)
-    both (inl x) (inl y) = inl (record { x_small = x; y_small = y; u_small = u; v_small = v })
-    both (inr far) y = inr (λ slow. far slow.x_small)
-    both x (inr far) = inr (λ slow. far slow.y_small)
+    both : (4096 < unsigned_abs c.x) ⊎ (unsigned_abs c.x ≤ 4096) → (4096 < unsigned_abs c.y) ⊎ (unsigned_abs c.y ≤ 4096) → IsSlow c ⊎ ¬ (IsSlow c)
+    both (inr x) (inr y) = inl (record { x_small = x; y_small = y; u_small = u; v_small = v })
+    both (inl far) y = inr (λ slow. let near = slow.x_small in omega (arith, far, near))
+    both x (inl far) = inr (λ slow. let near = slow.y_small in omega (arith, far, near))
 
 -- ---- turns
 module _ (m : Moment) (canonical : IsCanonical m.at) (u v : ℤ) (old : Course) where

@@ -1,6 +1,5 @@
 -- What came of a change of the points, from what the world did.
-use Rattle.std.proofs.Common.{◌≡◌, ℕ, Bool, List, [], Option, Some, None, refl, ap, ◌∙◌, set-set}
-use Rattle.std.specs.Prelude.{ℤ, slice_set}
+use Rattle.std.proofs.Common.{◌≡◌, ℕ, Bool, List, [], Option, Some, None, refl, ap, ◌∙◌, set-set, ℤ, slice_set}
 use Rattle.kin_motion.specs.Course.{Course, motion_of}
 use Rattle.kin_world.specs.Worlds.{World, HasReplaced, HasTurned}
 use Rattle.kin_script.specs.Changes.{Change, ChangesTo}

@@ -1,18 +1,19 @@
 -- A deed is refused for one cause, and one that is not refused prints one text and leads to one state.
-use Rattle.std.proofs.Common.{◌≡◌, inl, inr, List, ℕ, Option, ◌∙◌, sym, ap, subst}
-use Rattle.std.specs.Prelude.{slice_set}
+use Rattle.std.proofs.Common.{◌≡◌, inl, inr, Bool, List, ℕ, Option, ◌∙◌, sym, ap, subst, slice_set}
 use Rattle.kin_num.specs.declared.instant.Shape.{Shape}
 use Rattle.kin_num.specs.Canonical.{IsCanonical}
+use Rattle.kin_num.specs.Quadratic.{Quadratic}
 use Rattle.kin_motion.specs.Course.{Course, motion_of}
+use Rattle.kin_motion.specs.Journal.{Block}
 use Rattle.kin_script.specs.declared.refusal.Refusal.{Refusal}
 use Rattle.kin_script.specs.Deeds.{Deed, changes, goes_to, goes_on, asks}
-use Rattle.kin_script.specs.Replay.{IsRefused, LeadsTo}
+use Rattle.kin_script.specs.Replay.{IsNamedRoot, IsRefused, LeadsTo}
 use Rattle.kin_script.specs.States.{State, at}
 use Rattle.kin_script.specs.Text.{Step, IsPassedText, Prints}
 use Rattle.kin_run.proofs.NamedRoots.{one_named_root, named_canonical, named_root_of, has_root}
 use Rattle.kin_script.proofs.Changes.{one_refused_change, one_change}
 use Rattle.kin_script.proofs.Questions.{one_reply_line}
-use Rattle.kin_run.proofs.Blocks.{one_passed, one_next, one_lead}
+use Rattle.kin_run.proofs.Blocks.{one_passed, one_next, one_told}
 
 -- at most one cause
 pub one_cause : (s : State) (d : Deed) (r q : Refusal) → IsRefused s d r → IsRefused s d q → r ≡ q
@@ -24,12 +25,15 @@ one_cause s (goes_to upper p) r q (inr x) (inr y) = x.0 ∙ sym y.0
 one_cause s goes_on r q x y = absurd x
 one_cause s (asks k) r q x y = x.0 ∙ sym y.0
 
+-- what is so at the named root is so of one thing, where it is so of one at each instant
+pub one_at_root : {A : Type 0} (upper : Bool) (p : Quadratic) (IsAt : Shape → A → Type 0) (x y : A) → ((w : Shape) → IsCanonical w → IsAt w x → IsAt w y → x ≡ y)
+    → (w : Shape) × IsNamedRoot upper p w × IsAt w x → (w : Shape) × IsNamedRoot upper p w × IsAt w y → x ≡ y
+one_at_root upper p IsAt x y only a b = only b.0 (named_canonical upper p b.0 b.1) (subst (λ (w : Shape). IsAt w x) (one_named_root upper p a.0 b.0 a.1 b.1) a.2) b.2
+
 -- one text
 one_print : (s : State) (d : Deed) (x y : List ℕ) → IsCanonical s.moment.at → Prints s d x → Prints s d y → x ≡ y
 one_print s (changes n c) x y canonical a b = a ∙ sym b
-one_print s (goes_to upper p) x y canonical a b =
-    let there = subst (λ (w : Shape). IsPassedText s.journal s w x) (one_named_root upper p a.0 b.0 a.1 b.1) a.2 in
-    one_passed s.journal s b.0 x y canonical (named_canonical upper p b.0 b.1) there b.2
+one_print s (goes_to upper p) x y canonical a b = one_at_root upper p (IsPassedText s.journal s) x y (λ w there. one_passed s.journal s w x y canonical there) a b
 one_print s goes_on x y canonical a b = one_next s x y canonical a b
 one_print s (asks q) x y canonical a b = one_reply_line s canonical q x y a b
 
@@ -37,8 +41,8 @@ one_print s (asks q) x y canonical a b = one_reply_line s canonical q x y a b
 pub one_state : (s : State) (d : Deed) (t u : State) → IsCanonical s.moment.at → LeadsTo s d t → LeadsTo s d u → t ≡ u
 one_state s (changes n c) t u canonical a b =
     a.2 ∙ ap (λ (next : Option Course). record s { motions = slice_set s.motions n next }) (one_change s.moment (motion_of s.motions n) c a.0 b.0 canonical a.1 b.1) ∙ sym b.2
-one_state s (goes_to upper p) t u canonical a b = a.2 ∙ ap (λ (w : Shape). record s { moment = at w }) (one_named_root upper p a.0 b.0 a.1 b.1) ∙ sym b.2
-one_state s goes_on t u canonical a b = one_lead s t u canonical a b
+one_state s (goes_to upper p) t u canonical a b = one_at_root upper p (λ (w : Shape) (v : State). v ≡ record s { moment = at w }) t u (λ w there e f. e ∙ sym f) a b
+one_state s goes_on t u canonical a b = one_told s (λ (b : Block). record s { moment = b.moment }) s t u canonical a b
 one_state s (asks q) t u canonical a b = a ∙ sym b
 
 pub one_step : (s : State) (d : Deed) (x y : List ℕ) (t u : State) → IsCanonical s.moment.at → Step s d x t → Step s d y u → (x ≡ y) × (t ≡ u)

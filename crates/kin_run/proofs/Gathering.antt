@@ -1,6 +1,6 @@
 -- What a printer has gained.
-use Rattle.std.proofs.Common.{◌≡◌, ℕ, ◌+◌, List, [], ◌∷◌, ◌++◌, length, take, suc, arith, Option, refl, sym, ap, ◌∙◌, subst, append_assoc}
-use Rattle.std.proofs.lemmas.List.{append-nil}
+use Rattle.std.proofs.Common.{◌≡◌, ℕ, ◌+◌, List, [], ◌++◌, length, take, Option, refl, sym, ap, ◌∙◌, subst, append_assoc, append-nil}
+use Rattle.std.proofs.Math.Seq.{take-append-add}
 use Rattle.std.proofs.KnownBytes.{Appends-trans, Appends-nil}
 use Rattle.std.specs.Io.KnownBytes.{Appends}
 use Rattle.kin_io.specs.Ends.{AppendsFront}
@@ -26,12 +26,6 @@ gains_through {p} {q} {r} {s} {t} g h = record {
   joined = append_assoc g.written h.written r.gathered ∙ ap (λ (w : List ℕ). g.written ++ w) h.joined ∙ sym (append_assoc g.written q.gathered t) ∙ ap (λ (w : List ℕ). w ++ t) g.joined ∙ append_assoc p.gathered s t;
 }
 
-take_behind : (xs ys : List ℕ) (k : ℕ) → take (length xs + k) (xs ++ ys) ≡ xs ++ take k ys
-take_behind [] ys k = let e : 0 + k ≡ k = omega arith in ap (λ (n : ℕ). take n ys) e
-take_behind (x ∷ xs) ys k =
-    let e : suc (length xs) + k ≡ suc (length xs + k) = omega arith in
-    ap (λ (n : ℕ). take n (x ∷ (xs ++ ys))) e ∙ ap (λ (w : List ℕ). x ∷ w) (take_behind xs ys k)
-
 module _ {p q : Printer} {P : List ℕ → Type 0} (g : GainsSome P p q) (Q : List ℕ → Type 0) where
   -- and then a text
   pub some_then : {r : Printer} {text : List ℕ} → Gains q r text → ((x : List ℕ) → P x → Q (x ++ text)) → GainsSome Q p r
@@ -44,7 +38,7 @@ module _ {p q : Printer} {P : List ℕ → Type 0} (g : GainsSome P p q) (Q : Li
     reached = (
       length g.gained.written + h.0,
       subst (Appends p.held r.held)
-          (sym (take_behind g.gained.written (q.gathered ++ text) h.0)
+          (sym (take-append-add g.gained.written (q.gathered ++ text) h.0)
           ∙ ap (take (length g.gained.written + h.0)) (sym (append_assoc g.gained.written q.gathered text) ∙ ap (λ (w : List ℕ). w ++ text) g.gained.joined ∙ append_assoc p.gathered g.text text))
           (Appends-trans p.held q.held r.held g.gained.written (take h.0 (q.gathered ++ text)) g.gained.appended h.1),
     );

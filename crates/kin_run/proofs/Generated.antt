@@ -1,10 +1,11 @@
 -- The commands of a generated script are never refused, and a seed and a count have one text.
 use Rattle.std.proofs.lemmas.Option.{same_Some}
-use Rattle.std.proofs.Common.{◌≡◌, ◌≢◌, ◌⊎◌, inl, inr, ℕ, zero, suc, ◌+◌, ◌-◌, ◌*◌, ◌≤◌, ◌<◌, ◌%◌, ◌^◌, Bool, true, false, List, [], ◌∷◌, ◌++◌, length, replicate, Option, Some, None, refl, sym, ap, ◌∙◌, subst, append_assoc, arith, pos, ℤ}
-use Rattle.std.specs.Prelude.{slice_get, slice_set, is_some}
+use Rattle.std.proofs.KnownBytes.{Appends-trans}
+use Rattle.std.specs.Io.KnownBytes.{Appends}
+use Rattle.kin_io.specs.Ends.{AppendsFront}
+use Rattle.std.proofs.Common.{◌≡◌, inl, inr, ℕ, zero, suc, ◌+◌, ◌-◌, ◌*◌, ◌≤◌, ◌^◌, Bool, true, false, List, [], ◌∷◌, ◌++◌, Option, Some, None, refl, sym, ap, ◌∙◌, subst, append_assoc, arith, pos, take, slice_get, slice_set, is_some, get_or-set_other, append-nil}
 use Rattle.std.proofs.lemmas.Int.{ints}
 use lib.IntN.{neg_ℤ}
-use Rattle.std.proofs.lemmas.List.{get_or-set_other, append-nil}
 use Rattle.std.proofs.lemmas.Nat.Gcd.{IsGcd-from_zero, IsGcd-from_mod}
 use Rattle.kin_algebra.specs.declared.sign.Sign.TheVariants.{Plus}
 use Rattle.kin_num.specs.declared.instant.Shape.{Shape}
@@ -17,14 +18,14 @@ use Rattle.kin_num.proofs.FractionOrder.{fraction_itself, line_at_fraction}
 use Rattle.kin_num.proofs.InstantOrder.{above_fraction}
 use Rattle.kin_num.proofs.LowerFractions.{less_asym}
 use Rattle.kin_num.proofs.Values.{start_canonical}
-use Rattle.kin_motion.specs.Course.{Course, is_live, motion_of}
+use Rattle.kin_motion.specs.Course.{Course, is_live}
+use Rattle.kin_motion.proofs.SlotLaws.{none_live}
 use Rattle.kin_motion.specs.declared.keep.Keep.{Keep}
 use Rattle.kin_motion.specs.declared.keep.Keep.TheVariants as keep
 use Rattle.kin_motion.specs.declared.keep.Rect.{Rect}
 use Rattle.kin_motion.specs.Journal.{Block}
 use Rattle.kin_script.specs.declared.command.Command.{Command}
 use Rattle.kin_script.specs.declared.command.Command.TheVariants.{Extreme, Hull, Closest, Inside, Live}
-use Rattle.kin_script.specs.declared.refusal.Refusal.{Refusal}
 use Rattle.kin_script.specs.declared.script.Script.{Script}
 use Rattle.kin_script.specs.Deeds.{Deed, asks, deed_of}
 use Rattle.kin_script.specs.Generated.{insertion, insertions, questions, one_of_each, course_behind, state_after, IsGenerated, IsLeastSize}
@@ -40,8 +41,9 @@ use Rattle.kin_run.specs.Headline.{status_of_stop}
 use Rattle.kin_run.specs.Performed.{IsFrontOfEach, IsCutOfText}
 use Rattle.kin_run.specs.Passed.{PassesInTurn}
 use Rattle.kin_run.specs.Tallies.{HasTallied, tally_line}
-use Rattle.kin_run.specs.Written.{IsFront}
-use Rattle.kin_run.proofs.Fronts.{front_through}
+use Rattle.kin_run.specs.Written.{IsFront, Wrote}
+use Rattle.kin_run.proofs.Fronts.{front_through, front_take, front_after}
+use Rattle.kin_run.proofs.Gathering.{Bytes}
 use Rattle.kin_run.proofs.InTurn.{one_in_turn}
 use Rattle.kin_run.proofs.OneText.{one_text}
 use Rattle.kin_run.proofs.Playing.{Line}
@@ -65,13 +67,8 @@ record IsAwaiting (first : ℕ) (s : State) : Type 0 where
   keeps : s.keeps ≡ one_of_each
   moment : s.moment ≡ at (Ratio (pos 0) (pos 1))
 
-none_starts : (n i : ℕ) → motion_of (replicate n None) i ≡ None
-none_starts zero i = refl
-none_starts (suc n) zero = refl
-none_starts (suc n) (suc i) = none_starts n i
-
 awaits : (size : ℕ) (journal : Bool) → IsAwaiting 0 (start size one_of_each journal)
-awaits size journal = record { free = λ number low. ap is_some (none_starts (2 ^ size) number); keeps = refl; moment = refl }
+awaits size journal = record { free = λ number low. ap is_some (none_live (2 ^ size) number); keeps = refl; moment = refl }
 
 -- what the commands of a suffix end in, from such a state
 abbrev EndWell : ℕ → List Line → Type 0
@@ -212,15 +209,25 @@ broken_demo seed count Fault front cut = cut
 broken_demo seed count NoMemory front cut = cut
 
 -- ---- the whole of it
--- the text of the script, and then the counts of what it passed
-pub whole_text : (seed count : ℕ) (s : Script) (body : List ℕ) (t : Tally) → IsGenerated seed count s → Text (start_of s) s.lines body None
-    → HasTallied (PassesInTurn (start_of s) s.lines) (Some (record { moments = 0; failures = 0 })) (Some t) → IsDemoText seed count (body ++ tally_line t)
-whole_text seed count s body t is replays x = record {
-  script = s;
-  generated = is;
-  body = body;
-  replays = replays;
-  blocks = x.blocks;
-  passed = x.passed;
-  joined = ap (λ (u : Tally). body ++ tally_line u) (same_Some _ _ x.counted ∙ tallied_from_nothing x.blocks);
-}
+-- the text of the script is written, and it is told how much that passed: then all of it is, or a front of it where the run was broken off
+module _ (seed count : ℕ) (s : Script) (is : IsGenerated seed count s) (before played : Bytes) (body : Wrote before played (λ text. Text (start_of s) s.lines text None)) (t : Tally)
+    (x : HasTallied (PassesInTurn (start_of s) s.lines) (Some (record { moments = 0; failures = 0 })) (Some t)) where
+  whole_text : IsDemoText seed count (body.0 ++ tally_line t)
+  whole_text = record {
+    script = s;
+    generated = is;
+    body = body.0;
+    replays = body.2;
+    blocks = x.blocks;
+    passed = x.passed;
+    joined = ap (λ (u : Tally). body.0 ++ tally_line u) (same_Some _ _ x.counted ∙ tallied_from_nothing x.blocks);
+  }
+
+  pub wrote_whole : (after : Bytes) → Appends played after (tally_line t) → Wrote before after (IsDemoText seed count)
+  wrote_whole after told = (body.0 ++ tally_line t, Appends-trans before played after body.0 (tally_line t) body.1 told, whole_text)
+
+  pub wrote_part : (after : Bytes) → AppendsFront played after (tally_line t) → (stop : Stop) → Wrote before after (WritesDemo seed count (status_of_stop stop))
+  wrote_part after told stop =
+      let part = take told.0 (tally_line t) in
+      let cut = cut_of_own seed count (body.0 ++ tally_line t) (body.0 ++ part) whole_text (front_after body.0 part (tally_line t) (front_take told.0 (tally_line t))) in
+      (body.0 ++ part, Appends-trans before played after body.0 part body.1 told.1, broken_demo seed count stop (body.0 ++ part) cut)

@@ -1,21 +1,20 @@
 -- The blocks that commands pass in turn: those so far, and those of what is left.
-use Rattle.std.proofs.Common.{◌≡◌, ℕ, Option, List, [], ◌∷◌, ◌++◌, refl, sym, ap, ◌∙◌, subst, append_assoc, inl, inr}
-use Rattle.std.proofs.lemmas.List.{append-nil}
+use Rattle.std.proofs.Common.{◌≡◌, ℕ, Option, List, [], ◌∷◌, ◌++◌, ◌+◌, ◌<◌, ◌≤◌, length, get_or, drop, refl, sym, ap, ◌∙◌, subst, append_assoc, append-nil}
+use Rattle.std.proofs.lemmas.List.{drop_all}
 use Rattle.kin_num.specs.declared.instant.Shape.{Shape}
 use Rattle.kin_num.specs.Canonical.{IsCanonical}
 use Rattle.kin_motion.specs.Journal.{Block, IsJournal}
-use Rattle.kin_motion.proofs.JournalLaws.{next_block_is_one, journal_is_one}
+use Rattle.kin_motion.proofs.JournalLaws.{journal_is_one}
 use Rattle.kin_script.specs.Deeds.{Deed, changes, goes_to, goes_on, asks, deed_of}
 use Rattle.kin_script.specs.Replay.{IsAllowed, LeadsTo}
 use Rattle.kin_script.specs.States.{State, at, state_setting}
 use Rattle.kin_run.specs.declared.tally.Tally.{Tally}
-use Rattle.kin_run.specs.Passed.{Passes, PassesInTurn, IsNextIfAny}
+use Rattle.kin_run.specs.Passed.{Passes, PassesInTurn}
 use Rattle.kin_run.specs.Tallies.{HasTallied}
-use Rattle.kin_run.proofs.Blocks.{not_nothing}
+use Rattle.kin_run.proofs.Blocks.{one_told}
 use Rattle.kin_run.proofs.Commands.{stays_canonical}
-use Rattle.kin_run.proofs.Determined.{one_state}
-use Rattle.kin_run.proofs.NamedRoots.{one_named_root, named_canonical}
-use Rattle.kin_run.proofs.Playing.{Line}
+use Rattle.kin_run.proofs.Determined.{one_at_root, one_state}
+use Rattle.kin_run.proofs.Playing.{Line, at_item}
 use Rattle.kin_run.proofs.Tallying.{none_tallied, tallied_then, tallied_is}
 
 -- From s, the blocks of all commands are those so far, and then those of the commands that are left, from t.
@@ -26,29 +25,21 @@ pub begins_counting : (s : State) (cs : List Line) (t : Option Tally) → HasTal
 begins_counting s cs t = none_tallied (ArePassedSoFar s cs s cs) t (record { forth = λ rest is. is })
 
 module _ {s : State} {all : List Line} {t : State} {old now : Option Tally} where
-  pub counts_command : (c : Line) (left : List Line) (u : State) (new : Option Tally) → IsAllowed t (deed_of c.1) → LeadsTo t (deed_of c.1) u
-      → HasTallied (ArePassedSoFar s all t (c ∷ left)) old now → HasTallied (Passes t (deed_of c.1)) now new → HasTallied (ArePassedSoFar s all u left) old new
-  counts_command c left u new allowed leads x y = tallied_then x y
+  pub counts_command : (i : ℕ) (c : Line) → HasTallied (ArePassedSoFar s all t (drop i all)) old now → i < length all → c ≡ get_or all i c
+      → (u : State) (new : Option Tally) → IsAllowed t (deed_of c.1) → LeadsTo t (deed_of c.1) u → HasTallied (Passes t (deed_of c.1)) now new → HasTallied (ArePassedSoFar s all u (drop (i + 1) all)) old new
+  counts_command i c x low read u new allowed leads y = tallied_then (subst (λ (left : List Line). HasTallied (ArePassedSoFar s all t left) old now) (at_item all i c low read) x) y
       (λ bs more is passed. record {
         forth = λ rest q. subst (PassesInTurn s all) (sym (append_assoc bs more rest)) (is.forth (more ++ rest) (more, rest, u, allowed, passed, leads, q, refl));
       })
 
-  pub counts_all : HasTallied (ArePassedSoFar s all t []) old now → HasTallied (PassesInTurn s all) old now
-  counts_all x = tallied_is x (λ bs is. subst (PassesInTurn s all) (append-nil bs) (is.forth [] refl))
+  pub counts_all : (i : ℕ) → HasTallied (ArePassedSoFar s all t (drop i all)) old now → length all ≤ i → HasTallied (PassesInTurn s all) old now
+  counts_all i x none = tallied_is x (λ bs is. subst (PassesInTurn s all) (append-nil bs) (is.forth [] (subst (λ (left : List Line). PassesInTurn t left []) (sym (drop_all i all none)) refl)))
 
 -- ---- commands pass the same blocks always
-one_next_if_any : (s : State) (x y : List Block) → IsCanonical s.moment.at → IsNextIfAny s x → IsNextIfAny s y → x ≡ y
-one_next_if_any s x y canonical (inl p) (inl q) = p.2 ∙ ap (λ (b : Block). b ∷ []) (next_block_is_one (state_setting s) s.moment p.0 q.0 canonical p.1 q.1) ∙ sym q.2
-one_next_if_any s x y canonical (inl p) (inr q) = absurd (not_nothing (state_setting s) s.moment p.0 canonical p.1 q.0)
-one_next_if_any s x y canonical (inr p) (inl q) = absurd (not_nothing (state_setting s) s.moment q.0 canonical q.1 p.0)
-one_next_if_any s x y canonical (inr p) (inr q) = p.1 ∙ sym q.1
-
 one_passed : (s : State) (d : Deed) (x y : List Block) → IsCanonical s.moment.at → Passes s d x → Passes s d y → x ≡ y
 one_passed s (changes n c) x y canonical a b = a ∙ sym b
-one_passed s (goes_to upper p) x y canonical a b =
-    let there = subst (λ (w : Shape). IsJournal (state_setting s) s.moment (at w) x) (one_named_root upper p a.0 b.0 a.1 b.1) a.2 in
-    journal_is_one (state_setting s) s.moment (at b.0) x y canonical (named_canonical upper p b.0 b.1) there b.2
-one_passed s goes_on x y canonical a b = one_next_if_any s x y canonical a b
+one_passed s (goes_to upper p) x y canonical a b = one_at_root upper p (λ (w : Shape) (bs : List Block). IsJournal (state_setting s) s.moment (at w) bs) x y (λ w there. journal_is_one (state_setting s) s.moment (at w) x y canonical there) a b
+one_passed s goes_on x y canonical a b = one_told s (λ (b : Block). b ∷ []) [] x y canonical a b
 one_passed s (asks q) x y canonical a b = a ∙ sym b
 
 pub one_in_turn : (s : State) (cs : List Line) (x y : List Block) → IsCanonical s.moment.at → PassesInTurn s cs x → PassesInTurn s cs y → x ≡ y

@@ -16,7 +16,6 @@ pub mod Changing
 pub mod StepExistence
 pub mod TextExistence
 pub mod Tallying
-pub mod Counting
 pub mod Arriving
 pub mod InTurn
 pub mod Generated

@@ -1,6 +1,5 @@
 -- The root that a line names: there is one where the discriminant is not negative, and no more than one.
-use Rattle.std.proofs.Common.{◌≡◌, zero, suc, Bool, true, false, [], ◌∷◌, inl, inr, refl, sym, ap, ◌∙◌, subst}
-use Rattle.std.specs.Prelude.{ℤ, pos, negsuc, ◌<ℤ◌, ◌*ℤ◌, ◌↔◌, ◌⊎◌, if◌then◌else◌}
+use Rattle.std.proofs.Common.{◌≡◌, zero, suc, Bool, true, false, [], ◌∷◌, inl, inr, refl, sym, ap, ◌∙◌, subst, ℤ, pos, negsuc, ◌<ℤ◌, ◌*ℤ◌, ◌↔◌, ◌⊎◌, if◌then◌else◌}
 use lib.IntN.{neg_ℤ}
 use Rattle.kin_algebra.specs.declared.sign.Sign.{Sign}
 use Rattle.kin_algebra.specs.declared.sign.Sign.TheVariants.{Minus, Zero, Plus}
@@ -49,19 +48,18 @@ ratio_named n d r positive same canonical =
 
 -- of two roots the greater is named by hi, and the lesser by lo
 module _ (p : Quadratic) (r s : Shape) (canonical : IsCanonical r × IsCanonical s) (exact : IsExact p (Two r s)) (rising : IsLess r s) where
-  pub greater_root : IsNamedRoot true p s
-  greater_root = (record { canonical = canonical.1; zero = (exact s canonical.1.form).1 (inr refl) }, λ v h less. at v less ((exact v h.canonical.form).0 h.zero))
+  none_beyond : (Beyond : Shape → Type 0) → ¬ (Beyond r) → ¬ (Beyond s) → (v : Shape) → IsRootOf p v → ¬ (Beyond v)
+  none_beyond Beyond not_r not_s v h beyond = at ((exact v h.canonical.form).0 h.zero)
     where
-      at : (v : Shape) → IsLess s v → (v ≡ r) ⊎ (v ≡ s) → ⊥
-      at v less (inl e) = less_asym r s canonical.0.form canonical.1.form rising (subst (IsLess s) e less)
-      at v less (inr e) = not_less_itself s (subst (IsLess s) e less)
+      at : (v ≡ r) ⊎ (v ≡ s) → ⊥
+      at (inl e) = not_r (subst Beyond e beyond)
+      at (inr e) = not_s (subst Beyond e beyond)
+
+  pub greater_root : IsNamedRoot true p s
+  greater_root = (record { canonical = canonical.1; zero = (exact s canonical.1.form).1 (inr refl) }, none_beyond (IsLess s) (less_asym r s canonical.0.form canonical.1.form rising) (not_less_itself s))
 
   pub lesser_root : IsNamedRoot false p r
-  lesser_root = (record { canonical = canonical.0; zero = (exact r canonical.0.form).1 (inl refl) }, λ v h less. at v less ((exact v h.canonical.form).0 h.zero))
-    where
-      at : (v : Shape) → IsLess v r → (v ≡ r) ⊎ (v ≡ s) → ⊥
-      at v less (inl e) = not_less_itself r (subst (λ (x : Shape). IsLess x r) e less)
-      at v less (inr e) = less_asym r s canonical.0.form canonical.1.form rising (subst (λ (x : Shape). IsLess x r) e less)
+  lesser_root = (record { canonical = canonical.0; zero = (exact r canonical.0.form).1 (inl refl) }, none_beyond (λ x. IsLess x r) (not_less_itself r) (less_asym r s canonical.0.form canonical.1.form rising))
 
 -- hi names the second of two roots, and lo the first
 pub two_named : (upper : Bool) (p q : Quadratic) (r s : Shape) → q ≡ p → IsCanonical r × IsCanonical s → IsExact q (Two r s) → IsLess r s → IsNamedRoot upper p (if upper then s else r)

@@ -1,6 +1,5 @@
 -- One turn of the loop that passes the failures up to an instant.
-use Rattle.std.proofs.Common.{◌≡◌, ℕ, Bool, List, [], ◌∷◌, ◌++◌, Option, Some, None, refl, sym, ap, ◌∙◌, subst, true, false}
-use Rattle.std.proofs.lemmas.List.{append-nil}
+use Rattle.std.proofs.Common.{◌≡◌, ℕ, Bool, List, [], ◌∷◌, ◌++◌, length, Option, Some, None, refl, sym, ap, ◌∙◌, subst, true, false, append-nil}
 use Rattle.kin_io.specs.Ends.{AppendsFront}
 use Rattle.kin_num.specs.declared.instant.Moment.{Moment}
 use Rattle.kin_num.specs.declared.instant.Shape.{Shape}
@@ -11,36 +10,59 @@ use Rattle.kin_script.specs.Printed.{PutsFront}
 use Rattle.kin_script.specs.States.{State, at, state_setting}
 use Rattle.kin_script.specs.Text.{IsPassedText}
 use Rattle.kin_world.specs.Worlds.{World, IsWhole, HasPassed, HasMoved, HasStepped, failure_count}
+use Rattle.kin_run.specs.declared.tally.Tally.{Tally}
 use Rattle.kin_run.specs.declared.write.Stop.TheVariants.{Fault, NoMemory}
 use Rattle.kin_run.specs.Performed.{IsFrontOfEach, BreaksOff}
 use Rattle.kin_run.specs.States.{state_of, printed_if}
+use Rattle.kin_run.specs.Tallies.{HasTallied, counted_on}
 use Rattle.kin_run.specs.Written.{Printer, printer, Gains, GainsSome}
 use Rattle.kin_run.proofs.Fronts.{front_through, front_after}
 use Rattle.kin_run.proofs.Gathering.{gains_nothing, gains_put, some_then, some_lost, some_flushed, some_is}
 use Rattle.kin_run.proofs.Passing.{ArePassed, one_more_passed, none_passed, lines_if, lines_behind, is_text, cut_on_the_way}
+use Rattle.kin_run.proofs.Tallying.{none_tallied, one_tallied, tallied_then, tallied_is}
 
--- the printed lines are those of some blocks, which were passed
+-- the blocks up to now
+abbrev AreUpTo : State → Shape → Moment → List Block → Type 0
+AreUpTo s w now bs = ArePassed (state_setting s) s.moment now (at w) bs
+
+-- the printed lines are those of these blocks
 abbrev AreLines : Bool → State → Shape → Moment → List ℕ → Type 0
-AreLines journal s w now lines = (bs : List Block) × ArePassed (state_setting s) s.moment now (at w) bs × (lines ≡ lines_if journal bs)
+AreLines journal s w now lines = (bs : List Block) × AreUpTo s w now bs × (lines ≡ lines_if journal bs)
 
--- some blocks were passed and printed, and nothing else was done
-pub record IsOnTheWay (journal : Bool) (start : World) (w : Shape) (now : World) (p q : Printer) : Type 0 where
+-- some blocks were passed, printed and counted, and nothing else was done
+pub record IsOnTheWay (journal : Bool) (start : World) (w : Shape) (now : World) (p q : Printer) (old new : Option Tally) : Type 0 where
   pub state : state_of journal now ≡ record (state_of journal start) { moment = now.moment }
   pub printed : GainsSome (AreLines journal (state_of journal start) w now.moment) p q
+  pub counted : HasTallied (AreUpTo (state_of journal start) w now.moment) old new
+  pub whole : IsWhole now
   pub later : ¬ (IsEarlier (at w) now.moment)
 
 no_lines : (journal : Bool) → [] ≡ lines_if journal []
 no_lines false = refl
 no_lines true = refl
 
-pub sets_out : (journal : Bool) (start : World) (w : Shape) (p : Printer) → ¬ (IsEarlier (at w) start.moment) → IsOnTheWay journal start w start p p
-sets_out journal start w p later = record {
-  state = refl;
-  printed = record { text = []; gained = gains_nothing p; is = ([], none_passed (state_setting (state_of journal start)) start.moment (at w), no_lines journal) };
-  later = later;
-}
+pub sets_out : (journal : Bool) (start : World) (w : Shape) (p : Printer) (t : Option Tally) → IsWhole start → ¬ (IsEarlier (at w) start.moment) → IsOnTheWay journal start w start p p t t
+sets_out journal start w p t whole later =
+    let none = none_passed (state_setting (state_of journal start)) start.moment (at w) in
+    record {
+      state = refl;
+      printed = record { text = []; gained = gains_nothing p; is = ([], none, no_lines journal) };
+      counted = none_tallied (AreUpTo (state_of journal start) w start.moment) t none;
+      whole = whole;
+      later = later;
+    }
 
-module _ {journal : Bool} {start : World} {w : Shape} {now : World} {p q : Printer} (on : IsOnTheWay journal start w now p q) (canonical : IsCanonical w) (here : IsCanonical now.moment.at) where
+-- a step that lists nothing has passed a block where it tells how many failures that held, and else has moved
+pub told_some : (limit : Moment) (old new : World) (count : Option ℕ) (failures : ℕ) → count ≡ Some failures → (block : Option Block) × HasStepped limit block old new × (count ≡ failure_count block)
+    → (block : Block) × HasPassed limit block old new × (failures ≡ length block.failures)
+told_some limit old new count failures some (None, h, e) = let both : Some failures ≡ None = sym some ∙ e in absurd cc
+told_some limit old new count failures some (Some block, h, e) = let both : Some failures ≡ Some (length block.failures) = sym some ∙ e in (block, h, cc)
+
+pub told_none : (limit : Moment) (old new : World) (count : Option ℕ) → count ≡ None → (block : Option Block) × HasStepped limit block old new × (count ≡ failure_count block) → HasMoved limit old new
+told_none limit old new count none (None, h, e) = h
+told_none limit old new count none (Some block, h, e) = let both : None ≡ Some (length block.failures) = sym none ∙ e in absurd cc
+
+module _ {journal : Bool} {start : World} {w : Shape} {now : World} {p q : Printer} {old middle : Option Tally} (on : IsOnTheWay journal start w now p q old middle) (canonical : IsCanonical w) where
   abbrev S : State
   S = state_of journal start
 
@@ -56,13 +78,13 @@ module _ {journal : Bool} {start : World} {w : Shape} {now : World} {p q : Print
   same_setting = ap state_setting on.state
 
   module _ {new : World} {block : Block} (h : HasPassed (at w) block now new) where
+    up_to_block : (bs : List Block) → AreUpTo S w now.moment bs → AreUpTo S w block.moment (bs ++ block ∷ [])
+    up_to_block bs is =
+        let next : IsNextBlock (state_setting S) now.moment block = subst (λ (t : Setting). IsNextBlock t now.moment block) same_setting h.next in
+        one_more_passed (state_setting S) start.moment now.moment (at w) bs block on.whole.canonical canonical is next h.within
+
     lines_more : (lines : List ℕ) → AreLines journal S w now.moment lines → AreLines journal S w block.moment (lines ++ printed_if journal block)
-    lines_more lines a =
-        let next : IsNextBlock (state_setting S) now.moment block = subst (λ (t : Setting). IsNextBlock t now.moment block) same_setting h.next in (
-          a.0 ++ block ∷ [],
-          one_more_passed (state_setting S) start.moment now.moment (at w) a.0 block here canonical a.1 next h.within,
-          ap (λ (ls : List ℕ). ls ++ printed_if journal block) a.2 ∙ sym (lines_behind journal a.0 block),
-        )
+    lines_more lines a = (a.0 ++ block ∷ [], up_to_block a.0 a.1, ap (λ (ls : List ℕ). ls ++ printed_if journal block) a.2 ∙ sym (lines_behind journal a.0 block))
 
     -- where memory ran out within the lines of a block
     pub breaks_within : (r : List ℕ) → PutsFront q.gathered r (printed_if journal block) → BreaksOff (IsFrontOfEach (IsPassedText journal S w)) NoMemory p (printer q.held r)
@@ -78,26 +100,35 @@ module _ {journal : Bool} {start : World} {w : Shape} {now : World} {p q : Print
     at_block : new.moment ≡ block.moment
     at_block = ap (λ (v : World). v.moment) h.state
 
-    pub goes_on : (r : List ℕ) {f : Printer} → r ≡ q.gathered ++ printed_if journal block → Gains (printer q.held r) f [] → IsOnTheWay journal start w new p f
-    goes_on r e flushed = record {
+    counted_more : (bs cs : List Block) → AreUpTo S w now.moment bs → cs ≡ block ∷ [] → AreUpTo S w new.moment (bs ++ cs)
+    counted_more bs cs is more = subst (λ (m : Moment). AreUpTo S w m (bs ++ cs)) (sym at_block) (subst (λ (ds : List Block). AreUpTo S w block.moment (bs ++ ds)) (sym more) (up_to_block bs is))
+
+    pub goes_on : (r : List ℕ) {f : Printer} → r ≡ q.gathered ++ printed_if journal block → Gains (printer q.held r) f [] → (failures : ℕ) {last : Option Tally} → failures ≡ length block.failures → last ≡ counted_on failures middle
+        → IsOnTheWay journal start w new p f old last
+    goes_on r e flushed failures {last} same counts = record {
       state = ap (state_of journal) h.state ∙ ap (λ (s : State). record s { moment = block.moment }) on.state ∙ ap (λ (m : Moment). record S { moment = m }) (sym at_block);
       printed = some_flushed (some_then on.printed (AreLines journal S w new.moment) (gains_put q.held q.gathered r (printed_if journal block) e)
           (λ lines a. subst (λ (m : Moment). AreLines journal S w m (lines ++ printed_if journal block)) (sym at_block) (lines_more lines a))) flushed;
+      counted = tallied_then on.counted (one_tallied (λ bs. bs ≡ block ∷ []) block failures middle last same refl counts) counted_more;
+      whole = h.whole;
       later = subst (λ (m : Moment). ¬ (IsEarlier (at w) m)) (sym at_block) h.within;
     }
 
-  -- at the instant
-  pub arrives : {new : World} → HasMoved (at w) now new → GainsSome (IsPassedText journal S w) p q
-  arrives h =
-      let a = on.printed.is in
-      let rest = subst (λ (t : Setting). IsJournal t now.moment (at w) []) same_setting h.nothing in
-      let whole = subst (λ (cs : List Block). IsJournal (state_setting S) start.moment (at w) cs) (append-nil a.0) (a.1.forth [] rest) in
-      record { text = on.printed.text; gained = on.printed.gained; is = subst (IsPassedText journal S w) (sym a.2) (is_text journal S w a.0 whole) }
+  -- where the journal is off nothing is printed
+  pub goes_on_quietly : journal ≡ false → {new : World} {block : Block} → HasPassed (at w) block now new → (failures : ℕ) {last : Option Tally} → failures ≡ length block.failures → last ≡ counted_on failures middle
+      → IsOnTheWay journal start w new p q old last
+  goes_on_quietly off {new} {block} h failures same counts =
+      goes_on h q.gathered (sym (append-nil q.gathered) ∙ ap (λ (b : Bool). q.gathered ++ printed_if b block) (sym off)) (gains_nothing q) failures same counts
 
-  -- a step that lists nothing and held some failures
-  pub quiet_turn : journal ≡ false → (new : World) (count : Option ℕ) (failures : ℕ) → count ≡ Some failures → (block : Option Block) × HasStepped (at w) block now new × (count ≡ failure_count block)
-      → IsOnTheWay journal start w new p q × IsWhole new
-  quiet_turn off new count failures some (None, h, e) = let both : Some failures ≡ None = sym some ∙ e in absurd cc
-  quiet_turn off new count failures some (Some block, h, e) =
-      let put : q.gathered ≡ q.gathered ++ printed_if journal block = sym (append-nil q.gathered) ∙ ap (λ (b : Bool). q.gathered ++ printed_if b block) (sym off) in
-      (goes_on h q.gathered put (gains_nothing q), h.whole)
+  -- at the instant
+  module _ {new : World} (h : HasMoved (at w) now new) where
+    all_passed : (bs : List Block) → AreUpTo S w now.moment bs → IsJournal (state_setting S) start.moment (at w) bs
+    all_passed bs is =
+        let rest = subst (λ (t : Setting). IsJournal t now.moment (at w) []) same_setting h.nothing in
+        subst (λ (cs : List Block). IsJournal (state_setting S) start.moment (at w) cs) (append-nil bs) (is.forth [] rest)
+
+    pub arrives : GainsSome (IsPassedText journal S w) p q
+    arrives = some_is on.printed (IsPassedText journal S w) (λ lines a. subst (IsPassedText journal S w) (sym a.2) (is_text journal S w a.0 (all_passed a.0 a.1)))
+
+    pub counted_all : HasTallied (IsJournal (state_setting S) start.moment (at w)) old middle
+    counted_all = tallied_is on.counted all_passed

@@ -1,6 +1,6 @@
 -- A run of commands: the text so far, and the text of what is left.
-use Rattle.std.proofs.Common.{◌≡◌, ℕ, List, [], ◌∷◌, ◌++◌, drop, suc, ◌+◌, ◌<◌, length, get_or, drop-cons, add-one, Some, None, refl, sym, ap, ◌∙◌, subst, append_assoc, inl, inr}
-use Rattle.std.proofs.lemmas.List.{append-nil}
+use Rattle.std.proofs.Common.{◌≡◌, ℕ, List, [], ◌∷◌, ◌++◌, drop, suc, ◌+◌, ◌<◌, ◌≤◌, length, get_or, drop-cons, add-one, Some, None, refl, sym, ap, ◌∙◌, subst, append_assoc, inl, inr, append-nil}
+use Rattle.std.proofs.lemmas.List.{drop_all}
 use Rattle.kin_num.specs.Canonical.{IsCanonical}
 use Rattle.kin_script.specs.declared.command.Command.{Command}
 use Rattle.kin_script.specs.declared.refusal.Refusal.{Refusal}
@@ -8,10 +8,13 @@ use Rattle.kin_script.specs.Deeds.{deed_of}
 use Rattle.kin_script.specs.Replay.{IsRefused, IsAllowed}
 use Rattle.kin_script.specs.States.{State}
 use Rattle.kin_script.specs.Text.{Step, Text, Ending, Prints, refused_line}
-use Rattle.kin_run.specs.Performed.{IsFrontOfEach, IsCutOfText}
-use Rattle.kin_run.specs.Written.{IsFront}
+use Rattle.kin_io.specs.Ends.{AppendsFront}
+use Rattle.kin_run.specs.declared.write.Stop.{Stop}
+use Rattle.kin_run.specs.Performed.{IsFrontOfEach, IsCutOfText, BreaksOff}
+use Rattle.kin_run.specs.Written.{Printer, IsFront, Gains, GainsSome, LosesSome}
 use Rattle.kin_run.proofs.Determined.{one_cause, one_step}
 use Rattle.kin_run.proofs.Fronts.{front_through, front_after}
+use Rattle.kin_run.proofs.Gathering.{some_then, some_is, some_broke, some_lost_here}
 
 abbrev pub Line : Type 0
 Line = ℕ × Command
@@ -72,9 +75,45 @@ module _ (s : State) (all : List Line) (t : State) where
       let a = allowed_goes_on t c left b.0 ending allowed b.1 in
       subst (IsFront (so_far ++ part)) (sym b.2) (front_after so_far part b.0 (front_through part a.0 b.0 (cut a.0 a.3.prints) (record { more = a.1; joined = a.5 })))
 
+  -- and a front of the line that refuses it
+  pub cut_refused : (c : Line) (left : List Line) (so_far front : List ℕ) (r : Refusal) → IsRefused t (deed_of c.1) r → IsSoFar s all t (c ∷ left) so_far → IsFront front (refused_line c.0 r) → IsCutOfText s all (so_far ++ front)
+  cut_refused c left so_far front r h p f = λ text ending q.
+      let b = p.back text ending q in
+      let a = text_refused t c left b.0 ending r h b.1 in
+      subst (IsFront (so_far ++ front)) (sym b.2) (front_after so_far front b.0 (subst (IsFront front) (sym a.0) f))
+
 -- a front of a front is one
 pub cut_of_cut : (s : State) (all : List Line) (text front : List ℕ) → IsCutOfText s all text → IsFront front text → IsCutOfText s all front
 cut_of_cut s all text front cut f = λ whole ending q. front_through front text whole f (cut whole ending q)
 
+-- ---- one turn of the loop over the commands
 pub at_item : (xs : List Line) (i : ℕ) (x : Line) → i < length xs → x ≡ get_or xs i x → drop i xs ≡ x ∷ drop (i + 1) xs
 at_item xs i x lt e = drop-cons xs i x lt ∙ ap (λ (y : Line). y ∷ drop (suc i) xs) (sym e) ∙ rw add-one refl
+
+module _ {s t : State} {all : List Line} {p q : Printer} (i : ℕ) (so_far : GainsSome (IsSoFar s all t (drop i all)) p q) where
+  pub all_done : length all ≤ i → GainsSome (λ text. Text s all text None) p q
+  all_done none = some_is so_far (λ text. Text s all text None) (λ x so. completes s all t x (subst (λ (left : List Line). IsSoFar s all t left x) (drop_all i all none) so))
+
+  module _ (c : Line) (low : i < length all) (read : c ≡ get_or all i c) where
+    here : GainsSome (IsSoFar s all t (c ∷ drop (i + 1) all)) p q
+    here = subst (λ (left : List Line). GainsSome (IsSoFar s all t left) p q) (at_item all i c low read) so_far
+
+    -- the command was carried out; and then a write failed
+    pub carried_out : (u : State) {r : Printer} → IsCanonical t.moment.at → GainsSome (λ text. Step t (deed_of c.1) text u) q r → GainsSome (IsSoFar s all u (drop (i + 1) all)) p r
+    carried_out u canonical done = some_then here (IsSoFar s all u (drop (i + 1) all)) done.gained (λ x so. goes_on s all t c (drop (i + 1) all) x done.text u canonical so done.is)
+
+    pub lost_behind : (u : State) {r : Printer} (f : Printer) → IsCanonical t.moment.at → GainsSome (λ text. Step t (deed_of c.1) text u) q r → AppendsFront r.held f.held r.gathered → LosesSome (IsCutOfText s all) p f
+    lost_behind u f canonical done front = some_lost_here (some_is (carried_out u canonical done) (IsCutOfText s all) (cut_here s all u (drop (i + 1) all))) f front
+
+    -- the run was broken off amid it
+    pub broke_off : (stop : Stop) (r : Printer) → IsAllowed t (deed_of c.1) × BreaksOff (IsFrontOfEach (Prints t (deed_of c.1))) stop q r → BreaksOff (IsCutOfText s all) stop p r
+    broke_off stop r h =
+        some_broke here (IsCutOfText s all) stop r (IsFrontOfEach (Prints t (deed_of c.1))) h.1 (λ x part so cut. cut_within s all t c (drop (i + 1) all) x part h.0 so cut)
+
+    -- it was refused, which changed nothing, and the line that tells so was put; or memory ran out amid that
+    module _ (r : Refusal) (is : IsRefused t (deed_of c.1) r) {same n : Printer} (unchanged : same ≡ q) where
+      pub refused_here : Gains same n (refused_line c.0 r) → GainsSome (λ text. Text s all text (Some (c.0, r))) p n
+      refused_here put = some_then here (λ text. Text s all text (Some (c.0, r))) (subst (λ (x : Printer). Gains x n (refused_line c.0 r)) unchanged put) (λ x so. ends s all t c (drop (i + 1) all) x r so is)
+
+      pub broke_refusing : (front : List ℕ) → Gains same n front → IsFront front (refused_line c.0 r) → GainsSome (IsCutOfText s all) p n
+      broke_refusing front put cut = some_then here (IsCutOfText s all) (subst (λ (x : Printer). Gains x n front) unchanged put) (λ x so. cut_refused s all t c (drop (i + 1) all) x front r is so cut)

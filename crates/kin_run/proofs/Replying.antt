@@ -1,7 +1,5 @@
 -- What came of a question, from its reply.
-use Rattle.std.proofs.Common.{◌≡◌, ℕ, Bool, List, [], ◌++◌, sym, ◌∙◌, subst}
-use Rattle.std.specs.Prelude.{Result, Ok, Err, ◌≢◌}
-use Rattle.std.proofs.lemmas.List.{append-nil}
+use Rattle.std.proofs.Common.{false, ◌≡◌, ℕ, Bool, List, [], ◌++◌, sym, ◌∙◌, subst, Result, Ok, Err, ◌≢◌, append-nil}
 use Rattle.kin_num.specs.Canonical.{IsCanonical}
 use Rattle.kin_print.specs.declared.reply.Reply.{Reply}
 use Rattle.kin_print.specs.Replies.{reply_line}
@@ -24,22 +22,18 @@ pub of_same : (s : State) (c q : Command) (r : Result Reply Halt) → c ≡ q �
 of_same s c q r e h = subst (λ (x : Command). RepliesTo s x r) (sym e) h
 
 -- whether the journal is on doesn't matter
-provided : (journal : Bool) (w : World) (q : Command) → IsProvided (seen_of w) q → IsProvided (state_of journal w) q
-provided journal w (Order k) h = h
-provided journal w other h = h
-
-asked_back : (journal : Bool) (w : World) (q : Command) → IsProvided (state_of journal w) q → IsProvided (seen_of w) q
-asked_back journal w (Order k) h = h
-asked_back journal w other h = h
+provided : (on off : Bool) (w : World) (q : Command) → IsProvided (state_of on w) q → IsProvided (state_of off w) q
+provided on off w (Order k) h = h
+provided on off w other h = h
 
 line_in : (journal : Bool) (w : World) (q : Command) (text : List ℕ) → IsReplyLine (seen_of w) q text → IsReplyLine (state_of journal w) q text
 line_in journal w (Order k) text h = h
 line_in journal w other text h = h
 
 pub with_journal : (journal : Bool) (w : World) (q : Command) (r : Result Reply Halt) → IsReply (seen_of w) q r → IsReply (state_of journal w) q r
-with_journal journal w q (Ok reply) h = (provided journal w q h.0, line_in journal w q (reply_line reply) h.1)
-with_journal journal w q (Err (Refused r)) h = (h.0, λ p. h.1 (asked_back journal w q p))
-with_journal journal w q (Err (Broken NoMemory)) h = provided journal w q h
+with_journal journal w q (Ok reply) h = (provided false journal w q h.0, line_in journal w q (reply_line reply) h.1)
+with_journal journal w q (Err (Refused r)) h = (h.0, λ p. h.1 (provided journal false w q p))
+with_journal journal w q (Err (Broken NoMemory)) h = provided false journal w q h
 with_journal journal w q (Err (Broken Fault)) h = absurd h
 
 module _ (s : State) (q : Command) (before now : List ℕ) (E : Type 0) where

@@ -1,6 +1,6 @@
--- Every deed in its range is refused, or prints a text and leads to a state that is as sound.
-use Rattle.std.proofs.Common.{◌≡◌, ◌⊎◌, inl, inr, ℕ, Bool, true, false, List, [], Option, Some, None, refl, ◌∙◌, length-set}
-use Rattle.std.specs.Prelude.{slice_set}
+-- Every deed in its range is refused, or prints a text, passes blocks and leads to a state that is as sound.
+use Rattle.std.proofs.Common.{◌≡◌, ◌⊎◌, inl, inr, ℕ, Bool, List, [], ◌∷◌, Option, Some, None, refl, ◌∙◌, length-set, slice_set}
+use Rattle.kin_num.specs.declared.instant.Moment.{Moment}
 use Rattle.kin_num.specs.declared.instant.Shape.{Shape}
 use Rattle.kin_num.specs.Canonical.{IsCanonical}
 use Rattle.kin_num.specs.Order.{IsEarlier}
@@ -12,7 +12,6 @@ use Rattle.kin_cert.specs.Laws.{IsProper}
 use Rattle.kin_cert.proofs.JournalExistence.{earlier_or_not, next_blocks_exist, journals_exist}
 use Rattle.kin_script.specs.declared.refusal.Refusal.{Refusal}
 use Rattle.kin_script.specs.declared.refusal.Refusal.TheVariants.{NotKept, NoRoot, Past}
-use Rattle.kin_script.specs.PrintedJournal.{journal_lines}
 use Rattle.kin_script.specs.Ranges.{IsDeedInRange}
 use Rattle.kin_num.specs.Quadratic.{Quadratic}
 use Rattle.kin_script.specs.declared.command.Command.{Command}
@@ -20,25 +19,29 @@ use Rattle.kin_script.specs.Changes.{Change}
 use Rattle.kin_script.specs.Deeds.{Deed, changes, goes_to, goes_on, asks}
 use Rattle.kin_script.specs.Replay.{IsNamedRoot, HasNoRoot, IsRefused, IsAllowed, LeadsTo}
 use Rattle.kin_script.specs.States.{State, at, state_setting}
-use Rattle.kin_script.specs.Text.{IsPassedText, Prints}
+use Rattle.kin_script.specs.Text.{Prints}
 use Rattle.kin_script.proofs.Questions.{HasLine, has_line}
+use Rattle.kin_run.specs.Passed.{Passes}
 use Rattle.kin_run.proofs.AskedInstants.{root_asked}
 use Rattle.kin_run.proofs.ChangeExistence.{IsSlowIfSome, IsDecided, change_decided}
 use Rattle.kin_run.proofs.Commands.{goes_allowed}
 use Rattle.kin_run.proofs.NamedRoots.{named_canonical}
+use Rattle.kin_run.proofs.Passing.{lines_if, is_text}
 
 -- what holds of every state of a run
 pub record IsSound (s : State) : Type 0 where
   pub proper : IsProper s.motions s.size s.keeps
   pub canonical : IsCanonical s.moment.at
 
--- a text, and a sound state of the same size, to which the deed leads
+-- a text, some blocks, and a sound state of the same size, to which the deed leads
 pub record Steps (s : State) (d : Deed) : Type 0 where
   pub text : List ℕ
   pub next : State
+  pub blocks : List Block
   pub allowed : IsAllowed s d
   pub prints : Prints s d text
   pub leads : LeadsTo s d next
+  pub passes : Passes s d blocks
   pub sound : IsSound next
   pub size : next.size ≡ s.size
 
@@ -57,9 +60,11 @@ module _ (s : State) (sound : IsSound s) where
   changes_end number c (inr out) = inr (record {
     text = [];
     next = record s { motions = slice_set s.motions number out.next };
+    blocks = [];
     allowed = out.allowed;
     prints = refl;
     leads = (out.next, out.changes, refl);
+    passes = refl;
     sound = record {
       proper = record {
         slow = slow_after number out.next out.slow;
@@ -71,12 +76,19 @@ module _ (s : State) (sound : IsSound s) where
     size = refl;
   })
 
-  -- ---- instants
-  passed_text : (journal : Bool) (w : Shape) → IsCanonical w → ¬ (IsEarlier (at w) s.moment) → (text : List ℕ) × IsPassedText journal s w text
-  passed_text false w canonical not_past = ([], refl)
-  passed_text true w canonical not_past =
-      let j = journals_exist s.motions s.size s.keeps s.moment (at w) sound.proper sound.canonical canonical not_past in
-      (journal_lines j.0, (j.0, j.1, refl))
+  -- ---- time goes on, or stays
+  at_moment : (d : Deed) (m : Moment) → IsCanonical m.at → (text : List ℕ) (blocks : List Block) → IsAllowed s d → Prints s d text → LeadsTo s d (record s { moment = m }) → Passes s d blocks → Ends s d
+  at_moment d m canonical text blocks allowed prints leads passes = inr (record {
+    text = text;
+    next = record s { moment = m };
+    blocks = blocks;
+    allowed = allowed;
+    prints = prints;
+    leads = leads;
+    passes = passes;
+    sound = record { proper = sound.proper; canonical = canonical };
+    size = refl;
+  })
 
   goes_ends : (upper : Bool) (p : Quadratic) → HasNoRoot p ⊎ ((w : Shape) × IsNamedRoot upper p w) → Ends s (goes_to upper p)
   goes_ends upper p (inl none) = inl (NoRoot, inl (refl, none))
@@ -88,33 +100,17 @@ module _ (s : State) (sound : IsSound s) where
       by_order : IsEarlier (at w) s.moment ⊎ ¬ (IsEarlier (at w) s.moment) → Ends s (goes_to upper p)
       by_order (inl past) = inl (Past, inr (refl, (w, named, past)))
       by_order (inr not_past) =
-          let passed = passed_text s.journal w canonical not_past in
-          inr (record {
-            text = passed.0;
-            next = record s { moment = at w };
-            allowed = goes_allowed s upper p w named not_past;
-            prints = (w, named, passed.1);
-            leads = (w, named, refl);
-            sound = record { proper = sound.proper; canonical = canonical };
-            size = refl;
-          })
+          let j = journals_exist s.motions s.size s.keeps s.moment (at w) sound.proper sound.canonical canonical not_past in
+          at_moment (goes_to upper p) (at w) canonical (lines_if s.journal j.0) j.0 (goes_allowed s upper p w named not_past) (w, named, is_text s.journal s w j.0 j.1) (w, named, refl) (w, named, j.1)
 
   goes_on_ends : NothingFails (state_setting s) s.moment ⊎ ((b : Block) × IsNextBlock (state_setting s) s.moment b) → Ends s goes_on
-  goes_on_ends (inl nothing) = inr (record { text = _; next = s; allowed = λ r h. h; prints = inr (nothing, refl); leads = inr (nothing, refl); sound = sound; size = refl })
-  goes_on_ends (inr (b, is)) = inr (record {
-    text = _;
-    next = record s { moment = b.moment };
-    allowed = λ r h. h;
-    prints = inl (b, is, refl);
-    leads = inl (b, is, refl);
-    sound = record { proper = sound.proper; canonical = is.canonical };
-    size = refl;
-  })
+  goes_on_ends (inl nothing) = at_moment goes_on s.moment sound.canonical _ [] (λ r h. h) (inr (nothing, refl)) (inr (nothing, refl)) (inr (nothing, refl))
+  goes_on_ends (inr (b, is)) = at_moment goes_on b.moment is.canonical _ (b ∷ []) (λ r h. h) (inl (b, is, refl)) (inl (b, is, refl)) (inl (b, is, refl))
 
   -- ---- replies
   reply_ends : (q : Command) → HasLine s sound.canonical q → Ends s (asks q)
   reply_ends q (inl not) = inl (NotKept, (refl, not))
-  reply_ends q (inr (kept, line)) = inr (record { text = line.0; next = s; allowed = λ r h. h.1 kept; prints = line.1; leads = refl; sound = sound; size = refl })
+  reply_ends q (inr (kept, line)) = at_moment (asks q) s.moment sound.canonical line.0 [] (λ r h. h.1 kept) line.1 refl refl
 
   -- ---- one row for each deed
   pub deed_ends : (d : Deed) → IsDeedInRange d → Ends s d

@@ -1,6 +1,5 @@
 -- How passed blocks are counted.
-use Rattle.std.proofs.Common.{◌≡◌, ℕ, ◌+◌, ◌-◌, ◌≤◌, ◌^◌, List, [], ◌∷◌, ◌++◌, length, Option, Some, None, is_some, false, refl, sym, ap, ◌∙◌, subst, arith}
-use Rattle.std.specs.Prelude.{min}
+use Rattle.std.proofs.Common.{zero-add, ◌≡◌, ℕ, ◌+◌, ◌-◌, ◌≤◌, ◌^◌, List, [], ◌∷◌, ◌++◌, length, Option, Some, None, is_some, false, refl, sym, ap, ◌∙◌, subst, arith, min}
 use Rattle.std.proofs.lemmas.List.Sums.{fold-append, sum_by-cons}
 use Rattle.kin_motion.specs.Journal.{Block}
 use Rattle.kin_run.specs.declared.tally.Tally.{Tally}
@@ -78,10 +77,7 @@ tallied_are t (b ∷ bs) low few =
 pub tallied_from_nothing : (bs : List Block) → tallied (record { moments = 0; failures = 0 }) bs ≡ record { moments = min (length bs) (2 ^ 64 - 1); failures = min (failures_in bs) (2 ^ 64 - 1) }
 tallied_from_nothing bs =
     tallied_are (record { moments = 0; failures = 0 }) bs (at_most_zero (2 ^ 64 - 1)) (at_most_zero (2 ^ 64 - 1))
-    ∙ (λ i. record { moments = min (behind_zero (length bs) i) (2 ^ 64 - 1); failures = min (behind_zero (failures_in bs) i) (2 ^ 64 - 1) })
+    ∙ (λ i. record { moments = min (zero-add (length bs) i) (2 ^ 64 - 1); failures = min (zero-add (failures_in bs) i) (2 ^ 64 - 1) })
   where
     at_most_zero : (most : ℕ) → 0 ≤ most
     at_most_zero most = omega arith
-
-    behind_zero : (n : ℕ) → 0 + n ≡ n
-    behind_zero n = omega arith

@@ -1,8 +1,8 @@
 -- Every input has a text.
-use Rattle.std.proofs.Common.{◌≡◌, inl, inr, ℕ, ◌^◌, List, [], ◌∷◌, ◌++◌, Some, None, Result, Ok, Err, refl, sym, subst}
+use Rattle.std.proofs.Common.{◌≡◌, inl, inr, ℕ, ◌^◌, List, [], ◌∷◌, ◌++◌, Some, None, Result, Ok, Err, refl, sym, subst, All}
 use Rattle.std.proofs.lemmas.List.{length-replicate}
-use Rattle.std.specs.Prelude.{All}
 use Rattle.std.proofs.lemmas.List.Elements.{All-head, All-tail, All-weaker}
+use Rattle.kin_motion.specs.Journal.{Block}
 use Rattle.kin_motion.specs.Live.{IsSmallKeep}
 use Rattle.kin_motion.proofs.SlotLaws.{none_live}
 use Rattle.kin_script.specs.declared.script.Script.{Script}
@@ -17,26 +17,36 @@ use Rattle.kin_script.proofs.ScriptRanges.{script_within}
 use Rattle.kin_run.specs.declared.status.Status.{Status}
 use Rattle.kin_run.specs.declared.status.Status.TheVariants as status
 use Rattle.kin_run.specs.Headline.{IsAnswer, IsTextOf, TextsExist}
+use Rattle.kin_run.specs.Passed.{PassesInTurn}
 use Rattle.kin_num.proofs.Values.{start_canonical}
 use Rattle.kin_run.proofs.Playing.{Line}
 use Rattle.kin_run.proofs.StepExistence.{IsSound, Ends, deed_ends}
 
 -- ---- the text of commands
-abbrev HasText : State → List Line → Type 0
-HasText s cs = (text : List ℕ) × (ending : Ending) × Text s cs text ending
+-- a text with its ending, and the blocks that the commands pass if none is refused
+pub record HasText (s : State) (cs : List Line) : Type 0 where
+  pub text : List ℕ
+  pub ending : Ending
+  pub is : Text s cs text ending
+  pub passes : ending ≡ None → (bs : List Block) × PassesInTurn s cs bs
 
 pub text_exists : (cs : List Line) (s : State) → IsSound s → All (λ c. IsCommandInRange s.size c.1) cs → HasText s cs
-text_exists [] s sound range = ([], None, (refl, refl))
+text_exists [] s sound range = record { text = []; ending = None; is = (refl, refl); passes = λ e. ([], refl) }
 text_exists (c ∷ cs) s sound range = by_end (deed_ends s sound (deed_of c.1) (deed_in_range s.size c.1 (All-head (λ d. IsCommandInRange s.size d.1) c cs range))) (text_exists cs)
   where
     rest_range : (t : State) → t.size ≡ s.size → All (λ d. IsCommandInRange t.size d.1) cs
     rest_range t e = subst (λ (size : ℕ). All (λ d. IsCommandInRange size d.1) cs) (sym e) (All-tail (λ d. IsCommandInRange s.size d.1) c cs range)
 
     by_end : Ends s (deed_of c.1) → ((t : State) → IsSound t → All (λ d. IsCommandInRange t.size d.1) cs → HasText t cs) → HasText s (c ∷ cs)
-    by_end (inl (r, refused)) rest = (refused_line c.0 r, Some (c.0, r), inl (r, refused, refl, refl))
+    by_end (inl (r, refused)) rest = record { text = refused_line c.0 r; ending = Some (c.0, r); is = inl (r, refused, refl, refl); passes = λ e. absurd (let clash : Some (c.0, r) ≡ None = e in cc) }
     by_end (inr steps) rest =
         let more = rest steps.next steps.sound (rest_range steps.next steps.size) in
-        (steps.text ++ more.0, more.1, inr (steps.text, more.0, steps.next, record { allowed = steps.allowed; prints = steps.prints; leads = steps.leads }, more.2, refl))
+        record {
+          text = steps.text ++ more.text;
+          ending = more.ending;
+          is = inr (steps.text, more.text, steps.next, record { allowed = steps.allowed; prints = steps.prints; leads = steps.leads }, more.is, refl);
+          passes = λ e. let bs = more.passes e in (steps.blocks ++ bs.0, (steps.blocks, bs.0, steps.next, steps.allowed, steps.passes, steps.leads, bs.1, refl));
+        }
 
 -- ---- the state at the start
 pub start_sound : (s : Script) → IsWithin s → IsSound (start s.size s.keeps s.journal)
@@ -62,4 +72,4 @@ texts_exist input = by_reading (script_of input) refl
     by_reading (Ok s) e =
         let within = script_within input s e in
         let has = text_exists s.lines (start s.size s.keeps s.journal) (start_sound s within) within.commands in
-        by_ending has.1 has.0 (record { script = s; reads = e; replays = has.2 })
+        by_ending has.ending has.text (record { script = s; reads = e; replays = has.is })

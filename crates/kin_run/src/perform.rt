@@ -6,9 +6,7 @@ ghost use Rattle.kin_num.specs.Canonical.{IsCanonical};
 ghost use Rattle.kin_num.specs.Quadratic.{Quadratic};
 ghost use Rattle.kin_script.specs.Deeds.{deed_of, goes_to};
 ghost use Rattle.kin_script.specs.Ranges.{IsCommandInRange};
-ghost use Rattle.kin_motion.specs.Journal.{IsJournal};
 ghost use Rattle.kin_script.specs.Replay.{IsNamedRoot};
-ghost use Rattle.kin_script.specs.States.{at, state_setting};
 ghost use Rattle.kin_world.specs.Worlds.{IsWhole};
 ghost use Rattle.kin_run.specs.declared.perform.Halt.TheVariants.{Broken as BrokenOff};
 ghost use Rattle.kin_run.specs.declared.write.Stop.TheVariants.{Fault as FaultOf, NoMemory as WantOfMemory};
@@ -69,7 +67,7 @@ fn move_to<K: Sink, L: Ledger>(
     requires whole { IsWhole world.old }
     requires canonical { IsCanonical asked }
     ensures performs { (upper : Bool) (p : Quadratic) → IsNamedRoot upper p asked → Performs (state_of journal world.old) (goes_to upper p) result (printer (K.held sink.old) out.old.items) (printer (K.held sink.new) out.new.items) (state_of journal world.new) }
-    ensures tallied { OnOk result (HasTallied (IsJournal (state_setting (state_of journal world.old)) world.old.moment (at asked)) tally.old tally.new) }
+    ensures tallied { (upper : Bool) (p : Quadratic) → IsNamedRoot upper p asked → OnOk result (HasTallied (Passes (state_of journal world.old) (goes_to upper p)) tally.old tally.new) }
     ensures refused { OnRefused result (world.new ≡ world.old) }
     ensures whole { OnOk result (IsWhole world.new) }
     ensures later { K.faults sink.old ≤ K.faults sink.new }

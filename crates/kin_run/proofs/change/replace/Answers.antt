@@ -1,5 +1,4 @@
-use Rattle.std.proofs.Common.{◌≡◌, true, false, Some, refl, sym, ap, ◌∙◌}
-use Rattle.std.specs.Prelude.{is_some}
+use Rattle.std.proofs.Common.{◌≡◌, true, false, Some, refl, sym, ap, ◌∙◌, is_some}
 use Rattle.kin_motion.specs.Course.{motion_of}
 use Rattle.kin_script.specs.Changes.{restarts}
 use Rattle.kin_run.specs.States.{state_of}

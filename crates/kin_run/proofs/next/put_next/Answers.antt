@@ -1,5 +1,4 @@
-use Rattle.std.proofs.Common.{[], ◌++◌, inl, inr, refl, sym, ap}
-use Rattle.std.proofs.lemmas.List.{append-nil}
+use Rattle.std.proofs.Common.{[], ◌++◌, inl, inr, refl, sym, ap, append-nil}
 use Rattle.std.proofs.lemmas.Result.{err_from_is_err_and, on_err_weaker}
 use Rattle.kin_basics.proofs.Results.{on_ok}
 use Rattle.kin_script.specs.PrintedJournal.{none_line, now_line}

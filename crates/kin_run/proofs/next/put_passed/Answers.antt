@@ -1,5 +1,4 @@
-use Rattle.std.proofs.Common.{◌++◌, subst}
-use Rattle.std.specs.Prelude.{OnErr}
+use Rattle.std.proofs.Common.{◌++◌, subst, OnErr}
 use Rattle.kin_motion.specs.Journal.{Block}
 use Rattle.kin_script.specs.Printed.{PutsFront}
 use Rattle.std.proofs.lemmas.Result.{on_err_weaker}

@@ -1,109 +1,86 @@
-use Rattle.std.proofs.Common.{[], ap, arith, not, refl, sym, subst, ◌∙◌}
+use Rattle.std.proofs.Common.{[], ap, arith, not, refl, ◌∙◌}
 use Rattle.std.proofs.lemmas.Result.{err_from_is_err_and}
 use Rattle.kin_motion.specs.Journal.{IsJournal}
 use Rattle.kin_script.specs.States.{at, state_setting}
-use Rattle.kin_script.specs.Text.{IsPassedText}
 use Rattle.kin_world.specs.Worlds.{HasPassed, HasMoved}
 use Rattle.kin_world.proofs.RootLaws.{journals_exist}
 use Rattle.kin_run.specs.Written.{printer}
 use Rattle.kin_run.specs.States.{state_of}
 use Rattle.kin_run.proofs.Tallying.{untallied}
-use Rattle.kin_run.proofs.Counting.{none_counted, counts_on, counts_quietly, counted_all, counted_quietly}
 use Rattle.kin_run.proofs.Gathering.{gains_nothing}
-use Rattle.kin_run.proofs.OnTheWay.{sets_out, breaks_here, breaks_within, faults_behind, goes_on, quiet_turn, arrives}
+use Rattle.kin_run.proofs.OnTheWay.{sets_out, breaks_here, breaks_within, faults_behind, goes_on, goes_on_quietly, arrives, counted_all, told_some, told_none}
 use Rattle.kin_run.proofs.pass.pass.Goals as goal
 
 pub loop-block-init : goal.loop-block-init
-loop-block-init g c = record {
-  on = sets_out c.args.journal c.args.world.now c.args.asked (printer (g.K.Sink.held c.args.sink.now) c.args.out.now.items) c.requires.later;
-  counted = none_counted (state_of c.args.journal c.args.world.now) c.args.asked c.args.tally.now;
-  whole = c.requires.whole;
-  later = omega arith;
-}
+loop-block-init g c = record { on = sets_out c.args.journal c.args.world.now c.args.asked (printer (g.K.Sink.held c.args.sink.now) c.args.out.now.items) c.args.tally.now c.requires.whole c.requires.later; later = omega arith }
 
 pub returns-in_err-block-clause-text : goal.returns-in_err-block-clause-text
 returns-in_err-block-clause-text g c =
     let e = err_from_is_err_and c.from_residual-in_err-block.result c.from_residual-in_err-block.ensures.1 in
-    let h = c.loop-block.invariant in
-    rw (e.1, e.2) (breaks_here h.on c.requires.canonical h.whole.canonical)
+    rw (e.1, e.2) (breaks_here c.loop-block.invariant.on c.requires.canonical)
 
 pub returns-in_err-put_if_on-clause-text : goal.returns-in_err-put_if_on-clause-text
 returns-in_err-put_if_on-clause-text g c =
     let e = err_from_is_err_and c.from_residual-in_err-put_if_on.result c.from_residual-in_err-put_if_on.ensures.1 in
-    let h = c.loop-block.invariant in
     let passed : HasPassed (at c.args.asked) c.in-Some-2.block c.loop-block.world c.step.new.self = rw c.in-Some-2.is at c.in_ok-block.ensures.stepped in
-    rw (e.1, e.2) (breaks_within h.on c.requires.canonical h.whole.canonical passed c.put_if_on.new.out.items c.in_err-put_if_on.ensures.err)
+    rw (e.1, e.2) (breaks_within c.loop-block.invariant.on c.requires.canonical passed c.put_if_on.new.out.items c.in_err-put_if_on.ensures.err)
 
 pub returns-in_err-flush_if_due-clause-text : goal.returns-in_err-flush_if_due-clause-text
 returns-in_err-flush_if_due-clause-text g c =
     let e = err_from_is_err_and c.from_residual-in_err-flush_if_due.result c.from_residual-in_err-flush_if_due.ensures.1 in
-    let h = c.loop-block.invariant in
     let passed : HasPassed (at c.args.asked) c.in-Some-2.block c.loop-block.world c.step.new.self = rw c.in-Some-2.is at c.in_ok-block.ensures.stepped in
     rw (e.1, e.2)
-    (faults_behind h.on c.requires.canonical h.whole.canonical passed c.put_if_on.new.out.items (printer (g.K.Sink.held c.flush_if_due.new.sink) c.flush_if_due.new.out.items) c.in_ok-put_if_on.ensures.ok c.in_err-flush_if_due.ensures.front)
+    (faults_behind c.loop-block.invariant.on c.requires.canonical passed c.put_if_on.new.out.items (printer (g.K.Sink.held c.flush_if_due.new.sink) c.flush_if_due.new.out.items) c.in_ok-put_if_on.ensures.ok c.in_err-flush_if_due.ensures.front)
 
 pub loop-block-preserved : goal.loop-block-preserved
 loop-block-preserved g c =
-    let h = c.loop-block.invariant in
     let passed : HasPassed (at c.args.asked) c.in-Some-2.block c.loop-block.world c.step.new.self = rw c.in-Some-2.is at c.in_ok-block.ensures.stepped in
     record {
-      on = goes_on h.on c.requires.canonical h.whole.canonical passed c.put_if_on.new.out.items c.in_ok-put_if_on.ensures.ok c.in_ok-flush_if_due.ensures.gained;
-      counted = counts_on h.on c.requires.canonical h.whole.canonical c.count_of.result passed h.counted c.count_of.ensures c.count_on-in-Some-2.ensures;
-      whole = passed.whole;
-      later = omega (arith, h.later, c.flush_if_due.ensures.cause.later);
+      on = goes_on c.loop-block.invariant.on c.requires.canonical passed c.put_if_on.new.out.items c.in_ok-put_if_on.ensures.ok c.in_ok-flush_if_due.ensures.gained c.count_of.result c.count_of.ensures c.count_on-in-Some-2.ensures;
+      later = omega (arith, c.loop-block.invariant.later, c.flush_if_due.ensures.cause.later);
     }
 
 pub returns-clause-text : goal.returns-clause-text
 returns-clause-text g c =
-    let h = c.loop-block.invariant in
     let moved : HasMoved (at c.args.asked) c.loop-block.world c.step.new.self = rw c.in_default-2.is at c.in_ok-block.ensures.stepped in
-    arrives h.on c.requires.canonical h.whole.canonical moved
+    arrives c.loop-block.invariant.on c.requires.canonical moved
+
+pub returns-clause-tallied : goal.returns-clause-tallied
+returns-clause-tallied g c =
+    let moved : HasMoved (at c.args.asked) c.loop-block.world c.step.new.self = rw c.in_default-2.is at c.in_ok-block.ensures.stepped in
+    counted_all c.loop-block.invariant.on c.requires.canonical moved
+
+-- ---- without a list of the failures
 
 pub loop-failures-init : goal.loop-failures-init
-loop-failures-init g c = record {
-  on = sets_out c.args.journal c.args.world.now c.args.asked (printer (g.K.Sink.held c.args.sink.now) c.args.out.now.items) c.requires.later;
-  counted = none_counted (state_of c.args.journal c.args.world.now) c.args.asked c.args.tally.now;
-  whole = c.requires.whole;
-}
+loop-failures-init g c = sets_out c.args.journal c.args.world.now c.args.asked (printer (g.K.Sink.held c.args.sink.now) c.args.out.now.items) c.args.tally.now c.requires.whole c.requires.later
 
 pub returns-in_err-failures-clause-text : goal.returns-in_err-failures-clause-text
 returns-in_err-failures-clause-text g c =
     let e = err_from_is_err_and c.from_residual-in_err-failures.result c.from_residual-in_err-failures.ensures.1 in
-    let h = c.loop-failures.invariant in
-    rw (e.1, e.2) (breaks_here h.on c.requires.canonical h.whole.canonical)
+    rw (e.1, e.2) (breaks_here c.loop-failures.invariant c.requires.canonical)
 
 pub loop-failures-preserved : goal.loop-failures-preserved
 loop-failures-preserved g c =
-    let h = c.loop-failures.invariant in
-    let t = quiet_turn h.on c.requires.canonical h.whole.canonical c.if-not-journal-2.true c.pass.new.self c.in_ok-failures.field-0 c.in-Some.failures c.in-Some.is c.in_ok-failures.ensures.stepped in
-    record {
-      on = t.0;
-      counted = counts_quietly h.on c.requires.canonical h.whole.canonical c.in_ok-failures.field-0 c.in-Some.failures c.in-Some.is c.in_ok-failures.ensures.stepped h.counted c.count_on.ensures;
-      whole = t.1;
-    }
-
-pub returns-clause-tallied : goal.returns-clause-tallied
-returns-clause-tallied g c =
-    let h = c.loop-block.invariant in
-    let moved : HasMoved (at c.args.asked) c.loop-block.world c.step.new.self = rw c.in_default-2.is at c.in_ok-block.ensures.stepped in
-    counted_all h.on c.requires.canonical h.whole.canonical moved h.counted
+    let block = told_some (at c.args.asked) c.loop-failures.world c.pass.new.self c.in_ok-failures.field-0 c.in-Some.failures c.in-Some.is c.in_ok-failures.ensures.stepped in
+    goes_on_quietly c.loop-failures.invariant c.requires.canonical c.if-not-journal-2.true block.1 c.in-Some.failures block.2 c.count_on.ensures
 
 pub returns-then-not-journal-2-clause-tallied : goal.returns-then-not-journal-2-clause-tallied
 returns-then-not-journal-2-clause-tallied g c =
-    let h = c.loop-failures.invariant in
-    counted_quietly h.on c.requires.canonical h.whole.canonical c.in_ok-failures.field-0 c.in_default.is c.in_ok-failures.ensures.stepped h.counted
+    counted_all c.loop-failures.invariant c.requires.canonical (told_none (at c.args.asked) c.loop-failures.world c.pass.new.self c.in_ok-failures.field-0 c.in_default.is c.in_ok-failures.ensures.stepped)
+
+-- ---- by leaps
 
 pub returns-in_err-leap_to-clause-text : goal.returns-in_err-leap_to-clause-text
 returns-in_err-leap_to-clause-text g c =
     let e = err_from_is_err_and c.from_residual.result c.from_residual.ensures.1 in
-    let start = sets_out c.args.journal c.args.world.now c.args.asked (printer (g.K.Sink.held c.args.sink.now) c.args.out.now.items) c.requires.later in
-    rw (e.1, e.2) (breaks_here start c.requires.canonical c.requires.whole.canonical)
+    rw (e.1, e.2) (breaks_here (sets_out c.args.journal c.args.world.now c.args.asked (printer (g.K.Sink.held c.args.sink.now) c.args.out.now.items) c.args.tally.now c.requires.whole c.requires.later) c.requires.canonical)
 
 pub returns-then-is_none-clause-text : goal.returns-then-is_none-clause-text
 returns-then-is_none-clause-text g c = record {
   text = [];
   gained = gains_nothing (printer (g.K.Sink.held c.args.sink.now) c.args.out.now.items);
-  is = subst (λ b. IsPassedText b (state_of c.args.journal c.args.world.now) c.args.asked []) (sym c.if-not-journal.true) refl;
+  is = rw c.if-not-journal.true refl;
 }
 
 pub returns-then-is_none-clause-tallied : goal.returns-then-is_none-clause-tallied

@@ -1,17 +1,12 @@
 use Rattle.std.proofs.Common.{◌≤◌}
 use Rattle.kin_num.specs.Grains.{moments_left}
-use Rattle.kin_world.specs.Worlds.{IsWhole}
 use Rattle.kin_run.specs.Written.{printer}
-use Rattle.kin_run.specs.States.{state_of}
-use Rattle.kin_run.proofs.Counting.{Counted}
 use Rattle.kin_run.proofs.OnTheWay.{IsOnTheWay}
 use Rattle.kin_run.proofs.pass.pass.Given as goal
 
 abbrev pub invariant-loop-block : goal.invariant-loop-block
 invariant-loop-block g l = record {
-  on : IsOnTheWay l.journal l.fn.world l.fn.asked l.world (printer (g.K.Sink.held l.fn.sink) l.fn.out.items) (printer (g.K.Sink.held l.sink) l.out.items);
-  counted : Counted (state_of l.journal l.fn.world) l.fn.asked l.world.moment l.fn.tally l.tally;
-  whole : IsWhole l.world;
+  on : IsOnTheWay l.journal l.fn.world l.fn.asked l.world (printer (g.K.Sink.held l.fn.sink) l.fn.out.items) (printer (g.K.Sink.held l.sink) l.out.items) l.fn.tally l.tally;
   later : g.K.Sink.faults l.fn.sink ≤ g.K.Sink.faults l.sink;
 }
 
@@ -19,11 +14,7 @@ abbrev pub decreases-loop-block : goal.decreases-loop-block
 decreases-loop-block g l = moments_left l.world.moment
 
 abbrev pub invariant-loop-failures : goal.invariant-loop-failures
-invariant-loop-failures g l = record {
-  on : IsOnTheWay l.journal l.fn.world l.fn.asked l.world (printer (g.K.Sink.held l.fn.sink) l.fn.out.items) (printer (g.K.Sink.held l.fn.sink) l.fn.out.items);
-  counted : Counted (state_of l.journal l.fn.world) l.fn.asked l.world.moment l.fn.tally l.tally;
-  whole : IsWhole l.world;
-}
+invariant-loop-failures g l = IsOnTheWay l.journal l.fn.world l.fn.asked l.world (printer (g.K.Sink.held l.fn.sink) l.fn.out.items) (printer (g.K.Sink.held l.fn.sink) l.fn.out.items) l.fn.tally l.tally
 
 abbrev pub decreases-loop-failures : goal.decreases-loop-failures
 decreases-loop-failures g l = moments_left l.world.moment

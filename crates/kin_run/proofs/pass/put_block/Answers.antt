@@ -1,6 +1,4 @@
-use Rattle.std.proofs.Common.{◌≡◌, ◌++◌, ◌∙◌, ap, subst, List, ℕ, map}
-use Rattle.std.specs.List.{flat_map}
-use Rattle.std.proofs.lemmas.List.{take_all}
+use Rattle.std.proofs.Common.{◌≡◌, ◌++◌, ◌∙◌, ap, subst, List, ℕ, map, flat_map, take_all}
 use Rattle.kin_cert.specs.declared.owned.Failure.{Failure}
 use Rattle.kin_cert.specs.Blocks.{failure_of}
 use Rattle.kin_script.specs.Printed.{PutsFront}

@@ -1,34 +1,33 @@
-use Rattle.std.proofs.Common.{◌≡◌, refl, [], sym, subst, true, arith, to_z, of_z, w32, w64}
-use Rattle.std.specs.Prelude.{pos, ◌<ℤ◌}
+use Rattle.std.proofs.Common.{ℤ, ◌≡◌, refl, [], true, arith, to_z, of_z, w32, w64}
 use Rattle.std.proofs.lemmas.Int.{ints, to_z-of_z}
-use Rattle.std.proofs.lemmas.Result.{err_from_is_err_and, on_ok_weaker}
+use Rattle.std.proofs.lemmas.Result.{err_from_is_err_and}
+use Rattle.kin_num.specs.declared.instant.Shape.{Shape}
+use Rattle.kin_num.specs.Canonical.{IsCanonical}
 use Rattle.kin_num.specs.Instants.{line}
+use Rattle.kin_instant.specs.Roots.{IsFraction}
 use Rattle.kin_script.specs.Changes.{IsSlowVelocity}
-use Rattle.kin_script.specs.Deeds.{Deed}
 use Rattle.kin_script.specs.Ranges.{IsRatioInRange, IsRootInRange}
 use Rattle.kin_script.specs.Replay.{IsNamedRoot}
 use Rattle.kin_script.proofs.Questions.{asks_otherwise}
-use Rattle.kin_run.specs.Passed.{Passes}
-use Rattle.kin_run.specs.Performed.{Performs}
 use Rattle.kin_run.specs.States.{state_of}
-use Rattle.kin_run.specs.Tallies.{HasTallied}
 use Rattle.kin_run.specs.Written.{printer}
 use Rattle.kin_basics.proofs.Results.{on_ok}
-use Rattle.kin_run.proofs.Tallying.{none_tallied, tallied_is}
+use Rattle.kin_run.proofs.Tallying.{none_tallied}
 use Rattle.kin_run.proofs.Performing.{went_on, going_broke, replied}
 use Rattle.kin_run.proofs.NamedRoots.{ratio_named}
 use Rattle.kin_run.proofs.perform.perform.Goals as goal
 
-pub returns-in-AtRatio-clause-performs : goal.returns-in-AtRatio-clause-performs
-returns-in-AtRatio-clause-performs g c =
-    let n = c.in-AtRatio.n in
-    let d = c.in-AtRatio.d in
-    let range : IsRatioInRange n d = rw c.in-AtRatio.is at c.requires.range in
+-- a fraction in its range is the root of its line, however its parts were handed on
+handed_ratio : (n d : ℤ) (r : Shape) → IsRatioInRange n d → IsFraction (to_z w64 (of_z w64 n)) (to_z w64 (of_z w64 d)) r → IsCanonical r → IsNamedRoot true (line n d) r
+handed_ratio n d r range value canonical =
     let n_is : to_z w64 (of_z w64 n) ≡ n = grind (arith, to_z-of_z, range.n_small) in
     let d_is : to_z w64 (of_z w64 d) ≡ d = grind (arith, to_z-of_z, range.d_small) in
-    let positive : pos 0 <ℤ d = omega (arith, ints, range.d_low) in
-    let asked : IsNamedRoot true (line n d) c.ratio.result = ratio_named n d c.ratio.result positive (rw (n_is, d_is) at c.ratio.ensures.value) c.ratio.ensures.canonical in
-    rw c.in-AtRatio.is (c.move_to.ensures.performs true (line n d) asked)
+    ratio_named n d r (omega (arith, ints, range.d_low)) (rw (n_is, d_is) at value) canonical
+
+pub returns-in-AtRatio-clause-performs : goal.returns-in-AtRatio-clause-performs
+returns-in-AtRatio-clause-performs g c =
+    let asked = handed_ratio c.in-AtRatio.n c.in-AtRatio.d c.ratio.result (rw c.in-AtRatio.is at c.requires.range) c.ratio.ensures.value c.ratio.ensures.canonical in
+    rw c.in-AtRatio.is (c.move_to.ensures.performs true (line c.in-AtRatio.n c.in-AtRatio.d) asked)
 
 pub returns-in-Turn-clause-performs : goal.returns-in-Turn-clause-performs
 returns-in-Turn-clause-performs g c =
@@ -55,7 +54,7 @@ returns-in_default-clause-performs g c =
     let s = state_of c.args.journal c.args.world.now in
     let held = g.K.Sink.held c.args.sink.now in
     let asked = asks_otherwise q d.not-Insert d.not-Remove d.not-Replace d.not-Turn d.not-AtRatio d.not-AtRoot d.not-Next in
-    subst (λ (x : Deed). Performs s x c.put_reply_to.result (printer held c.args.out.now.items) (printer held c.put_reply_to.new.out.items) s) (sym asked)
+    rw asked
     (replied s q c.put_reply_to.result held c.args.out.now.items c.put_reply_to.new.out.items (c.put_reply_to.ensures.line c.args.journal))
 
 -- ---- the blocks that are passed
@@ -74,26 +73,17 @@ returns-in-Turn-clause-tallied g c = on_ok c.turn.result (rw c.in-Turn.is (none_
 
 pub returns-in-AtRatio-clause-tallied : goal.returns-in-AtRatio-clause-tallied
 returns-in-AtRatio-clause-tallied g c =
-    let n = c.in-AtRatio.n in
-    let d = c.in-AtRatio.d in
-    let range : IsRatioInRange n d = rw c.in-AtRatio.is at c.requires.range in
-    let n_is : to_z w64 (of_z w64 n) ≡ n = grind (arith, to_z-of_z, range.n_small) in
-    let d_is : to_z w64 (of_z w64 d) ≡ d = grind (arith, to_z-of_z, range.d_small) in
-    let positive : pos 0 <ℤ d = omega (arith, ints, range.d_low) in
-    let asked : IsNamedRoot true (line n d) c.ratio.result = ratio_named n d c.ratio.result positive (rw (n_is, d_is) at c.ratio.ensures.value) c.ratio.ensures.canonical in
-    on_ok_weaker c.move_to.result (λ x. rw c.in-AtRatio.is (tallied_is x (λ bs is. (c.ratio.result, asked, is)))) c.move_to.ensures.tallied
+    let asked = handed_ratio c.in-AtRatio.n c.in-AtRatio.d c.ratio.result (rw c.in-AtRatio.is at c.requires.range) c.ratio.ensures.value c.ratio.ensures.canonical in
+    rw c.in-AtRatio.is (c.move_to.ensures.tallied true (line c.in-AtRatio.n c.in-AtRatio.d) asked)
 
 pub returns-in-Some-clause-tallied : goal.returns-in-Some-clause-tallied
 returns-in-Some-clause-tallied g c =
-    let k = c.in-AtRoot.a in
-    let l = c.in-AtRoot.b in
-    let m = c.in-AtRoot.c in
-    let range : IsRootInRange k l m = rw c.in-AtRoot.is at c.requires.range in
-    let k_is : to_z w64 (of_z w64 k) ≡ k = grind (arith, to_z-of_z, range.a_small) in
-    let l_is : to_z w64 (of_z w64 l) ≡ l = grind (arith, to_z-of_z, range.b_small) in
-    let m_is : to_z w64 (of_z w64 m) ≡ m = grind (arith, to_z-of_z, range.c_small) in
-    let asked : IsNamedRoot c.in-AtRoot.upper (record { a = k; b = l; c = m }) c.in-Some.asked = rw (k_is, l_is, m_is) at c.in-Some.ensures in
-    on_ok_weaker c.move_to-in-Some.result (λ x. rw c.in-AtRoot.is (tallied_is x (λ bs is. (c.in-Some.asked, asked, is)))) c.move_to-in-Some.ensures.tallied
+    let q = c.in-AtRoot in
+    let range : IsRootInRange q.a q.b q.c = rw q.is at c.requires.range in
+    let a_is : to_z w64 (of_z w64 q.a) ≡ q.a = grind (arith, to_z-of_z, range.a_small) in
+    let b_is : to_z w64 (of_z w64 q.b) ≡ q.b = grind (arith, to_z-of_z, range.b_small) in
+    let c_is : to_z w64 (of_z w64 q.c) ≡ q.c = grind (arith, to_z-of_z, range.c_small) in
+    rw q.is (c.move_to-in-Some.ensures.tallied q.upper (record { a = q.a; b = q.b; c = q.c }) (rw (a_is, b_is, c_is) at c.in-Some.ensures))
 
 pub returns-in_ok-put_next-in-Next-clause-tallied : goal.returns-in_ok-put_next-in-Next-clause-tallied
 returns-in_ok-put_next-in-Next-clause-tallied g c = rw c.in-Next.is c.in_ok-put_next-in-Next.ensures.tallied
@@ -104,4 +94,4 @@ returns-in_default-clause-tallied g c =
     let q = c.args.command.now in
     let s = state_of c.args.journal c.args.world.now in
     let asked = asks_otherwise q d.not-Insert d.not-Remove d.not-Replace d.not-Turn d.not-AtRatio d.not-AtRoot d.not-Next in
-    on_ok c.put_reply_to.result (subst (λ (x : Deed). HasTallied (Passes s x) c.args.tally.now c.args.tally.now) (sym asked) (none_tallied (λ bs. bs ≡ []) c.args.tally.now refl))
+    on_ok c.put_reply_to.result (rw asked (none_tallied (λ bs. bs ≡ []) c.args.tally.now refl))

@@ -1,9 +1,8 @@
-use Rattle.std.proofs.Common.{List, ℕ, [], ap, subst}
+use Rattle.std.proofs.Common.{[], ap}
 use Rattle.kin_basics.proofs.Results.{on_err}
-use Rattle.kin_script.specs.Text.{Text}
-use Rattle.kin_run.specs.Performed.{IsCutOfText, BreaksOff}
+use Rattle.kin_run.specs.Performed.{IsCutOfText}
 use Rattle.kin_run.specs.States.{state_of}
-use Rattle.kin_run.specs.Written.{GainsSome, printer}
+use Rattle.kin_run.specs.Written.{printer}
 use Rattle.kin_run.proofs.Gathering.{some_lost_here, wrote_front, wrote_broken}
 use Rattle.kin_run.proofs.OneText.{cut_of_text}
 use Rattle.kin_run.proofs.Playing.{cut_of_cut}
@@ -15,7 +14,7 @@ returns-in_err-flush-in-Ok-clause-cut g c =
     let all = c.args.lines.now in
     let before = g.K.Sink.held c.args.sink.now in
     let now = printer (g.K.Sink.held c.perform_each.new.sink) c.perform_each.new.out.items in
-    let gained = subst (λ (out : List ℕ). GainsSome (λ text. Text s all text c.in-Ok.ending) (printer before out) now) c.new-out.ensures.items c.in-Ok.ensures.text in
+    let gained = rw c.new-out.ensures.items at c.in-Ok.ensures.text in
     on_err c.from_residual.result
     (wrote_front (IsCutOfText s all) (some_lost_here gained (printer (g.K.Sink.held c.flush.new.sink) []) c.flush.ensures.front) (λ x front is f. cut_of_text s all x front c.in-Ok.ending c.requires.whole.canonical is f))
 
@@ -26,5 +25,5 @@ returns-clause-cut g c =
     let before = g.K.Sink.held c.args.sink.now in
     let held = g.K.Sink.held c.perform_each.new.sink in
     let out = c.perform_each.new.out.items in
-    let broke = subst (λ (start : List ℕ). BreaksOff (IsCutOfText s all) c.in-Err.stop (printer before start) (printer held out)) c.new-out.ensures.items c.in-Err.ensures.text in
+    let broke = rw c.new-out.ensures.items at c.in-Err.ensures.text in
     wrote_broken (IsCutOfText s all) before held (g.K.Sink.held c.salvage.new.sink) out c.in-Err.stop broke c.salvage.ensures.front (λ e. ap g.K.Sink.held (c.salvage.ensures.untouched e)) (cut_of_cut s all)

@@ -1,5 +1,4 @@
-use Rattle.std.proofs.Common.{refl}
-use Rattle.std.specs.Prelude.{Ok, Err}
+use Rattle.std.proofs.Common.{refl, Ok, Err}
 use Rattle.std.proofs.lemmas.Result.{err_from_is_err_and}
 use Rattle.kin_run.specs.States.{state_of, seen_of}
 use Rattle.kin_run.proofs.Replying.{with_journal, no_reply, no_fault, reply_broke, reply_put}
