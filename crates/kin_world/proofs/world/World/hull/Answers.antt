@@ -1,9 +1,5 @@
-use Rattle.std.proofs.Common.{ℕ}
 use Rattle.std.proofs.lemmas.Result.{IfOk-weaker}
 use Rattle.kin_motion.specs.declared.keep.Keep.TheVariants as keep
-use Rattle.kin_motion.specs.Chains.{IsHullCycle}
-use Rattle.kin_motion.specs.Scene.{Scene}
-use Rattle.kin_world.specs.Structures.{IsKept}
 use Rattle.kin_world.specs.Worlds.{scene_of}
 use Rattle.kin_world.proofs.world.World.hull.Goals as goal
 
@@ -11,7 +7,4 @@ pub hull-requires : goal.hull-requires
 hull-requires c = record { kept = (c.args.self.now.size, scene_of c.args.self.now, c.structure.ensures.kept keep.Hull c.place_of.ensures) }
 
 pub returns : goal.returns
-returns c = record {
-  hull = IfOk-weaker c.hull.result (λ cycle. (size : ℕ) (s : Scene) → IsKept size keep.Hull s c.structure.result.now → IsHullCycle s cycle.items) (λ cycle. IsHullCycle (scene_of c.args.self.now) cycle.items)
-      (λ cycle each. each c.args.self.now.size (scene_of c.args.self.now) (c.structure.ensures.kept keep.Hull c.place_of.ensures)) c.hull.ensures;
-}
+returns c = record { hull = IfOk-weaker c.hull.result _ _ (λ cycle each. each c.args.self.now.size (scene_of c.args.self.now) (c.structure.ensures.kept keep.Hull c.place_of.ensures)) c.hull.ensures }
