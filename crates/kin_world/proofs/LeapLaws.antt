@@ -1,5 +1,5 @@
 -- Where a leap lands, all is as a repair needs it.
-use Rattle.std.proofs.Common.{◌≡◌, inl, inr, refl, sym, ◌∙◌, subst, true, false, pos, List, Option, Contains, ◌↔◌}
+use Rattle.std.proofs.Common.{ap, ◌≡◌, inl, inr, refl, sym, ◌∙◌, subst, true, false, pos, List, Option, Contains, ◌↔◌}
 use Rattle.std.proofs.lemmas.Bool.{cases_Bool}
 use Rattle.std.proofs.lemmas.List.Elements.{All-contains}
 use Rattle.kin_num.specs.declared.instant.Moment.{Moment}
@@ -17,7 +17,7 @@ use Rattle.kin_cert.specs.declared.owned.Owned.{Owned}
 use Rattle.kin_cert.specs.Facts.{Facts, NoneAlike}
 use Rattle.kin_cert.specs.Taken.{IsLeastFailure, HasTaken}
 use Rattle.kin_cert.proofs.JustAfter.{follows, next_or_later, fails_not_just_after, line_fails_on}
-use Rattle.kin_world.specs.Upkeep.{Stage, IsSound, IsUnderRepair, IsBeyond, IsLanding, HasSettled, HasLanded, is_line}
+use Rattle.kin_world.specs.Upkeep.{Stage, IsSound, IsUnderRepair, IsBeyond, IsLanding, HasSameFrame, HasSettled, HasLanded, is_line}
 use Rattle.kin_world.proofs.SoundLaws.{failure_at, least_fails}
 use Rattle.kin_world.proofs.TakeLaws.{IsReached, at_once, at_moment, reached_under_repair, taken_under_repair}
 
@@ -85,5 +85,7 @@ module _ {s : Stage} (sound : IsSound s) (table : Facts) {taken : List Owned} (h
       within = beyond.within;
     }
 
-    pub has_landed : {t : Stage} → IsLanding (scene_at s.motions) due limit given m → ¬ (IsEarlier limit due) → t.moment ≡ m → HasSettled s.table t → HasLanded due limit s t
-    has_landed landing within there settled = let at = subst IsPlaced (sym there) (placed landing within) in record { later = at.later; past = at.past; within = at.within; settled = settled }
+    pub has_landed : {t : Stage} → IsLanding (scene_at s.motions) due limit given m → ¬ (IsEarlier limit due) → HasSameFrame (record s { moment = m; table = table }) t → HasSettled s.table t → HasLanded due limit s t
+    has_landed landing within frame settled =
+        let at = subst IsPlaced (sym (ap (λ (x : Stage). x.moment) frame)) (placed landing within) in
+        record { later = at.later; past = at.past; within = at.within; settled = settled }

@@ -1,12 +1,11 @@
-use Rattle.std.proofs.Common.{◌++◌, ◌∙◌, List, ap, arith, length}
-use Rattle.kin_motion.specs.declared.fact.Placed.{Placed}
+use Rattle.std.proofs.Common.{refl, ap, arith, length}
 use Rattle.kin_world.specs.Upkeep.{gathered}
 use Rattle.kin_world.proofs.GatherLaws.{gathers_less, gathers_all}
 use Rattle.kin_world.proofs.upkeep.gather.Goals as goal
 
 pub loop-owned-init : goal.loop-owned-init
 loop-owned-init c = record {
-  gathers = ap (λ (ps : List Placed). ps ++ gathered c.args.k c.args.taken.now) (c.in_ok-reserve.ensures.items ∙ c.clear.ensures.items);
+  gathers = rw (c.in_ok-reserve.ensures.items, c.clear.ensures.items) refl;
   room =
       let ok = c.in_ok-reserve.ensures.ok in
       omega (arith, ok);

@@ -1,5 +1,3 @@
-use Rattle.std.proofs.Common.{ap}
-use Rattle.kin_world.specs.Upkeep.{Stage}
 use Rattle.kin_world.proofs.LeapLaws.{landing_under_repair, has_landed}
 use Rattle.kin_world.proofs.TakeLaws.{given_same, given_waiting, given_askable, settled_since}
 use Rattle.kin_world.proofs.upkeep.Upkeep.leap.Goals as goal
@@ -29,5 +27,5 @@ pub returns-clause-landed : goal.returns-clause-landed
 returns-clause-landed g c =
     let out = c.in_ok-give_failing.ensures.given in
     let landing = rw c.deref.ensures.value at c.landing-self.ensures in
-    has_landed c.requires.sound c.give_failing.new.self out.has_taken c.args.due.now c.args.limit.now c.requires.failing c.give_failing.new.given.items (given_same out) c.landing-self.result landing c.requires.within (ap (λ (x : Stage). x.moment) c.repair_each.ensures.frame)
+    has_landed c.requires.sound c.give_failing.new.self out.has_taken c.args.due.now c.args.limit.now c.requires.failing c.give_failing.new.given.items (given_same out) c.landing-self.result landing c.requires.within c.repair_each.ensures.frame
     (settled_since c.requires.sound c.give_failing.new.self out.has_taken c.give_failing.ensures.made c.in_ok-repair_each.ensures.settled)

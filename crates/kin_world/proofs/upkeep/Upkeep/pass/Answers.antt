@@ -1,8 +1,3 @@
-use Rattle.std.proofs.Common.{ap, ◌∙◌, List, map}
-use Rattle.kin_motion.specs.Journal.{seen_in}
-use Rattle.kin_motion.specs.Scene.{scene_at}
-use Rattle.kin_cert.specs.declared.owned.Owned.{Owned}
-use Rattle.kin_cert.specs.Facts.{certificate_of}
 use Rattle.kin_world.proofs.TakeLaws.{taken_waiting, taken_askable, taken_under_repair, taken_block, settled_since}
 use Rattle.kin_world.proofs.upkeep.Upkeep.pass.Goals as goal
 
@@ -23,8 +18,7 @@ repair_each-requires g c =
 
 pub returns-clause-next : goal.returns-clause-next
 returns-clause-next g c =
-    taken_block c.requires.sound c.take_failing.new.self c.in_ok-taken.ensures.taken c.args.moment.now c.requires.failing c.in_ok-block.block
-    (c.in_ok-block.ensures ∙ ap (λ (os : List Owned). record { moment = c.args.moment.now; failures = map (λ (o : Owned). seen_in (scene_at c.args.self.now.motions c.args.moment.now) (certificate_of o)) os }) c.deref.ensures.value)
+    taken_block c.requires.sound c.take_failing.new.self c.in_ok-taken.ensures.taken c.args.moment.now c.requires.failing c.in_ok-block.block (rw c.deref.ensures.value at c.in_ok-block.ensures)
 
 pub returns-clause-settled : goal.returns-clause-settled
 returns-clause-settled g c = settled_since c.requires.sound c.take_failing.new.self c.in_ok-taken.ensures.taken c.take_failing.ensures.made c.in_ok-repair_each.ensures.settled

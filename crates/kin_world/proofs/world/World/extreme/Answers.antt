@@ -1,6 +1,5 @@
 use Rattle.kin_motion.specs.declared.keep.Keep.TheVariants as keep
-use Rattle.kin_world.specs.Worlds.{scene_of}
 use Rattle.kin_world.proofs.world.World.extreme.Goals as goal
 
 pub returns : goal.returns
-returns c = record { extreme = λ dx dy there. c.extreme.ensures c.args.self.now.size dx dy (scene_of c.args.self.now) (c.structure.ensures.kept (keep.Extreme dx dy) there) }
+returns c = record { extreme = λ dx dy there. c.extreme.ensures _ dx dy _ (c.structure.ensures.kept (keep.Extreme dx dy) there) }

@@ -1,7 +1,6 @@
-use Rattle.std.proofs.Common.{ap, ◌∙◌, ◌<◌, ◌^◌, true}
-use Rattle.kin_motion.specs.Course.{is_live}
+use Rattle.std.proofs.Common.{◌<◌, ◌^◌, true}
 use Rattle.kin_world.specs.Upkeep.{meaning, stage_of}
-use Rattle.kin_world.specs.Worlds.{World, HasInserted}
+use Rattle.kin_world.specs.Worlds.{HasInserted}
 use Rattle.kin_world.proofs.Inside.{sound_inside, as_seen, as_inside}
 use Rattle.kin_world.proofs.MarkLaws.{may_insert}
 use Rattle.kin_world.proofs.SoundLaws.{has_inserted}
@@ -10,7 +9,7 @@ use Rattle.kin_world.proofs.world.World.insert.Goals as goal
 pub carry_out_each-requires : goal.carry_out_each-requires
 carry_out_each-requires g c =
     let sound = sound_inside c.self.inside c.self.view_is c.self.invariant c.requires.whole in
-    let free = ap (λ (v : World). is_live v.motions c.args.no) c.self.view_is ∙ c.requires.free in
+    let free = rw (← c.self.view_is) at c.requires.free in
     let low = as_inside c.self.inside c.self.view_is c.self.invariant c.requires.whole (λ v. c.args.no < 2 ^ v.size) c.requires.room in
     record { marked = (c.self.inside.upkeep.motions, may_insert sound c.args.no c.args.m c.set.new.self free low c.set.ensures.value c.set.ensures.slow) }
 

@@ -1,6 +1,5 @@
 use Rattle.std.proofs.Common.{ℕ, Some, None, ap, sym, refl}
 use Rattle.kin_basics.proofs.Results.{on_err}
-use Rattle.kin_world.specs.Upkeep.{stage_of}
 use Rattle.kin_world.proofs.Inside.{sound_inside, rests_sound, has_rested, fails_seen, passes, passed_fewer}
 use Rattle.kin_world.proofs.world.World.pass.Goals as goal
 
@@ -23,7 +22,7 @@ pub returns-clause-stepped : goal.returns-clause-stepped
 returns-clause-stepped g c =
     let done = c.in_ok-count.ensures in
     let b = done.next.0 in
-    (Some b, passes c.self.inside c.self.view_is c.self.invariant c.requires.whole c.args.limit.now c.in-Some.moment c.in-Some.ensures (stage_of c.pass_unlisted.new.self) c.pass_unlisted.ensures.frame done.settled b done.next.2 done.next.1, ap (λ (n : ℕ). Some n) (sym done.next.3))
+    (Some b, passes c.self.inside c.self.view_is c.self.invariant c.requires.whole c.args.limit.now c.in-Some.moment c.in-Some.ensures _ c.pass_unlisted.ensures.frame done.settled b done.next.2 done.next.1, ap (λ (n : ℕ). Some n) (sym done.next.3))
 
 pub returns-clause-fewer : goal.returns-clause-fewer
-returns-clause-fewer g c = λ some. passed_fewer c.self.inside c.self.view_is c.self.invariant c.requires.whole c.args.limit.now c.in-Some.moment c.in-Some.ensures (stage_of c.pass_unlisted.new.self) c.pass_unlisted.ensures.frame
+returns-clause-fewer g c = λ some. passed_fewer c.self.inside c.self.view_is c.self.invariant c.requires.whole c.args.limit.now c.in-Some.moment c.in-Some.ensures _ c.pass_unlisted.ensures.frame

@@ -1,19 +1,18 @@
-use Rattle.std.proofs.Common.{ap, ◌∙◌, subst, ◌<◌, true}
-use Rattle.kin_motion.specs.Course.{is_live}
+use Rattle.std.proofs.Common.{subst, ◌<◌, true}
 use Rattle.kin_world.specs.Upkeep.{meaning, stage_of}
-use Rattle.kin_world.specs.Worlds.{World, HasRemoved}
+use Rattle.kin_world.specs.Worlds.{HasRemoved}
 use Rattle.kin_world.proofs.Inside.{sound_inside, as_seen}
 use Rattle.kin_world.proofs.MarkLaws.{live_within, may_remove}
 use Rattle.kin_world.proofs.SoundLaws.{has_removed}
 use Rattle.kin_world.proofs.world.World.remove.Goals as goal
 
 pub clear-requires : goal.clear-requires
-clear-requires g c = record { room = live_within c.self.inside.upkeep.motions c.args.no (ap (λ (v : World). is_live v.motions c.args.no) c.self.view_is ∙ c.requires.live) }
+clear-requires g c = record { room = live_within c.self.inside.upkeep.motions c.args.no (rw (← c.self.view_is) at c.requires.live) }
 
 pub carry_out_each-requires : goal.carry_out_each-requires
 carry_out_each-requires g c =
     let sound = sound_inside c.self.inside c.self.view_is c.self.invariant c.requires.whole in
-    let live = ap (λ (v : World). is_live v.motions c.args.no) c.self.view_is ∙ c.requires.live in
+    let live = rw (← c.self.view_is) at c.requires.live in
     let low = subst (λ n. c.args.no < n) sound.in_order.fit.room (live_within c.self.inside.upkeep.motions c.args.no live) in
     record { marked = (c.self.inside.upkeep.motions, may_remove sound c.args.no c.clear.new.self live low c.clear.ensures) }
 

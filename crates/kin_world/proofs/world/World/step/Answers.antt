@@ -1,5 +1,4 @@
 use Rattle.kin_basics.proofs.Results.{on_err}
-use Rattle.kin_world.specs.Upkeep.{stage_of}
 use Rattle.kin_world.proofs.Inside.{sound_inside, rests_sound, has_rested, fails_seen, passes, passed_fewer}
 use Rattle.kin_world.proofs.world.World.step.Goals as goal
 
@@ -21,7 +20,7 @@ returns-in_err-block-clause-cause g c = on_err c.from_residual.result (fails_see
 pub returns-clause-stepped : goal.returns-clause-stepped
 returns-clause-stepped g c =
     let done = c.in_ok-block.ensures in
-    passes c.self.inside c.self.view_is c.self.invariant c.requires.whole c.args.limit.now c.in-Some.moment c.in-Some.ensures (stage_of c.pass.new.self) c.pass.ensures.frame done.settled c.in_ok-block.block done.moment done.next
+    passes c.self.inside c.self.view_is c.self.invariant c.requires.whole c.args.limit.now c.in-Some.moment c.in-Some.ensures _ c.pass.ensures.frame done.settled c.in_ok-block.block done.moment done.next
 
 pub returns-clause-fewer : goal.returns-clause-fewer
-returns-clause-fewer g c = λ some. passed_fewer c.self.inside c.self.view_is c.self.invariant c.requires.whole c.args.limit.now c.in-Some.moment c.in-Some.ensures (stage_of c.pass.new.self) c.pass.ensures.frame
+returns-clause-fewer g c = λ some. passed_fewer c.self.inside c.self.view_is c.self.invariant c.requires.whole c.args.limit.now c.in-Some.moment c.in-Some.ensures _ c.pass.ensures.frame
