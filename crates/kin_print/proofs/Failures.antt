@@ -1,8 +1,7 @@
 -- The pieces of a failure are its text.
-use Rattle.std.proofs.Common.{◌≡◌, ℕ, ℤ, pos, negsuc, false, List, [], ◌∷◌, ◌++◌, sym, ap, append_assoc, arith}
-use Rattle.std.specs.Prelude.{codes, unsigned_abs, ◌==◌}
+use Rattle.std.proofs.Common.{◌≡◌, ℕ, ℤ, pos, negsuc, false, List, [], ◌∷◌, ◌++◌, sym, ap, append_assoc, arith, codes, unsigned_abs, ◌==◌, flat_map}
 use Rattle.std.specs.Fmt.{decimal, signed_decimal}
-use Rattle.std.specs.List.{flat_map, join_by}
+use Rattle.std.specs.List.{join_by}
 use Rattle.std.proofs.lemmas.Bool.Decides.{nat_tests}
 use Rattle.kin_num.specs.declared.instant.Moment.{Moment}
 use Rattle.kin_motion.specs.declared.form.Form.{Form}

@@ -1,10 +1,8 @@
 -- The pieces of a moment are its text.
-use Rattle.std.proofs.Common.{◌≡◌, ℕ, ℤ, pos, negsuc, ◌<ℤ◌, Bool, false, List, [], ◌++◌, ap, append_assoc, arith}
-use Rattle.std.specs.Prelude.{codes, unsigned_abs, ◌==◌}
+use Rattle.std.proofs.Common.{◌≡◌, ℕ, ℤ, pos, negsuc, ◌<ℤ◌, Bool, false, List, [], ◌++◌, ap, append_assoc, arith, codes, unsigned_abs, ◌==◌, append-nil}
 use Rattle.std.specs.Fmt.{signed_decimal}
 use Rattle.std.proofs.lemmas.Bool.Decides.{nat_tests}
 use Rattle.std.proofs.lemmas.Int.{ints}
-use Rattle.std.proofs.lemmas.List.{append-nil}
 use Rattle.kin_script.specs.Printed.{ratio_text, root_text, side_text}
 
 pub root_pieces : (a b c : ℤ) (upper : Bool) (x y z side : List ℕ)

@@ -1,5 +1,4 @@
-use Rattle.std.proofs.Common.{codes}
-use Rattle.std.specs.List.{flat_map}
+use Rattle.std.proofs.Common.{codes, flat_map}
 use Rattle.kin_basics.proofs.Results.{on_err}
 use Rattle.kin_print.specs.Pieces.{spaced}
 use Rattle.kin_print.proofs.Fronts.{front_first}
