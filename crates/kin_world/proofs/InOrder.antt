@@ -172,8 +172,7 @@ module _ {is_fine : ℕ → Keep → Structure → Type 0} {s : Stage} (o : IsIn
         each j x y kept there (inl is) =
             let same_keep : keep ≡ x = same_Some _ _ (sym r.kept ∙ subst (λ n. slice_get s.keeps n ≡ Some x) is kept) in
             let same : after ≡ y = same_Some _ _ (sym (get-set_same s.structures k after low) ∙ subst (λ n. slice_get (slice_set s.structures k after) n ≡ Some y) is there) in
-            subst (λ n. IsInPlace is_fine' table.live n x y) (sym is)
-            (subst (λ (z : Structure). IsInPlace is_fine' table.live k x z) same (subst (λ (q : Keep). IsInPlace is_fine' table.live k q after) same_keep (record { fine = fine; tabled = tabled_here })))
+            rw (is, ← same_keep, ← same) (record { fine = fine; tabled = tabled_here })
         each j x y kept there (inr apart) =
             let was = o.each j x y kept (sym (get-set_other s.structures k j after apart) ∙ there) in
             record { fine = others j x y apart was.fine; tabled = tabled_there j (placed_facts y) apart was.tabled }

@@ -18,11 +18,10 @@ module _ (a b c : List Certificate) (k : ℕ)
     (others : (x : Certificate) → x.structure ≢ k → Contains b x ↔ Contains c x) where
   -- a certificate that is new in c is of k
   own : (x : Certificate) → IsNew b c x → x.structure ≡ k
-  own x new = at (cases_eq x.structure k)
-    where
-      at : (x.structure ≡ k) ⊎ (x.structure ≢ k) → x.structure ≡ k
-      at (inl e) = e
-      at (inr not_k) = absurd (new.1 ((others x not_k).1 new.0))
+  own x new = elim (cases_eq x.structure k) [
+    | inl e ↦ e
+    | inr not_k ↦ absurd (new.1 ((others x not_k).1 new.0))
+  ]
 
   -- a certificate that is new in b isn't
   below : (x : Certificate) → IsNew a b x → x.structure ≢ k
@@ -33,11 +32,10 @@ module _ (a b c : List Certificate) (k : ℕ)
   new_in_either x (inr new) = (new.0, λ there. let e = own x new in new.1 ((ahead x (omega (arith, e))).0 there))
 
   new_in_one : (x : Certificate) → IsNew a c x → IsNew a b x ⊎ IsNew b c x
-  new_in_one x new = at (cases_eq x.structure k)
-    where
-      at : (x.structure ≡ k) ⊎ (x.structure ≢ k) → IsNew a b x ⊎ IsNew b c x
-      at (inl e) = inr (new.0, λ there. new.1 ((ahead x (omega (arith, e))).1 there))
-      at (inr not_k) = inl ((others x not_k).1 new.0, new.1)
+  new_in_one x new = elim (cases_eq x.structure k) [
+    | inl e ↦ inr (new.0, λ there. new.1 ((ahead x (omega (arith, e))).1 there))
+    | inr not_k ↦ inl ((others x not_k).1 new.0, new.1)
+  ]
 
 -- what is so of the other structures' live facts is so of their certificates
 others_listed : (k : ℕ) (old new : List LiveFact) → AreLeft k old new

@@ -1,5 +1,5 @@
 -- A number comes or goes, and one structure after another carries the mark out. Going is coming turned round: the motions that have the number are then those before.
-use Rattle.std.proofs.Common.{◌≡◌, ◌⊎◌, inl, inr, refl, sym, ap, ◌∙◌, subst, arith, ℕ, zero, suc, ◌+◌, ◌<◌, ◌≤◌, ◌^◌, true, false, List, [], ◌∷◌, length, slice_set, Option, Some, None, is_some, slice_get, Contains, get_or-set_same, set-set, length-set}
+use Rattle.std.proofs.Common.{◌≡◌, inl, inr, refl, sym, ap, ◌∙◌, subst, arith, ℕ, zero, suc, ◌+◌, ◌<◌, ◌≤◌, ◌^◌, true, false, List, [], ◌∷◌, length, slice_set, Option, Some, None, is_some, slice_get, Contains, get_or-set_same, set-set, length-set}
 use Rattle.std.proofs.lemmas.List.{set-get_or}
 use Rattle.std.proofs.lemmas.List.Elements.{All-contains}
 use Rattle.std.proofs.lemmas.Option.{slice_get_within}
@@ -12,7 +12,6 @@ use Rattle.kin_motion.specs.Scene.{Scene, Holds, scene_at}
 use Rattle.kin_motion.proofs.MotionLaws.{slow-clear}
 use Rattle.kin_cert.specs.Facts.{LiveFact, Facts}
 use Rattle.kin_cert.specs.Taken.{NoneWaits}
-use Rattle.kin_cert.specs.Told.{IsTimed}
 use Rattle.kin_world.specs.declared.structure.Structure.{Structure}
 use Rattle.kin_world.specs.declared.structure.Mark.{Mark}
 use Rattle.kin_world.specs.declared.structure.Mark.TheVariants.{Enters, Leaves}
@@ -121,7 +120,10 @@ seen (Leaves n) {k} {before} {s} h {keep} st {after} {table} r = record {
     once = r.told.once;
     facts = r.told.facts;
     others = r.told.others;
-    own = λ l there is. by_age l there is (r.told.own l there is);
+    own = λ l there is. elim (r.told.own l there is) [
+      | inl old ↦ inl old
+      | inr new ↦ inr (timed_with h.changed s.moment l (asked l there is) new)
+    ];
     born = r.told.born;
   };
   made = r.made;
@@ -132,10 +134,6 @@ seen (Leaves n) {k} {before} {s} h {keep} st {after} {table} r = record {
         let tabled = (h.in_order.each k keep st r.kept r.here).tabled in
         let listed = (r.told.facts (placed_facts st) (placed_facts after) tabled r.changed l.certificate.placed).1 (l, there, ap (λ n. owned_by n l.certificate.placed) is) in
         All-contains (λ (q : Placed). IsAskable (live_of s.motions) q.fact.form) (placed_facts after) l.certificate.placed (settled_askable s.size keep (sight s) after (h.in_order.fit.keepable.small k keep r.kept) r.settled) listed
-
-    by_age : (l : LiveFact) → Contains table.live l → l.certificate.structure ≡ k → Contains s.table.live l ⊎ IsTimed (scene_at s.motions) s.moment l → Contains s.table.live l ⊎ IsTimed (scene_at before) s.moment l
-    by_age l there is (inl old) = inl old
-    by_age l there is (inr new) = inr (timed_with h.changed s.moment l (asked l there is) new)
 
 -- it has carried the mark out
 pub carried_on : (mark : Mark) {k : ℕ} {s : Stage} → IsCarriedOut mark k s → {keep : Keep} (st : Structure) {after : Structure} {table : Facts} → HasUpdated k (sight s) s keep st after table

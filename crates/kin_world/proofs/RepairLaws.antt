@@ -11,7 +11,7 @@ use Rattle.kin_motion.specs.Sets.{ListsExactly}
 use Rattle.kin_motion.proofs.SetLaws.{exactly_in_words}
 use Rattle.kin_cert.specs.Facts.{LiveFact, Facts}
 use Rattle.kin_cert.specs.Taken.{NoneWaits}
-use Rattle.kin_cert.specs.Told.{HasFactsOf, IsTimed}
+use Rattle.kin_cert.specs.Told.{HasFactsOf}
 use Rattle.kin_cert.proofs.NextLaws.{timed_holds}
 use Rattle.kin_world.specs.declared.structure.Structure.{Structure}
 use Rattle.kin_world.specs.Kinds.{placed_facts}
@@ -38,7 +38,13 @@ module _ {s : Stage} (repair : IsUnderRepair s) where
   pub repaired : (k : ℕ) (keep : Keep) (st after : Structure) (table : Facts) → HasUpdated k (sight s) s keep st after table → HasRepaired k s (record s { structures = slice_set s.structures k after; table = table })
   repaired k keep st after table r = record {
     repair = replaced repair r (record { kind = r.settled.kind; rest = r.settled.rest; members = r.settled.members; settled = λ h. r.settled.settled }) (λ j x y apart fine. fine);
-    own = λ l there is. by_age l there is (r.told.own l there is);
+    own = λ l there is. elim (r.told.own l there is) [
+      | inl old ↦ elim (cases_Bool l.waits) [
+        | inl waits ↦ absurd ((repair.timely l old).failed waits (holds l there is))
+        | inr not ↦ not
+      ]
+      | inr timed ↦ timed.waits_not
+    ];
     others = r.told.others;
     made = timed_new repair r;
   }
@@ -47,14 +53,6 @@ module _ {s : Stage} (repair : IsUnderRepair s) where
       holds l there is =
           All-contains (λ (p : Placed). Holds (sight s) p.fact) (placed_facts after) l.certificate.placed (settled_holds s.size keep (sight s) after r.settled)
           ((tabled_here repair r l.certificate.placed).1 (l, there, ap (λ n. owned_by n l.certificate.placed) is))
-
-      by_age : (l : LiveFact) → Contains table.live l → l.certificate.structure ≡ k → Contains s.table.live l ⊎ IsTimed (scene_at s.motions) s.moment l → l.waits ≡ false
-      by_age l there is (inr timed) = timed.waits_not
-      by_age l there is (inl old) = by_wait (cases_Bool l.waits)
-        where
-          by_wait : IsTrue l.waits ⊎ (l.waits ≡ false) → l.waits ≡ false
-          by_wait (inl waits) = absurd ((repair.timely l old).failed waits (holds l there is))
-          by_wait (inr not) = not
 
   -- where no fact waits every structure is settled
   pub sound_when_none_waits : NoneWaits s.table.live → IsSound s

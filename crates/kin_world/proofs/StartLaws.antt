@@ -1,5 +1,5 @@
 -- The start: no number is live, at the instant 0, and the structures have no members.
-use Rattle.std.proofs.Common.{ext_get_or, ◌≡◌, ◌⊎◌, inl, inr, refl, sym, ap, ◌∙◌, subst, arith, ℕ, zero, suc, ◌+◌, List, [], ◌∷◌, ◌++◌, length, Option, Some, None, replicate, slice_get, Contains}
+use Rattle.std.proofs.Common.{ext_get_or, ◌≡◌, ◌⊎◌, inl, inr, refl, sym, ap, ◌∙◌, subst, arith, ℕ, zero, suc, ◌+◌, List, [], ◌∷◌, ◌++◌, length, Option, Some, None, replicate, slice_get}
 use Rattle.std.proofs.lemmas.List.{length-replicate}
 use Rattle.std.proofs.lemmas.Option.{same_Some}
 use Rattle.kin_basics.proofs.Members.{contains_none}
@@ -44,14 +44,11 @@ vacant_more size keeps structures after keep st vacant here own pushed_is j keep
     at (inl old) = vacant j keep' st' kept old
     at (inr (last, same)) =
         let same_keep : keep ≡ keep' = same_Some _ _ (sym here ∙ subst (λ n. slice_get keeps n ≡ Some keep') last kept) in
-        subst (λ (x : Structure). IsVacant size keep' x) (sym same) (subst (λ (k : Keep). IsVacant size k st) same_keep own)
+        rw (same, ← same_keep) own
 
 -- an empty table has the facts of a structure without any
 tabled_none : (j : ℕ) (facts : List Placed) → facts ≡ [] → HasFactsOf [] j facts
-tabled_none j facts none p = (
-  λ there. absurd (contains_none p (subst (λ (ps : List Placed). Contains ps p) none there)),
-  λ l. absurd (contains_none l.0 l.1),
-)
+tabled_none j facts none = rw none (λ p. (λ there. absurd (contains_none p there), λ l. absurd (contains_none l.0 l.1)))
 
 -- so they are all settled where no number is live
 pub sound_start : (size : ℕ) (keeps : List Keep) (structures : List Structure) (motions : List (Option Course)) (m : Moment) → IsFit size keeps motions → IsCanonical m.at → live_of motions ≡ [] → length structures ≡ length keeps → AreVacant size keeps structures

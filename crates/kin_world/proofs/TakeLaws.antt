@@ -1,5 +1,5 @@
 -- What fails at the least failure moment is taken out, and all else is seen from there.
-use Rattle.std.proofs.Common.{◌≡◌, ◌≢◌, inl, inr, refl, sym, ap, ◌∙◌, subst, arith, false, ◌≤◌, ◌+◌, ◌-◌, ◌^◌, List, length, get_or, map, Option, Some, Contains, ◌↔◌, IsTrue, min, true, All}
+use Rattle.std.proofs.Common.{Option, ◌≡◌, ◌≢◌, inl, inr, refl, sym, ap, ◌∙◌, subst, arith, false, ◌≤◌, ◌+◌, ◌-◌, ◌^◌, List, length, get_or, map, Some, Contains, ◌↔◌, IsTrue, min, true, All}
 use Rattle.std.proofs.lemmas.List.Elements.{Contains-get_or}
 use Rattle.std.proofs.lemmas.List.Sorted.{Contains-permutation, IsPermutation-sym}
 use Rattle.kin_num.specs.declared.instant.Moment.{Moment}
@@ -118,7 +118,7 @@ module _ {s : Stage} (sound : IsSound s) (table : Facts) {taken : List Owned} (h
     failed_after : (l : LiveFact) → Contains table.live l → IsTrue l.waits → ¬ (HoldsAt (scene_at s.motions) m l.certificate.placed.fact)
     failed_after l there waits =
         let was = has.only l there in
-        subst (λ (c : Certificate). ¬ (HoldsAt (scene_at s.motions) m c.placed.fact)) (sym was.2.certificate) (reached.failed was.0 was.1 (was.2.waits.0 waits))
+        rw was.2.certificate (reached.failed was.0 was.1 (was.2.waits.0 waits))
 
     pub reached_under_repair : NoneAlike table.live → table.made ≡ s.table.made → IsUnderRepair (record s { moment = m; table = table })
     reached_under_repair once made =

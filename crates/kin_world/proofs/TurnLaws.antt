@@ -1,5 +1,6 @@
 -- A number turns: what is seen now is as before, so every structure stays settled, and the facts that don't name it fail as before.
-use Rattle.std.proofs.Common.{◌≡◌, ◌⊎◌, inl, inr, refl, sym, ap, ◌∙◌, subst, arith, ℕ, ◌+◌, ◌-◌, ◌^◌, true, false, cond, List, [], ◌∷◌, length, slice_set, Bool, Result, Ok, Err, IfOk, Option, Some, ℤ, min, count_by, Contains, ◌↔◌, IsTrue, IsFalse, length-set}
+use Rattle.std.proofs.Common.{◌≡◌, inl, inr, refl, sym, ap, ◌∙◌, subst, arith, ℕ, ◌+◌, ◌-◌, ◌^◌, true, cond, List, [], ◌∷◌, length, slice_set, Result, Ok, Err, IfOk, Option, Some, ℤ, min, count_by, Contains, ◌↔◌, IsTrue, length-set}
+use Rattle.std.proofs.lemmas.Bool.{cases_Bool}
 use Rattle.std.proofs.lemmas.List.Sums.{sum_by-cons}
 use Rattle.std.proofs.lemmas.Option.{same_Some}
 use Rattle.kin_num.specs.declared.instant.Moment.{Moment}
@@ -12,7 +13,7 @@ use Rattle.kin_motion.specs.Scene.{Scene, Holds, scene_at}
 use Rattle.kin_motion.specs.Turning.{TurnsTo, IsNotWhole, IsOutOfBounds, just_at}
 use Rattle.kin_motion.proofs.TurningLaws.{turn_keeps_scene, one_turn}
 use Rattle.kin_cert.specs.Facts.{LiveFact, Facts, NoneAlike}
-use Rattle.kin_cert.specs.Remade.{HasRemade, IsRemade, names_number}
+use Rattle.kin_cert.specs.Remade.{HasRemade, names_number}
 use Rattle.kin_cert.specs.Told.{IsTimed, certificates_of}
 use Rattle.kin_cert.proofs.NextLaws.{timed_holds}
 use Rattle.kin_turn.specs.declared.turned.TurnError.{TurnError}
@@ -89,27 +90,24 @@ module _ {s : Stage} (sound : IsSound s) (n : ℕ) (u v : ℤ) (motion : Course)
   module _ {table : Facts} (remade : HasRemade n (scene_at motions) s.moment s.table table) (once : NoneAlike table.live) (slow : AreSlow motions) where
     -- each certificate was live
     was : (l : LiveFact) → Contains table.live l → (k : LiveFact) × Contains s.table.live k × (k.certificate ≡ l.certificate)
-    was l there = at (remade.only l there)
-      where
-        at : (Contains s.table.live l × IsFalse (names_number n l)) ⊎ ((k : LiveFact) × Contains s.table.live k × IsTrue (names_number n k) × IsRemade (scene_at motions) s.moment k l) → (k : LiveFact) × Contains s.table.live k × (k.certificate ≡ l.certificate)
-        at (inl old) = (l, old.0, refl)
-        at (inr anew) = (anew.0, anew.1, sym anew.3.certificate)
+    was l there = elim (remade.only l there) [
+      | inl old ↦ (l, old.0, refl)
+      | inr anew ↦ (anew.0, anew.1, sym anew.3.certificate)
+    ]
 
     -- and each stays so
     stays : (l : LiveFact) → Contains s.table.live l → (k : LiveFact) × Contains table.live k × (k.certificate ≡ l.certificate)
-    stays l there = at (names_number n l) refl
-      where
-        at : (b : Bool) → names_number n l ≡ b → (k : LiveFact) × Contains table.live k × (k.certificate ≡ l.certificate)
-        at false e = (l, remade.kept l there e, refl)
-        at true e = let k = remade.remade l there e in (k.0, k.1, k.2.certificate)
+    stays l there = elim (cases_Bool (names_number n l)) [
+      | inl e ↦ let k = remade.remade l there e in (k.0, k.1, k.2.certificate)
+      | inr e ↦ (l, remade.kept l there e, refl)
+    ]
 
     -- each has its first failure
     timed_now : (l : LiveFact) → Contains table.live l → IsTimed (scene_at motions) s.moment l
-    timed_now l there = at (remade.only l there)
-      where
-        at : (Contains s.table.live l × IsFalse (names_number n l)) ⊎ ((k : LiveFact) × Contains s.table.live k × IsTrue (names_number n k) × IsRemade (scene_at motions) s.moment k l) → IsTimed (scene_at motions) s.moment l
-        at (inl old) = subst (λ (ms : List (Option Course)). IsTimed (scene_at ms) s.moment l) (sym written) (timed_with s.motions n (Some motion) s.moment l old.1 (timed sound.in_order sound.none_waits l old.0))
-        at (inr anew) = record { waits_not = anew.3.waits_not; fails = anew.3.fails }
+    timed_now l there = elim (remade.only l there) [
+      | inl old ↦ rw written (timed_with s.motions n (Some motion) s.moment l old.1 (timed sound.in_order sound.none_waits l old.0))
+      | inr anew ↦ record { waits_not = anew.3.waits_not; fails = anew.3.fails }
+    ]
 
     same : HaveSameCertificates s.table.live table.live
     same = record { stay = record { each = stays }; only = record { each = was } }
