@@ -32,15 +32,13 @@ pub turn_more : (k : ℕ) (front : List Owned) (turn turn' : Option ℕ) (o : Ow
 turn_more k front turn turn' o was is = at turn refl was (cases_lt o.structure k)
   where
     among : (p : Owned) → Contains (front ++ o ∷ []) p → Contains front p ⊎ (o ≡ p)
-    among p there = near (Contains-append_cases front (o ∷ []) p there)
-      where
-        alone : (o ≡ p) ⊎ Contains [] p → o ≡ p
-        alone (inl e) = e
-        alone (inr none) = absurd (contains_none p none)
-
-        near : Contains front p ⊎ Contains (o ∷ []) p → Contains front p ⊎ (o ≡ p)
-        near (inl old) = inl old
-        near (inr new) = inr (alone (contains_cases o p [] new))
+    among p there = elim (Contains-append_cases front (o ∷ []) p there) [
+      | inl old ↦ inl old
+      | inr new ↦ elim (contains_cases o p [] new) [
+        | inl e ↦ inr e
+        | inr none ↦ absurd (contains_none p none)
+      ]
+    ]
 
     last : Contains (front ++ o ∷ []) o
     last = Contains-append_right front (o ∷ []) o (contains_head o [])

@@ -157,16 +157,15 @@ module _ {is_fine : ℕ → Keep → Structure → Type 0} {s : Stage} (o : IsIn
       count = length-set s.structures k after ∙ o.count;
       each = λ j x y kept there. each j x y kept there (cases_eq j k);
       once = r.told.once;
-      owned = λ l there. subst (λ n. l.certificate.structure < n) (sym (length-set s.structures k after)) (within l there (cases_eq l.certificate.structure k));
+      owned = λ l there. rw (length-set s.structures k after) (elim (cases_eq l.certificate.structure k) [
+        | inl is ↦ rw is low
+        | inr other ↦ o.owned l ((r.told.others l other).1 there)
+      ]);
       timely = timely_after;
     }
       where
         low : k < length s.structures
         low = slice_get_within s.structures k st r.here
-
-        within : (l : LiveFact) → Contains table.live l → (l.certificate.structure ≡ k) ⊎ (l.certificate.structure ≢ k) → l.certificate.structure < length s.structures
-        within l there (inl is) = subst (λ n. n < length s.structures) (sym is) low
-        within l there (inr other) = o.owned l ((r.told.others l other).1 there)
 
         each : (j : ℕ) (x : Keep) (y : Structure) → slice_get s.keeps j ≡ Some x → slice_get (slice_set s.structures k after) j ≡ Some y → (j ≡ k) ⊎ (j ≢ k) → IsInPlace is_fine' table.live j x y
         each j x y kept there (inl is) =

@@ -61,8 +61,8 @@ come_on reached k start b c low come left made = record {
   made = record {
     born = come.made.born ++ made.born;
     exactly =
-        exactly_in_words (come.made.born ++ made.born) _ _ (λ x. (new_in_either one two three k ahead others x, new_in_one one two three k ahead others x))
-        (exactly_both come.made.born made.born (IsNew one two) (IsNew two three) come.made.exactly made.exactly (λ x new later. later.1 new.0));
+        exactly_in_words (come.made.born ++ made.born) _ _ (λ x. (new_in_either _ _ _ k ahead others x, new_in_one _ _ _ k ahead others x))
+        (exactly_both come.made.born made.born _ _ come.made.exactly made.exactly (λ x new later. later.1 new.0));
     count = omega (arith, length-append come.made.born made.born, come.made.count, made.count);
   };
   ahead = λ x above.
@@ -71,17 +71,8 @@ come_on reached k start b c low come left made = record {
       (λ there. second.0 (first.0 there), λ there. first.1 (second.1 there));
 }
   where
-    one : List Certificate
-    one = certificates_of start.live
-
-    two : List Certificate
-    two = certificates_of b.live
-
-    three : List Certificate
-    three = certificates_of c.live
-
-    ahead : (x : Certificate) → k ≤ x.structure → Contains one x ↔ Contains two x
+    ahead : (x : Certificate) → k ≤ x.structure → Contains (certificates_of start.live) x ↔ Contains (certificates_of b.live) x
     ahead x above = come.ahead x (omega (arith, low, above))
 
-    others : (x : Certificate) → x.structure ≢ k → Contains two x ↔ Contains three x
+    others : (x : Certificate) → x.structure ≢ k → Contains (certificates_of b.live) x ↔ Contains (certificates_of c.live) x
     others = others_listed k b.live c.live left

@@ -1,5 +1,5 @@
 -- One structure is repaired, and the others stand as they were.
-use Rattle.std.proofs.Common.{◌≡◌, ◌⊎◌, inl, inr, ap, ℕ, false, List, slice_set, Contains, IsTrue}
+use Rattle.std.proofs.Common.{◌≡◌, inl, inr, ap, ℕ, List, slice_set, Contains, IsTrue}
 use Rattle.std.proofs.lemmas.Bool.{cases_Bool}
 use Rattle.std.proofs.lemmas.List.Elements.{All-contains}
 use Rattle.kin_motion.specs.declared.fact.Placed.{Placed}
@@ -28,11 +28,12 @@ module _ {s : Stage} (repair : IsUnderRepair s) where
       to p (l, there, waits, is) = ((tabled p).1 (l, there, is), by_certificate (λ q. ¬ (Holds (sight s) q.fact)) k p l.certificate is ((repair.timely l there).failed waits))
 
       from : (p : Placed) → Contains facts p × ¬ (Holds (sight s) p.fact) → (l : LiveFact) × Contains s.table.live l × IsTrue l.waits × (l.certificate ≡ owned_by k p)
-      from p (there, fails) = let l = (tabled p).0 there in by_wait l.0 l.1 l.2 (cases_Bool l.0.waits)
-        where
-          by_wait : (l : LiveFact) → Contains s.table.live l → l.certificate ≡ owned_by k p → IsTrue l.waits ⊎ (l.waits ≡ false) → (l : LiveFact) × Contains s.table.live l × IsTrue l.waits × (l.certificate ≡ owned_by k p)
-          by_wait l live is (inl waits) = (l, live, waits, is)
-          by_wait l live is (inr not) = absurd (fails (by_certificate (λ q. Holds (sight s) q.fact) k p l.certificate is (timed_holds (scene_at s.motions) s.moment repair.canonical l ((repair.timely l live).timed not))))
+      from p (there, fails) =
+          let l = (tabled p).0 there in
+          elim (cases_Bool l.0.waits) [
+            | inl waits ↦ (l.0, l.1, waits, l.2)
+            | inr not ↦ absurd (fails (by_certificate (λ q. Holds (sight s) q.fact) k p l.0.certificate l.2 (timed_holds (scene_at s.motions) s.moment repair.canonical l.0 ((repair.timely l.0 l.1).timed not))))
+          ]
 
   -- no fact of the repaired structure waits
   pub repaired : (k : ℕ) (keep : Keep) (st after : Structure) (table : Facts) → HasUpdated k (sight s) s keep st after table → HasRepaired k s (record s { structures = slice_set s.structures k after; table = table })

@@ -16,8 +16,7 @@ unreachable-requires g c =
 pub remake-requires : goal.remake-requires
 remake-requires g c =
     let sound = sound_inside c.self.inside c.self.view_is c.self.invariant c.requires.whole in
-    let turns = rw (clean w32 c.args.u c.ranges.u.sfits, clean w32 c.args.v c.ranges.v.sfits) at c.in-Ok.ensures.turns in
-    let can = as_inside c.self.inside c.self.view_is c.self.invariant c.requires.whole (λ v. CanTurn c.args.no c.args.u c.args.v v c.in-Ok.motion) turns in
+    let can = as_inside c.self.inside c.self.view_is c.self.invariant c.requires.whole (λ v. CanTurn c.args.no c.args.u c.args.v v c.in-Ok.motion) (rw (clean w32 c.args.u c.ranges.u.sfits, clean w32 c.args.v c.ranges.v.sfits) at c.in-Ok.ensures.turns) in
     record {
       askable = askable_still sound c.args.no c.args.u c.args.v c.in-Ok.motion can c.set.new.self c.set.ensures.value;
       holds = holds_still sound c.args.no c.args.u c.args.v c.in-Ok.motion can c.set.new.self c.set.ensures.value;
@@ -26,14 +25,12 @@ remake-requires g c =
 pub invariant_of-self-2 : goal.invariant_of-self-2
 invariant_of-self-2 g c = λ _.
     let sound = sound_inside c.self.inside c.self.view_is c.self.invariant c.requires.whole in
-    let turns = rw (clean w32 c.args.u c.ranges.u.sfits, clean w32 c.args.v c.ranges.v.sfits) at c.in-Ok.ensures.turns in
-    let can = as_inside c.self.inside c.self.view_is c.self.invariant c.requires.whole (λ v. CanTurn c.args.no c.args.u c.args.v v c.in-Ok.motion) turns in
+    let can = as_inside c.self.inside c.self.view_is c.self.invariant c.requires.whole (λ v. CanTurn c.args.no c.args.u c.args.v v c.in-Ok.motion) (rw (clean w32 c.args.u c.ranges.u.sfits, clean w32 c.args.v c.ranges.v.sfits) at c.in-Ok.ensures.turns) in
     sound_turned sound c.args.no c.args.u c.args.v c.in-Ok.motion can c.set.new.self c.set.ensures.value c.in_ok-remake.ensures.remade c.in_ok-remake.ensures.once c.set.ensures.slow
 
 pub returns-clause-turned : goal.returns-clause-turned
 returns-clause-turned g c =
     let sound = sound_inside c.self.inside c.self.view_is c.self.invariant c.requires.whole in
-    let turns = rw (clean w32 c.args.u c.ranges.u.sfits, clean w32 c.args.v c.ranges.v.sfits) at c.in-Ok.ensures.turns in
-    let can = as_inside c.self.inside c.self.view_is c.self.invariant c.requires.whole (λ v. CanTurn c.args.no c.args.u c.args.v v c.in-Ok.motion) turns in
+    let can = as_inside c.self.inside c.self.view_is c.self.invariant c.requires.whole (λ v. CanTurn c.args.no c.args.u c.args.v v c.in-Ok.motion) (rw (clean w32 c.args.u c.ranges.u.sfits, clean w32 c.args.v c.ranges.v.sfits) at c.in-Ok.ensures.turns) in
     as_seen c.self.inside c.self.view_is c.self.invariant c.requires.whole (λ v. HasTurned c.args.no c.args.u c.args.v v (meaning (record (stage_of c.self.inside.upkeep) { motions = c.set.new.self; table = c.remake.new.self }) true))
     (has_turned sound c.args.no c.args.u c.args.v c.in-Ok.motion can c.set.new.self c.set.ensures.value c.in_ok-remake.ensures.remade c.in_ok-remake.ensures.once c.set.ensures.slow)
