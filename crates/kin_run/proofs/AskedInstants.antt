@@ -1,5 +1,5 @@
 -- An `at` line in its range asks for an instant, unless its quadratic has no real root.
-use Rattle.std.proofs.Common.{◌≡◌, ◌≢◌, ◌⊎◌, inl, inr, zero, suc, ◌<◌, Bool, true, false, Some, None, refl, sym, subst, ℤ, pos, negsuc, unsigned_abs, arith, ◌<ℤ◌, ◌≤ℤ◌}
+use Rattle.std.proofs.Common.{◌≡◌, ◌≢◌, ◌⊎◌, inl, inr, zero, ◌<◌, Bool, true, false, Some, None, refl, sym, subst, ℤ, pos, unsigned_abs, arith, ◌<ℤ◌}
 use Rattle.std.proofs.lemmas.Int.{ints}
 use Rattle.kin_algebra.specs.declared.sign.Sign.{Sign}
 use Rattle.kin_algebra.specs.declared.sign.Sign.TheVariants.{Minus, Zero, Plus}
@@ -17,16 +17,12 @@ use Rattle.kin_instant.specs.Roots.{quadratic, AreRootsOf, count_by_signs}
 use Rattle.kin_instant.proofs.Existence.{ratio_exists, roots_exist}
 use Rattle.kin_script.specs.Ranges.{IsRatioInRange, IsRootInRange, IsAskedFor}
 use Rattle.kin_script.specs.Replay.{IsRootOf, IsNamedRoot, HasNoRoot}
-use Rattle.kin_run.proofs.NamedRoots.{ratio_named, two_named}
+use Rattle.kin_run.proofs.NamedRoots.{ratio_in_range, two_named}
 
 ratio_asked : (n d : ℤ) → IsRatioInRange n d → (w : Shape) × IsNamedRoot true (line n d) w
 ratio_asked n d range =
-    let proper : pos 0 <ℤ d = positive d range.d_low in
-    let r = ratio_exists n d range.n_small range.d_small proper in
-    (r.0, ratio_named n d r.0 proper r.1 r.2)
-  where
-    positive : (d : ℤ) → pos 1 ≤ℤ d → pos 0 <ℤ d
-    positive d h = omega (arith, ints)
+    let r = ratio_exists n d range.n_small range.d_small (omega (arith, ints, range.d_low)) in
+    (r.0, ratio_in_range n d r.0 range r.1 r.2)
 
 -- a quadratic with a square has a number of roots, and where it has none its discriminant is negative
 counted : (a b c d : Sign) → a ≢ Zero → (Some 0 ≡ count_by_signs a b c d → d ≡ Minus) × (None ≡ count_by_signs a b c d → ⊥)
@@ -39,9 +35,7 @@ counted Plus b c Zero some = (λ e. absurd cc, λ e. absurd cc)
 counted Plus b c Plus some = (λ e. absurd cc, λ e. absurd cc)
 
 some_sign : (a : ℤ) → 0 < unsigned_abs a → sign_of a ≢ Zero
-some_sign (pos zero) h e = absurd (omega (arith, ints, h))
-some_sign (pos (suc n)) h e = cc
-some_sign (negsuc n) h e = cc
+some_sign a h e = let none : a ≡ pos 0 = sign_out Zero a e in omega (arith, ints, h, none)
 
 -- one root is named by both words
 one_named : (upper : Bool) (p : Quadratic) (r : Shape) → AreRootsOf p (One r) → IsNamedRoot upper p r

@@ -1,19 +1,41 @@
--- A deed is refused for one cause, and one that is not refused prints one text and leads to one state.
+-- What comes of a deed: it is refused for one cause; or it is allowed, prints one text, and leads to one state, of the same size and at a canonical instant.
 use Rattle.std.proofs.Common.{◌≡◌, inl, inr, Bool, List, ℕ, Option, ◌∙◌, sym, ap, subst, slice_set}
 use Rattle.kin_num.specs.declared.instant.Shape.{Shape}
 use Rattle.kin_num.specs.Canonical.{IsCanonical}
+use Rattle.kin_num.specs.Order.{IsEarlier}
 use Rattle.kin_num.specs.Quadratic.{Quadratic}
 use Rattle.kin_motion.specs.Course.{Course, motion_of}
 use Rattle.kin_motion.specs.Journal.{Block}
 use Rattle.kin_script.specs.declared.refusal.Refusal.{Refusal}
 use Rattle.kin_script.specs.Deeds.{Deed, changes, goes_to, goes_on, asks}
-use Rattle.kin_script.specs.Replay.{IsNamedRoot, IsRefused, LeadsTo}
+use Rattle.kin_script.specs.Replay.{IsNamedRoot, IsRefused, IsAllowed, LeadsTo}
 use Rattle.kin_script.specs.States.{State, at}
 use Rattle.kin_script.specs.Text.{Step, IsPassedText, Prints}
 use Rattle.kin_run.proofs.NamedRoots.{one_named_root, named_canonical, named_root_of, has_root}
 use Rattle.kin_script.proofs.Changes.{one_refused_change, one_change}
 use Rattle.kin_script.proofs.Questions.{one_reply_line}
 use Rattle.kin_run.proofs.Blocks.{one_passed, one_next, one_told}
+
+-- it goes to an instant which isn't before now
+pub goes_allowed : (s : State) (upper : Bool) (p : Quadratic) (w : Shape) → IsNamedRoot upper p w → (IsEarlier (at w) s.moment → ⊥) → IsAllowed s (goes_to upper p)
+goes_allowed s upper p w named later r (inl h) = has_root p.a p.b p.c w (named_root_of upper p w named) h.1
+goes_allowed s upper p w named later r (inr h) = later (subst (λ (v : Shape). IsEarlier (at v) s.moment) (one_named_root upper p h.1.0 w h.1.1 named) h.1.2)
+
+-- the size stays
+pub same_size : (s : State) (d : Deed) (t : State) → LeadsTo s d t → t.size ≡ s.size
+same_size s (changes n c) t e = ap (λ (u : State). u.size) e.2
+same_size s (goes_to upper p) t e = ap (λ (u : State). u.size) e.2
+same_size s goes_on t (inl e) = ap (λ (u : State). u.size) e.2
+same_size s goes_on t (inr e) = ap (λ (u : State). u.size) e.1
+same_size s (asks q) t e = ap (λ (u : State). u.size) e
+
+-- every state of a run stands at a canonical instant
+pub stays_canonical : (s : State) (d : Deed) (t : State) → IsCanonical s.moment.at → LeadsTo s d t → IsCanonical t.moment.at
+stays_canonical s (changes n c) t canonical e = subst (λ (u : State). IsCanonical u.moment.at) (sym e.2) canonical
+stays_canonical s (goes_to upper p) t canonical e = subst (λ (u : State). IsCanonical u.moment.at) (sym e.2) (named_canonical upper p e.0 e.1)
+stays_canonical s goes_on t canonical (inl e) = subst (λ (u : State). IsCanonical u.moment.at) (sym e.2) e.1.canonical
+stays_canonical s goes_on t canonical (inr e) = subst (λ (u : State). IsCanonical u.moment.at) (sym e.1) canonical
+stays_canonical s (asks q) t canonical e = subst (λ (u : State). IsCanonical u.moment.at) (sym e) canonical
 
 -- at most one cause
 pub one_cause : (s : State) (d : Deed) (r q : Refusal) → IsRefused s d r → IsRefused s d q → r ≡ q

@@ -12,8 +12,7 @@ use Rattle.kin_run.specs.declared.tally.Tally.{Tally}
 use Rattle.kin_run.specs.Passed.{Passes, PassesInTurn}
 use Rattle.kin_run.specs.Tallies.{HasTallied}
 use Rattle.kin_run.proofs.Blocks.{one_told}
-use Rattle.kin_run.proofs.Commands.{stays_canonical}
-use Rattle.kin_run.proofs.Determined.{one_at_root, one_state}
+use Rattle.kin_run.proofs.Determined.{stays_canonical, one_at_root, one_state}
 use Rattle.kin_run.proofs.Playing.{Line, at_item}
 use Rattle.kin_run.proofs.Tallying.{none_tallied, tallied_then, tallied_is}
 

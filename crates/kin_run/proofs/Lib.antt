@@ -1,7 +1,6 @@
 pub mod Fronts
 pub mod Gathering
 pub mod NamedRoots
-pub mod Commands
 pub mod Blocks
 pub mod Determined
 pub mod Passing

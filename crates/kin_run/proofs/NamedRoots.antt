@@ -1,5 +1,6 @@
 -- The root that a line names: there is one where the discriminant is not negative, and no more than one.
-use Rattle.std.proofs.Common.{◌≡◌, zero, suc, Bool, true, false, [], ◌∷◌, inl, inr, refl, sym, ap, ◌∙◌, subst, ℤ, pos, negsuc, ◌<ℤ◌, ◌*ℤ◌, ◌↔◌, ◌⊎◌, if◌then◌else◌}
+use Rattle.std.proofs.Common.{arith, to_z, of_z, w64, ◌≡◌, zero, suc, Bool, true, false, [], ◌∷◌, inl, inr, refl, sym, ap, ◌∙◌, subst, ℤ, pos, negsuc, ◌<ℤ◌, ◌*ℤ◌, ◌↔◌, ◌⊎◌, if◌then◌else◌}
+use Rattle.std.proofs.lemmas.Int.{ints, to_z-of_z}
 use lib.IntN.{neg_ℤ}
 use Rattle.kin_algebra.specs.declared.sign.Sign.{Sign}
 use Rattle.kin_algebra.specs.declared.sign.Sign.TheVariants.{Minus, Zero, Plus}
@@ -19,6 +20,7 @@ use Rattle.kin_instant.proofs.Zeros.{instant-negative}
 use Rattle.kin_instant.specs.declared.roots.Roots.{Roots}
 use Rattle.kin_instant.specs.declared.roots.Roots.TheVariants.{Two}
 use Rattle.kin_instant.specs.Roots.{IsFraction, HasRoot}
+use Rattle.kin_script.specs.Ranges.{IsRatioInRange}
 use Rattle.kin_script.specs.Replay.{IsRootOf, IsNamedRoot}
 use Rattle.kin_script.specs.States.{at}
 
@@ -40,11 +42,21 @@ abbrev pub IsExact : Quadratic → Roots → Type 0
 IsExact p answer = (w : Shape) → IsCanonicalForm w → (sign_at_instant p w ≡ Zero) ↔ HasRoot answer w
 
 -- a fraction is the only root of its line
-pub ratio_named : (n d : ℤ) (r : Shape) → pos 0 <ℤ d → IsFraction n d r → IsCanonical r → IsNamedRoot true (line n d) r
+ratio_named : (n d : ℤ) (r : Shape) → pos 0 <ℤ d → IsFraction n d r → IsCanonical r → IsNamedRoot true (line n d) r
 ratio_named n d r positive same canonical =
     let only = fraction_zeros n d positive r same canonical in
     let root : IsRootOf (line n d) r = record { canonical = canonical; zero = (only r canonical.form).1 refl } in
     (root, λ v h less. not_less_itself r (subst (IsLess r) ((only v h.canonical.form).0 h.zero) less))
+
+pub ratio_in_range : (n d : ℤ) (r : Shape) → IsRatioInRange n d → IsFraction n d r → IsCanonical r → IsNamedRoot true (line n d) r
+ratio_in_range n d r range same canonical = ratio_named n d r (omega (arith, ints, range.d_low)) same canonical
+
+-- also where its parts were handed on
+pub handed_ratio : (n d : ℤ) (r : Shape) → IsRatioInRange n d → IsFraction (to_z w64 (of_z w64 n)) (to_z w64 (of_z w64 d)) r → IsCanonical r → IsNamedRoot true (line n d) r
+handed_ratio n d r range same canonical =
+    let n_is : to_z w64 (of_z w64 n) ≡ n = grind (arith, to_z-of_z, range.n_small) in
+    let d_is : to_z w64 (of_z w64 d) ≡ d = grind (arith, to_z-of_z, range.d_small) in
+    ratio_in_range n d r range (rw (n_is, d_is) at same) canonical
 
 -- of two roots the greater is named by hi, and the lesser by lo
 module _ (p : Quadratic) (r s : Shape) (canonical : IsCanonical r × IsCanonical s) (exact : IsExact p (Two r s)) (rising : IsLess r s) where

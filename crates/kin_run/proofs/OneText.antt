@@ -15,8 +15,7 @@ use Rattle.kin_run.specs.declared.status.Status.{Status}
 use Rattle.kin_run.specs.declared.status.Status.TheVariants as status
 use Rattle.kin_run.specs.Headline.{IsAnswer, IsCut, IsTextOf, Writes, Answers, Outcome, status_of_stop, IsBrokenOff, TakesWhole, OneAnswer}
 use Rattle.kin_num.proofs.Values.{start_canonical}
-use Rattle.kin_run.proofs.Commands.{stays_canonical}
-use Rattle.kin_run.proofs.Determined.{one_step}
+use Rattle.kin_run.proofs.Determined.{stays_canonical, one_step}
 use Rattle.kin_run.proofs.Playing.{Line, allowed_goes_on, text_refused}
 
 pub one_text : (s : State) (cs : List Line) (x y : List ℕ) (e f : Ending) → IsCanonical s.moment.at → Text s cs x e → Text s cs y f → (x ≡ y) × (e ≡ f)

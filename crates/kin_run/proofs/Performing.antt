@@ -18,7 +18,8 @@ use Rattle.kin_run.specs.declared.write.Stop.{Stop}
 use Rattle.kin_run.specs.declared.write.Stop.TheVariants.{Fault, NoMemory}
 use Rattle.kin_run.specs.Performed.{IsFrontOfEach, PutsLine, BreaksOff, Replies, Performs}
 use Rattle.kin_run.specs.Written.{Printer, printer, GainsSome}
-use Rattle.kin_run.proofs.Commands.{goes_allowed}
+use Rattle.kin_run.proofs.Determined.{goes_allowed}
+use Rattle.kin_run.proofs.Blocks.{one_next}
 use Rattle.kin_run.proofs.Gathering.{Bytes, gains_put, some_is}
 use Rattle.kin_run.proofs.NamedRoots.{one_named_root}
 
@@ -52,10 +53,14 @@ replied s q (Err (Broken Fault)) held before now a = absurd a
 -- ---- a line
 
 -- where there is one such line alone, what was put of it is what was put of each
-pub puts_known : {E : Type 0} (IsLine : List ℕ → Type 0) (line : List ℕ) (result : Result (Unit {0}) E) (before now : List ℕ) → IsLine line → ((text : List ℕ) → IsLine text → text ≡ line)
+puts_known : {E : Type 0} (IsLine : List ℕ → Type 0) (line : List ℕ) (result : Result (Unit {0}) E) (before now : List ℕ) → IsLine line → ((text : List ℕ) → IsLine text → text ≡ line)
     → OnOk result (now ≡ before ++ line) → OnErr result (PutsFront before now line) → PutsLine IsLine result before now
 puts_known IsLine line (Ok x) before now own only ok err = (line, ok, own)
 puts_known IsLine line (Err e) before now own only ok err = (err.front, err.put, λ text is. record { more = err.rest; joined = only text is ∙ err.cut })
+
+pub puts_next : {E : Type 0} (s : State) → IsCanonical s.moment.at → (line : List ℕ) → IsNextText s line → (result : Result (Unit {0}) E) (before now : List ℕ) → OnOk result (now ≡ before ++ line) → OnErr result (PutsFront before now line)
+    → PutsLine (IsNextText s) result before now
+puts_next s canonical line own result before now = puts_known (IsNextText s) line result before now own (λ text is. one_next s text line canonical is own)
 
 -- a front of the line of a question
 pub reply_cut : (s : State) → IsCanonical s.moment.at → (q : Command) (line before now : List ℕ) → IsReplyLine s q line → PutsFront before now line → (front : List ℕ) × (now ≡ before ++ front) × IsFrontOfEach (IsReplyLine s q) front

@@ -1,40 +1,22 @@
 -- What came of a question, from its reply.
-use Rattle.std.proofs.Common.{false, ◌≡◌, ℕ, Bool, List, [], ◌++◌, sym, ◌∙◌, subst, Result, Ok, Err, ◌≢◌, append-nil}
+use Rattle.std.proofs.Common.{◌≡◌, ℕ, List, [], ◌++◌, sym, ◌∙◌, subst, Result, Ok, Err, ◌≢◌, append-nil}
 use Rattle.kin_num.specs.Canonical.{IsCanonical}
 use Rattle.kin_print.specs.declared.reply.Reply.{Reply}
 use Rattle.kin_print.specs.Replies.{reply_line}
 use Rattle.kin_script.specs.declared.command.Command.{Command}
-use Rattle.kin_script.specs.declared.command.Command.TheVariants.{Order}
 use Rattle.kin_script.specs.Printed.{PutsFront}
-use Rattle.kin_script.specs.Questions.{IsProvided, IsReplyLine}
 use Rattle.kin_script.specs.States.{State}
 use Rattle.kin_run.specs.declared.perform.Halt.{Halt}
 use Rattle.kin_run.specs.declared.perform.Halt.TheVariants.{Refused, Broken}
 use Rattle.kin_run.specs.declared.write.Stop.TheVariants.{Fault, NoMemory}
 use Rattle.kin_run.specs.Performed.{IsReply, RepliesTo, Replies}
-use Rattle.kin_run.specs.States.{state_of, seen_of}
 use Rattle.kin_world.specs.Worlds.{World}
 use Rattle.kin_run.proofs.Fronts.{front_nil}
 use Rattle.kin_run.proofs.Performing.{reply_cut}
 
 -- a reply to the same question
-pub of_same : (s : State) (c q : Command) (r : Result Reply Halt) → c ≡ q → RepliesTo s q r → RepliesTo s c r
-of_same s c q r e h = subst (λ (x : Command). RepliesTo s x r) (sym e) h
-
--- whether the journal is on doesn't matter
-provided : (on off : Bool) (w : World) (q : Command) → IsProvided (state_of on w) q → IsProvided (state_of off w) q
-provided on off w (Order k) h = h
-provided on off w other h = h
-
-line_in : (journal : Bool) (w : World) (q : Command) (text : List ℕ) → IsReplyLine (seen_of w) q text → IsReplyLine (state_of journal w) q text
-line_in journal w (Order k) text h = h
-line_in journal w other text h = h
-
-pub with_journal : (journal : Bool) (w : World) (q : Command) (r : Result Reply Halt) → IsReply (seen_of w) q r → IsReply (state_of journal w) q r
-with_journal journal w q (Ok reply) h = (provided false journal w q h.0, line_in journal w q (reply_line reply) h.1)
-with_journal journal w q (Err (Refused r)) h = (h.0, λ p. h.1 (provided journal false w q p))
-with_journal journal w q (Err (Broken NoMemory)) h = provided false journal w q h
-with_journal journal w q (Err (Broken Fault)) h = absurd h
+pub of_same : (w : World) (c q : Command) (r : Result Reply Halt) → c ≡ q → RepliesTo w q r → RepliesTo w c r
+of_same w c q r e h = subst (λ (x : Command). RepliesTo w x r) (sym e) h
 
 module _ (s : State) (q : Command) (before now : List ℕ) (E : Type 0) where
   -- without a reply nothing is put

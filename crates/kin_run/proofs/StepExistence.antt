@@ -24,7 +24,7 @@ use Rattle.kin_script.proofs.Questions.{HasLine, has_line}
 use Rattle.kin_run.specs.Passed.{Passes}
 use Rattle.kin_run.proofs.AskedInstants.{root_asked}
 use Rattle.kin_run.proofs.ChangeExistence.{IsSlowIfSome, IsDecided, change_decided}
-use Rattle.kin_run.proofs.Commands.{goes_allowed}
+use Rattle.kin_run.proofs.Determined.{goes_allowed}
 use Rattle.kin_run.proofs.NamedRoots.{named_canonical}
 use Rattle.kin_run.proofs.Passing.{lines_if, is_text}
 

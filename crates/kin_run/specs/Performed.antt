@@ -1,5 +1,5 @@
 -- What came of one command, and of several.
-use Rattle.std.specs.Prelude.{◌≡◌, ℕ, List, ◌++◌, Result, Ok, Err}
+use Rattle.std.specs.Prelude.{◌≡◌, ℕ, Bool, List, ◌++◌, Result, Ok, Err}
 use Rattle.kin_script.specs.declared.command.Command.{Command}
 use Rattle.kin_script.specs.declared.refusal.Refusal.TheVariants.{NotKept}
 use Rattle.kin_script.specs.Deeds.{Deed}
@@ -13,6 +13,8 @@ use Rattle.kin_run.specs.declared.perform.Halt.{Halt}
 use Rattle.kin_run.specs.declared.perform.Halt.TheVariants.{Refused, Broken}
 use Rattle.kin_run.specs.declared.write.Stop.{Stop}
 use Rattle.kin_run.specs.declared.write.Stop.TheVariants.{Fault, NoMemory}
+use Rattle.kin_world.specs.Worlds.{World}
+use Rattle.kin_run.specs.States.{state_of}
 use Rattle.kin_run.specs.Written.{Printer, IsFront, GainsSome, LosesSome}
 
 -- a front of each such text
@@ -31,9 +33,9 @@ IsReply s q (Err (Refused r)) = (r ≡ NotKept) × ¬ (IsProvided s q)
 IsReply s q (Err (Broken NoMemory)) = IsProvided s q
 IsReply s q (Err (Broken Fault)) = ⊥
 
--- what came of a question, before anything is put
-pub record RepliesTo (s : State) (q : Command) (result : Result Reply Halt) : Type 0 where
-  pub reply : IsReply s q result
+-- what came of a question, before anything is put: whether the journal is on doesn't matter
+pub record RepliesTo (w : World) (q : Command) (result : Result Reply Halt) : Type 0 where
+  pub reply : (journal : Bool) → IsReply (state_of journal w) q result
 
 -- the line of a question was put behind what was there; or what it asks for is not kept, and nothing was put; or memory ran out at a front of its line
 abbrev pub Replies : {E : Type 0} → State → Command → Result E Halt → List ℕ → List ℕ → Type 0

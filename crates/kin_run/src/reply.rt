@@ -8,7 +8,7 @@ ghost use Rattle.kin_world.specs.Worlds.{IsWhole};
 ghost use Rattle.kin_run.specs.declared.perform.Halt.TheVariants.{Broken as BrokenOff};
 ghost use Rattle.kin_run.specs.declared.write.Stop.TheVariants.{Fault as FaultOf};
 ghost use Rattle.kin_run.specs.Performed.{RepliesTo, Replies};
-ghost use Rattle.kin_run.specs.States.{state_of, seen_of};
+ghost use Rattle.kin_run.specs.States.{state_of};
 
 use crate::perform::Halt;
 use kin_motion::{Keep, Rect};
@@ -20,7 +20,7 @@ use kin_world::world::World;
 /// The order that is kept as structure `s`.
 fn order(world: &World, s: u32) -> Result<Reply, Halt>
     requires { IsWhole world.now }
-    ensures { RepliesTo (seen_of world.now) (asked.Order s) result }
+    ensures { RepliesTo world.now (asked.Order s) result }
 {
     match world.keep(s) {
         Some(Keep::Order { .. }) => Ok(Reply::List(world.order(s)?)),
@@ -31,7 +31,7 @@ fn order(world: &World, s: u32) -> Result<Reply, Halt>
 /// The extreme point that is kept as structure `s`.
 fn extreme(world: &World, s: u32) -> Result<Reply, Halt>
     requires { IsWhole world.now }
-    ensures { RepliesTo (seen_of world.now) (asked.Extreme s) result }
+    ensures { RepliesTo world.now (asked.Extreme s) result }
 {
     match world.keep(s) {
         Some(Keep::Extreme { .. }) => Ok(Reply::One(world.extreme(s))),
@@ -42,7 +42,7 @@ fn extreme(world: &World, s: u32) -> Result<Reply, Halt>
 /// The points of the hull, counterclockwise, the leftmost first.
 fn hull(world: &World) -> Result<Reply, Halt>
     requires { IsWhole world.now }
-    ensures { RepliesTo (seen_of world.now) asked.Hull result }
+    ensures { RepliesTo world.now asked.Hull result }
 {
     if !world.keeps(&Keep::Hull) {
         return Err(Halt::Refused(Refusal::NotKept));
@@ -53,7 +53,7 @@ fn hull(world: &World) -> Result<Reply, Halt>
 /// The closest pair.
 fn closest(world: &World) -> Result<Reply, Halt>
     requires { IsWhole world.now }
-    ensures { RepliesTo (seen_of world.now) asked.Closest result }
+    ensures { RepliesTo world.now asked.Closest result }
 {
     if !world.keeps(&Keep::Closest) {
         return Err(Halt::Refused(Refusal::NotKept));
@@ -65,7 +65,7 @@ fn closest(world: &World) -> Result<Reply, Halt>
 fn inside(world: &World, rect: &Rect) -> Result<Reply, Halt>
     requires whole { IsWhole world.now }
     requires rect { IsRectInRange rect.now }
-    ensures { RepliesTo (seen_of world.now) (asked.Inside rect.now) result }
+    ensures { RepliesTo world.now (asked.Inside rect.now) result }
 {
     if !world.keeps(&Keep::Range) {
         return Err(Halt::Refused(Refusal::NotKept));
@@ -76,7 +76,7 @@ fn inside(world: &World, rect: &Rect) -> Result<Reply, Halt>
 /// How many facts are live.
 fn live(world: &World) -> Result<Reply, Halt>
     requires { IsWhole world.now }
-    ensures { RepliesTo (seen_of world.now) asked.Live result }
+    ensures { RepliesTo world.now asked.Live result }
 {
     Ok(Reply::Count(world.live() as u64))
 }
@@ -86,7 +86,7 @@ fn live(world: &World) -> Result<Reply, Halt>
 fn reply_to(world: &World, command: &Command) -> Result<Reply, Halt>
     requires whole { IsWhole world.now }
     requires range { IsCommandInRange world.now.size command.now }
-    ensures { RepliesTo (seen_of world.now) command.now result }
+    ensures { RepliesTo world.now command.now result }
 {
     match *command {
         Command::Order { s } => order(world, s),

@@ -12,20 +12,16 @@ pub returns-in_err-turn-in-Ok-clause-performs : goal.returns-in_err-turn-in-Ok-c
 returns-in_err-turn-in-Ok-clause-performs g c = λ journal p.
     let e = err_from_is_err_and c.from_residual.result c.from_residual.ensures.1 in
     let w = c.args.world.now in
-    let u = c.args.u in
-    let v = c.args.v in
     let can = rw (clean w32 c.args.u c.ranges.u.sfits, clean w32 c.args.v c.ranges.v.sfits) at c.in-Ok.ensures.turns in
-    rw (e.1, e.2) (changing_broke (state_of journal w) c.args.no (turns u v) p (allowed_turn w.moment c.requires.whole.canonical u v can.before (motion_of w.motions c.args.no) can.had can.at c.in-Ok.field-0 can.turns can.slow))
+    rw (e.1, e.2) (changing_broke (state_of journal w) c.args.no (turns c.args.u c.args.v) p (allowed_turn w.moment c.requires.whole.canonical c.args.u c.args.v can.before (motion_of w.motions c.args.no) can.had can.at c.in-Ok.field-0 can.turns can.slow))
 
 pub returns-in_ok-turn-in-Ok-clause-performs : goal.returns-in_ok-turn-in-Ok-clause-performs
 returns-in_ok-turn-in-Ok-clause-performs g c = λ journal p.
     let w = c.args.world.now in
-    let u = c.args.u in
-    let v = c.args.v in
     let has = rw (clean w32 c.args.u c.ranges.u.sfits, clean w32 c.args.v c.ranges.v.sfits) at c.in_ok-turn-in-Ok.ensures.turned in
     let can = has.turned in
-    changed (state_of journal w) c.args.no (turns u v) p (allowed_turn w.moment c.requires.whole.canonical u v can.before (motion_of w.motions c.args.no) can.had can.at has.motion can.turns can.slow) (Some has.motion) (state_of journal c.turn.new.self)
-    (record { old = can.before; new = has.motion; was = can.had; same_place = can.turns; is = refl }) (turned journal c.args.no u v w c.turn.new.self has)
+    changed (state_of journal w) c.args.no (turns c.args.u c.args.v) p (allowed_turn w.moment c.requires.whole.canonical c.args.u c.args.v can.before (motion_of w.motions c.args.no) can.had can.at has.motion can.turns can.slow) (Some has.motion) (state_of journal c.turn.new.self)
+    (record { old = can.before; new = has.motion; was = can.had; same_place = can.turns; is = refl }) (turned journal c.args.no c.args.u c.args.v w c.turn.new.self has)
 
 pub returns-in-Err-NotWhole-clause-performs : goal.returns-in-Err-NotWhole-clause-performs
 returns-in-Err-NotWhole-clause-performs g c = λ journal p.

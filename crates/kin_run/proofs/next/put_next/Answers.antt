@@ -2,24 +2,18 @@ use Rattle.std.proofs.Common.{[], ◌++◌, inl, inr, refl, sym, ap, append-nil}
 use Rattle.std.proofs.lemmas.Result.{err_from_is_err_and, on_err_weaker}
 use Rattle.kin_basics.proofs.Results.{on_ok}
 use Rattle.kin_script.specs.PrintedJournal.{none_line, now_line}
-use Rattle.kin_script.specs.Text.{IsNextText}
 use Rattle.kin_print.proofs.Fronts.{nothing}
 use Rattle.kin_world.specs.Worlds.{HasMoved, HasPassed}
-use Rattle.kin_run.specs.Passed.{IsNextIfAny}
 use Rattle.kin_run.specs.States.{state_of, printed_if}
 use Rattle.kin_run.proofs.Tallying.{none_tallied, one_tallied}
-use Rattle.kin_run.proofs.Blocks.{one_next, not_back, not_reached}
+use Rattle.kin_run.proofs.Blocks.{not_back, not_reached}
 use Rattle.kin_run.proofs.Fronts.{front_nil}
-use Rattle.kin_run.proofs.Performing.{puts_known}
+use Rattle.kin_run.proofs.Performing.{puts_next}
 use Rattle.kin_run.proofs.next.put_next.Goals as goal
 
 pub returns-in_default-clause-line : goal.returns-in_default-clause-line
 returns-in_default-clause-line g c =
-    let s = state_of c.args.journal c.args.world.now in
-    let own : IsNextText s none_line = inr (c.in_default.ensures.none.0 refl, refl) in
-    puts_known (IsNextText s) none_line c.put_bytes.result c.args.out.now.items c.put_bytes.new.out.items own
-    (λ text is. one_next s text none_line c.requires.whole.canonical is own)
-    c.put_bytes.ensures.ok
+    puts_next (state_of c.args.journal c.args.world.now) c.requires.whole.canonical none_line (inr (c.in_default.ensures.none.0 refl, refl)) c.put_bytes.result c.args.out.now.items c.put_bytes.new.out.items c.put_bytes.ensures.ok
     (on_err_weaker c.put_bytes.result (nothing c.args.out.now.items c.put_bytes.new.out.items none_line) c.put_bytes.ensures.err)
 
 pub step-requires-clause-later : goal.step-requires-clause-later
@@ -40,13 +34,9 @@ returns-in_err-block-clause-line g c =
 
 pub returns-clause-line : goal.returns-clause-line
 returns-clause-line g c =
-    let s = state_of c.args.journal c.args.world.now in
     let b = c.in-Some-2.block in
     let h : HasPassed c.in-Some.moment b c.args.world.now c.step.new.self = rw c.in-Some-2.is at c.in_ok-block.ensures.stepped in
-    let own : IsNextText s (printed_if c.args.journal b ++ now_line b.moment) = inl (b, h.next, refl) in
-    puts_known (IsNextText s) (printed_if c.args.journal b ++ now_line b.moment) c.put_passed.result c.args.out.now.items c.put_passed.new.out.items own
-    (λ text is. one_next s text (printed_if c.args.journal b ++ now_line b.moment) c.requires.whole.canonical is own)
-    c.put_passed.ensures.ok c.put_passed.ensures.err
+    puts_next (state_of c.args.journal c.args.world.now) c.requires.whole.canonical (printed_if c.args.journal b ++ now_line b.moment) (inl (b, h.next, refl)) c.put_passed.result c.args.out.now.items c.put_passed.new.out.items c.put_passed.ensures.ok c.put_passed.ensures.err
 
 pub returns-clause-leads : goal.returns-clause-leads
 returns-clause-leads g c =
@@ -56,11 +46,11 @@ returns-clause-leads g c =
 
 pub returns-in_default-clause-tallied : goal.returns-in_default-clause-tallied
 returns-in_default-clause-tallied g c =
-    on_ok c.put_bytes.result (none_tallied (IsNextIfAny (state_of c.args.journal c.args.world.now)) c.args.tally.now (inr (c.in_default.ensures.none.0 refl, refl)))
+    on_ok c.put_bytes.result (none_tallied _ c.args.tally.now (inr (c.in_default.ensures.none.0 refl, refl)))
 
 pub returns-clause-tallied : goal.returns-clause-tallied
 returns-clause-tallied g c =
     let b = c.in-Some-2.block in
     let h : HasPassed c.in-Some.moment b c.args.world.now c.step.new.self = rw c.in-Some-2.is at c.in_ok-block.ensures.stepped in
     on_ok c.put_passed.result
-    (one_tallied (IsNextIfAny (state_of c.args.journal c.args.world.now)) b c.count_of.result c.args.tally.now c.count_on.new.tally c.count_of.ensures (inl (b, h.next, refl)) c.count_on.ensures)
+    (one_tallied _ b c.count_of.result c.args.tally.now c.count_on.new.tally c.count_of.ensures (inl (b, h.next, refl)) c.count_on.ensures)

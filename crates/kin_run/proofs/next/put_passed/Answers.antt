@@ -11,11 +11,11 @@ use Rattle.kin_run.proofs.next.put_passed.Goals as goal
 pub returns-in_err-put_if_on-clause-err : goal.returns-in_err-put_if_on-clause-err
 returns-in_err-put_if_on-clause-err c =
     on_err c.from_residual.result
-    (front_first c.args.out.now.items c.put_if_on.new.out.items (printed_if c.args.journal c.args.block.now) (now_line c.args.block.now.moment) c.in_err-put_if_on.ensures.err)
+    (front_first _ _ _ _ c.in_err-put_if_on.ensures.err)
 
 pub returns-clause-err : goal.returns-clause-err
 returns-clause-err c =
     subst (λ (b : Block). OnErr c.put_now.result (PutsFront c.args.out.now.items c.put_now.new.out.items (printed_if c.args.journal c.args.block.now ++ now_line b.moment))) c.block.view_is
     (on_err_weaker c.put_now.result
-    (front_behind c.args.out.now.items c.put_if_on.new.out.items c.put_now.new.out.items (printed_if c.args.journal c.args.block.now) (now_line c.block.inside.moment) c.in_ok-put_if_on.ensures.ok)
+    (front_behind _ _ _ _ _ c.in_ok-put_if_on.ensures.ok)
     c.put_now.ensures.err)

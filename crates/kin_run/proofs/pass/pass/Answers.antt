@@ -1,7 +1,6 @@
 use Rattle.std.proofs.Common.{[], ap, arith, not, refl, ◌∙◌}
 use Rattle.std.proofs.lemmas.Result.{err_from_is_err_and}
-use Rattle.kin_motion.specs.Journal.{IsJournal}
-use Rattle.kin_script.specs.States.{at, state_setting}
+use Rattle.kin_script.specs.States.{at}
 use Rattle.kin_world.specs.Worlds.{HasPassed, HasMoved}
 use Rattle.kin_world.proofs.RootLaws.{journals_exist}
 use Rattle.kin_run.specs.Written.{printer}
@@ -79,7 +78,7 @@ returns-in_err-leap_to-clause-text g c =
 pub returns-then-is_none-clause-text : goal.returns-then-is_none-clause-text
 returns-then-is_none-clause-text g c = record {
   text = [];
-  gained = gains_nothing (printer (g.K.Sink.held c.args.sink.now) c.args.out.now.items);
+  gained = gains_nothing _;
   is = rw c.if-not-journal.true refl;
 }
 
@@ -87,7 +86,7 @@ pub returns-then-is_none-clause-tallied : goal.returns-then-is_none-clause-talli
 returns-then-is_none-clause-tallied g c =
     let w = c.args.world.now in
     let j = journals_exist w (at c.args.asked) c.requires.whole c.requires.canonical c.requires.later in
-    untallied (IsJournal (state_setting (state_of c.args.journal w)) w.moment (at c.args.asked)) c.args.tally.now j.0 (c.is_none.ensures ∙ ap not c.if-is_none.true) j.1
+    untallied _ c.args.tally.now j.0 (c.is_none.ensures ∙ ap not c.if-is_none.true) j.1
 
 pub returns-then-is_none-clause-moved : goal.returns-then-is_none-clause-moved
 returns-then-is_none-clause-moved g c = ap (state_of c.args.journal) c.in_ok-leap_to.ensures.arrived.state

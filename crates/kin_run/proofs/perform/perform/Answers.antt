@@ -1,28 +1,17 @@
-use Rattle.std.proofs.Common.{ℤ, ◌≡◌, refl, [], true, arith, to_z, of_z, w32, w64}
-use Rattle.std.proofs.lemmas.Int.{ints, to_z-of_z}
+use Rattle.std.proofs.Common.{◌≡◌, refl, [], true, arith, to_z, of_z, w32, w64}
+use Rattle.std.proofs.lemmas.Int.{to_z-of_z}
 use Rattle.std.proofs.lemmas.Result.{err_from_is_err_and}
-use Rattle.kin_num.specs.declared.instant.Shape.{Shape}
-use Rattle.kin_num.specs.Canonical.{IsCanonical}
 use Rattle.kin_num.specs.Instants.{line}
-use Rattle.kin_instant.specs.Roots.{IsFraction}
 use Rattle.kin_script.specs.Changes.{IsSlowVelocity}
-use Rattle.kin_script.specs.Ranges.{IsRatioInRange, IsRootInRange}
-use Rattle.kin_script.specs.Replay.{IsNamedRoot}
+use Rattle.kin_script.specs.Ranges.{IsRootInRange}
 use Rattle.kin_script.proofs.Questions.{asks_otherwise}
 use Rattle.kin_run.specs.States.{state_of}
 use Rattle.kin_run.specs.Written.{printer}
 use Rattle.kin_basics.proofs.Results.{on_ok}
 use Rattle.kin_run.proofs.Tallying.{none_tallied}
 use Rattle.kin_run.proofs.Performing.{went_on, going_broke, replied}
-use Rattle.kin_run.proofs.NamedRoots.{ratio_named}
+use Rattle.kin_run.proofs.NamedRoots.{handed_ratio}
 use Rattle.kin_run.proofs.perform.perform.Goals as goal
-
--- a fraction in its range is the root of its line, however its parts were handed on
-handed_ratio : (n d : ℤ) (r : Shape) → IsRatioInRange n d → IsFraction (to_z w64 (of_z w64 n)) (to_z w64 (of_z w64 d)) r → IsCanonical r → IsNamedRoot true (line n d) r
-handed_ratio n d r range value canonical =
-    let n_is : to_z w64 (of_z w64 n) ≡ n = grind (arith, to_z-of_z, range.n_small) in
-    let d_is : to_z w64 (of_z w64 d) ≡ d = grind (arith, to_z-of_z, range.d_small) in
-    ratio_named n d r (omega (arith, ints, range.d_low)) (rw (n_is, d_is) at value) canonical
 
 pub returns-in-AtRatio-clause-performs : goal.returns-in-AtRatio-clause-performs
 returns-in-AtRatio-clause-performs g c =

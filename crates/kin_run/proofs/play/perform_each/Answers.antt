@@ -4,7 +4,7 @@ use Rattle.kin_script.specs.Deeds.{deed_of}
 use Rattle.kin_script.specs.Text.{refused_line}
 use Rattle.kin_run.specs.States.{state_of}
 use Rattle.kin_run.specs.Written.{printer}
-use Rattle.kin_run.proofs.Commands.{same_size}
+use Rattle.kin_run.proofs.Determined.{same_size}
 use Rattle.kin_run.proofs.Gathering.{gains_nothing, gains_put, some_flushed}
 use Rattle.kin_run.proofs.InTurn.{begins_counting, counts_command, counts_all}
 use Rattle.kin_run.proofs.Playing.{begins, all_done, carried_out, lost_behind, broke_off, refused_here, broke_refusing}
