@@ -11,12 +11,16 @@ use Rattle.kin_motion.specs.Sets.{ListsExactly}
 use Rattle.kin_motion.proofs.AskableLaws.{keep_fact_askable}
 use Rattle.kin_motion.proofs.LiveFactsHold.{keep_fact_holds}
 use Rattle.kin_world.specs.declared.structure.Structure.{Structure}
-use Rattle.kin_world.specs.Kinds.{kinetic, placed_facts, HasMembers}
+use Rattle.kin_world.specs.Kinds.{kinetic, placed_facts, IsFor, IsAtRest, HasMembers, IsSettledIn}
 use Rattle.kin_world.specs.Structures.{IsVacant, IsSettledFor, IsSettledWhereAllHold}
 
 -- what every fact of a list has all of them have
 all_from_each : {P : Placed → Type 0} (ps : List Placed) → ((p : Placed) → Contains ps p → P p) → All P ps
 all_from_each {P} ps each k d low = each _ (Contains-get_or ps k d low)
+
+-- what a call has left settled is the structure of its keep
+pub settled_now : (size : ℕ) (kept : Keep) (s : Scene) (st : Structure) → IsFor size kept st → IsAtRest st → HasMembers s.live st → IsSettledIn s st → IsSettledFor size kept s st
+settled_now size kept s st kind rest members settled = record { kind = kind; rest = rest; members = members; settled = settled }
 
 -- without members it is settled where no number is live
 pub settled_vacant : (size : ℕ) (kept : Keep) (s : Scene) (st : Structure) → IsVacant size kept st → s.live ≡ [] → IsSettledFor size kept s st
