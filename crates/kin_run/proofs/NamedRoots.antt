@@ -1,5 +1,5 @@
 -- The root that a line names: there is one where the discriminant is not negative, and no more than one.
-use Rattle.std.proofs.Common.{arith, to_z, of_z, w64, ◌≡◌, zero, suc, Bool, true, false, [], ◌∷◌, inl, inr, refl, sym, ap, ◌∙◌, subst, ℤ, pos, negsuc, ◌<ℤ◌, ◌*ℤ◌, ◌↔◌, ◌⊎◌, if◌then◌else◌}
+use Rattle.std.proofs.Common.{arith, to_z, of_z, w64, ◌≡◌, zero, suc, Bool, true, false, [], ◌∷◌, inl, inr, refl, sym, ap, ◌∙◌, subst, ℤ, pos, negsuc, ◌<ℤ◌, ◌*ℤ◌, ◌↔◌, if◌then◌else◌}
 use Rattle.std.proofs.lemmas.Int.{ints, to_z-of_z}
 use lib.IntN.{neg_ℤ}
 use Rattle.kin_algebra.specs.declared.sign.Sign.{Sign}
@@ -61,11 +61,10 @@ handed_ratio n d r range same canonical =
 -- of two roots the greater is named by hi, and the lesser by lo
 module _ (p : Quadratic) (r s : Shape) (canonical : IsCanonical r × IsCanonical s) (exact : IsExact p (Two r s)) (rising : IsLess r s) where
   none_beyond : (Beyond : Shape → Type 0) → ¬ (Beyond r) → ¬ (Beyond s) → (v : Shape) → IsRootOf p v → ¬ (Beyond v)
-  none_beyond Beyond not_r not_s v h beyond = at ((exact v h.canonical.form).0 h.zero)
-    where
-      at : (v ≡ r) ⊎ (v ≡ s) → ⊥
-      at (inl e) = not_r (subst Beyond e beyond)
-      at (inr e) = not_s (subst Beyond e beyond)
+  none_beyond Beyond not_r not_s v h beyond = elim ((exact v h.canonical.form).0 h.zero) [
+    | inl e ↦ not_r (subst Beyond e beyond)
+    | inr e ↦ not_s (subst Beyond e beyond)
+  ]
 
   pub greater_root : IsNamedRoot true p s
   greater_root = (record { canonical = canonical.1; zero = (exact s canonical.1.form).1 (inr refl) }, none_beyond (IsLess s) (less_asym r s canonical.0.form canonical.1.form rising) (not_less_itself s))

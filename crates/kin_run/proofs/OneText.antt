@@ -86,11 +86,10 @@ cut_of_bad input front line e f = λ answer text p. subst (IsFront front) (one_a
 
 -- a front of the text of a script is a front of the text of its input
 pub cut_of_script : (input front : List ℕ) (script : Script) → script_of input ≡ Ok script → IsCutOfText (start script.size script.keeps script.journal) script.lines front → IsCut input front
-cut_of_script input front script e cut = λ answer text p. at text (cases input answer text p)
-  where
-    at : {a : Status} (text : List ℕ) → IsOfScript input text a ⊎ IsOfLine input text a → IsFront front text
-    at text (inl v) = cut text v.ending (subst (λ (s : Script). Text (start s.size s.keeps s.journal) s.lines text v.ending) (same_script input v.is_text.script script v.is_text.reads e) v.is_text.replays)
-    at text (inr v) = absurd (no_script input script v.line e v.outside)
+cut_of_script input front script e cut = λ answer text p. elim (cases input answer text p) [
+  | inl v ↦ cut text v.ending (subst (λ (s : Script). Text (start s.size s.keeps s.journal) s.lines text v.ending) (same_script input v.is_text.script script v.is_text.reads e) v.is_text.replays)
+  | inr v ↦ absurd (no_script input script v.line e v.outside)
+]
 
 -- a run that was broken off writes a front
 pub broken_off : (input front : List ℕ) (stop : Stop) → IsCut input front → Writes input (status_of_stop stop) front

@@ -3,7 +3,6 @@ use Rattle.std.proofs.Common.{◌≡◌, ◌⊎◌, inl, inr, ℕ, Bool, List, [
 use Rattle.kin_num.specs.declared.instant.Moment.{Moment}
 use Rattle.kin_num.specs.declared.instant.Shape.{Shape}
 use Rattle.kin_num.specs.Canonical.{IsCanonical}
-use Rattle.kin_num.specs.Order.{IsEarlier}
 use Rattle.kin_motion.specs.Course.{Course, AreSlow, motion_of}
 use Rattle.kin_motion.specs.Journal.{Block, IsNextBlock, NothingFails}
 use Rattle.kin_motion.proofs.MotionLaws.{slow-set, slow-clear}
@@ -92,16 +91,13 @@ module _ (s : State) (sound : IsSound s) where
 
   goes_ends : (upper : Bool) (p : Quadratic) → HasNoRoot p ⊎ ((w : Shape) × IsNamedRoot upper p w) → Ends s (goes_to upper p)
   goes_ends upper p (inl none) = inl (NoRoot, inl (refl, none))
-  goes_ends upper p (inr (w, named)) = by_order (earlier_or_not (at w) s.moment canonical sound.canonical)
-    where
-      canonical : IsCanonical w
-      canonical = named_canonical upper p w named
-
-      by_order : IsEarlier (at w) s.moment ⊎ ¬ (IsEarlier (at w) s.moment) → Ends s (goes_to upper p)
-      by_order (inl past) = inl (Past, inr (refl, (w, named, past)))
-      by_order (inr not_past) =
-          let j = journals_exist s.motions s.size s.keeps s.moment (at w) sound.proper sound.canonical canonical not_past in
-          at_moment (goes_to upper p) (at w) canonical (lines_if s.journal j.0) j.0 (goes_allowed s upper p w named not_past) (w, named, is_text s.journal s w j.0 j.1) (w, named, refl) (w, named, j.1)
+  goes_ends upper p (inr (w, named)) =
+      let canonical = named_canonical upper p w named in
+      elim (earlier_or_not (at w) s.moment canonical sound.canonical) [
+        | inl past ↦ inl (Past, inr (refl, (w, named, past)))
+        | inr not_past ↦ let j = journals_exist s.motions s.size s.keeps s.moment (at w) sound.proper sound.canonical canonical not_past in
+            at_moment (goes_to upper p) (at w) canonical (lines_if s.journal j.0) j.0 (goes_allowed s upper p w named not_past) (w, named, is_text s.journal s w j.0 j.1) (w, named, refl) (w, named, j.1)
+      ]
 
   goes_on_ends : NothingFails (state_setting s) s.moment ⊎ ((b : Block) × IsNextBlock (state_setting s) s.moment b) → Ends s goes_on
   goes_on_ends (inl nothing) = at_moment goes_on s.moment sound.canonical _ [] (λ r h. h) (inr (nothing, refl)) (inr (nothing, refl)) (inr (nothing, refl))

@@ -185,9 +185,9 @@ const WORKED: [(&str, &str, Status); 28] = [
 ];
 
 /// The word of a run.
-fn word(rt: &HostRuntime) -> Result<Vec<String>, Fail> {
-    let run = String::from_str(rt.alloc(), "run")?;
-    Ok(vec![in rt.alloc(); run]?)
+fn word(alloc: Global) -> Result<Vec<String>, Fail> {
+    let run = String::from_str(alloc, "run")?;
+    Ok(vec![in alloc; run]?)
 }
 
 /// A source of the bytes of a text.
@@ -198,72 +198,66 @@ fn source_of(alloc: Global, text: &str, piece: usize, failing: Vec<u64>) -> Resu
     Ok(MemSource::new(bytes, piece, failing))
 }
 
+/// The first of these scripts whose text or status is another one. It is read in pieces so long.
+fn first_wrong(
+    alloc: Global,
+    rows: &[(&str, &str, Status)],
+    piece: usize,
+    room: u64,
+) -> Result<Option<usize>, Fail>
+    requires { 0 < piece }
+{
+    let words = word(alloc)?;
+    for (row, (script, text, status)) in rows.iter().enumerate() {
+        let mut source = source_of(alloc, script, piece, Vec::new(alloc))?;
+        let mut sink = MemSink::new(alloc, room, Vec::new(alloc))?;
+        let found = run(alloc, &words, &mut source, &mut sink);
+        if found != *status || sink.held() != text.as_bytes() {
+            return Ok(Some(row));
+        }
+    }
+    Ok(None)
+}
+
 #[test]
 fn gives_the_worked_texts(rt: HostRuntime) -> Result<(), Fail> {
-    let words = word(&rt)?;
-    for (script, text, status) in WORKED {
-        let mut source = source_of(rt.alloc(), script, 3, Vec::new(rt.alloc()))?;
-        let mut sink = MemSink::new(rt.alloc(), 200, Vec::new(rt.alloc()))?;
-        let found = run(rt.alloc(), &words, &mut source, &mut sink);
-        assert!(rt; found == status, "status of {script}");
-        assert!(rt; sink.held() == text.as_bytes(), "text of {script}");
-    }
+    let wrong = first_wrong(rt.alloc(), &WORKED, 3, 200)?;
+    assert!(rt; wrong == None, "script {wrong:?}");
     Ok(())
 }
 
 #[test]
 fn gives_the_texts_of_closest_pairs_and_rectangles(rt: HostRuntime) -> Result<(), Fail> {
-    let words = word(&rt)?;
-    for (script, text, status) in CLOSE {
-        let mut source = source_of(rt.alloc(), script, 64, Vec::new(rt.alloc()))?;
-        let mut sink = MemSink::new(rt.alloc(), 200, Vec::new(rt.alloc()))?;
-        let found = run(rt.alloc(), &words, &mut source, &mut sink);
-        assert!(rt; found == status, "status of {script}");
-        assert!(rt; sink.held() == text.as_bytes(), "text of {script}");
-    }
+    let wrong = first_wrong(rt.alloc(), &CLOSE, 64, 200)?;
+    assert!(rt; wrong == None, "script {wrong:?}");
     Ok(())
 }
 
 #[test]
 fn gives_the_texts_of_hulls(rt: HostRuntime) -> Result<(), Fail> {
-    let words = word(&rt)?;
-    for (script, text, status) in HULLS {
-        let mut source = source_of(rt.alloc(), script, 64, Vec::new(rt.alloc()))?;
-        let mut sink = MemSink::new(rt.alloc(), 400, Vec::new(rt.alloc()))?;
-        let found = run(rt.alloc(), &words, &mut source, &mut sink);
-        assert!(rt; found == status, "status of {script}");
-        assert!(rt; sink.held() == text.as_bytes(), "text of {script}");
-    }
+    let wrong = first_wrong(rt.alloc(), &HULLS, 64, 400)?;
+    assert!(rt; wrong == None, "script {wrong:?}");
     Ok(())
 }
 
 #[test]
 fn gives_the_texts_of_points_that_turn_and_leave(rt: HostRuntime) -> Result<(), Fail> {
-    let words = word(&rt)?;
-    for (script, text, status) in CHANGES {
-        let mut source = source_of(rt.alloc(), script, 64, Vec::new(rt.alloc()))?;
-        let mut sink = MemSink::new(rt.alloc(), 100, Vec::new(rt.alloc()))?;
-        let found = run(rt.alloc(), &words, &mut source, &mut sink);
-        assert!(rt; found == status, "status of {script}");
-        assert!(rt; sink.held() == text.as_bytes(), "text of {script}");
-    }
+    let wrong = first_wrong(rt.alloc(), &CHANGES, 64, 100)?;
+    assert!(rt; wrong == None, "script {wrong:?}");
     Ok(())
 }
 
 #[test]
 fn gives_the_text_of_two_carriageways(rt: HostRuntime) -> Result<(), Fail> {
-    let words = word(&rt)?;
-    let mut source = source_of(rt.alloc(), CARRIAGEWAYS, 64, Vec::new(rt.alloc()))?;
-    let mut sink = MemSink::new(rt.alloc(), 400, Vec::new(rt.alloc()))?;
-    let found = run(rt.alloc(), &words, &mut source, &mut sink);
-    assert!(rt; found == Status::Done);
-    assert!(rt; sink.held() == CARRIAGEWAYS_TEXT.as_bytes());
+    let rows = [(CARRIAGEWAYS, CARRIAGEWAYS_TEXT, Status::Done)];
+    let wrong = first_wrong(rt.alloc(), &rows, 64, 400)?;
+    assert!(rt; wrong == None, "script {wrong:?}");
     Ok(())
 }
 
 #[test]
 fn a_read_that_fails_leaves_nothing_written(rt: HostRuntime) -> Result<(), Fail> {
-    let words = word(&rt)?;
+    let words = word(rt.alloc())?;
     // The script has 97 bytes: 33 pieces, and then the end.
     for call in 0..34 {
         let failing = vec![in rt.alloc(); call]?;
@@ -278,7 +272,7 @@ fn a_read_that_fails_leaves_nothing_written(rt: HostRuntime) -> Result<(), Fail>
 
 #[test]
 fn a_sink_without_room_holds_a_front(rt: HostRuntime) -> Result<(), Fail> {
-    let words = word(&rt)?;
+    let words = word(rt.alloc())?;
     for (script, text) in [(CROSSING, "0 1\n0 1\n1 0\n"), (THREE, THREE_TEXT)] {
         for room in 0..text.len() as u64 {
             let mut source = source_of(rt.alloc(), script, 64, Vec::new(rt.alloc()))?;
@@ -296,7 +290,7 @@ fn a_sink_without_room_holds_a_front(rt: HostRuntime) -> Result<(), Fail> {
 /// fails, or for which there is no room, and none behind it. Answers are gathered.
 #[test]
 fn each_block_is_written_before_the_next(rt: HostRuntime) -> Result<(), Fail> {
-    let words = word(&rt)?;
+    let words = word(rt.alloc())?;
     for (script, texts) in [
         (MEETINGS, MEETINGS_TEXT),
         (MEETINGS_BY_NEXT, MEETINGS_BY_NEXT_TEXT),
@@ -329,7 +323,7 @@ fn source_of_length(alloc: Global, length: usize) -> Result<MemSource, Fail> {
 
 #[test]
 fn the_longest_script_runs_and_a_longer_one_does_not(rt: HostRuntime) -> Result<(), Fail> {
-    let words = word(&rt)?;
+    let words = word(rt.alloc())?;
     for (length, status) in [(1 << 20, Status::Done), ((1 << 20) + 1, Status::TooLong)] {
         let mut source = source_of_length(rt.alloc(), length)?;
         let mut sink = MemSink::new(rt.alloc(), 100, Vec::new(rt.alloc()))?;
@@ -342,7 +336,7 @@ fn the_longest_script_runs_and_a_longer_one_does_not(rt: HostRuntime) -> Result<
 
 #[test]
 fn a_write_that_fails_is_told(rt: HostRuntime) -> Result<(), Fail> {
-    let words = word(&rt)?;
+    let words = word(rt.alloc())?;
     for script in [CROSSING, "bad\n", "size 1\nhull\n"] {
         let mut source = source_of(rt.alloc(), script, 64, Vec::new(rt.alloc()))?;
         let failing = vec![in rt.alloc(); 0]?;
@@ -357,7 +351,7 @@ fn a_write_that_fails_is_told(rt: HostRuntime) -> Result<(), Fail> {
 #[test]
 fn other_words_touch_nothing(rt: HostRuntime) -> Result<(), Fail> {
     let other = String::from_str(rt.alloc(), "Run")?;
-    let mut words = word(&rt)?;
+    let mut words = word(rt.alloc())?;
     words.push(other)?;
     for form in [&words[..0], &words[1..], &words[..]] {
         let mut source = source_of(rt.alloc(), CROSSING, 64, Vec::new(rt.alloc()))?;
