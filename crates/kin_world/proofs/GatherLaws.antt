@@ -50,19 +50,17 @@ turn_more k front turn turn' o was is = at turn refl was (cases_lt o.structure k
     this_first from least = record {
       some = (o, last, refl);
       from = from;
-      least = λ p there low. by p (among p there) low;
+      least = λ p there low. elim (among p there) [
+        | inl old ↦ least p old low
+        | inr e ↦ let same : o.structure ≡ p.structure = ap (λ (x : Owned). x.structure) e in omega (arith, same)
+      ];
     }
-      where
-        by : (p : Owned) → Contains front p ⊎ (o ≡ p) → k ≤ p.structure → o.structure ≤ p.structure
-        by p (inl old) low = least p old low
-        by p (inr e) low = let same : o.structure ≡ p.structure = ap (λ (x : Owned). x.structure) e in omega (arith, same)
 
     at : (t : Option ℕ) → turn ≡ t → IsTurn k front t → (o.structure < k) ⊎ (k ≤ o.structure) → IsTurn k (front ++ o ∷ []) turn'
-    at None e none (inl low) = becomes (is.below low ∙ e) (λ p there from. by p (among p there) from)
-      where
-        by : (p : Owned) → Contains front p ⊎ (o ≡ p) → k ≤ p.structure → ⊥
-        by p (inl old) from = none p old from
-        by p (inr same) from = let e : o.structure ≡ p.structure = ap (λ (x : Owned). x.structure) same in absurd (omega (arith, e, low, from))
+    at None e none (inl low) = becomes (is.below low ∙ e) (λ p there from. elim (among p there) [
+      | inl old ↦ none p old from
+      | inr same ↦ let e : o.structure ≡ p.structure = ap (λ (x : Owned). x.structure) same in omega (arith, e, low, from)
+    ])
     at None e none (inr high) = becomes (is.first high e) (this_first high (λ p old from. absurd (none p old from)))
     at (Some j) e next side = by_side side (cases_lt o.structure j)
       where
@@ -70,12 +68,11 @@ turn_more k front turn turn' o was is = at turn refl was (cases_lt o.structure k
         stays f more = becomes (f ∙ e) (record {
           some = (next.some.0, Contains-append_left front (o ∷ []) next.some.0 next.some.1, next.some.2);
           from = next.from;
-          least = λ p there low. by p (among p there) low;
+          least = λ p there. elim (among p there) [
+            | inl old ↦ next.least p old
+            | inr same ↦ subst (λ (x : Owned). k ≤ x.structure → j ≤ x.structure) same more
+          ];
         })
-          where
-            by : (p : Owned) → Contains front p ⊎ (o ≡ p) → k ≤ p.structure → j ≤ p.structure
-            by p (inl old) low = next.least p old low
-            by p (inr same) low = subst (λ (x : Owned). k ≤ x.structure → j ≤ x.structure) same more low
 
         by_side : (o.structure < k) ⊎ (k ≤ o.structure) → (o.structure < j) ⊎ (j ≤ o.structure) → IsTurn k (front ++ o ∷ []) turn'
         by_side (inl low) _ = stays (is.below low) (λ high. absurd (omega (arith, low, high)))

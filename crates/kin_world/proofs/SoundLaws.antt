@@ -1,5 +1,5 @@
 -- What a sound world has: its live facts are those of the definition, and the table tells what comes next.
-use Rattle.std.proofs.Common.{◌≡◌, ◌⊎◌, inl, inr, refl, sym, ap, ◌∙◌, subst, arith, ℕ, suc, ◌<◌, true, List, [], ◌∷◌, Option, Some, None, slice_set, get_or, slice_get, Contains, ◌↔◌, IfSome}
+use Rattle.std.proofs.Common.{◌≡◌, ◌⊎◌, inl, inr, refl, sym, ap, ◌∙◌, subst, arith, ℕ, suc, ◌<◌, true, List, [], ◌∷◌, Option, Some, None, slice_set, get_or, slice_get, Contains, ◌↔◌}
 use Rattle.std.proofs.lemmas.List.Elements.{All-contains}
 use Rattle.std.proofs.lemmas.Option.{slice_get_within, slice_get_read}
 use Rattle.kin_num.specs.declared.instant.Moment.{Moment}
@@ -46,10 +46,6 @@ certificates_distinct (l ∷ ls) once =
     fresh h =
         let o = contains_mapped (λ (k : LiveFact). k.certificate) ls l.certificate h in
         once 0 (suc o.1.0) o.0 (omega arith) (omega (arith, o.1.1)) (subst (λ (k : LiveFact). AreAlike l k) (sym o.1.2) (at_its l o.0.certificate o.2))
-
--- what a table answers about its least failure
-pub least_of : (live : List LiveFact) (due : Option Moment) (m : Moment) → IfSome due (IsLeastFailure live) → due ≡ Some m → IsLeastFailure live m
-least_of live due m least e = subst (λ (d : Option Moment). IfSome d (IsLeastFailure live)) e least
 
 module _ {s : Stage} (sound : IsSound s) where
   -- each live fact has its first failure
