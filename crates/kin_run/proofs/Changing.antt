@@ -1,7 +1,7 @@
 -- What came of a change of the points, from what the world did.
-use Rattle.std.proofs.Common.{◌≡◌, ℕ, Bool, List, [], Option, Some, None, refl, ap, ◌∙◌, set-set, ℤ, slice_set}
+use Rattle.std.proofs.Common.{◌≡◌, ℕ, Bool, List, [], Option, Some, None, refl, ap, ◌∙◌, set-set, slice_set}
 use Rattle.kin_motion.specs.Course.{Course, motion_of}
-use Rattle.kin_world.specs.Worlds.{World, HasReplaced, HasTurned}
+use Rattle.kin_world.specs.Worlds.{World, HasReplaced}
 use Rattle.kin_script.specs.Changes.{Change, ChangesTo}
 use Rattle.kin_script.specs.Deeds.{changes}
 use Rattle.kin_script.specs.Replay.{IsAllowed}
@@ -27,7 +27,3 @@ replaced journal n m old new e =
     ap (state_of journal) e.inserted.state
     ∙ ap (λ (w : World). record (state_of journal w) { motions = slice_set w.motions n (Some m) }) e.removed.state
     ∙ ap (λ (ms : List (Option Course)). record (state_of journal old) { motions = ms }) (set-set old.motions n None (Some m))
-
--- and of a turn
-pub turned : (journal : Bool) (n : ℕ) (u v : ℤ) (old new : World) → (t : HasTurned n u v old new) → state_of journal new ≡ record (state_of journal old) { motions = slice_set old.motions n (Some t.motion) }
-turned journal n u v old new t = ap (state_of journal) t.state

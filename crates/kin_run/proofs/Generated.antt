@@ -119,9 +119,6 @@ twenty_later w named = later
 abbrev EndWithKeeps : List Line → Type 0
 EndWithKeeps cs = (s : State) (text : List ℕ) (ending : Ending) → s.keeps ≡ one_of_each → Text s cs text ending → ending ≡ None
 
-nothing_ends_well : EndWithKeeps []
-nothing_ends_well s text ending keeps t = t.1
-
 asked_ends_well : (number : ℕ) (q : Command) (cs : List Line) → deed_of q ≡ asks q → ((s : State) → s.keeps ≡ one_of_each → IsProvided s q) → EndWithKeeps cs → EndWithKeeps ((number, q) ∷ cs)
 asked_ends_well number q cs is provided more s text ending keeps (inl e) =
     let refused = subst (λ (d : Deed). IsRefused s d e.0) is e.1 in
@@ -155,7 +152,7 @@ replies_end_well number =
     (asked_ends_well (number + 2) Hull (second number) refl (λ s keeps. (2, kept_at s 2 keep.Hull keeps refl))
     (asked_ends_well (number + 3) Closest (third number) refl (λ s keeps. (3, kept_at s 3 keep.Closest keeps refl))
     (asked_ends_well (number + 4) (Inside around) (fourth number) refl (λ s keeps. (4, kept_at s 4 keep.Range keeps refl))
-    (asked_ends_well (number + 5) Live [] refl (λ s keeps. tt) nothing_ends_well))))
+    (asked_ends_well (number + 5) Live [] refl (λ s keeps. tt) (λ s text ending keeps t. t.1)))))
 
 questions_end_well : (count number : ℕ) → EndWell count (questions number)
 questions_end_well count number s text ending awaiting (inl (r, inl none, text_is, ending_is)) = absurd (omega (arith, ints, none.1))

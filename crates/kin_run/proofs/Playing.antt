@@ -58,12 +58,6 @@ module _ (s : State) (all : List Line) (t : State) where
         );
   }
 
-  pub completes : (so_far : List ℕ) → IsSoFar s all t [] so_far → Text s all so_far None
-  completes so_far p = subst (λ (w : List ℕ). Text s all w None) (append-nil so_far) (p.forth [] None (refl, refl))
-
-  pub ends : (c : Line) (left : List Line) (so_far : List ℕ) (r : Refusal) → IsSoFar s all t (c ∷ left) so_far → IsRefused t (deed_of c.1) r → Text s all (so_far ++ refused_line c.0 r) (Some (c.0, r))
-  ends c left so_far r p h = p.forth (refused_line c.0 r) (Some (c.0, r)) (inl (r, h, refl, refl))
-
   -- the text so far is a front of all
   pub cut_here : (left : List Line) (so_far : List ℕ) → IsSoFar s all t left so_far → IsCutOfText s all so_far
   cut_here left so_far p = λ text ending q. let b = p.back text ending q in record { more = b.0; joined = b.2 }
@@ -92,7 +86,8 @@ at_item xs i x lt e = drop-cons xs i x lt ∙ ap (λ (y : Line). y ∷ drop (suc
 
 module _ {s t : State} {all : List Line} {p q : Printer} (i : ℕ) (so_far : GainsSome (IsSoFar s all t (drop i all)) p q) where
   pub all_done : length all ≤ i → GainsSome (λ text. Text s all text None) p q
-  all_done none = some_is so_far (λ text. Text s all text None) (λ x so. completes s all t x (subst (λ (left : List Line). IsSoFar s all t left x) (drop_all i all none) so))
+  all_done none = some_is so_far (λ text. Text s all text None)
+      (λ x so. subst (λ (w : List ℕ). Text s all w None) (append-nil x) (so.forth [] None (subst (λ (left : List Line). Text t left [] None) (sym (drop_all i all none)) (refl, refl))))
 
   module _ (c : Line) (low : i < length all) (read : c ≡ get_or all i c) where
     here : GainsSome (IsSoFar s all t (c ∷ drop (i + 1) all)) p q
@@ -113,7 +108,7 @@ module _ {s t : State} {all : List Line} {p q : Printer} (i : ℕ) (so_far : Gai
     -- it was refused, which changed nothing, and the line that tells so was put; or memory ran out amid that
     module _ (r : Refusal) (is : IsRefused t (deed_of c.1) r) {same n : Printer} (unchanged : same ≡ q) where
       pub refused_here : Gains same n (refused_line c.0 r) → GainsSome (λ text. Text s all text (Some (c.0, r))) p n
-      refused_here put = some_then here (λ text. Text s all text (Some (c.0, r))) (subst (λ (x : Printer). Gains x n (refused_line c.0 r)) unchanged put) (λ x so. ends s all t c (drop (i + 1) all) x r so is)
+      refused_here put = some_then here (λ text. Text s all text (Some (c.0, r))) (subst (λ (x : Printer). Gains x n (refused_line c.0 r)) unchanged put) (λ x so. so.forth (refused_line c.0 r) (Some (c.0, r)) (inl (r, is, refl, refl)))
 
       pub broke_refusing : (front : List ℕ) → Gains same n front → IsFront front (refused_line c.0 r) → GainsSome (IsCutOfText s all) p n
       broke_refusing front put cut = some_then here (IsCutOfText s all) (subst (λ (x : Printer). Gains x n front) unchanged put) (λ x so. cut_refused s all t c (drop (i + 1) all) x front r is so cut)

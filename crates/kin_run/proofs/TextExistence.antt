@@ -1,5 +1,5 @@
 -- Every input has a text.
-use Rattle.std.proofs.Common.{◌≡◌, inl, inr, ℕ, ◌^◌, List, [], ◌∷◌, ◌++◌, Some, None, Result, Ok, Err, refl, sym, subst, All}
+use Rattle.std.proofs.Common.{◌≡◌, inl, inr, ℕ, ◌^◌, List, [], ◌∷◌, ◌++◌, Some, None, Result, Ok, Err, refl, All}
 use Rattle.std.proofs.lemmas.List.{length-replicate}
 use Rattle.std.proofs.lemmas.List.Elements.{All-head, All-tail, All-weaker}
 use Rattle.kin_motion.specs.Journal.{Block}
@@ -34,13 +34,11 @@ pub text_exists : (cs : List Line) (s : State) → IsSound s → All (λ c. IsCo
 text_exists [] s sound range = record { text = []; ending = None; is = (refl, refl); passes = λ e. ([], refl) }
 text_exists (c ∷ cs) s sound range = by_end (deed_ends s sound (deed_of c.1) (deed_in_range s.size c.1 (All-head (λ d. IsCommandInRange s.size d.1) c cs range))) (text_exists cs)
   where
-    rest_range : (t : State) → t.size ≡ s.size → All (λ d. IsCommandInRange t.size d.1) cs
-    rest_range t e = subst (λ (size : ℕ). All (λ d. IsCommandInRange size d.1) cs) (sym e) (All-tail (λ d. IsCommandInRange s.size d.1) c cs range)
-
     by_end : Ends s (deed_of c.1) → ((t : State) → IsSound t → All (λ d. IsCommandInRange t.size d.1) cs → HasText t cs) → HasText s (c ∷ cs)
     by_end (inl (r, refused)) rest = record { text = refused_line c.0 r; ending = Some (c.0, r); is = inl (r, refused, refl, refl); passes = λ e. absurd (let clash : Some (c.0, r) ≡ None = e in cc) }
     by_end (inr steps) rest =
-        let more = rest steps.next steps.sound (rest_range steps.next steps.size) in
+        let range : All (λ d. IsCommandInRange steps.next.size d.1) cs = rw steps.size (All-tail (λ d. IsCommandInRange s.size d.1) c cs range) in
+        let more = rest steps.next steps.sound range in
         record {
           text = steps.text ++ more.text;
           ending = more.ending;

@@ -1,11 +1,11 @@
-use Rattle.std.proofs.Common.{◌≡◌, inl, inr, Some, refl, sym, ◌∙◌, w32}
+use Rattle.std.proofs.Common.{ap, ◌≡◌, inl, inr, Some, refl, sym, ◌∙◌, w32}
 use Rattle.std.proofs.lemmas.Result.{err_from_is_err_and}
 use Rattle.kin_instant.proofs.Widths.{clean}
 use Rattle.kin_motion.specs.Course.{motion_of}
 use Rattle.kin_script.specs.Changes.{turns}
 use Rattle.kin_run.specs.States.{state_of}
 use Rattle.kin_run.proofs.ChangeExistence.{allowed_turn}
-use Rattle.kin_run.proofs.Changing.{changed, changing_broke, turned}
+use Rattle.kin_run.proofs.Changing.{changed, changing_broke}
 use Rattle.kin_run.proofs.change.turn.Goals as goal
 
 pub returns-in_err-turn-in-Ok-clause-performs : goal.returns-in_err-turn-in-Ok-clause-performs
@@ -21,7 +21,7 @@ returns-in_ok-turn-in-Ok-clause-performs g c = λ journal p.
     let has = rw (clean w32 c.args.u c.ranges.u.sfits, clean w32 c.args.v c.ranges.v.sfits) at c.in_ok-turn-in-Ok.ensures.turned in
     let can = has.turned in
     changed (state_of journal w) c.args.no (turns c.args.u c.args.v) p (allowed_turn w.moment c.requires.whole.canonical c.args.u c.args.v can.before (motion_of w.motions c.args.no) can.had can.at has.motion can.turns can.slow) (Some has.motion) (state_of journal c.turn.new.self)
-    (record { old = can.before; new = has.motion; was = can.had; same_place = can.turns; is = refl }) (turned journal c.args.no c.args.u c.args.v w c.turn.new.self has)
+    (record { old = can.before; new = has.motion; was = can.had; same_place = can.turns; is = refl }) (ap (state_of journal) has.state)
 
 pub returns-in-Err-NotWhole-clause-performs : goal.returns-in-Err-NotWhole-clause-performs
 returns-in-Err-NotWhole-clause-performs g c = λ journal p.
