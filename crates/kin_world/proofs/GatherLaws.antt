@@ -40,15 +40,12 @@ turn_more k front turn turn' o was is = at turn refl was (cases_lt o.structure k
       ]
     ]
 
-    last : Contains (front ++ o ∷ []) o
-    last = Contains-append_right front (o ∷ []) o (contains_head o [])
-
     becomes : {t : Option ℕ} → turn' ≡ t → IsTurn k (front ++ o ∷ []) t → IsTurn k (front ++ o ∷ []) turn'
     becomes e h = subst (λ (t : Option ℕ). IsTurn k (front ++ o ∷ []) t) (sym e) h
 
     this_first : k ≤ o.structure → ((p : Owned) → Contains front p → k ≤ p.structure → o.structure ≤ p.structure) → IsTurn k (front ++ o ∷ []) (Some o.structure)
     this_first from least = record {
-      some = (o, last, refl);
+      some = (o, Contains-append_right front (o ∷ []) o (contains_head o []), refl);
       from = from;
       least = λ p there low. elim (among p there) [
         | inl old ↦ least p old low

@@ -6,7 +6,7 @@ use Rattle.std.proofs.lemmas.Option.{slice_get_within}
 use Rattle.kin_motion.specs.declared.fact.Placed.{Placed}
 use Rattle.kin_motion.specs.declared.keep.Keep.{Keep}
 use Rattle.kin_motion.specs.Course.{Course, AreSlow, motion_of, is_live, live_of}
-use Rattle.kin_motion.specs.Forms.{IsAskable, names}
+use Rattle.kin_motion.specs.Forms.{IsAskable}
 use Rattle.kin_motion.specs.Live.{owned_by}
 use Rattle.kin_motion.specs.Scene.{Scene, Holds, scene_at}
 use Rattle.kin_motion.proofs.MotionLaws.{slow-clear}
@@ -80,16 +80,13 @@ live_after (Leaves n) {k} {before} {s} h = one_more h.changed (subst (λ m. n < 
 pub hold_for : (mark : Mark) {k : ℕ} {before : List (Option Course)} {s : Stage} → IsMarked mark k before s → (keep : Keep) (st : Structure) → IsInPlace (HasGoneOver s.size k (scene_at before s.moment) (sight s)) s.table.live k keep st → slice_get s.keeps k ≡ Some keep
     → HoldFor mark (placed_facts st) (sight s)
 hold_for (Enters n) {k} {before} {s} h keep st place kept = all_hold h.in_order h.none_waits k (placed_facts st) place.tabled
-hold_for (Leaves n) {k} {before} {s} h keep st place kept = record { hold = hold }
-  where
-    was : IsSettledFor s.size keep (scene_at before s.moment) st
-    was = place.fine.ahead (omega arith)
-
-    hold : (p : Placed) → Contains (placed_facts st) p → names p.fact.form n ≡ false → Holds (sight s) p.fact
-    hold p there unnamed =
-        let asked = All-contains (λ (q : Placed). IsAskable (live_of before) q.fact.form) (placed_facts st) p (settled_askable s.size keep (scene_at before s.moment) st (h.in_order.fit.keepable.small k keep kept) was) there in
-        let held = All-contains (λ (q : Placed). Holds (scene_at before s.moment) q.fact) (placed_facts st) p (settled_holds s.size keep (scene_at before s.moment) st was) there in
-        sym (sign_alike h.changed s.moment p.fact.form (askable_without n (live_of s.motions) (live_of before) p.fact.form (live_after (Leaves n) h) asked unnamed)) ∙ held
+hold_for (Leaves n) {k} {before} {s} h keep st place kept = record {
+  hold = λ p there unnamed.
+      let was = place.fine.ahead (omega arith) in
+      let asked = All-contains (λ (q : Placed). IsAskable (live_of before) q.fact.form) (placed_facts st) p (settled_askable s.size keep (scene_at before s.moment) st (h.in_order.fit.keepable.small k keep kept) was) there in
+      let held = All-contains (λ (q : Placed). Holds (scene_at before s.moment) q.fact) (placed_facts st) p (settled_holds s.size keep (scene_at before s.moment) st was) there in
+      sym (sign_alike h.changed s.moment p.fact.form (askable_without n (live_of s.motions) (live_of before) p.fact.form (live_after (Leaves n) h) asked unnamed)) ∙ held;
+}
 
 -- a structure goes over to the scene now, and no fact waits
 module _ {k : ℕ} {now : Scene} {s : Stage} {keep : Keep} {st after : Structure} {table : Facts} (r : HasUpdated k now s keep st after table) where

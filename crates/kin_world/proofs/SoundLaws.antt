@@ -112,13 +112,13 @@ module _ {s : Stage} (sound : IsSound s) where
 
   -- where no live fact ever fails nothing does
   pub never_fails : NoneFails s.table.live ↔ NothingFails (setting s) s.moment
-  never_fails = (nothing_fails (setting s) s.moment s.table.live in_time, from)
-    where
-      from : NothingFails (setting s) s.moment → NoneFails s.table.live
-      from nothing l there m fails =
-          let first = failure_at l there m fails in
-          first.fails (nothing l.certificate (is_live l there) m first.canonical
-          (λ before. never s.moment sound.in_order.canonical (through s.moment m s.moment sound.in_order.canonical first.canonical sound.in_order.canonical first.later_is_later before)))
+  never_fails = (
+    nothing_fails (setting s) s.moment s.table.live in_time,
+    λ nothing l there m fails.
+        let first = failure_at l there m fails in
+        first.fails (nothing l.certificate (is_live l there) m first.canonical
+        (λ before. never s.moment sound.in_order.canonical (through s.moment m s.moment sound.in_order.canonical first.canonical sound.in_order.canonical first.later_is_later before))),
+  )
 
   -- the least failure is the first failure of a live fact
   pub least_fails : (m : Moment) (least : IsLeastFailure s.table.live m) → FailsFirst (scene_at s.motions) s.moment m least.some.0.certificate.placed.fact
@@ -164,11 +164,10 @@ module _ {s : Stage} (sound : IsSound s) where
 
   module _ (limit : Moment) (canonical : IsCanonical limit.at) (from : ¬ (IsEarlier limit s.moment)) (none : NoneFailsUntil s.table.live limit) where
     later : (l : LiveFact) → Contains s.table.live l → (n : Moment) → l.fails ≡ Some n → IsEarlier limit n
-    later l there n e = at none
-      where
-        at : NoneFailsUntil s.table.live limit → IsEarlier limit n
-        at (inl never) = absurd (never l there n e)
-        at (inr (m, least, until)) = earlier_still limit m n canonical (least_fails m least).canonical (failure_at l there n e).canonical until (least.least l n there e)
+    later l there n e = elim none [
+      | inl never ↦ absurd (never l there n e)
+      | inr due ↦ earlier_still limit due.0 n canonical (least_fails due.0 due.1).canonical (failure_at l there n e).canonical due.2 (due.1.least l n there e)
+    ]
 
     fails_later : (l : LiveFact) → Contains s.table.live l → IsEarlier s.moment limit ⊎ (IsEarlier limit s.moment ⊎ (s.moment ≡ limit)) → IsFirstFailure (scene_at s.motions) limit l.certificate.placed.fact l.fails
     fails_later l there (inl more) = later_start (scene_at s.motions) s.moment sound.in_order.canonical l (timed sound.in_order sound.none_waits l there) limit canonical more (later l there)

@@ -4,7 +4,7 @@ use Rattle.std.proofs.lemmas.Bool.{cases_Bool}
 use Rattle.std.proofs.lemmas.List.Sums.{sum_by-cons}
 use Rattle.std.proofs.lemmas.Option.{same_Some}
 use Rattle.kin_num.specs.declared.instant.Moment.{Moment}
-use Rattle.kin_num.specs.declared.instant.Phase.TheVariants.{At}
+use Rattle.kin_num.specs.declared.instant.Phase.TheVariants.{At, After}
 use Rattle.kin_num.specs.Canonical.{IsCanonical}
 use Rattle.kin_motion.specs.Course.{Course, IsSlow, AreSlow, is_live, live_of, motion_of}
 use Rattle.kin_motion.specs.Forms.{IsAskable}
@@ -49,11 +49,10 @@ pub no_cause : (w : World) (n : ℕ) (u v : ℤ) (motion : Course) → CanTurn n
     → ((had : Course) → motion_of w.motions n ≡ Some had → (r ≡ Err NotWhole) ↔ IsNotWhole w.moment u v had)
     → ((had : Course) → motion_of w.motions n ≡ Some had → (r ≡ Err OutOfBounds) ↔ IsOutOfBounds w.moment u v had)
     → (e : TurnError) → r ≡ Err e → ⊥
-no_cause w n u v motion can canonical r not_whole outside NotWhole is = at ((not_whole can.before can.had).0 is)
-  where
-    at : IsNotWhole w.moment u v can.before → ⊥
-    at (inl after) = let clash = sym can.at ∙ after in absurd cc
-    at (inr none) = none motion can.turns
+no_cause w n u v motion can canonical r not_whole outside NotWhole is = elim ((not_whole can.before can.had).0 is) [
+  | inl after ↦ let clash : At ≡ After = sym can.at ∙ after in absurd cc
+  | inr none ↦ none motion can.turns
+]
 no_cause w n u v motion can canonical r not_whole outside OutOfBounds is =
     let far = (outside can.before can.had).0 is in
     far.1.2 (subst IsSlow (one_turn w.moment.at u v can.before motion far.1.0 canonical can.turns far.1.1) can.slow)
