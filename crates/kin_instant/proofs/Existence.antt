@@ -17,6 +17,7 @@ use Rattle.kin_num.proofs.Divisors.{gcd_of}
 use Rattle.kin_instant.specs.declared.roots.Roots.{Roots}
 use Rattle.kin_instant.specs.declared.roots.Roots.TheVariants.{Nowhere, One, Two, All}
 use Rattle.kin_instant.specs.Roots.{quadratic, IsFraction, AreRootsOf}
+use Rattle.kin_instant.proofs.Widths.{doubled-size, upper-size, lower-size}
 use Rattle.kin_instant.proofs.Lowest.{quotient_of, not_more, lowest_of, crossed}
 use Rattle.kin_instant.proofs.Divided.{canonical}
 use Rattle.kin_instant.proofs.Discriminants.{size, root_size, irrational}
@@ -89,28 +90,19 @@ module _ (a b c : ℤ) (up : pos 0 <ℤ a) (small : IsSmall (quadratic a b c)) w
   doubled = omega (arith, ints)
 
   doubled_small : unsigned_abs (pos 2 *ℤ a) < 2 ^ 31
-  doubled_small = less a small.a_small
-    where
-      less : (a : ℤ) → unsigned_abs a ≤ 2 ^ 28 → unsigned_abs (pos 2 *ℤ a) < 2 ^ 31
-      less a h = omega (arith, ints)
+  doubled_small = doubled-size a small.a_small
 
   -- the discriminant is the square of r
   rational : (r : ℕ) → r < 2 ^ 30 → pos r *ℤ pos r ≡ discriminant a b c → HasRoots (quadratic a b c)
   rational r h e = by_root r refl
     where
-      upper_small : (r : ℕ) (b : ℤ) → r < 2 ^ 30 → unsigned_abs b ≤ 2 ^ 29 → unsigned_abs (pos r -ℤ b) < 2 ^ 31
-      upper_small r b h k = omega (arith, ints)
-
-      lower_small : (r : ℕ) (b : ℤ) → r < 2 ^ 30 → unsigned_abs b ≤ 2 ^ 29 → unsigned_abs (neg_ℤ (pos r) -ℤ b) < 2 ^ 31
-      lower_small r b h k = omega (arith, ints)
-
       by_root : (n : ℕ) → r ≡ n → HasRoots (quadratic a b c)
       by_root zero z =
-          let s = ratio_exists (pos r -ℤ b) (pos 2 *ℤ a) (upper_small r b h small.b_small) doubled_small doubled in
+          let s = ratio_exists (pos r -ℤ b) (pos 2 *ℤ a) (upper-size (pos r) b h small.b_small) doubled_small doubled in
           (One s.0, double_root a b c (pos r) up e (ap pos z) s.0 s.1 s.2)
       by_root (suc n) z =
-          let l = ratio_exists (neg_ℤ (pos r) -ℤ b) (pos 2 *ℤ a) (lower_small r b h small.b_small) doubled_small doubled in
-          let s = ratio_exists (pos r -ℤ b) (pos 2 *ℤ a) (upper_small r b h small.b_small) doubled_small doubled in
+          let l = ratio_exists (neg_ℤ (pos r) -ℤ b) (pos 2 *ℤ a) (lower-size (pos r) b h small.b_small) doubled_small doubled in
+          let s = ratio_exists (pos r -ℤ b) (pos 2 *ℤ a) (upper-size (pos r) b h small.b_small) doubled_small doubled in
           (Two l.0 s.0, two_fractions a b c (pos r) up e (pos-some r (omega (arith, z))) l.0 s.0 l.1 s.1 l.2 s.2)
 
   -- it is positive, and no square
