@@ -1,5 +1,5 @@
 -- Signs at a whole time.
-use Rattle.std.proofs.Common.{◌≡◌, refl, ap, ◌∙◌, subst, arith, ℕ, zero, suc, ◌*◌, List, length, set, replicate, [], ◌∷◌}
+use Rattle.std.proofs.Common.{◌≡◌, refl, sym, ap, ◌∙◌, subst, arith, ℕ, zero, suc, ◌*◌, List, length, set, replicate, [], ◌∷◌}
 use Rattle.std.specs.Prelude.{Option, Some, None, is_some}
 use Rattle.std.specs.Int.{◌∣◌}
 use Rattle.std.proofs.Math.Nat.{dvd-mul_right}
@@ -52,7 +52,14 @@ both_live ms first second room (suc zero) a e = subst (λ k. IsIn k (live_of bot
 both_live ms first second room (suc (suc i)) a e = absurd cc
 
 -- two slots that were set and cleared hold nothing
-pub none_held : (i a : ℕ) → item_in (set (set (set (set (replicate (2 ^ 1) None) 0 (Some 0)) 1 (Some 1)) 0 None) 1 None) i ≡ Some a → ⊥
+none_held : (i a : ℕ) → item_in (set (set (set (set (replicate (2 ^ 1) None) 0 (Some 0)) 1 (Some 1)) 0 None) 1 None) i ≡ Some a → ⊥
 none_held zero a e = absurd cc
 none_held (suc zero) a e = absurd cc
 none_held (suc (suc i)) a e = absurd cc
+
+pub none_left : (l m n o p : List (Option ℕ)) → l ≡ replicate (2 ^ 1) None → m ≡ set l 0 (Some 0) → n ≡ set m 1 (Some 1) → o ≡ set n 0 None → p ≡ set o 1 None → (i a : ℕ) → item_in p i ≡ Some a → ⊥
+none_left l m n o p none first second third last i a e =
+    none_held i a (sym (ap (λ (k : List (Option ℕ)). item_in k i) slots) ∙ e)
+  where
+    slots : p ≡ set (set (set (set (replicate (2 ^ 1) None) 0 (Some 0)) 1 (Some 1)) 0 None) 1 None
+    slots = last ∙ ap (λ k. set k 1 None) (third ∙ ap (λ k. set k 0 None) (second ∙ ap (λ k. set k 1 (Some 1)) (first ∙ ap (λ k. set k 0 (Some 0)) none)))
