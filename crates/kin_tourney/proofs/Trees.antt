@@ -1,7 +1,7 @@
 -- Trees of matches under writes.
 use Rattle.std.proofs.Common.{◌≡◌, ◌≢◌, ◌⊎◌, inl, inr, refl, sym, ap, ◌∙◌, subst, arith, List, ℕ, zero, suc, ◌+◌, ◌*◌, ◌/◌, ◌^◌, ◌<◌, ◌≤◌, length, Bool, true, set, get_or}
 use Rattle.std.specs.Prelude.{Option, Some, None, IfSome}
-use Rattle.std.proofs.lemmas.List.{length-set, get_or-set_other, get_or_read}
+use Rattle.std.proofs.lemmas.List.{length-set, get_or_read}
 use Rattle.std.proofs.lemmas.Nat.{pow-add}
 use Rattle.std.proofs.Math.Pow.{pow_mono}
 use Rattle.std.proofs.lemmas.Bool.{cases_eq}
@@ -10,36 +10,31 @@ use Rattle.kin_motion.specs.Tournaments.{is_under}
 use Rattle.kin_tourney.specs.declared.doubt.Doubt.{Doubt}
 use Rattle.kin_tourney.specs.declared.doubt.Doubt.TheVariants.{Clear, Here}
 use Rattle.kin_tourney.specs.Standings.{Standings, IsTree, IsClosed, best_in, doubt_in}
+use Rattle.kin_tourney.specs.Repairs.{IsPerfect}
 use Rattle.kin_tourney.proofs.AfterWrite.{read_set}
-use Rattle.kin_tourney.proofs.Doubts.{closed_raised}
+use Rattle.kin_tourney.proofs.Doubts.{closed_raised, closed_cleared}
 
 odd_power : (k v : ℕ) → 0 < v → 2 ^ k ≢ 2 * v + 1
 odd_power zero v some e = absurd (let p : 2 ^ 0 ≡ 1 = refl in omega arith)
 odd_power (suc k) v some e = absurd (let p = pow-add 2 k 1 in let q : 2 ^ suc k ≡ 2 ^ (k + 1) = ap (λ (j : ℕ). 2 ^ j) (let r : suc k ≡ k + 1 = omega arith in r) in omega arith)
 
--- the number of slots is even
-pub odd_room : {Item : Type 0} (t : Standings Item) → IsTree t → (v : ℕ) → 0 < v → length t.items ≢ 2 * v + 1
-odd_room {Item} t h v some e = odd_power t.size v some (sym h.items_room ∙ e)
+-- in a perfect tree each inner node has two halves
+pub odd_room : (ds : List Doubt) → IsPerfect ds → (v : ℕ) → 0 < v → length ds ≢ 2 * v + 1
+odd_room ds p v some e = odd_power p.0 v some (sym p.1 ∙ e)
 
-pub right_inside : {Item : Type 0} (t : Standings Item) → IsTree t → (v : ℕ) → 0 < v → 2 * v < length t.items → 2 * v + 1 < length t.items
-right_inside {Item} t h v some inside = at (cases_eq (length t.items) (2 * v + 1))
+pub right_inside : (ds : List Doubt) → IsPerfect ds → (v : ℕ) → 0 < v → 2 * v < length ds → 2 * v + 1 < length ds
+right_inside ds p v some inside = at (cases_eq (length ds) (2 * v + 1))
   where
-    at : (length t.items ≡ 2 * v + 1) ⊎ (length t.items ≢ 2 * v + 1) → 2 * v + 1 < length t.items
-    at (inl e) = absurd (odd_room t h v some e)
+    at : (length ds ≡ 2 * v + 1) ⊎ (length ds ≢ 2 * v + 1) → 2 * v + 1 < length ds
+    at (inl e) = absurd (odd_room ds p v some e)
     at (inr n) = omega arith
+
+pub perfect : {Item : Type 0} (t : Standings Item) → IsTree t → IsPerfect t.doubts
+perfect {Item} t h = (t.size, h.doubts_room ∙ h.items_room)
 
 -- the node above one in doubt is in doubt
 pub above_in_doubt : (ds : List Doubt) → IsClosed ds → (v : ℕ) → 0 < v → doubt_in ds v ≢ Clear → doubt_in ds (v / 2) ≢ Clear
 above_in_doubt ds h v some n e = n (h.below v some e)
-
--- where a repair begins: at the first node if it is in doubt, and else it has ended
-pub place_first : (ds : List Doubt) (n node : ℕ) → 1 < n → (node ≡ 0) × (doubt_in ds 1 ≡ Clear) ⊎ (node ≡ 1) × (doubt_in ds 1 ≢ Clear) → 0 < node → (node < n) × (doubt_in ds node ≢ Clear)
-place_first ds n node many (inl k) some = absurd (omega arith)
-place_first ds n node many (inr k) some = (omega arith, λ e. k.1 (sym (ap (doubt_in ds) k.0) ∙ e))
-
-pub ended_first : (ds : List Doubt) (node : ℕ) → (node ≡ 0) × (doubt_in ds 1 ≡ Clear) ⊎ (node ≡ 1) × (doubt_in ds 1 ≢ Clear) → node ≡ 0 → doubt_in ds 1 ≡ Clear
-ended_first ds node (inl k) none = k.1
-ended_first ds node (inr k) none = absurd (omega arith)
 
 -- a node got another best slot, its fact may have changed, and the node above it has to be played again
 pub tree_replayed : {Item : Type 0} (t : Standings Item) → IsTree t → (node : ℕ) → 0 < node → node < length t.items → doubt_in t.doubts node ≢ Clear
@@ -73,19 +68,8 @@ tree_cleared {Item} t h node some inside halves marked room = record {
   doubts_room = length-set t.doubts node Clear ∙ h.doubts_room;
   best_low = h.best_low;
   best_under = h.best_under;
-  closed = record { top = get_or-set_other t.doubts node 0 Clear Clear (omega arith) ∙ h.closed.top; below = λ v big e. below v big e (read_set t.doubts node (v / 2) Clear Clear fits) (read_set t.doubts node v Clear Clear fits) };
+  closed = closed_cleared t.doubts node h.closed some (let r = h.doubts_room in omega arith) halves;
 }
-  where
-    fits : node < length t.doubts
-    fits = let r = h.doubts_room in omega arith
-
-    below : (v : ℕ) → 0 < v → doubt_in (set t.doubts node Clear) (v / 2) ≡ Clear
-        → ((v / 2 ≡ node) × (doubt_in (set t.doubts node Clear) (v / 2) ≡ Clear)) ⊎ ((v / 2 ≢ node) × (doubt_in (set t.doubts node Clear) (v / 2) ≡ doubt_in t.doubts (v / 2)))
-        → ((v ≡ node) × (doubt_in (set t.doubts node Clear) v ≡ Clear)) ⊎ ((v ≢ node) × (doubt_in (set t.doubts node Clear) v ≡ doubt_in t.doubts v))
-        → doubt_in (set t.doubts node Clear) v ≡ Clear
-    below v big e up (inl k) = k.1
-    below v big e (inl j) (inr k) = k.1 ∙ halves v big j.0
-    below v big e (inr j) (inr k) = k.1 ∙ h.closed.below v big (sym j.1 ∙ e)
 
 pub named_low : {Item : Type 0} (t : Standings Item) → IsTree t → (v : ℕ) (o : Option ℕ) → v < length t.items → o ≡ get_or t.best v o → IfSome o (λ i. i < length t.items)
 named_low {Item} t h v o inside e = at o (get_or_read t.best v o (let r = h.best_room in omega arith) e None)

@@ -12,6 +12,7 @@ ghost use Rattle.kin_tourney.specs.Standings.{IsTree, entry_at, match_at, match_
 ghost use Rattle.kin_tourney.specs.Tournament.{mark_in};
 ghost use Rattle.kin_tourney.specs.Repairs.{IsMatchSign, IsRightOnce, asked_for, needs_play, IsReplayed, IsRenewed, IsReported, IsCleared, IsDoubtful};
 
+use crate::descent::{first_doubt, next_doubt};
 use crate::doubt::Doubt;
 use crate::entry::Entry;
 use crate::keyed::Keyed;
@@ -220,11 +221,11 @@ impl<I: Copy> Tree<I> {
         ensures delta { OnOk result (HasChanged (placed_facts self.old) (placed_facts self.new) out.old out.new) }
         ensures cost { OnOk result (steps.new + 1 ≤ steps.old + doubt_count self.old.doubts) }
     {
-        let mut node = self.first_doubt();
+        let mut node = first_doubt(&self.doubts, self.latest);
         while node > 0 {
             self.renew(node, all, key, now, out, steps)?;
             self.settle_node(node);
-            node = self.next_doubt(node);
+            node = next_doubt(&self.doubts, node);
         }
         Ok(())
     }

@@ -40,7 +40,7 @@ pub struct Tree<I: Copy> {
     /// never is, so that every way upwards ends there.
     pub(crate) doubts: Vec<Doubt>,
     /// The node that came into doubt last, where a repair begins.
-    latest: usize,
+    pub(crate) latest: usize,
 }
 
 impl<I: Copy> Model for Tree<I> {
@@ -108,7 +108,7 @@ impl<I: Copy> Tree<I> {
         Some(Entry { slot, item })
     }
 
-    pub(crate) fn is_clear(&self, node: usize) -> bool
+    fn is_clear(&self, node: usize) -> bool
         requires tree { IsTree self.now }
         requires inner { node < length self.now.items }
         ensures { IsTrue result ↔ (doubt_in self.now.doubts node ≡ Doubt.Clear) }
@@ -220,31 +220,6 @@ impl<I: Copy> Tree<I> {
         doubt_failed(&mut self.doubts, failed);
         if let Some(placed) = failed.last() {
             self.latest = placed.part as usize;
-        }
-    }
-
-    /// The root where it isn't clear, or 0.
-    fn doubted_root(&self) -> usize
-        requires tree { IsTree self.now }
-        requires some { 1 < length self.now.items }
-        ensures { (result ≡ 0) × (doubt_in self.now.doubts 1 ≡ Doubt.Clear) ⊎ (result ≡ 1) × (doubt_in self.now.doubts 1 ≢ Doubt.Clear) }
-    {
-        if self.is_clear(1) { 0 } else { 1 }
-    }
-
-    /// A node in doubt, the last one that came into it, or 0 where none is.
-    pub(crate) fn doubted_node(&self) -> usize
-        requires tree { IsTree self.now }
-        requires some { 1 < length self.now.items }
-        ensures none { result ≡ 0 → doubt_in self.now.doubts 1 ≡ Doubt.Clear }
-        ensures inner { result < length self.now.items }
-        ensures doubted { doubt_in self.now.doubts result ≢ Doubt.Clear }
-    {
-        let latest = self.latest;
-        if 0 < latest && latest < self.slots() && !self.is_clear(latest) {
-            latest
-        } else {
-            self.doubted_root()
         }
     }
 }
