@@ -116,39 +116,39 @@ module _ (rs : List Record) (once : IsOnce (left_points rs)) (left right : Optio
   abbrev m : Remembered
   m = record { records = rs; left = left; right = right }
 
+  -- a fact is a turn of a record, a slope of a record, or a line of an end
+  abbrev IsFound : Type 0
+  IsFound =
+      ((r : Record) × Contains rs r × (turn_fact r ≡ f))
+      ⊎ (((r : Record) × Contains rs r × Contains (slope_facts r) f × (k l : ℕ) × (f.form ≡ Slope r.at.left r.at.right k l))
+      ⊎ ((Contains (end_facts left) f ⊎ Contains (end_facts right) f) × (dx dy : ℤ) × (i j : ℕ) × (f.form ≡ Line dx dy (pos 0) i j)))
+
+  found : Contains (facts_of m) f → IsFound
+  found c = at (kinds m f c)
+    where
+      at : Kinds m f → IsFound
+      at (inl (inl d)) = let w = contains_mapped turn_fact rs f d in inl (w.0, w.1, sym w.2)
+      at (inl (inr d)) = let w = of-record rs f d in let v = slope-is (place_of w.0) w.0.next f w.2 in inr (inl (w.0, w.1, w.2, v.0, v.1, v.2))
+      at (inr (inl d)) = let v = end-is left f d in inr (inr (inl d, v.0, v.1, v.2, v.3, v.4))
+      at (inr (inr d)) = let v = end-is right f d in inr (inr (inr d, v.0, v.1, v.2, v.3, v.4))
+
   -- a turn is that of the record at its first number
   turn-at : (i j k : ℕ) → f.form ≡ Turn i j k → Contains (facts_of m) f → (r : Record) × Contains rs r × (r.at.left ≡ i) × (turn_fact r ≡ f)
-  turn-at i j k is c = at (kinds m f c)
+  turn-at i j k is c = at (found c)
     where
-      at : Kinds m f → (r : Record) × Contains rs r × (r.at.left ≡ i) × (turn_fact r ≡ f)
-      at (inl (inl d)) =
-          let w = contains_mapped turn_fact rs f d in
-          let same : Turn i j k ≡ Turn w.0.at.left w.0.at.right w.0.across = sym is ∙ ap (λ (g : Fact). g.form) w.2 in
-          let first : w.0.at.left ≡ i = cc in
-          (w.0, w.1, first, sym w.2)
-      at (inl (inr d)) =
-          let w = of-record rs f d in
-          let v = slope-is (place_of w.0) w.0.next f w.2 in
-          absurd (let clash : Turn i j k ≡ Slope w.0.at.left w.0.at.right v.0 v.1 = sym is ∙ v.2 in cc)
-      at (inr (inl d)) = let v = end-is left f d in absurd (let clash : Turn i j k ≡ Line v.0 v.1 (pos 0) v.2 v.3 = sym is ∙ v.4 in cc)
-      at (inr (inr d)) = let v = end-is right f d in absurd (let clash : Turn i j k ≡ Line v.0 v.1 (pos 0) v.2 v.3 = sym is ∙ v.4 in cc)
+      at : IsFound → (r : Record) × Contains rs r × (r.at.left ≡ i) × (turn_fact r ≡ f)
+      at (inl (r, there, e)) = let same : Turn r.at.left r.at.right r.across ≡ Turn i j k = ap (λ (g : Fact). g.form) e ∙ is in (r, there, cc, e)
+      at (inr (inl (r, there, own, k', l, e))) = absurd (let clash : Turn i j k ≡ Slope r.at.left r.at.right k' l = sym is ∙ e in cc)
+      at (inr (inr (side, dx, dy, i', j', e))) = absurd (let clash : Turn i j k ≡ Line dx dy (pos 0) i' j' = sym is ∙ e in cc)
 
   -- a slope is that of the record at its first number
   slope-at : (i j k l : ℕ) → f.form ≡ Slope i j k l → Contains (facts_of m) f → (r : Record) × Contains rs r × (r.at.left ≡ i) × Contains (slope_facts r) f
-  slope-at i j k l is c = at (kinds m f c)
+  slope-at i j k l is c = at (found c)
     where
-      at : Kinds m f → (r : Record) × Contains rs r × (r.at.left ≡ i) × Contains (slope_facts r) f
-      at (inl (inl d)) =
-          let w = contains_mapped turn_fact rs f d in
-          absurd (let clash : Slope i j k l ≡ Turn w.0.at.left w.0.at.right w.0.across = sym is ∙ ap (λ (g : Fact). g.form) w.2 in cc)
-      at (inl (inr d)) =
-          let w = of-record rs f d in
-          let v = slope-is (place_of w.0) w.0.next f w.2 in
-          let same : Slope i j k l ≡ Slope w.0.at.left w.0.at.right v.0 v.1 = sym is ∙ v.2 in
-          let first : w.0.at.left ≡ i = cc in
-          (w.0, w.1, first, w.2)
-      at (inr (inl d)) = let v = end-is left f d in absurd (let clash : Slope i j k l ≡ Line v.0 v.1 (pos 0) v.2 v.3 = sym is ∙ v.4 in cc)
-      at (inr (inr d)) = let v = end-is right f d in absurd (let clash : Slope i j k l ≡ Line v.0 v.1 (pos 0) v.2 v.3 = sym is ∙ v.4 in cc)
+      at : IsFound → (r : Record) × Contains rs r × (r.at.left ≡ i) × Contains (slope_facts r) f
+      at (inl (r, there, e)) = absurd (let clash : Turn r.at.left r.at.right r.across ≡ Slope i j k l = ap (λ (g : Fact). g.form) e ∙ is in cc)
+      at (inr (inl (r, there, own, k', l', e))) = let same : Slope r.at.left r.at.right k' l' ≡ Slope i j k l = sym e ∙ is in (r, there, cc, own)
+      at (inr (inr (side, dx, dy, i', j', e))) = absurd (let clash : Slope i j k l ≡ Line dx dy (pos 0) i' j' = sym is ∙ e in cc)
 
   -- no record has the point on its left
   nowhere : (i : ℕ) → is_in i (left_points rs) ≡ false → (r : Record) → Contains rs r → r.at.left ≡ i → IsTrue false
@@ -188,17 +188,12 @@ module _ (rs : List Record) (once : IsOnce (left_points rs)) (left right : Optio
 
   -- a line is that of an end
   line-at : (dx dy off : ℤ) (i j : ℕ) → f.form ≡ Line dx dy off i j → Contains (facts_of m) f → Contains (end_facts left) f ⊎ Contains (end_facts right) f
-  line-at dx dy off i j is c = at (kinds m f c)
+  line-at dx dy off i j is c = at (found c)
     where
-      at : Kinds m f → Contains (end_facts left) f ⊎ Contains (end_facts right) f
-      at (inl (inl d)) =
-          let w = contains_mapped turn_fact rs f d in
-          absurd (let clash : Line dx dy off i j ≡ Turn w.0.at.left w.0.at.right w.0.across = sym is ∙ ap (λ (g : Fact). g.form) w.2 in cc)
-      at (inl (inr d)) =
-          let w = of-record rs f d in
-          let v = slope-is (place_of w.0) w.0.next f w.2 in
-          absurd (let clash : Line dx dy off i j ≡ Slope w.0.at.left w.0.at.right v.0 v.1 = sym is ∙ v.2 in cc)
-      at (inr d) = d
+      at : IsFound → Contains (end_facts left) f ⊎ Contains (end_facts right) f
+      at (inl (r, there, e)) = absurd (let clash : Turn r.at.left r.at.right r.across ≡ Line dx dy off i j = ap (λ (g : Fact). g.form) e ∙ is in cc)
+      at (inr (inl (r, there, own, k, l, e))) = absurd (let clash : Slope r.at.left r.at.right k l ≡ Line dx dy off i j = sym e ∙ is in cc)
+      at (inr (inr (side, dx', dy', i', j', e))) = side
 
   pub line-left : (b : Bool) → b ≡ true → IsTrue b ↔ Contains (end_facts left) f → IsTrue b ↔ Contains (facts_of m) f
   line-left b t test = (λ h. is-left m f (test.0 h), λ c. t)
@@ -211,18 +206,9 @@ module _ (rs : List Record) (once : IsOnce (left_points rs)) (left right : Optio
       at (inr k) = test.1 k
 
   pub no-distance : (i j k l : ℕ) → f.form ≡ Dist i j k l → IsTrue false ↔ Contains (facts_of m) f
-  no-distance i j k l is = (λ t. absurd (let clash : false ≡ true = t in cc), λ c. at (kinds m f c))
+  no-distance i j k l is = (λ t. absurd (let clash : false ≡ true = t in cc), λ c. at (found c))
     where
-      by-end : (o : Option End) → Contains (end_facts o) f → IsTrue false
-      by-end o d = let v = end-is o f d in absurd (let clash : Dist i j k l ≡ Line v.0 v.1 (pos 0) v.2 v.3 = sym is ∙ v.4 in cc)
-
-      at : Kinds m f → IsTrue false
-      at (inl (inl d)) =
-          let w = contains_mapped turn_fact rs f d in
-          absurd (let clash : Dist i j k l ≡ Turn w.0.at.left w.0.at.right w.0.across = sym is ∙ ap (λ (g : Fact). g.form) w.2 in cc)
-      at (inl (inr d)) =
-          let w = of-record rs f d in
-          let v = slope-is (place_of w.0) w.0.next f w.2 in
-          absurd (let clash : Dist i j k l ≡ Slope w.0.at.left w.0.at.right v.0 v.1 = sym is ∙ v.2 in cc)
-      at (inr (inl d)) = by-end left d
-      at (inr (inr d)) = by-end right d
+      at : IsFound → IsTrue false
+      at (inl (r, there, e)) = absurd (let clash : Turn r.at.left r.at.right r.across ≡ Dist i j k l = ap (λ (g : Fact). g.form) e ∙ is in cc)
+      at (inr (inl (r, there, own, k', l', e))) = absurd (let clash : Slope r.at.left r.at.right k' l' ≡ Dist i j k l = sym e ∙ is in cc)
+      at (inr (inr (side, dx, dy, i', j', e))) = absurd (let clash : Line dx dy (pos 0) i' j' ≡ Dist i j k l = sym e ∙ is in cc)
