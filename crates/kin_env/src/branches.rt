@@ -18,7 +18,7 @@ use kin_motion::signs::Signs;
 use kin_num::memory::NoMemory;
 use kin_num::steps::Steps;
 use kin_tourney::descent::{first_doubt, next_doubt};
-use kin_tourney::doubt::{Doubt, doubt_failed, doubt_path};
+use kin_tourney::doubt::{Doubt, doubt_failed, doubt_path, no_doubts};
 use std::alloc::Global;
 use std::sync::ledger::Ledger;
 
@@ -51,16 +51,6 @@ fn no_slots(alloc: Global, count: usize) -> Result<Vec<bool>, NoMemory>
 {
     let slots = Vec::from_elem(alloc, false, count)?;
     Ok(slots)
-}
-
-/// So many nodes of which only node 0 isn't clear.
-fn no_doubts(alloc: Global, count: usize) -> Result<Vec<Doubt>, NoMemory>
-    requires { 0 < count }
-    ensures { IfOk result (λ v. v.items ≡ slice_set (replicate count Doubt.Clear) 0 Doubt.Here) }
-{
-    let mut doubts = Vec::from_elem(alloc, Doubt::Clear, count)?;
-    doubts[0] = Doubt::Here;
-    Ok(doubts)
 }
 
 /// So many nodes without points.

@@ -11,7 +11,7 @@ ghost use Rattle.kin_tourney.specs.Standings.{Standings, IsTree, named_at, entry
 ghost use Rattle.kin_tourney.specs.Tournament.{mark_in};
 ghost use Rattle.kin_tourney.specs.Repairs.{IsSpread, IsMarkedUp, IsDoubted, needs_play, IsReplayed, IsRenewed, IsReported, IsCleared, IsDoubtful};
 
-use crate::doubt::{Doubt, doubt_failed, doubt_path};
+use crate::doubt::{Doubt, doubt_failed, doubt_path, no_doubts};
 use crate::entry::Entry;
 use crate::keyed::Keyed;
 use crate::report::{tell, untell};
@@ -63,8 +63,7 @@ impl<I: Copy> Tree<I> {
         let marked = Vec::from_elem(alloc, false, slots)?;
         let best = Vec::from_elem(alloc, None, slots)?;
         let facts = Vec::from_elem(alloc, None, slots)?;
-        let mut doubts = Vec::from_elem(alloc, Doubt::Clear, slots)?;
-        doubts[0] = Doubt::Here;
+        let doubts = no_doubts(alloc, slots)?;
         Ok(Tree {
             size,
             items,
