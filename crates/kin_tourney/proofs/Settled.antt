@@ -1,5 +1,5 @@
 -- A repaired tree of matches is a settled tournament.
-use Rattle.std.proofs.Common.{◌≡◌, ◌≢◌, refl, sym, ap, ◌∙◌, subst, arith, List, ℕ, ◌+◌, ◌^◌, ◌<◌, ◌≤◌, length, set, Bool, true, false, not}
+use Rattle.std.proofs.Common.{◌≡◌, refl, sym, ap, ◌∙◌, subst, arith, List, ℕ, ◌+◌, ◌^◌, ◌<◌, ◌≤◌, length, set, Bool, true, false, not}
 use Rattle.std.proofs.lemmas.Nat.{pow-add}
 use Rattle.kin_tourney.proofs.Vacant.{vacant}
 use Rattle.std.specs.Prelude.{Option, None, Contains, IsTrue, slice_index_or}
@@ -7,10 +7,10 @@ use Rattle.kin_motion.specs.declared.fact.Placed.{Placed}
 use Rattle.kin_motion.specs.Forms.{IsAskable}
 use Rattle.kin_motion.specs.Kinetics.{ListsFailing}
 use Rattle.kin_motion.specs.Scene.{Scene, IsReal}
-use Rattle.kin_motion.specs.Tournaments.{Key, beats, item_in, is_under}
+use Rattle.kin_motion.specs.Tournaments.{Key, item_in, is_under}
 use Rattle.kin_tourney.specs.declared.doubt.Doubt.{Doubt}
 use Rattle.kin_tourney.specs.declared.doubt.Doubt.TheVariants.{Clear, Below, Here}
-use Rattle.kin_tourney.specs.Names.{AreLive}
+use Rattle.kin_tourney.specs.Names.{AreLive, IsTotal, IsTransitive}
 use Rattle.kin_tourney.specs.Tournament.{Tournament, IsAtRest, IsReady, IsSettled, mark_in, is_above_mark, winner_at, CoversFailing, CoversAskable}
 use Rattle.kin_tourney.specs.Ready.{fair_when_ready}
 use Rattle.kin_tourney.specs.Played.{settled_from_played}
@@ -26,8 +26,7 @@ pub covers_failing : (facts : List Placed) (is_spared : Placed → Bool) (s : Sc
 covers_failing facts is_spared s failed h = record { only = λ p c. ((h.each p).0 c).0; all = λ p c free fails. (h.each p).1 (c, free, fails) }
 
 module _ {K Item : Type 0} (k : K) (names : Item → List ℕ) (key : Key Item)
-    (total : (s : Scene) (x y : Item) → IsReal s → AreLive s.live (names x) → AreLive s.live (names y) → x ≢ y → beats s key y x ≡ not (beats s key x y))
-    (through : (s : Scene) (x y z : Item) → IsReal s → AreLive s.live (names x) → AreLive s.live (names y) → AreLive s.live (names z) → beats s key x y ≡ true → beats s key y z ≡ true → beats s key x z ≡ true) where
+    (total : IsTotal names key) (through : IsTransitive names key) where
   pub settled_repaired : (all : Bool) (t : Standings Item) (s : Scene) → IsReal s → IsDoubtful all key s.sign t → ((v : ℕ) → 0 < v → doubt_in t.doubts v ≡ Clear) → IsReady names (seen_as k t true) s → IsSettled names key (seen_as k t true) s
   settled_repaired all t s real h clear ready = record {
     room = h.tree.items_room;
@@ -105,8 +104,7 @@ module _ {K Item : Type 0} (k : K) (names : Item → List ℕ) (key : Key Item) 
       same_items = ap (λ (x : Standings Item). x.items) same
 
       -- and repaired
-      module _ (total : (s : Scene) (x y : Item) → IsReal s → AreLive s.live (names x) → AreLive s.live (names y) → x ≢ y → beats s key y x ≡ not (beats s key x y))
-          (through : (s : Scene) (x y z : Item) → IsReal s → AreLive s.live (names x) → AreLive s.live (names y) → AreLive s.live (names z) → beats s key x y ≡ true → beats s key y z ≡ true → beats s key x z ≡ true)
+      module _ (total : IsTotal names key) (through : IsTransitive names key)
           (real : IsReal s) (all : Bool) (new : Standings Item) (size : new.size ≡ doubted.size) (items : new.items ≡ doubted.items) (known : IsDoubtful all key s.sign new) (clear : (v : ℕ) → 0 < v → doubt_in new.doubts v ≡ Clear) where
         some_last : 1 ≤ new.size
         some_last = subst (λ n. 1 ≤ n) (sym (size ∙ same_size)) some_slots

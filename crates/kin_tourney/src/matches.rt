@@ -5,9 +5,8 @@ ghost use Rattle.kin_algebra.specs.declared.sign.Sign.{Sign as Signum};
 ghost use Rattle.kin_motion.specs.declared.fact.Fact.{Fact as Told};
 ghost use Rattle.kin_motion.specs.Forms.{IsAskable};
 ghost use Rattle.kin_motion.specs.Scene.{Scene};
-ghost use Rattle.kin_motion.specs.Tournaments.{item_in};
 ghost use Rattle.kin_motion.specs.Kinetics.{HasChanged};
-ghost use Rattle.kin_tourney.specs.Names.{AreLive};
+ghost use Rattle.kin_tourney.specs.Names.{AreLive, HoldLive};
 ghost use Rattle.kin_tourney.specs.Standings.{IsTree, entry_at, match_at, match_of, fact_in, doubt_in, doubt_count, placed_facts};
 ghost use Rattle.kin_tourney.specs.Tournament.{mark_in};
 ghost use Rattle.kin_tourney.specs.Repairs.{IsMatchSign, IsRightOnce, asked_for, needs_play, IsReplayed, IsRenewed, IsReported, IsCleared, IsDoubtful};
@@ -78,7 +77,7 @@ impl<I: Copy> Tree<I> {
     ) -> Result<Option<u32>, NoMemory>
         requires tree { IsTree self.old }
         requires node { node < length self.old.items }
-        requires live { (i : ℕ) (a : I) → item_in self.old.items i ≡ Some a → AreLive (O.scene now.now).live (K.names a) }
+        requires live { HoldLive K.names (O.scene now.now).live self.old.items }
         requires known { (s : Signum) → known ≡ Some s → IsMatchSign (K.key key.now) (O.scene now.now).sign self.old node s }
         ensures same { self.new ≡ record self.old { facts = self.new.facts } }
         ensures room { length self.new.facts ≡ length self.old.facts }
@@ -120,7 +119,7 @@ impl<I: Copy> Tree<I> {
         requires root { 0 < node }
         requires inner { node < length self.old.items }
         requires doubted { doubt_in self.old.doubts node ≢ Doubt.Clear }
-        requires live { (i : ℕ) (a : I) → item_in self.old.items i ≡ Some a → AreLive (O.scene now.now).live (K.names a) }
+        requires live { HoldLive K.names (O.scene now.now).live self.old.items }
         requires known { (s : Signum) → known ≡ Some s → IsMatchSign (K.key key.now) (O.scene now.now).sign self.old node s }
         ensures tree { IsTree self.new }
         ensures replayed { OnOk result (IsReplayed (K.key key.now) (O.scene now.now).sign node self.old self.new out.old out.new) }
@@ -170,7 +169,7 @@ impl<I: Copy> Tree<I> {
         requires inner { node < length self.old.items }
         requires doubted { doubt_in self.old.doubts node ≢ Doubt.Clear }
         requires consistent { needs_play false (doubt_in self.old.doubts node) ≡ false → IsRightOnce (K.key key.now) self.old node }
-        requires live { (i : ℕ) (a : I) → item_in self.old.items i ≡ Some a → AreLive (O.scene now.now).live (K.names a) }
+        requires live { HoldLive K.names (O.scene now.now).live self.old.items }
         ensures tree { IsTree self.new }
         ensures renewed { OnOk result (IsRenewed all (K.key key.now) (O.scene now.now).sign node self.old self.new out.old out.new) }
         ensures cost { OnOk result (steps.new ≤ steps.old + 1) }
@@ -212,7 +211,7 @@ impl<I: Copy> Tree<I> {
     ) -> Result<(), NoMemory>
         requires doubtful { IsDoubtful all (K.key key.now) (O.scene now.now).sign self.old }
         requires some { 1 ≤ self.old.size }
-        requires live { (i : ℕ) (a : I) → item_in self.old.items i ≡ Some a → AreLive (O.scene now.now).live (K.names a) }
+        requires live { HoldLive K.names (O.scene now.now).live self.old.items }
         ensures tree { IsTree self.new }
         ensures same_size { OnOk result (self.new.size ≡ self.old.size) }
         ensures same_items { OnOk result (self.new.items ≡ self.old.items) }
