@@ -1,16 +1,16 @@
 //! The nodes of the tree, and the way through those that have work.
 
-ghost use Rattle.std.specs.Prelude.{◌≡◌, ◌≢◌, ℕ, ◌+◌, ◌*◌, ◌/◌, ◌^◌, ◌-◌, ◌<◌, ◌≤◌, ◌↔◌, true, false, [], ◌++◌, nat_eq, length, filter, replicate, slice_get, slice_set, slice_index_or, Some, None, IfOk, OnOk, IsTrue, IsFalse};
+ghost use Rattle.std.specs.Prelude.{◌≡◌, ◌≢◌, ℕ, ◌+◌, ◌*◌, ◌/◌, ◌^◌, ◌-◌, ◌<◌, ◌≤◌, ◌↔◌, false, [], length, replicate, slice_get, slice_set, slice_index_or, Some, None, IfOk, OnOk, IsTrue, IsFalse};
 ghost use Rattle.kin_motion.specs.declared.fact.Placed.{Placed as Put};
 ghost use Rattle.kin_motion.specs.Kinetics.{HasChanged};
 ghost use Rattle.kin_motion.specs.Scene.{IsReal};
 ghost use Rattle.kin_tourney.specs.declared.doubt.Doubt.TheVariants.{Below};
-ghost use Rattle.kin_tourney.specs.Standings.{IsClosed, doubt_in, doubt_count};
+ghost use Rattle.kin_tourney.specs.Standings.{IsClosed, doubt_in};
 ghost use Rattle.kin_tourney.specs.Repairs.{IsSpread, IsDoubted, IsLowest};
 ghost use Rattle.kin_env.specs.declared.node.Node.{Node as Knot};
-ghost use Rattle.kin_env.specs.Nodes.{merge_at, passed_at, chain_at, edits_at, failed_at, facts_at};
-ghost use Rattle.kin_env.specs.Joints.{Leads, IsTold, IsVisited, IsRestingWith};
-ghost use Rattle.kin_env.specs.Walks.{IsShaped, IsSound, IsWalked, IsQuieted, IsWorked, IsRenewed, AreBlank, AreGiven, IsHeard, IsAtPeace, AreRight, IsReady, slot_in, own_chain, tree_facts};
+ghost use Rattle.kin_env.specs.Nodes.{merge_at, passed_at, chain_at, edits_at, failed_at};
+ghost use Rattle.kin_env.specs.Joints.{Leads, IsTold, IsRestingWith};
+ghost use Rattle.kin_env.specs.Walks.{IsShaped, IsSound, IsWalked, IsWorked, IsRenewed, AreBlank, AreGiven, IsHeard, IsAtPeace, AreRight, IsReady, slot_in, own_chain, tree_facts};
 
 use crate::node::Node;
 use kin_motion::fact::{Delta, Placed};

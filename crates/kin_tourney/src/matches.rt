@@ -7,7 +7,7 @@ ghost use Rattle.kin_motion.specs.Forms.{IsAskable};
 ghost use Rattle.kin_motion.specs.Scene.{Scene};
 ghost use Rattle.kin_motion.specs.Kinetics.{HasChanged};
 ghost use Rattle.kin_tourney.specs.Names.{AreLive, HoldLive};
-ghost use Rattle.kin_tourney.specs.Standings.{IsTree, entry_at, match_at, match_of, fact_in, doubt_in, doubt_count, placed_facts};
+ghost use Rattle.kin_tourney.specs.Standings.{IsTree, match_at, match_of, fact_in, doubt_in, doubt_count, placed_facts};
 ghost use Rattle.kin_tourney.specs.Tournament.{mark_in};
 ghost use Rattle.kin_tourney.specs.Repairs.{IsMatchSign, IsRightOnce, asked_for, needs_play, IsReplayed, IsRenewed, IsReported, IsCleared, IsDoubtful};
 

@@ -4,24 +4,16 @@ ghost use Rattle.std.specs.Prelude.{◌≡◌, ◌≢◌, ◌⊎◌, ℕ, ◌+�
 ghost use Rattle.kin_motion.specs.declared.fact.Placed.{Placed as Put};
 ghost use Rattle.kin_motion.specs.Scene.{Scene};
 ghost use Rattle.kin_tourney.specs.declared.doubt.Doubt.TheVariants.{Below};
-ghost use Rattle.kin_motion.specs.Tournaments.{item_in};
-ghost use Rattle.kin_tourney.specs.Names.{AreLive};
-ghost use Rattle.kin_motion.specs.Kinetics.{HasChanged};
-ghost use Rattle.kin_tourney.specs.Standings.{Standings, IsTree, named_at, entry_at, match_at, match_of, fact_in, doubt_in, doubt_count, placed_facts};
+ghost use Rattle.kin_tourney.specs.Standings.{Standings, IsTree, named_at, entry_at, doubt_in};
 ghost use Rattle.kin_tourney.specs.Tournament.{mark_in};
-ghost use Rattle.kin_tourney.specs.Repairs.{IsSpread, IsMarkedUp, IsDoubted, needs_play, IsReplayed, IsRenewed, IsReported, IsCleared, IsDoubtful};
+ghost use Rattle.kin_tourney.specs.Repairs.{IsSpread, IsMarkedUp, IsDoubted};
 
 use crate::doubt::{Doubt, doubt_failed, doubt_path, no_doubts};
 use crate::entry::Entry;
-use crate::keyed::Keyed;
-use crate::report::{tell, untell};
-use kin_motion::fact::{Delta, Fact, Placed};
-use kin_motion::signs::Signs;
+use kin_motion::fact::{Fact, Placed};
 use kin_num::memory::NoMemory;
-use kin_num::steps::Steps;
 use std::alloc::Global;
 use std::marker::Model;
-use std::sync::ledger::Ledger;
 
 /// A tree over `2^size` slots. Node 1 is the root, node v has the halves 2v and 2v + 1, and slot s
 /// is node `2^size + s`.
