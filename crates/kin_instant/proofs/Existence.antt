@@ -49,24 +49,15 @@ ratio_exists n d n_small d_small h =
     below x y m h k = omega (arith, h, k)
 
 -- ---- lines
+negative_size : (z : ℤ) (m : ℕ) → unsigned_abs z ≤ m → unsigned_abs (neg_ℤ z) ≤ m
+negative_size z m h = omega (arith, ints, h)
+
 module _ (b c : ℤ) (b_small : unsigned_abs b ≤ 2 ^ 29) (c_small : unsigned_abs c ≤ 2 ^ 28) where
   rising : pos 0 <ℤ b → HasRoots (quadratic (pos 0) b c)
-  rising h = let r = ratio_exists (neg_ℤ c) b (turned c c_small) (wide b b_small) h in (One r.0, rising_line b c h r.0 r.1 r.2)
-    where
-      turned : (c : ℤ) → unsigned_abs c ≤ 2 ^ 28 → unsigned_abs (neg_ℤ c) < 2 ^ 31
-      turned c h = omega (arith, ints)
-
-      wide : (b : ℤ) → unsigned_abs b ≤ 2 ^ 29 → unsigned_abs b < 2 ^ 31
-      wide b h = omega arith
+  rising h = let r = ratio_exists (neg_ℤ c) b (omega (arith, negative_size c (2 ^ 28) c_small)) (omega (arith, b_small)) h in (One r.0, rising_line b c h r.0 r.1 r.2)
 
   falling : b <ℤ pos 0 → HasRoots (quadratic (pos 0) b c)
-  falling h = let r = ratio_exists c (neg_ℤ b) (wide c c_small) (turned b b_small) (negative-some b h) in (One r.0, falling_line b c h r.0 r.1 r.2)
-    where
-      turned : (c : ℤ) → unsigned_abs c ≤ 2 ^ 29 → unsigned_abs (neg_ℤ c) < 2 ^ 31
-      turned c h = omega (arith, ints)
-
-      wide : (b : ℤ) → unsigned_abs b ≤ 2 ^ 28 → unsigned_abs b < 2 ^ 31
-      wide b h = omega arith
+  falling h = let r = ratio_exists c (neg_ℤ b) (omega (arith, c_small)) (omega (arith, negative_size b (2 ^ 29) b_small)) (negative-some b h) in (One r.0, falling_line b c h r.0 r.1 r.2)
 
   level : b ≡ pos 0 → HasRoots (quadratic (pos 0) b c)
   level e = by_constant c refl
@@ -149,10 +140,7 @@ turned_roots : (p : Quadratic) → HasRoots (negated p) → HasRoots p
 turned_roots p h = (h.0, turned_answer p h.0 h.1)
 
 turned_small : (p : Quadratic) → IsSmall p → IsSmall (negated p)
-turned_small p s = record { a_small = turned p.a (2 ^ 28) s.a_small; b_small = turned p.b (2 ^ 29) s.b_small; c_small = turned p.c (2 ^ 28) s.c_small }
-  where
-    turned : (z : ℤ) (m : ℕ) → unsigned_abs z ≤ m → unsigned_abs (neg_ℤ z) ≤ m
-    turned z m h = omega (arith, ints, h)
+turned_small p s = record { a_small = negative_size p.a (2 ^ 28) s.a_small; b_small = negative_size p.b (2 ^ 29) s.b_small; c_small = negative_size p.c (2 ^ 28) s.c_small }
 
 pub roots_exist : (p : Quadratic) → IsSmall p → HasRoots p
 roots_exist p small = by_lead p.a refl
