@@ -1,8 +1,7 @@
 -- Signs at a whole time.
-use Rattle.std.proofs.Common.{◌≡◌, refl, sym, ap, ◌∙◌, subst, arith, ℕ, zero, suc, ◌*◌, List, length, set, replicate, [], ◌∷◌}
+use Rattle.std.proofs.Common.{◌≡◌, refl, sym, ap, ◌∙◌, subst, arith, ℕ, zero, suc, List, length, set, replicate, [], ◌∷◌}
 use Rattle.std.specs.Prelude.{Option, Some, None, is_some}
-use Rattle.std.specs.Int.{◌∣◌}
-use Rattle.std.proofs.Math.Nat.{dvd-mul_right}
+use Rattle.std.proofs.Math.Nat.{one-dvd}
 use Rattle.std.proofs.lemmas.Int.{ints}
 use Rattle.std.proofs.lemmas.List.{length-set, get_or-set_same, get_or-set_other}
 use Rattle.kin_motion.specs.Course.{Course, live_of}
@@ -26,15 +25,9 @@ pub sign_at_whole : (p : Quadratic) (t : ℤ) → sign_at p (record { at = Ratio
 unfolding sign_at sign_at_instant
 sign_at_whole p t = ap sign_of (whole_value p.a p.b p.c t)
 
-one : (x : ℕ) → 1 ∣ x
-one x = subst (λ z. 1 ∣ z) (times_one x) (dvd-mul_right 1 x)
-  where
-    times_one : (x : ℕ) → 1 * x ≡ x
-    times_one x = omega arith
-
 pub whole_canonical : (t : ℤ) → unsigned_abs t ≤ 2 ^ 4 → IsCanonical (Ratio t (pos 1))
 whole_canonical t small = record {
-  form = record { positive = omega (arith, ints); lowest = (one (unsigned_abs t), one 1, λ d e f. f) };
+  form = record { positive = omega (arith, ints); lowest = (one-dvd (unsigned_abs t), one-dvd 1, λ d e f. f) };
   small = record { n_small = omega arith; d_small = omega arith };
 }
 
