@@ -12,22 +12,8 @@ use Rattle.kin_tourney.specs.Repairs.{IsSpread, IsMarkedUp, IsFed}
 use Rattle.kin_tourney.specs.Under.{is_under-leaf, is_under-left, is_under-right, is_under-one_half}
 use Rattle.kin_tourney.proofs.Entries.{named_inner, named_under}
 use Rattle.kin_tourney.proofs.AfterWrite.{read_set}
-use Rattle.kin_tourney.proofs.Doubts.{closed_raised, count_kept, here_is_doubt}
+use Rattle.kin_tourney.proofs.Doubts.{count_kept, here_is_doubt}
 use Rattle.kin_tourney.proofs.Trees.{above_in_doubt}
-
--- a node in doubt is to be played again
-pub tree_raised : {Item : Type 0} (t : Standings Item) → IsTree t → (node : ℕ) → node < length t.items → doubt_in t.doubts node ≢ Clear → IsTree (record t { doubts = set t.doubts node Here })
-tree_raised {Item} t h node inside doubted = record {
-  small = h.small;
-  items_room = h.items_room;
-  marked_room = h.marked_room;
-  best_room = h.best_room;
-  facts_room = h.facts_room;
-  doubts_room = length-set t.doubts node Here ∙ h.doubts_room;
-  best_low = h.best_low;
-  best_under = h.best_under;
-  closed = closed_raised t.doubts node h.closed (let r = h.doubts_room in omega arith) doubted;
-}
 
 -- on the way up from a slot: the nodes that are passed are done
 pub record IsRaising {Item : Type 0} (slot : ℕ) (start now : Standings Item) (node : ℕ) : Type 0 where

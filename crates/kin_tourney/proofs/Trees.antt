@@ -36,21 +36,30 @@ perfect {Item} t h = (t.size, h.doubts_room ∙ h.items_room)
 pub above_in_doubt : (ds : List Doubt) → IsClosed ds → (v : ℕ) → 0 < v → doubt_in ds v ≢ Clear → doubt_in ds (v / 2) ≢ Clear
 above_in_doubt ds h v some n e = n (h.below v some e)
 
+-- a tree with other marks, bests, facts and doubts
+tree_changed : {Item : Type 0} (t : Standings Item) → IsTree t → (marked : List Bool) (best : List (Option ℕ)) (facts : List (Option Fact)) (doubts : List Doubt)
+    → length marked ≡ length t.marked → length best ≡ length t.best → length facts ≡ length t.facts → length doubts ≡ length t.doubts
+    → ((v i : ℕ) → best_in best v ≡ Some i → (i < length t.items) × (is_under t.size v i ≡ true)) → IsClosed doubts → IsTree (record t { marked = marked; best = best; facts = facts; doubts = doubts })
+tree_changed {Item} t h marked best facts doubts marked_room best_room facts_room doubts_room under closed = record {
+  small = h.small;
+  items_room = h.items_room;
+  marked_room = marked_room ∙ h.marked_room;
+  best_room = best_room ∙ h.best_room;
+  facts_room = facts_room ∙ h.facts_room;
+  doubts_room = doubts_room ∙ h.doubts_room;
+  best_low = λ v i e. (under v i e).0;
+  best_under = λ v i e. (under v i e).1;
+  closed = closed;
+}
+
 -- a node got another best slot, its fact may have changed, and the node above it has to be played again
 pub tree_replayed : {Item : Type 0} (t : Standings Item) → IsTree t → (node : ℕ) → 0 < node → node < length t.items → doubt_in t.doubts node ≢ Clear
     → (best : Option ℕ) (facts : List (Option Fact)) → length facts ≡ length t.facts → ((i : ℕ) → best ≡ Some i → (i < length t.items) × (is_under t.size node i ≡ true))
     → IsTree (record t { best = set t.best node best; facts = facts; doubts = set t.doubts (node / 2) Here })
-tree_replayed {Item} t h node some inside doubted best facts room under = record {
-  small = h.small;
-  items_room = h.items_room;
-  marked_room = h.marked_room;
-  best_room = length-set t.best node best ∙ h.best_room;
-  facts_room = room ∙ h.facts_room;
-  doubts_room = length-set t.doubts (node / 2) Here ∙ h.doubts_room;
-  best_low = λ v i e. (at v i e (read_set t.best node v best None (let r = h.best_room in omega arith))).0;
-  best_under = λ v i e. (at v i e (read_set t.best node v best None (let r = h.best_room in omega arith))).1;
-  closed = closed_raised t.doubts (node / 2) h.closed (let r = h.doubts_room in omega arith) (above_in_doubt t.doubts h.closed node some doubted);
-}
+tree_replayed {Item} t h node some inside doubted best facts room under =
+    tree_changed t h t.marked (set t.best node best) facts (set t.doubts (node / 2) Here) refl (length-set t.best node best) room (length-set t.doubts (node / 2) Here)
+    (λ v i e. at v i e (read_set t.best node v best None (let r = h.best_room in omega arith)))
+    (closed_raised t.doubts (node / 2) h.closed (let r = h.doubts_room in omega arith) (above_in_doubt t.doubts h.closed node some doubted))
   where
     at : (v i : ℕ) → best_in (set t.best node best) v ≡ Some i → ((v ≡ node) × (best_in (set t.best node best) v ≡ best)) ⊎ ((v ≢ node) × (best_in (set t.best node best) v ≡ best_in t.best v)) → (i < length t.items) × (is_under t.size v i ≡ true)
     at v i e (inl k) = let u = under i (sym k.1 ∙ e) in (u.0, subst (λ w. is_under t.size w i ≡ true) (sym k.0) u.1)
@@ -59,17 +68,8 @@ tree_replayed {Item} t h node some inside doubted best facts room under = record
 -- a node whose halves are clear was cleared
 pub tree_cleared : {Item : Type 0} (t : Standings Item) → IsTree t → (node : ℕ) → 0 < node → node < length t.items → ((v : ℕ) → 0 < v → v / 2 ≡ node → doubt_in t.doubts v ≡ Clear)
     → (marked : List Bool) → length marked ≡ length t.marked → IsTree (record t { marked = marked; doubts = set t.doubts node Clear })
-tree_cleared {Item} t h node some inside halves marked room = record {
-  small = h.small;
-  items_room = h.items_room;
-  marked_room = room ∙ h.marked_room;
-  best_room = h.best_room;
-  facts_room = h.facts_room;
-  doubts_room = length-set t.doubts node Clear ∙ h.doubts_room;
-  best_low = h.best_low;
-  best_under = h.best_under;
-  closed = closed_cleared t.doubts node h.closed some (let r = h.doubts_room in omega arith) halves;
-}
+tree_cleared {Item} t h node some inside halves marked room =
+    tree_changed t h marked t.best t.facts (set t.doubts node Clear) room refl refl (length-set t.doubts node Clear) (λ v i e. (h.best_low v i e, h.best_under v i e)) (closed_cleared t.doubts node h.closed some (let r = h.doubts_room in omega arith) halves)
 
 pub named_low : {Item : Type 0} (t : Standings Item) → IsTree t → (v : ℕ) (o : Option ℕ) → v < length t.items → o ≡ get_or t.best v o → IfSome o (λ i. i < length t.items)
 named_low {Item} t h v o inside e = at o (get_or_read t.best v o (let r = h.best_room in omega arith) e None)
