@@ -82,11 +82,6 @@ module _ (r : Shape) (j : IsCanonicalForm r) (n d : ℤ) (k : pos 0 <ℤ d) (z :
       at (Root a b c u) j z s e = absurd (line_at_root a b c j u n d (sign_in Plus d k) z)
 
 -- ---- the sign at a moment
-is_zero : (s : Sign) → (s ≡ Zero) ⊎ (s ≢ Zero)
-is_zero Minus = inr (λ e. code e)
-is_zero Zero = inl refl
-is_zero Plus = inr (λ e. code e)
-
 -- just after an instant: the value, or the slope and the curvature
 pub at_after : (p : Quadratic) (w : Shape) → IsCanonicalForm w → sign_at p (record { at = w; phase = After }) ≡ first_of (sign_at_instant p w) (first_of (sign_at_instant (derivative p) w) (sign_of p.a))
 unfolding sign_at
