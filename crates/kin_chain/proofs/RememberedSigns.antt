@@ -6,6 +6,7 @@ use Rattle.kin_basics.proofs.Members.{contains_head, contains_tail}
 use Rattle.kin_algebra.specs.declared.sign.Sign.{Sign}
 use Rattle.kin_algebra.specs.declared.sign.Sign.TheVariants.{Minus, Zero, Plus}
 use Rattle.kin_algebra.specs.Signs.{opposite_of, first_of}
+use Rattle.kin_algebra.proofs.Signs.{opposite-opposite}
 use Rattle.kin_motion.specs.declared.form.Form.{Form}
 use Rattle.kin_motion.specs.declared.form.Form.TheVariants.{Line, Turn}
 use Rattle.kin_motion.specs.Numbers.{IsChain}
@@ -76,9 +77,7 @@ module _ (old now : Scene) where
   first_same Minus u u' f = refl
 
   zero_back : (t : Sign) → opposite_of t ≡ Zero → t ≡ Zero
-  zero_back Plus e = absurd cc
-  zero_back Zero e = refl
-  zero_back Minus e = absurd cc
+  zero_back t e = sym (opposite-opposite t) ∙ ap opposite_of e
 
   left_kept : (a b : ℕ) → EndAgrees a b → above_left now a b ≡ above_left old a b
   left_kept a b k = ap (λ t. first_of t (opposite_of (y_sign now a b))) k.x ∙ first_same (x_sign old a b) (opposite_of (y_sign now a b)) (opposite_of (y_sign old a b)) (λ z. ap opposite_of (k.y z))

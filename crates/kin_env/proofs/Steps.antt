@@ -2,7 +2,7 @@
 use Rattle.std.proofs.Common.{◌≡◌, ◌≢◌, ◌⊎◌, inl, inr, refl, sym, ap, ap₂, ◌∙◌, subst, arith, List, [], ◌∷◌, ℕ, ◌+◌, ◌*◌, ◌/◌, ◌^◌, ◌<◌, ◌≤◌, length, Bool, set}
 use Rattle.std.specs.Prelude.{Option, Some, None}
 use Rattle.std.proofs.lemmas.Bool.{cases_eq}
-use Rattle.std.proofs.lemmas.List.{length-set}
+use Rattle.std.proofs.lemmas.List.{length-set, get_or-set_same, get_or-set_other}
 use Rattle.kin_basics.proofs.Members.{contains_none}
 use Rattle.kin_motion.specs.declared.fact.Placed.{Placed}
 use Rattle.kin_motion.specs.Chains.{IsUpperChain}
@@ -18,14 +18,15 @@ use Rattle.kin_overlay.specs.Overlays.{Merge}
 use Rattle.kin_tourney.specs.declared.doubt.Doubt.{Doubt}
 use Rattle.kin_tourney.specs.declared.doubt.Doubt.TheVariants.{Clear, Here}
 use Rattle.kin_tourney.specs.Standings.{IsClosed, doubt_in, doubt_count}
+use Rattle.kin_tourney.specs.Repairs.{IsLowest}
 use Rattle.kin_tourney.proofs.AfterWrite.{read_set}
-use Rattle.kin_tourney.proofs.Doubts.{here_is_doubt, count_kept, count_lowered}
+use Rattle.kin_tourney.proofs.Doubts.{here_is_doubt, count_kept, count_lowered, closed_raised, closed_cleared}
 use Rattle.kin_tourney.proofs.Trees.{above_in_doubt}
 use Rattle.kin_env.specs.declared.node.Node.{Node}
 use Rattle.kin_env.specs.declared.branches.Branches.{Branches}
 use Rattle.kin_env.specs.Nodes.{chain_with, facts_with, merge_from, passed_from, edits_from, failed_from, merge_at, passed_at, chain_at, edits_at, failed_at, facts_at}
 use Rattle.kin_env.specs.Joints.{Leads, IsJoint, IsSettledThere}
-use Rattle.kin_env.specs.Walks.{IsSlotUnder, slot_in, AreJoined, IsInner, IsWalked, IsNext, IsRight, IsQuieted, IsWorked, IsRenewed}
+use Rattle.kin_env.specs.Walks.{IsSlotUnder, slot_in, AreJoined, IsInner, IsWalked, IsRight, IsQuieted, IsWorked, IsRenewed}
 use Rattle.kin_env.specs.Halves.{slot_under}
 use Rattle.kin_env.proofs.Works.{no_edits, stays_there, live_fits}
 
@@ -36,68 +37,79 @@ pub record IsMarked (old new : List Doubt) (v : ℕ) (es : List Edit) : Type 0 w
   pub above : (es ≡ [] → ⊥) → doubt_in new (v / 2) ≡ Here
   pub others : (u : ℕ) → u ≢ v → (doubt_in new u ≡ doubt_in old u) ⊎ ((u ≡ v / 2) × (doubt_in new u ≡ Here))
   pub count : doubt_count new + 1 ≡ doubt_count old
+  pub closed : IsClosed new
 
-module _ (ds : List Doubt) (v : ℕ) (some : 0 < v) (inside : v < length ds) (closed : IsClosed ds) (doubted : doubt_in ds v ≢ Clear) where
+module _ (ds : List Doubt) (v : ℕ) (n : IsLowest ds v) (closed : IsClosed ds) where
   marked_quiet : IsMarked ds (set ds v Clear) v []
   marked_quiet = record {
     room = length-set ds v Clear;
-    cleared = at_own (read_set ds v v Clear Clear inside);
-    above = λ n. absurd (n refl);
-    others = λ u m. inl (other u m (read_set ds v u Clear Clear inside));
-    count = count_lowered ds v inside doubted;
+    cleared = get_or-set_same ds v Clear Clear n.inside;
+    above = λ m. absurd (m refl);
+    others = λ u m. inl (get_or-set_other ds v u Clear Clear m);
+    count = count_lowered ds v n.inside n.doubted;
+    closed = closed_cleared ds v closed n.some n.inside n.halves_clear;
   }
-    where
-      at_own : ((v ≡ v) × (doubt_in (set ds v Clear) v ≡ Clear)) ⊎ ((v ≢ v) × (doubt_in (set ds v Clear) v ≡ doubt_in ds v)) → doubt_in (set ds v Clear) v ≡ Clear
-      at_own (inl k) = k.1
-      at_own (inr k) = absurd (k.0 refl)
 
-      other : (u : ℕ) → u ≢ v → ((u ≡ v) × (doubt_in (set ds v Clear) u ≡ Clear)) ⊎ ((u ≢ v) × (doubt_in (set ds v Clear) u ≡ doubt_in ds u)) → doubt_in (set ds v Clear) u ≡ doubt_in ds u
-      other u m (inl k) = absurd (m k.0)
-      other u m (inr k) = k.1
-
+module _ (ds : List Doubt) (v : ℕ) (n : IsLowest ds v) (closed : IsClosed ds) where
   abbrev raised : List Doubt
   raised = set ds (v / 2) Here
 
   up_inside : v / 2 < length ds
-  up_inside = omega arith
+  up_inside = let inside = n.inside in omega arith
+
+  up_doubted : doubt_in ds (v / 2) ≢ Clear
+  up_doubted = above_in_doubt ds closed v n.some n.doubted
 
   at_raised : (u : ℕ) → ((u ≡ v / 2) × (doubt_in raised u ≡ Here)) ⊎ ((u ≢ v / 2) × (doubt_in raised u ≡ doubt_in ds u))
   at_raised u = read_set ds (v / 2) u Here Clear up_inside
 
-  raised_inside : v < length raised
-  raised_inside = let e = length-set ds (v / 2) Here in omega arith
+  abbrev cleared : List Doubt
+  cleared = set raised v Clear
 
-  marked_told : (es : List Edit) → IsMarked ds (set raised v Clear) v es
-  marked_told es = record {
-    room = length-set raised v Clear ∙ length-set ds (v / 2) Here;
-    cleared = at_own (read_set raised v v Clear Clear raised_inside);
-    above = λ n. up (read_set raised v (v / 2) Clear Clear raised_inside) (at_raised (v / 2));
-    others = λ u m. other u m (read_set raised v u Clear Clear raised_inside) (at_raised u);
-    count = count_lowered raised v raised_inside (own (at_raised v)) ∙ count_kept ds (v / 2) Here up_inside (above_in_doubt ds closed v some doubted) here_is_doubt;
+  -- a node is ready to be visited where the node above has work, too
+  raised_lowest : IsLowest raised v
+  raised_lowest = record {
+    some = n.some;
+    inside = omega (arith, length-set ds (v / 2) Here, n.inside);
+    doubted = own (at_raised v);
+    halves_clear = λ u some e. half u e (at_raised u) (n.halves_clear u some e);
   }
     where
-      at_own : ((v ≡ v) × (doubt_in (set raised v Clear) v ≡ Clear)) ⊎ ((v ≢ v) × (doubt_in (set raised v Clear) v ≡ doubt_in raised v)) → doubt_in (set raised v Clear) v ≡ Clear
-      at_own (inl k) = k.1
-      at_own (inr k) = absurd (k.0 refl)
-
-      up : ((v / 2 ≡ v) × (doubt_in (set raised v Clear) (v / 2) ≡ Clear)) ⊎ ((v / 2 ≢ v) × (doubt_in (set raised v Clear) (v / 2) ≡ doubt_in raised (v / 2)))
-          → ((v / 2 ≡ v / 2) × (doubt_in raised (v / 2) ≡ Here)) ⊎ ((v / 2 ≢ v / 2) × (doubt_in raised (v / 2) ≡ doubt_in ds (v / 2))) → doubt_in (set raised v Clear) (v / 2) ≡ Here
-      up (inl k) j = absurd (omega (arith, k.0))
-      up (inr k) (inl j) = k.1 ∙ j.1
-      up (inr k) (inr j) = absurd (j.0 refl)
-
       own : ((v ≡ v / 2) × (doubt_in raised v ≡ Here)) ⊎ ((v ≢ v / 2) × (doubt_in raised v ≡ doubt_in ds v)) → doubt_in raised v ≢ Clear
       own (inl k) e = here_is_doubt (sym k.1 ∙ e)
-      own (inr k) e = doubted (sym k.1 ∙ e)
+      own (inr k) e = n.doubted (sym k.1 ∙ e)
 
-      other : (u : ℕ) → u ≢ v → ((u ≡ v) × (doubt_in (set raised v Clear) u ≡ Clear)) ⊎ ((u ≢ v) × (doubt_in (set raised v Clear) u ≡ doubt_in raised u))
-          → ((u ≡ v / 2) × (doubt_in raised u ≡ Here)) ⊎ ((u ≢ v / 2) × (doubt_in raised u ≡ doubt_in ds u)) → (doubt_in (set raised v Clear) u ≡ doubt_in ds u) ⊎ ((u ≡ v / 2) × (doubt_in (set raised v Clear) u ≡ Here))
-      other u m (inl k) j = absurd (m k.0)
-      other u m (inr k) (inl j) = inr (j.0, k.1 ∙ j.1)
-      other u m (inr k) (inr j) = inl (k.1 ∙ j.1)
+      half : (u : ℕ) → u / 2 ≡ v → ((u ≡ v / 2) × (doubt_in raised u ≡ Here)) ⊎ ((u ≢ v / 2) × (doubt_in raised u ≡ doubt_in ds u)) → doubt_in ds u ≡ Clear → doubt_in raised u ≡ Clear
+      half u e (inl k) c = absurd (omega (arith, k.0, e, n.some))
+      half u e (inr k) c = k.1 ∙ c
+
+  marked_told : (es : List Edit) → IsMarked ds cleared v es
+  marked_told es = record {
+    room = q.room ∙ length-set ds (v / 2) Here;
+    cleared = q.cleared;
+    above = λ m. up (q.others (v / 2) (let some = n.some in omega arith)) (at_raised (v / 2));
+    others = λ u m. other u (q.others u m) (at_raised u);
+    count = q.count ∙ count_kept ds (v / 2) Here up_inside up_doubted here_is_doubt;
+    closed = q.closed;
+  }
+    where
+      q : IsMarked raised cleared v []
+      q = marked_quiet raised v raised_lowest (closed_raised ds (v / 2) closed up_inside up_doubted)
+
+      up : (doubt_in cleared (v / 2) ≡ doubt_in raised (v / 2)) ⊎ ((v / 2 ≡ v / 2) × (doubt_in cleared (v / 2) ≡ Here))
+          → ((v / 2 ≡ v / 2) × (doubt_in raised (v / 2) ≡ Here)) ⊎ ((v / 2 ≢ v / 2) × (doubt_in raised (v / 2) ≡ doubt_in ds (v / 2))) → doubt_in cleared (v / 2) ≡ Here
+      up (inr k) j = k.1
+      up (inl k) (inl j) = k ∙ j.1
+      up (inl k) (inr j) = absurd (j.0 refl)
+
+      other : (u : ℕ) → (doubt_in cleared u ≡ doubt_in raised u) ⊎ ((u ≡ v / 2) × (doubt_in cleared u ≡ Here))
+          → ((u ≡ v / 2) × (doubt_in raised u ≡ Here)) ⊎ ((u ≢ v / 2) × (doubt_in raised u ≡ doubt_in ds u)) → (doubt_in cleared u ≡ doubt_in ds u) ⊎ ((u ≡ v / 2) × (doubt_in cleared u ≡ Here))
+      other u (inr k) j = inr k
+      other u (inl k) (inl j) = inr (j.0, k ∙ j.1)
+      other u (inl k) (inr j) = inl (k ∙ j.1)
 
   pub marked : (new : List Doubt) (es : List Edit) → (es ≡ [] → new ≡ set ds v Clear) → (es ≢ [] → new ≡ set (set ds (v / 2) Here) v Clear) → IsMarked ds new v es
-  marked new [] quiet told = subst (λ (l : List Doubt). IsMarked ds l v []) (sym (quiet refl)) marked_quiet
+  marked new [] quiet told = subst (λ (l : List Doubt). IsMarked ds l v []) (sym (quiet refl)) (marked_quiet ds v n closed)
   marked new (e ∷ es) quiet told = subst (λ (l : List Doubt). IsMarked ds l v (e ∷ es)) (sym (told (λ k. absurd cc))) (marked_told (e ∷ es))
 
 -- ---- the nodes
@@ -106,7 +118,7 @@ settled_holds : (s : Scene) (spared : Placed → Bool) (o : Option Merge) → Is
 settled_holds s spared None h = exactly_none _ (λ p k. contains_none p k.0)
 settled_holds s spared (Some m) h = exactly_none _ (λ p k. k.2 (let f = (h.exact.each p).0 k.0 in subst (λ (q : Placed). Holds s q.fact) (sym f.fact) refl))
 
-module _ (s : Scene) (real : IsReal s) (t t' : Branches) (w : IsWalked s t) (v : ℕ) (n : IsNext t v) (before after : Change)
+module _ (s : Scene) (real : IsReal s) (t t' : Branches) (w : IsWalked s t) (v : ℕ) (n : IsLowest t.doubts.items v) (before after : Change)
     (size_is : t'.size ≡ t.size) (slots_is : t'.slots.items ≡ t.slots.items)
     (k : IsWorked s t.size v t.nodes.items t'.nodes.items before after) (d : IsMarked t.doubts.items t'.doubts.items v (edits_at t'.nodes.items v)) where
   abbrev ns : List Node
@@ -166,18 +178,6 @@ module _ (s : Scene) (real : IsReal s) (t t' : Branches) (w : IsWalked s t) (v :
       at : (new_doubt u ≡ old_doubt u) ⊎ ((u ≡ v / 2) × (new_doubt u ≡ Here)) → ⊥
       at (inl q) = h (q ∙ e)
       at (inr q) = h q.1
-
-  step_closed : IsClosed t'.doubts.items
-  step_closed = record { top = top (d.others 0 (let z = n.some in omega arith)); below = λ u some e. below u some e (cases_eq u v) (cases_eq (u / 2) v) }
-    where
-      top : (new_doubt 0 ≡ old_doubt 0) ⊎ ((0 ≡ v / 2) × (new_doubt 0 ≡ Here)) → new_doubt 0 ≡ Here
-      top (inl q) = q ∙ w.shape.closed.top
-      top (inr q) = q.1
-
-      below : (u : ℕ) → 0 < u → new_doubt (u / 2) ≡ Clear → (u ≡ v) ⊎ (u ≢ v) → (u / 2 ≡ v) ⊎ (u / 2 ≢ v) → new_doubt u ≡ Clear
-      below u some e (inl q) j = ap new_doubt q ∙ d.cleared
-      below u some e (inr m) (inl j) = clear_is u m (n.halves u some j)
-      below u some e (inr m) (inr j) = clear_is u m (w.shape.closed.below u some (clear_was (u / 2) j e))
 
   -- ---- every node has what its halves were
   inner_at : (u : ℕ) → 0 < u → u < 2 ^ t.size → (u ≡ v) ⊎ (u ≢ v) → IsInner t.size ms u
@@ -295,7 +295,7 @@ module _ (s : Scene) (real : IsReal s) (t t' : Branches) (w : IsWalked s t) (v :
       slots_room = ap length slots_is ∙ w.shape.slots_room ∙ ap (λ x. 2 ^ x) (sym size_is);
       nodes_room = k.room ∙ w.shape.nodes_room ∙ ap (λ x. 2 * 2 ^ x) (sym size_is);
       doubts_room = d.room ∙ w.shape.doubts_room ∙ ap (λ x. 2 * 2 ^ x) (sym size_is);
-      closed = step_closed;
+      closed = d.closed;
     };
     joined = subst (λ x. AreJoined x ms) (sym size_is) step_joined;
     live = λ i. w.live i ∙ ap (λ l. slot_in l i) (sym slots_is);
@@ -321,7 +321,7 @@ module _ (s : Scene) (real : IsReal s) (t t' : Branches) (w : IsWalked s t) (v :
   }
 
 -- the two parts of a step together
-pub renewed_by : (s : Scene) (real : IsReal s) (t y x : Branches) (w : IsWalked s t) (v : ℕ) (n : IsNext t v) (before after : Change) → y ≡ record t { nodes = y.nodes } → x ≡ record y { doubts = x.doubts }
+pub renewed_by : (s : Scene) (real : IsReal s) (t y x : Branches) (w : IsWalked s t) (v : ℕ) (n : IsLowest t.doubts.items v) (before after : Change) → y ≡ record t { nodes = y.nodes } → x ≡ record y { doubts = x.doubts }
     → IsWorked s t.size v t.nodes.items y.nodes.items before after → (edits_at y.nodes.items v ≡ [] → x.doubts.items ≡ set y.doubts.items v Clear) → (edits_at y.nodes.items v ≢ [] → x.doubts.items ≡ set (set y.doubts.items (v / 2) Here) v Clear)
     → IsWalked s x × IsRenewed v t x before after
 renewed_by s real t y x w v n before after y_is x_is k quiet told =
@@ -345,6 +345,6 @@ renewed_by s real t y x w v n before after y_is x_is k quiet told =
     marks : IsMarked t.doubts.items x.doubts.items v (edits_at x.nodes.items v)
     marks =
         subst (λ (ns : List Node). IsMarked t.doubts.items x.doubts.items v (edits_at ns v)) (sym nodes_is)
-        (marked t.doubts.items v n.some (omega (arith, w.shape.doubts_room, n.inside)) w.shape.closed n.doubted x.doubts.items (edits_at y.nodes.items v)
+        (marked t.doubts.items v n w.shape.closed x.doubts.items (edits_at y.nodes.items v)
         (λ e. quiet e ∙ ap (λ (l : List Doubt). set l v Clear) doubts_is)
         (λ m. told m ∙ ap (λ (l : List Doubt). set (set l (v / 2) Here) v Clear) doubts_is))

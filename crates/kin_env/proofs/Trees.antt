@@ -40,8 +40,22 @@ leaving_gone t s ready p e =
     let k = filter-sound (is_leaving t) (numbers_from 0 (2 ^ t.size)) w.0 w.1 in
     (w.0, w.2, ready.members w.0 ∙ not-true (slot_in t.slots w.0) (and_parts (is_in w.0 (chain_of_slot t w.0)) (not (slot_in t.slots w.0)) k.1).1)
 
-pub ready_told : (b : Branches) (whole : Bool) (s : Scene) (failed : List Placed) → IsReadyEnvelope (seen_as b whole) s → ListsFailing (seen_as b whole).facts (names_leaving (seen_as b whole)) s failed → IsReady s b failed
-ready_told b whole s failed ready failing = record { live = ready.members; spared = names_leaving (seen_as b whole); are_spared = leaving_gone (seen_as b whole) s ready; failing = failing }
+-- callers see the tree as another one, which is ready
+module _ (b : Branches) (whole : Bool) (s : Scene) (seen : Envelope) (view : seen_as b whole ≡ seen) (may : IsReadyEnvelope seen s) where
+  ready : IsReadyEnvelope (seen_as b whole) s
+  ready = subst (λ (t : Envelope). IsReadyEnvelope t s) (sym view) may
+
+  pub ready_told : (failed : List Placed) → ListsFailing seen.facts (names_leaving seen) s failed → IsReady s b failed
+  ready_told failed failing = record {
+    live = ready.members;
+    spared = names_leaving (seen_as b whole);
+    are_spared = leaving_gone (seen_as b whole) s ready;
+    failing = subst (λ (t : Envelope). ListsFailing t.facts (names_leaving t) s failed) (sym view) failing;
+  }
+
+  -- the members stay
+  pub live_still : (x : Branches) → x.slots.items ≡ b.slots.items → (i : ℕ) → is_in i s.live ≡ slot_in x.slots.items i
+  live_still x same i = ready.members i ∙ ap (λ l. slot_in l i) (sym same)
 
 -- ---- after
 module _ (s : Scene) (real : IsReal s) (b : Branches) (sound : IsSound b) (right : AreRight s b) (live : (i : ℕ) → is_in i s.live ≡ slot_in b.slots.items i) where
@@ -74,7 +88,3 @@ module _ (s : Scene) (real : IsReal s) (b : Branches) (sound : IsSound b) (right
     room = sound.shape.slots_room;
     whole = refl;
   }
-
--- the members are those before
-pub live_still : (b x : Branches) (whole : Bool) (s : Scene) → IsReadyEnvelope (seen_as b whole) s → x.slots.items ≡ b.slots.items → (i : ℕ) → is_in i s.live ≡ slot_in x.slots.items i
-live_still b x whole s ready same i = ready.members i ∙ ap (λ l. slot_in l i) (sym same)

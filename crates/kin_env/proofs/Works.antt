@@ -17,11 +17,12 @@ use Rattle.kin_overlay.specs.Fingers.{AreLess}
 use Rattle.kin_overlay.specs.Overlays.{Merge}
 use Rattle.kin_tourney.specs.declared.doubt.Doubt.TheVariants.{Here}
 use Rattle.kin_tourney.specs.Standings.{doubt_in}
+use Rattle.kin_tourney.specs.Repairs.{IsLowest}
 use Rattle.kin_env.specs.declared.node.Node.{Node}
 use Rattle.kin_env.specs.declared.branches.Branches.{Branches}
 use Rattle.kin_env.specs.Nodes.{chain_with, chain_of, facts_with, merge_from, passed_from, edits_from, failed_from, merge_at, passed_at, chain_at, edits_at, failed_at, facts_at}
 use Rattle.kin_env.specs.Joints.{Leads, IsJoint, IsSettledThere, AreHalves, IsTold, IsRestingWith}
-use Rattle.kin_env.specs.Walks.{slot_in, own_chain, AreJoined, IsInner, IsWalked, IsNext, IsRight, IsQuieted, IsWorked, IsHeard}
+use Rattle.kin_env.specs.Walks.{slot_in, own_chain, AreJoined, IsInner, IsWalked, IsRight, IsQuieted, IsWorked, IsHeard}
 use Rattle.kin_env.proofs.Tellings.{none_failed}
 use Rattle.kin_env.specs.Levels.{halves_apart}
 use Rattle.kin_env.specs.Halves.{are_halves, right_above, leaf_right}
@@ -62,7 +63,7 @@ live_fits s size slots room live i h = at (nat_lt i (2 ^ size)) refl
     at true e = grind (arith, nat_tests, e)
     at false e = absurd (let past : 2 ^ size ≤ i = grind (arith, nat_tests, e) in let z : true ≡ false = sym h ∙ live i ∙ get_or_past slots i false (omega arith) in cc)
 
-module _ (s : Scene) (real : IsReal s) (t : Branches) (w : IsWalked s t) (v : ℕ) (n : IsNext t v) where
+module _ (s : Scene) (real : IsReal s) (t : Branches) (w : IsWalked s t) (v : ℕ) (n : IsLowest t.doubts.items v) where
   abbrev ns : List Node
   ns = t.nodes.items
 
@@ -71,10 +72,10 @@ module _ (s : Scene) (real : IsReal s) (t : Branches) (w : IsWalked s t) (v : �
 
   module _ (inner : v < 2 ^ t.size) where
     left : IsRight s t.size ns (2 * v)
-    left = let some = n.some in w.right (2 * v) (omega arith) (omega arith) (n.halves (2 * v) (omega arith) (omega arith))
+    left = let some = n.some in w.right (2 * v) (omega arith) (omega arith) (n.halves_clear (2 * v) (omega arith) (omega arith))
 
     right : IsRight s t.size ns (2 * v + 1)
-    right = let some = n.some in w.right (2 * v + 1) (omega arith) (omega arith) (n.halves (2 * v + 1) (omega arith) (omega arith))
+    right = let some = n.some in w.right (2 * v + 1) (omega arith) (omega arith) (n.halves_clear (2 * v + 1) (omega arith) (omega arith))
 
     halves : AreHalves s (chain_at ns (2 * v)) (chain_at ns (2 * v + 1))
     halves = are_halves s t.size fits v n.some inner real (chain_at ns (2 * v)) (chain_at ns (2 * v + 1)) left.chain right.chain
@@ -199,7 +200,7 @@ module _ (s : Scene) (real : IsReal s) (t : Branches) (w : IsWalked s t) (v : �
 
       own : IsUpperChain s (points_under t.size s v) (own_chain (v - 2 ^ t.size) (slot_in t.slots.items (v - 2 ^ t.size)))
       own =
-          let inside = n.inside in
+          let inside : v < 2 * 2 ^ t.size = omega (arith, n.inside, w.shape.doubts_room) in
           let same : 2 ^ t.size + (v - 2 ^ t.size) ≡ v = omega arith in
           subst (λ u. IsUpperChain s (points_under t.size s u) (own_chain (v - 2 ^ t.size) (slot_in t.slots.items (v - 2 ^ t.size)))) same
           (leaf_right s real t.size (v - 2 ^ t.size) (slot_in t.slots.items (v - 2 ^ t.size)) (omega arith) fits (w.live (v - 2 ^ t.size)))

@@ -79,13 +79,6 @@ pub record IsWalked (s : Scene) (t : Branches) : Type 0 where
   pub failing : (v : ℕ) → 0 < v → ListsFailing (facts_at t.nodes.items v) spared s (failed_at t.nodes.items v)
   pub right : (v : ℕ) → 0 < v → v < 2 * 2 ^ t.size → doubt_in t.doubts.items v ≡ Clear → IsRight s t.size t.nodes.items v
 
--- a node to be visited next: it is in doubt, and its halves are clear
-pub record IsNext (t : Branches) (v : ℕ) : Type 0 where
-  pub some : 0 < v
-  pub inside : v < 2 * 2 ^ t.size
-  pub doubted : doubt_in t.doubts.items v ≢ Clear
-  pub halves : (u : ℕ) → 0 < u → u / 2 ≡ v → doubt_in t.doubts.items u ≡ Clear
-
 -- the edits of a node were taken in
 pub record IsQuieted (old new : List Node) (v : ℕ) : Type 0 where
   pub merge : merge_at new v ≡ merge_at old v

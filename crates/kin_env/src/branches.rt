@@ -1,23 +1,24 @@
 //! The nodes of the tree, and the way through those that have work.
 
-ghost use Rattle.std.specs.Prelude.{◌≡◌, ◌≢◌, ◌⊎◌, ℕ, ◌+◌, ◌*◌, ◌/◌, ◌^◌, ◌-◌, ◌<◌, ◌≤◌, ◌↔◌, true, false, [], ◌++◌, nat_eq, length, filter, replicate, slice_get, slice_set, slice_index_or, Some, None, IfOk, OnOk, MatchOption, IsTrue, IsFalse};
+ghost use Rattle.std.specs.Prelude.{◌≡◌, ◌≢◌, ℕ, ◌+◌, ◌*◌, ◌/◌, ◌^◌, ◌-◌, ◌<◌, ◌≤◌, ◌↔◌, false, [], length, replicate, slice_get, slice_set, slice_index_or, Some, None, IfOk, OnOk, IsTrue, IsFalse};
 ghost use Rattle.kin_motion.specs.declared.fact.Placed.{Placed as Put};
 ghost use Rattle.kin_motion.specs.Kinetics.{HasChanged};
 ghost use Rattle.kin_motion.specs.Scene.{IsReal};
 ghost use Rattle.kin_tourney.specs.declared.doubt.Doubt.TheVariants.{Below};
-ghost use Rattle.kin_tourney.specs.Standings.{IsClosed, doubt_in, doubt_count};
-ghost use Rattle.kin_tourney.specs.Repairs.{IsSpread, IsDoubted};
+ghost use Rattle.kin_tourney.specs.Standings.{IsClosed, doubt_in};
+ghost use Rattle.kin_tourney.specs.Repairs.{IsSpread, IsDoubted, IsLowest};
 ghost use Rattle.kin_env.specs.declared.node.Node.{Node as Knot};
-ghost use Rattle.kin_env.specs.Nodes.{merge_at, passed_at, chain_at, edits_at, failed_at, facts_at};
-ghost use Rattle.kin_env.specs.Joints.{Leads, IsTold, IsVisited, IsRestingWith};
-ghost use Rattle.kin_env.specs.Walks.{IsShaped, IsSound, IsWalked, IsNext, IsQuieted, IsWorked, IsRenewed, AreBlank, AreGiven, IsHeard, IsAtPeace, AreRight, IsReady, slot_in, own_chain, tree_facts};
+ghost use Rattle.kin_env.specs.Nodes.{merge_at, passed_at, chain_at, edits_at, failed_at};
+ghost use Rattle.kin_env.specs.Joints.{Leads, IsTold, IsRestingWith};
+ghost use Rattle.kin_env.specs.Walks.{IsShaped, IsSound, IsWalked, IsWorked, IsRenewed, AreBlank, AreGiven, IsHeard, IsAtPeace, AreRight, IsReady, slot_in, own_chain, tree_facts};
 
 use crate::node::Node;
 use kin_motion::fact::{Delta, Placed};
 use kin_motion::signs::Signs;
 use kin_num::memory::NoMemory;
 use kin_num::steps::Steps;
-use kin_tourney::doubt::{Doubt, doubt_failed, doubt_path};
+use kin_tourney::descent::{first_doubt, next_doubt};
+use kin_tourney::doubt::{Doubt, doubt_failed, doubt_path, no_doubts};
 use std::alloc::Global;
 use std::sync::ledger::Ledger;
 
@@ -50,16 +51,6 @@ fn no_slots(alloc: Global, count: usize) -> Result<Vec<bool>, NoMemory>
 {
     let slots = Vec::from_elem(alloc, false, count)?;
     Ok(slots)
-}
-
-/// So many nodes of which only node 0 isn't clear.
-fn no_doubts(alloc: Global, count: usize) -> Result<Vec<Doubt>, NoMemory>
-    requires { 0 < count }
-    ensures { IfOk result (λ v. v.items ≡ slice_set (replicate count Doubt.Clear) 0 Doubt.Here) }
-{
-    let mut doubts = Vec::from_elem(alloc, Doubt::Clear, count)?;
-    doubts[0] = Doubt::Here;
-    Ok(doubts)
 }
 
 /// So many nodes without points.
@@ -208,50 +199,12 @@ impl Branches {
         Ok(())
     }
 
-    fn is_clear(&self, node: usize) -> bool
-        requires shape { IsShaped self.now }
-        requires inside { node < 2 * 2 ^ self.now.size }
-        ensures { IsTrue result ↔ (doubt_in self.now.doubts.items node ≡ Doubt.Clear) }
-    {
-        self.doubts[node].is_clear()
-    }
-
     fn has_work(&self, node: usize) -> bool
         requires shape { IsShaped self.now }
         requires inside { node < 2 * 2 ^ self.now.size }
         ensures { IsTrue result ↔ (doubt_in self.now.doubts.items node ≡ Doubt.Here) }
     {
         self.doubts[node].is_here()
-    }
-
-    /// The root where it isn't clear, or 0.
-    fn doubted_root(&self) -> usize
-        requires shape { IsShaped self.now }
-        ensures { (result ≡ 0) × (doubt_in self.now.doubts.items 1 ≡ Doubt.Clear) ⊎ (result ≡ 1) × (doubt_in self.now.doubts.items 1 ≢ Doubt.Clear) }
-    {
-        if self.is_clear(1) { 0 } else { 1 }
-    }
-
-    /// The first half of a node that isn't clear.
-    fn doubted_half(&self, node: usize) -> Option<usize>
-        requires shape { IsShaped self.now }
-        requires some { 0 < node }
-        requires inside { node < 2 * 2 ^ self.now.size }
-        ensures { MatchOption result
-            ((v : ℕ) → 0 < v → v / 2 ≡ node → doubt_in self.now.doubts.items v ≡ Doubt.Clear)
-            (λ half. (half / 2 ≡ node) × (node < half) × (half < 2 * 2 ^ self.now.size) × (doubt_in self.now.doubts.items half ≢ Doubt.Clear)) }
-    {
-        let left = 2 * node;
-        if left >= self.nodes.len() {
-            return None;
-        }
-        if !self.is_clear(left) {
-            return Some(left);
-        }
-        if !self.is_clear(left + 1) {
-            return Some(left + 1);
-        }
-        None
     }
 
     /// Takes in whether a slot holds its number.
@@ -306,7 +259,7 @@ impl Branches {
     ) -> Result<(), NoMemory>
         requires real { IsReal (O.scene now.now) }
         requires walked { IsWalked (O.scene now.now) self.old }
-        requires next { IsNext self.old node }
+        requires next { IsLowest self.old.doubts.items node }
         ensures walked { OnOk result (IsWalked (O.scene now.now) self.new) }
         ensures renewed { OnOk result (IsRenewed node self.old self.new out.old out.new) }
     {
@@ -325,7 +278,7 @@ impl Branches {
     ) -> Result<(), NoMemory>
         requires real { IsReal (O.scene now.now) }
         requires walked { IsWalked (O.scene now.now) self.old }
-        requires next { IsNext self.old node }
+        requires next { IsLowest self.old.doubts.items node }
         ensures same { self.new ≡ record self.old { nodes = self.new.nodes } }
         ensures worked { OnOk result (IsWorked (O.scene now.now) self.old.size node self.old.nodes.items self.new.nodes.items out.old out.new) }
     {
@@ -385,14 +338,10 @@ impl Branches {
         ensures right { OnOk result (AreRight (O.scene now.now) self.new) }
         ensures delta { OnOk result (HasChanged (tree_facts self.old.size self.old.nodes.items) (tree_facts self.new.size self.new.nodes.items) out.old out.new) }
     {
-        let mut node = self.doubted_root();
+        let mut node = first_doubt(&self.doubts, 1);
         while node > 0 {
-            if let Some(half) = self.doubted_half(node) {
-                node = half;
-            } else {
-                self.renew(node, now, out, steps)?;
-                node /= 2;
-            }
+            self.renew(node, now, out, steps)?;
+            node = next_doubt(&self.doubts, node);
         }
         self.quiet_root();
         Ok(())

@@ -1,6 +1,6 @@
 -- A hull that is settled by its trees.
 use Rattle.std.proofs.Common.{◌≡◌, ◌⊎◌, inl, inr, sym, ap, ap₂, ◌∙◌, subst, List, ◌++◌, ℕ, ◌^◌, ◌<◌, ◌≤◌, Bool, true, not, ◌&&◌, map, filter}
-use Rattle.std.specs.Prelude.{Contains}
+use Rattle.std.specs.Prelude.{Contains, IsTrue}
 use Rattle.kin_motion.specs.declared.fact.Placed.{Placed}
 use Rattle.kin_motion.specs.Deltas.{Change}
 use Rattle.kin_motion.specs.Kinetics.{ListsFailing, HasChanged}
@@ -14,7 +14,7 @@ use Rattle.kin_env.specs.Walks.{slot_in, own_chain}
 use Rattle.kin_hull.specs.declared.side.Side.{Side}
 use Rattle.kin_hull.specs.declared.side.Side.TheVariants.{Upper, Lower}
 use Rattle.kin_hull.specs.HullLaws.{settled_upright, hull_settled}
-use Rattle.kin_hull.specs.Hulls.{ArePaired}
+use Rattle.kin_hull.specs.Hulls.{Hull, ArePaired, IsReadyHull, facts_of}
 use Rattle.kin_hull.specs.SideLaws.{same_form, not_of_both}
 use Rattle.kin_hull.specs.Sides.{outward, inward, is_of}
 use Rattle.kin_hull.proofs.Splitting.{sorted_failing, upper_out, lower_out, upper_back, lower_back, mapped_of}
@@ -34,19 +34,26 @@ spared_alike : (upper lower : Envelope) → ArePaired upper lower → (x : Place
 spared_alike upper lower known x =
     same_named x.fact.form (leaving_of upper) (leaving_of lower) (λ i. (same_leave lower upper (sym known.size) (sym known.slots) (λ j h. sym (known.leaves j (subst (λ n. j < 2 ^ n) known.size h))) i, same_leave upper lower known.size known.slots known.leaves i))
 
-module _ (upper lower : Envelope) (s : Scene) (failed : List Placed) (known : ArePaired upper lower) (real : IsReal s)
-    (failing : ListsFailing (map (outward Upper) upper.facts ++ map (outward Lower) lower.facts) (names_leaving upper) s failed) where
-  pub upper_failing : ListsFailing upper.facts (names_leaving upper) s (map (inward Upper) (filter (is_of Upper) failed))
-  upper_failing =
-      sorted_failing Upper s real upper.facts (map (outward Upper) upper.facts ++ map (outward Lower) lower.facts) failed (names_leaving upper) (names_leaving upper)
-      (settled_upright upper known.seen known.settled.upper) (upper_out upper.facts lower.facts) (upper_back upper.facts lower.facts)
-      (spared_out Upper upper) failing
+-- callers see the trees as a hull, which is ready
+module _ (upper lower : Envelope) (whole : Bool) (s : Scene) (seen : Hull) (paired : IsTrue whole → ArePaired upper lower) (view : record { upper = upper; lower = lower; whole = whole } ≡ seen) (may : IsReadyHull seen s) where
+  pub known : ArePaired upper lower
+  known = paired (subst (λ (k : Hull). IsReadyHull k s) (sym view) may).whole
 
-  pub lower_failing : ListsFailing lower.facts (names_leaving lower) (turned s) (map (inward Lower) (filter (is_of Lower) failed))
-  lower_failing =
-      sorted_failing Lower s real lower.facts (map (outward Upper) upper.facts ++ map (outward Lower) lower.facts) failed (names_leaving upper) (names_leaving lower)
-      (settled_upright lower (turned known.seen) known.settled.lower) (lower_out upper.facts lower.facts) (lower_back upper.facts lower.facts)
-      (λ x. spared_out Lower upper x ∙ spared_alike upper lower known x) failing
+  module _ (failed : List Placed) (real : IsReal s) (told : ListsFailing (facts_of seen) (names_leaving seen.upper) s failed) where
+    failing : ListsFailing (map (outward Upper) upper.facts ++ map (outward Lower) lower.facts) (names_leaving upper) s failed
+    failing = subst (λ (k : Hull). ListsFailing (facts_of k) (names_leaving k.upper) s failed) (sym view) told
+
+    pub upper_failing : ListsFailing upper.facts (names_leaving upper) s (map (inward Upper) (filter (is_of Upper) failed))
+    upper_failing =
+        sorted_failing Upper s real upper.facts (map (outward Upper) upper.facts ++ map (outward Lower) lower.facts) failed (names_leaving upper) (names_leaving upper)
+        (settled_upright upper known.seen known.settled.upper) (upper_out upper.facts lower.facts) (upper_back upper.facts lower.facts)
+        (spared_out Upper upper) failing
+
+    pub lower_failing : ListsFailing lower.facts (names_leaving lower) (turned s) (map (inward Lower) (filter (is_of Lower) failed))
+    lower_failing =
+        sorted_failing Lower s real lower.facts (map (outward Upper) upper.facts ++ map (outward Lower) lower.facts) failed (names_leaving upper) (names_leaving lower)
+        (settled_upright lower (turned known.seen) known.settled.lower) (lower_out upper.facts lower.facts) (lower_back upper.facts lower.facts)
+        (λ x. spared_out Lower upper x ∙ spared_alike upper lower known x) failing
 
 -- both trees, settled at rest over the same slots, are paired again
 pub paired_again : (old_upper old_lower upper lower : Envelope) (s : Scene) → IsReal s → ArePaired old_upper old_lower

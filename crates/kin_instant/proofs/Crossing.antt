@@ -6,7 +6,7 @@ use Rattle.kin_algebra.specs.declared.sign.Sign.{Sign}
 use Rattle.kin_algebra.specs.declared.sign.Sign.TheVariants.{Minus, Zero, Plus}
 use Rattle.kin_algebra.specs.Signs.{sign_of, opposite_of}
 use Rattle.kin_algebra.proofs.Signs.{code, opposite-opposite}
-use Rattle.kin_algebra.proofs.IntegerSigns.{sign_of-negative, sign_in, sign_out, zero_of}
+use Rattle.kin_algebra.proofs.IntegerSigns.{sign_of-negative, sign_out, zero_of}
 use Rattle.kin_num.specs.declared.instant.Moment.{Moment}
 use Rattle.kin_num.specs.declared.instant.Phase.{Phase}
 use Rattle.kin_num.specs.declared.instant.Phase.TheVariants.{At, After}

@@ -1,5 +1,5 @@
 -- Which root of a quadratic comes next, by the signs of its value and of its slope.
-use Rattle.std.proofs.Common.{◌≡◌, ◌≢◌, ◌⊎◌, inl, inr, Option, Some, None, MatchOption, refl, ap, sym, ◌∙◌, subst, Bool, true, false, arith, ℤ, pos, ◌*ℤ◌, ◌+ℤ◌}
+use Rattle.std.proofs.Common.{◌≡◌, ◌≢◌, ◌⊎◌, inl, inr, Option, Some, None, MatchOption, refl, ap, sym, ◌∙◌, subst, true, false, arith, ℤ, pos, ◌*ℤ◌, ◌+ℤ◌}
 use Rattle.std.specs.Prelude.{◌<ℤ◌}
 use Rattle.std.proofs.lemmas.Int.{ints}
 use lib.IntN.{neg_ℤ}
@@ -17,7 +17,6 @@ use Rattle.kin_num.specs.Instants.{sign_at_instant, sign_at, derivative, line}
 use Rattle.kin_num.specs.Order.{IsLess}
 use Rattle.kin_num.proofs.Values.{negated}
 use Rattle.kin_num.proofs.SignLaws.{sign_at-neg}
-use Rattle.kin_num.proofs.RootZeros.{root_itself}
 use Rattle.kin_num.proofs.LowerFractions.{not_less_itself, less_trans, less_asym}
 use Rattle.kin_instant.specs.declared.roots.Roots.{Roots}
 use Rattle.kin_instant.specs.declared.roots.Roots.TheVariants.{Nowhere, One, Two, All}
@@ -27,8 +26,8 @@ use Rattle.kin_instant.specs.Places.{IsZeroPolynomial, IsNextRoot, HasNoRootAfte
 use Rattle.kin_instant.specs.Laws.{IsNext}
 use Rattle.kin_instant.proofs.Zeros.{line-zero_at, positive_product}
 use Rattle.kin_instant.proofs.RootsOf.{negated_zeros}
-use Rattle.kin_instant.proofs.Factors.{cofactor, instant-slope, same_value, same_slope}
-use Rattle.kin_instant.proofs.SignTable.{IsAt, IsPlace, by_degree, line_place, Places, places, double_line, other_line, not_single, positive_signed}
+use Rattle.kin_instant.proofs.Factors.{cofactor, instant-slope, same_slope}
+use Rattle.kin_instant.proofs.SignTable.{IsAt, IsPlace, by_degree, line_place, places, double_line, other_line, not_single, by_surds, positive_signed}
 use Rattle.kin_instant.proofs.Nexts.{IsEmpty, nowhere, everywhere, one_next, one_none, first_next, second_next, two_none}
 use Rattle.kin_instant.proofs.Kept.{keeps}
 
@@ -101,38 +100,17 @@ module _ (a b c : ℤ) (h : pos 0 <ℤ a) (m : Moment) (i : IsCanonicalForm m.at
         ),
       )
 
-  irrational_sloped : (a' b' c' : ℤ) (u : Bool) (s : Shape) → AreRootsOf q (Two (Root a' b' c' u) s) → IsSloped (Two (Root a' b' c' u) s)
-  irrational_sloped a' b' c' u s k = by_sides u (root_itself a' b' c' j s sj zero_there) k
-    where
-      j : IsIrreducible a' b' c'
-      j = k.canonical.0.form
-
-      z : sign_at_instant q (Root a' b' c' u) ≡ Zero
-      z = (k.exact (Root a' b' c' u) j).1 (inl refl)
-
-      sj : IsCanonicalForm s
-      sj = k.canonical.1.form
-
-      zero_there : sign_at_instant (quadratic a' b' c') s ≡ Zero
-      zero_there = sym (same_value q a' b' c' j u z h s sj) ∙ (k.exact s sj).1 (inr refl)
-
-      here : Places a' b' c' j w i (sign_at_instant (quadratic a' b' c') w) (sign_at_instant (derivative (quadratic a' b' c')) w)
-      here = places a' b' c' j w i _ _ refl refl
-
-      sum : SumMayBe here.lower here.upper slope
-      sum = subst (SumMayBe here.lower here.upper) (sym (same_slope q a' b' c' j u z h w i)) here.slope
-
-      by_sides : (u : Bool) → (v : Bool) × (s ≡ Root a' b' c' v) → AreRootsOf q (Two (Root a' b' c' u) s) → IsSloped (Two (Root a' b' c' u) s)
-      by_sides true (true, e) k = absurd (not_less_itself s (subst (λ (x : Shape). IsLess x s) (sym e) k.rising))
-      by_sides false (false, e) k = absurd (not_less_itself s (subst (λ (x : Shape). IsLess x s) (sym e) k.rising))
-      by_sides false (true, e) k = (here.lower, here.upper, (here.at_lower, subst (λ (x : Shape). IsAt w x here.upper) (sym e) here.at_upper, sum))
-      by_sides true (false, e) k = (here.upper, here.lower, (here.at_upper, subst (λ (x : Shape). IsAt w x here.lower) (sym e) here.at_lower, sum_turned _ _ _ sum))
+  surds_sloped : (a' b' c' : ℤ) → IsIrreducible a' b' c' → AreRootsOf q (Two (Root a' b' c' false) (Root a' b' c' true)) → IsSloped (Two (Root a' b' c' false) (Root a' b' c' true))
+  surds_sloped a' b' c' j k =
+      let z = (k.exact (Root a' b' c' false) j).1 (inl refl) in
+      let here = places a' b' c' j w i _ _ refl refl in
+      (here.lower, here.upper, (here.at_lower, here.at_upper, subst (SumMayBe here.lower here.upper) (sym (same_slope q a' b' c' j false z h w i)) here.slope))
 
   sloped : (answer : Roots) → AreRootsOf q answer → IsSloped answer
   sloped Nowhere k = tt
   sloped (One r) k = one_sloped r k
   sloped (Two (Ratio n d) s) k = rational_sloped n d s k
-  sloped (Two (Root a' b' c' u) s) k = irrational_sloped a' b' c' u s k
+  sloped (Two (Root a' b' c' u) s) k = by_surds a b c h w i m.phase IsSloped surds_sloped a' b' c' u s k
   sloped All k = tt
 
   -- ---- the sign by the places to the roots
@@ -253,13 +231,8 @@ not_zero p z = record { a_zero = turned p.a z.a_zero; b_zero = turned p.b z.b_ze
 
 kept_back : (p : Quadratic) (w : Shape) (o : Option Shape) → KeepsSign (negated p) w o → KeepsSign p w o
 kept_back p w o h m n e fm fn some earlier until =
-    let same = h m n e fm fn (λ z. some (zero_back (sign_at p m) (sym (sign_at-neg p m) ∙ z))) earlier until in
+    let same = h m n e fm fn (λ z. some (sym (opposite-opposite (sign_at p m)) ∙ ap opposite_of (sym (sign_at-neg p m) ∙ z))) earlier until in
     sym (opposite-opposite (sign_at p n)) ∙ ap opposite_of (sym (sign_at-neg p n) ∙ same ∙ sign_at-neg p m) ∙ opposite-opposite (sign_at p m)
-  where
-    zero_back : (s : Sign) → opposite_of s ≡ Zero → s ≡ Zero
-    zero_back Minus e = absurd (code e)
-    zero_back Zero e = refl
-    zero_back Plus e = absurd (code e)
 
 pub next_back : (p : Quadratic) (w : Shape) (o : Option Shape) → IsNext (negated p) w o → IsNext p w o
 next_back p w o h = record { found = by_option o h.found; kept = kept_back p w o h.kept }

@@ -7,15 +7,15 @@ use Rattle.kin_num.specs.Canonical.{discriminant}
 use Rattle.kin_num.specs.Roots.{IsWholeRoot}
 use Rattle.kin_instant.specs.Roots.{quadratic}
 
-pub size : (a b c : ℤ) (s : ℕ) → IsSmall (quadratic a b c) → pos s ≡ discriminant a b c → s ≤ 2 ^ 59
-size a b c s h e =
-    let first : unsigned_abs (b *ℤ b) ≤ 2 ^ 58 = size-product b b (2 ^ 29) (2 ^ 29) h.b_small h.b_small in
-    let quadruple : unsigned_abs (pos 4 *ℤ a) ≤ 2 ^ 30 = size-product (pos 4) a 4 (2 ^ 28) (omega arith) h.a_small in
-    let second : unsigned_abs (pos 4 *ℤ a *ℤ c) ≤ 2 ^ 58 = size-product (pos 4 *ℤ a) c (2 ^ 30) (2 ^ 28) quadruple h.c_small in
-    last (b *ℤ b) (pos 4 *ℤ a *ℤ c) s first second e
+pub discriminant_size : (a b c : ℤ) (k l m s : ℕ) → unsigned_abs a ≤ k → unsigned_abs b ≤ l → unsigned_abs c ≤ m → pos s ≡ discriminant a b c → s ≤ l * l + 4 * k * m
+discriminant_size a b c k l m s h i j e =
+    last (b *ℤ b) (pos 4 *ℤ a *ℤ c) (l * l) (4 * k * m) s (size-product b b l l i i) (size-product (pos 4 *ℤ a) c (4 * k) m (size-product (pos 4) a 4 k (omega arith) h) j) e
   where
-    last : (x y : ℤ) (n : ℕ) → unsigned_abs x ≤ 2 ^ 58 → unsigned_abs y ≤ 2 ^ 58 → pos n ≡ x -ℤ y → n ≤ 2 ^ 59
-    last x y n h k e = omega (arith, ints, e)
+    last : (x y : ℤ) (p q s : ℕ) → unsigned_abs x ≤ p → unsigned_abs y ≤ q → pos s ≡ x -ℤ y → s ≤ p + q
+    last x y p q s h i e = omega (arith, ints, e)
+
+pub size : (a b c : ℤ) (s : ℕ) → IsSmall (quadratic a b c) → pos s ≡ discriminant a b c → s ≤ 2 ^ 59
+size a b c s h e = omega (arith, discriminant_size a b c (2 ^ 28) (2 ^ 29) (2 ^ 28) s h.a_small h.b_small h.c_small e)
 
 pub root_size : (r s : ℕ) → r * r ≤ s → s ≤ 2 ^ 59 → r < 2 ^ 30
 root_size r s h k = lt_of_not-le (λ l. not-le_of_lt (below s k) (over (2 ^ 30 * 2 ^ 30) (r * r) s (mul-le-mul l l) h))

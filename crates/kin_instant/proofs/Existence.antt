@@ -17,6 +17,7 @@ use Rattle.kin_num.proofs.Divisors.{gcd_of}
 use Rattle.kin_instant.specs.declared.roots.Roots.{Roots}
 use Rattle.kin_instant.specs.declared.roots.Roots.TheVariants.{Nowhere, One, Two, All}
 use Rattle.kin_instant.specs.Roots.{quadratic, IsFraction, AreRootsOf}
+use Rattle.kin_instant.proofs.Widths.{doubled-size, upper-size, lower-size}
 use Rattle.kin_instant.proofs.Lowest.{quotient_of, not_more, lowest_of, crossed}
 use Rattle.kin_instant.proofs.Divided.{canonical}
 use Rattle.kin_instant.proofs.Discriminants.{size, root_size, irrational}
@@ -48,24 +49,15 @@ ratio_exists n d n_small d_small h =
     below x y m h k = omega (arith, h, k)
 
 -- ---- lines
+negative_size : (z : ℤ) (m : ℕ) → unsigned_abs z ≤ m → unsigned_abs (neg_ℤ z) ≤ m
+negative_size z m h = omega (arith, ints, h)
+
 module _ (b c : ℤ) (b_small : unsigned_abs b ≤ 2 ^ 29) (c_small : unsigned_abs c ≤ 2 ^ 28) where
   rising : pos 0 <ℤ b → HasRoots (quadratic (pos 0) b c)
-  rising h = let r = ratio_exists (neg_ℤ c) b (turned c c_small) (wide b b_small) h in (One r.0, rising_line b c h r.0 r.1 r.2)
-    where
-      turned : (c : ℤ) → unsigned_abs c ≤ 2 ^ 28 → unsigned_abs (neg_ℤ c) < 2 ^ 31
-      turned c h = omega (arith, ints)
-
-      wide : (b : ℤ) → unsigned_abs b ≤ 2 ^ 29 → unsigned_abs b < 2 ^ 31
-      wide b h = omega arith
+  rising h = let r = ratio_exists (neg_ℤ c) b (omega (arith, negative_size c (2 ^ 28) c_small)) (omega (arith, b_small)) h in (One r.0, rising_line b c h r.0 r.1 r.2)
 
   falling : b <ℤ pos 0 → HasRoots (quadratic (pos 0) b c)
-  falling h = let r = ratio_exists c (neg_ℤ b) (wide c c_small) (turned b b_small) (negative-some b h) in (One r.0, falling_line b c h r.0 r.1 r.2)
-    where
-      turned : (c : ℤ) → unsigned_abs c ≤ 2 ^ 29 → unsigned_abs (neg_ℤ c) < 2 ^ 31
-      turned c h = omega (arith, ints)
-
-      wide : (b : ℤ) → unsigned_abs b ≤ 2 ^ 28 → unsigned_abs b < 2 ^ 31
-      wide b h = omega arith
+  falling h = let r = ratio_exists c (neg_ℤ b) (omega (arith, c_small)) (omega (arith, negative_size b (2 ^ 29) b_small)) (negative-some b h) in (One r.0, falling_line b c h r.0 r.1 r.2)
 
   level : b ≡ pos 0 → HasRoots (quadratic (pos 0) b c)
   level e = by_constant c refl
@@ -89,28 +81,19 @@ module _ (a b c : ℤ) (up : pos 0 <ℤ a) (small : IsSmall (quadratic a b c)) w
   doubled = omega (arith, ints)
 
   doubled_small : unsigned_abs (pos 2 *ℤ a) < 2 ^ 31
-  doubled_small = less a small.a_small
-    where
-      less : (a : ℤ) → unsigned_abs a ≤ 2 ^ 28 → unsigned_abs (pos 2 *ℤ a) < 2 ^ 31
-      less a h = omega (arith, ints)
+  doubled_small = doubled-size a small.a_small
 
   -- the discriminant is the square of r
   rational : (r : ℕ) → r < 2 ^ 30 → pos r *ℤ pos r ≡ discriminant a b c → HasRoots (quadratic a b c)
   rational r h e = by_root r refl
     where
-      upper_small : (r : ℕ) (b : ℤ) → r < 2 ^ 30 → unsigned_abs b ≤ 2 ^ 29 → unsigned_abs (pos r -ℤ b) < 2 ^ 31
-      upper_small r b h k = omega (arith, ints)
-
-      lower_small : (r : ℕ) (b : ℤ) → r < 2 ^ 30 → unsigned_abs b ≤ 2 ^ 29 → unsigned_abs (neg_ℤ (pos r) -ℤ b) < 2 ^ 31
-      lower_small r b h k = omega (arith, ints)
-
       by_root : (n : ℕ) → r ≡ n → HasRoots (quadratic a b c)
       by_root zero z =
-          let s = ratio_exists (pos r -ℤ b) (pos 2 *ℤ a) (upper_small r b h small.b_small) doubled_small doubled in
+          let s = ratio_exists (pos r -ℤ b) (pos 2 *ℤ a) (upper-size (pos r) b h small.b_small) doubled_small doubled in
           (One s.0, double_root a b c (pos r) up e (ap pos z) s.0 s.1 s.2)
       by_root (suc n) z =
-          let l = ratio_exists (neg_ℤ (pos r) -ℤ b) (pos 2 *ℤ a) (lower_small r b h small.b_small) doubled_small doubled in
-          let s = ratio_exists (pos r -ℤ b) (pos 2 *ℤ a) (upper_small r b h small.b_small) doubled_small doubled in
+          let l = ratio_exists (neg_ℤ (pos r) -ℤ b) (pos 2 *ℤ a) (lower-size (pos r) b h small.b_small) doubled_small doubled in
+          let s = ratio_exists (pos r -ℤ b) (pos 2 *ℤ a) (upper-size (pos r) b h small.b_small) doubled_small doubled in
           (Two l.0 s.0, two_fractions a b c (pos r) up e (pos-some r (omega (arith, z))) l.0 s.0 l.1 s.1 l.2 s.2)
 
   -- it is positive, and no square
@@ -157,10 +140,7 @@ turned_roots : (p : Quadratic) → HasRoots (negated p) → HasRoots p
 turned_roots p h = (h.0, turned_answer p h.0 h.1)
 
 turned_small : (p : Quadratic) → IsSmall p → IsSmall (negated p)
-turned_small p s = record { a_small = turned p.a (2 ^ 28) s.a_small; b_small = turned p.b (2 ^ 29) s.b_small; c_small = turned p.c (2 ^ 28) s.c_small }
-  where
-    turned : (z : ℤ) (m : ℕ) → unsigned_abs z ≤ m → unsigned_abs (neg_ℤ z) ≤ m
-    turned z m h = omega (arith, ints, h)
+turned_small p s = record { a_small = negative_size p.a (2 ^ 28) s.a_small; b_small = negative_size p.b (2 ^ 29) s.b_small; c_small = negative_size p.c (2 ^ 28) s.c_small }
 
 pub roots_exist : (p : Quadratic) → IsSmall p → HasRoots p
 roots_exist p small = by_lead p.a refl

@@ -4,7 +4,7 @@ use Rattle.std.specs.Prelude.{◌<ℤ◌}
 use Rattle.std.specs.Int.{IsGcd, ◌∣◌}
 use Rattle.std.proofs.lemmas.Int.{ints, unsigned_abs-mul}
 use Rattle.std.proofs.lemmas.Nat.Gcd.{mod-eq-zero_of_dvd}
-use Rattle.std.proofs.Math.Nat.{mul_comm, mul-one, one-mul, dvd-mul_right, mul-dvd-mul_left, dvd_of_mul-dvd-mul_left}
+use Rattle.std.proofs.Math.Nat.{mul_comm, mul-one, one-dvd, mul-dvd-mul_left, dvd_of_mul-dvd-mul_left}
 use lib.IntN.{neg_ℤ}
 use Rattle.kin_basics.proofs.Integers.{pos-some}
 use Rattle.kin_algebra.specs.declared.sign.Sign.TheVariants.{Plus}
@@ -16,10 +16,7 @@ use Rattle.kin_num.specs.Canonical.{IsLowest}
 
 -- where x = x' * g and y = y' * g, and g is the greatest common divisor, x' and y' have none but 1
 pub lowest_after : (x y x' y' g : ℕ) → 0 < g → IsGcd x y g → x ≡ x' * g → y ≡ y' * g → IsGcd x' y' 1
-lowest_after x y x' y' g h i p q = (one x', one y', λ k s t. dvd_of_mul-dvd-mul_left k h (subst (λ z. g * k ∣ z) (sym (mul-one g)) (i.2 (g * k) (subst (λ z. g * k ∣ z) (sym (p ∙ mul_comm x' g)) (mul-dvd-mul_left k g s)) (subst (λ z. g * k ∣ z) (sym (q ∙ mul_comm y' g)) (mul-dvd-mul_left k g t)))))
-  where
-    one : (x : ℕ) → 1 ∣ x
-    one x = subst (λ z. 1 ∣ z) (one-mul x) (dvd-mul_right 1 x)
+lowest_after x y x' y' g h i p q = (one-dvd x', one-dvd y', λ k s t. dvd_of_mul-dvd-mul_left k h (subst (λ z. g * k ∣ z) (sym (mul-one g)) (i.2 (g * k) (subst (λ z. g * k ∣ z) (sym (p ∙ mul_comm x' g)) (mul-dvd-mul_left k g s)) (subst (λ z. g * k ∣ z) (sym (q ∙ mul_comm y' g)) (mul-dvd-mul_left k g t)))))
 
 -- a division that leaves no remainder
 multiple_of : (x g : ℤ) → unsigned_abs g ∣ unsigned_abs x → (k : ℕ) → unsigned_abs x ≡ unsigned_abs g * k → pos 0 <ℤ g → (s : ℤ) × (x ≡ s *ℤ g)

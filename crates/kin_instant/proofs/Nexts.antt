@@ -51,9 +51,6 @@ module _ (p : Quadratic) (w : Shape) where
   some_next r n c (inl z) = c (count_of_zero p z)
   some_next r n c (inr e) = e r n.canonical.form n.root n.later
 
-  pub one_counted : (r : Shape) → AreRootsOf p (One r) → root_count p ≢ None
-  one_counted r h e = absurd (let f : Some 1 ≡ None = h.number ∙ e in cc)
-
   pub two_counted : (r s : Shape) → AreRootsOf p (Two r s) → root_count p ≢ None
   two_counted r s h e = absurd (let f : Some 2 ≡ None = h.number ∙ e in cc)
 

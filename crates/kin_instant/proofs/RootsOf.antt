@@ -113,16 +113,16 @@ negative_discriminant a b c h k = record {
 zero_factor : (s t u : Sign) → s ≡ product_of t u → (s ≡ Zero) ↔ ((t ≡ Zero) ⊎ (u ≡ Zero))
 zero_factor s t u e = (λ z. (product_none t u).0 (sym e ∙ z), λ k. e ∙ (product_none t u).1 k)
 
+pub one_root_above : (root b : ℤ) → root ≡ pos 0 → neg_ℤ root -ℤ b ≡ root -ℤ b
+one_root_above root b z = omega (arith, ints, z)
+
 pub double_root : (a b c root : ℤ) → pos 0 <ℤ a → root *ℤ root ≡ discriminant a b c → root ≡ pos 0 → (r : Shape) → IsFraction (root -ℤ b) (pos 2 *ℤ a) r → IsCanonical r → AreRootsOf (quadratic a b c) (One r)
 double_root a b c root h e z r f k =
     one_root (quadratic a b c) (root -ℤ b) (pos 2 *ℤ a) (doubled_positive a h) r f k same
     (count_plus a b c Zero h (ap sign_of (sym e ∙ ap₂ (λ (x y : ℤ). x *ℤ y) z z)))
   where
     lines : line (neg_ℤ root -ℤ b) (pos 2 *ℤ a) ≡ line (root -ℤ b) (pos 2 *ℤ a)
-    lines = ap (λ (x : ℤ). line x (pos 2 *ℤ a)) (equal root b z)
-      where
-        equal : (root b : ℤ) → root ≡ pos 0 → neg_ℤ root -ℤ b ≡ root -ℤ b
-        equal root b z = omega (arith, ints, z)
+    lines = ap (λ (x : ℤ). line x (pos 2 *ℤ a)) (one_root_above root b z)
 
     same : SameZeros (quadratic a b c) (line (root -ℤ b) (pos 2 *ℤ a))
     same w i =

@@ -9,7 +9,7 @@ use Rattle.kin_algebra.specs.Signs.{sign_of, product_of, first_of, SumMayBe}
 use Rattle.kin_algebra.proofs.Rings.{times_zero}
 use Rattle.kin_algebra.proofs.Integers.{integers}
 use Rattle.kin_algebra.proofs.Ring.{by_ring, quotes}
-use Rattle.kin_algebra.proofs.Signs.{code, product_commutes}
+use Rattle.kin_algebra.proofs.Signs.{code}
 use Rattle.kin_algebra.proofs.IntegerSigns.{sign_in, sign_out, zero_of}
 use Rattle.kin_num.specs.declared.instant.Shape.{Shape}
 use Rattle.kin_num.specs.declared.instant.Shape.TheVariants.{Ratio, Root}
@@ -23,7 +23,7 @@ use Rattle.kin_num.specs.Order.{IsLess}
 use Rattle.kin_num.proofs.Constants.{constant_sign, curvature_sign}
 use Rattle.kin_num.proofs.FractionOrder.{on_line, line_at_root}
 use Rattle.kin_num.proofs.RootZeros.{root_itself}
-use Rattle.kin_num.proofs.LowerFractions.{not_less_itself}
+use Rattle.kin_num.proofs.LowerFractions.{not_less_itself, less_asym}
 use Rattle.kin_num.proofs.InstantOrder.{below_upper, above_upper, at_upper, below_lower, above_lower, at_lower, above_fraction, below_fraction, never_level}
 use Rattle.kin_instant.specs.declared.roots.Roots.{Roots}
 use Rattle.kin_instant.specs.declared.roots.Roots.TheVariants.{Nowhere, One, Two, All}
@@ -82,11 +82,6 @@ module _ (r : Shape) (j : IsCanonicalForm r) (n d : ℤ) (k : pos 0 <ℤ d) (z :
       at (Root a b c u) j z s e = absurd (line_at_root a b c j u n d (sign_in Plus d k) z)
 
 -- ---- the sign at a moment
-is_zero : (s : Sign) → (s ≡ Zero) ⊎ (s ≢ Zero)
-is_zero Minus = inr (λ e. code e)
-is_zero Zero = inl refl
-is_zero Plus = inr (λ e. code e)
-
 -- just after an instant: the value, or the slope and the curvature
 pub at_after : (p : Quadratic) (w : Shape) → IsCanonicalForm w → sign_at p (record { at = w; phase = After }) ≡ first_of (sign_at_instant p w) (first_of (sign_at_instant (derivative p) w) (sign_of p.a))
 unfolding sign_at
@@ -299,47 +294,63 @@ module _ (a b c : ℤ) (h : pos 0 <ℤ a) (w : Shape) (i : IsCanonicalForm w) (f
         ),
       )
 
-  -- two irrational roots
-  irrational_signed : (a' b' c' : ℤ) (u : Bool) (s : Shape) → IsIrreducible a' b' c' → AreRootsOf q (Two (Root a' b' c' u) s) → IsSigned q (Two (Root a' b' c' u) s) m
-  irrational_signed a' b' c' u s j k = by_sides u (root_itself a' b' c' j s sj zero_there) k
+  -- two irrational roots are those of one irreducible quadratic, the lesser one first
+  surds : (a' b' c' : ℤ) (u : Bool) (s : Shape) → AreRootsOf q (Two (Root a' b' c' u) s) → (u ≡ false) × (s ≡ Root a' b' c' true)
+  surds a' b' c' u s k = by_sides u (root_itself a' b' c' j s sj zero_there) k
     where
-      z : sign_at_instant q (Root a' b' c' u) ≡ Zero
-      z = (k.exact (Root a' b' c' u) j).1 (inl refl)
+      j : IsIrreducible a' b' c'
+      j = k.canonical.0.form
 
       sj : IsCanonicalForm s
       sj = k.canonical.1.form
 
       zero_there : sign_at_instant (quadratic a' b' c') s ≡ Zero
-      zero_there = sym (same_value q a' b' c' j u z h s sj) ∙ (k.exact s sj).1 (inr refl)
+      zero_there = sym (same_value q a' b' c' j u ((k.exact (Root a' b' c' u) j).1 (inl refl)) h s sj) ∙ (k.exact s sj).1 (inr refl)
+
+      by_sides : (u : Bool) → (v : Bool) × (s ≡ Root a' b' c' v) → AreRootsOf q (Two (Root a' b' c' u) s) → (u ≡ false) × (s ≡ Root a' b' c' true)
+      by_sides false (true, e) k = (refl, e)
+      by_sides false (false, e) k = absurd (apart (Root a' b' c' false) s k e)
+      by_sides true (true, e) k = absurd (apart (Root a' b' c' true) s k e)
+      by_sides true (false, e) k = absurd (less_asym (Root a' b' c' true) s j sj k.rising (subst (λ (x : Shape). IsLess x (Root a' b' c' true)) (sym e) (rising_surds a' b' c' j)))
+
+  -- what is true of the roots of an irreducible quadratic is so of any two irrational roots
+  pub by_surds : (P : Roots → Type 0) → ((a' b' c' : ℤ) → IsIrreducible a' b' c' → AreRootsOf q (Two (Root a' b' c' false) (Root a' b' c' true)) → P (Two (Root a' b' c' false) (Root a' b' c' true)))
+      → (a' b' c' : ℤ) (u : Bool) (s : Shape) → AreRootsOf q (Two (Root a' b' c' u) s) → P (Two (Root a' b' c' u) s)
+  by_surds P own a' b' c' u s k =
+      let e = surds a' b' c' u s k in
+      let same : Two (Root a' b' c' u) s ≡ Two (Root a' b' c' false) (Root a' b' c' true) = ap₂ (λ (v : Bool) (x : Shape). Two (Root a' b' c' v) x) e.0 e.1 in
+      subst P (sym same) (own a' b' c' k.canonical.0.form (subst (AreRootsOf q) same k))
+
+  surds_signed : (a' b' c' : ℤ) → IsIrreducible a' b' c' → AreRootsOf q (Two (Root a' b' c' false) (Root a' b' c' true)) → IsSigned q (Two (Root a' b' c' false) (Root a' b' c' true)) m
+  surds_signed a' b' c' j k = (
+    lift f here.lower,
+    lift f here.upper,
+    (
+      lifted w (Root a' b' c' false) f here.lower here.at_lower,
+      lifted w (Root a' b' c' true) f here.upper here.at_upper,
+      by_lead (lead_of q) _ _ (lead-plus q h) (signed f),
+    ),
+  )
+    where
+      z : sign_at_instant q (Root a' b' c' false) ≡ Zero
+      z = (k.exact (Root a' b' c' false) j).1 (inl refl)
 
       here : Places a' b' c' j w i (sign_at_instant (quadratic a' b' c') w) (sign_at_instant (derivative (quadratic a' b' c')) w)
       here = places a' b' c' j w i _ _ refl refl
 
       signed : (f : Phase) → sign_at q (record { at = w; phase = f }) ≡ product_of (lift f here.lower) (lift f here.upper)
-      signed At = at_at q w ∙ same_value q a' b' c' j u z h w i ∙ here.value
+      signed At = at_at q w ∙ same_value q a' b' c' j false z h w i ∙ here.value
       signed After =
           at_after q w i
-          ∙ ap₂ (λ (v t : Sign). first_of v (first_of t (sign_of a))) (same_value q a' b' c' j u z h w i) (same_slope q a' b' c' j u z h w i)
+          ∙ ap₂ (λ (v t : Sign). first_of v (first_of t (sign_of a))) (same_value q a' b' c' j false z h w i) (same_slope q a' b' c' j false z h w i)
           ∙ ap (λ (t : Sign). first_of (sign_at_instant (quadratic a' b' c') w) (first_of (sign_at_instant (derivative (quadratic a' b' c')) w) t)) (sign_in Plus a h)
           ∙ here.after
-
-      low : IsPlace m (Root a' b' c' false) (lift f here.lower)
-      low = lifted w (Root a' b' c' false) f here.lower here.at_lower
-
-      high : IsPlace m (Root a' b' c' true) (lift f here.upper)
-      high = lifted w (Root a' b' c' true) f here.upper here.at_upper
-
-      by_sides : (u : Bool) → (v : Bool) × (s ≡ Root a' b' c' v) → AreRootsOf q (Two (Root a' b' c' u) s) → IsSigned q (Two (Root a' b' c' u) s) m
-      by_sides true (true, e) k = absurd (apart (Root a' b' c' true) s k e)
-      by_sides false (false, e) k = absurd (apart (Root a' b' c' false) s k e)
-      by_sides false (true, e) k = (lift f here.lower, lift f here.upper, (low, subst (λ (x : Shape). IsPlace m x (lift f here.upper)) (sym e) high, by_lead (lead_of q) _ _ (lead-plus q h) (signed f)))
-      by_sides true (false, e) k = (lift f here.upper, lift f here.lower, (high, subst (λ (x : Shape). IsPlace m x (lift f here.lower)) (sym e) low, by_lead (lead_of q) _ _ (lead-plus q h) (signed f ∙ product_commutes (lift f here.lower) (lift f here.upper))))
 
   pub positive_signed : (answer : Roots) → AreRootsOf q answer → IsSigned q answer m
   positive_signed Nowhere k = none_signed k
   positive_signed (One r) k = one_signed r k
   positive_signed (Two (Ratio n d) s) k = rational_signed n d s k.canonical.0.form k
-  positive_signed (Two (Root a' b' c' u) s) k = irrational_signed a' b' c' u s k.canonical.0.form k
+  positive_signed (Two (Root a' b' c' u) s) k = by_surds (λ (r : Roots). IsSigned q r m) surds_signed a' b' c' u s k
   positive_signed All k = absurd (code (zero_lead k.number))
     where
       zero_lead : None ≡ root_count q → Plus ≡ Zero

@@ -3,6 +3,7 @@ use Rattle.std.proofs.Common.{◌≡◌, ℕ, ◌+◌, ◌-◌, ◌*◌, ◌<◌
 use Rattle.std.proofs.lemmas.Int.{ints, to_z-of_z, fits_signed_from_abs, unsigned_abs-mul, to_z_pos}
 use mir.Syntax.{Width, w128}
 use mir.Val.{hbits}
+use lib.IntN.{neg_ℤ}
 use lib.Signed.{mag, lt_z, ◌<ℤ◌, ◌≤ℤ◌}
 use Rattle.kin_basics.proofs.Integers.{size-sum, size-difference}
 
@@ -105,6 +106,23 @@ doubled-fits x x' e h = rw e (small_fits (pos 2 *ℤ x) (twice x h))
 
 pub doubled-value : (x x' : ℤ) → x' ≡ x → unsigned_abs x ≤ 2 ^ 32 → to_z w64 (of_z w64 (pos 2 *ℤ x')) ≡ pos 2 *ℤ x
 doubled-value x x' e h = to_z-of_z w64 (pos 2 *ℤ x') (doubled-fits x x' e h) ∙ ap (λ (u : ℤ). pos 2 *ℤ u) e
+
+pub opposite-value : (x : ℤ) → unsigned_abs x ≤ 2 ^ 29 → to_z w64 (of_z w64 (pos 0 -ℤ to_z w64 (of_z w64 x))) ≡ neg_ℤ x
+opposite-value x h = omega (arith, ints)
+
+-- ---- the numbers that rational roots of a quadratic are made of
+pub doubled-size : (a : ℤ) → unsigned_abs a ≤ 2 ^ 28 → unsigned_abs (pos 2 *ℤ a) < 2 ^ 31
+doubled-size a h = omega (arith, ints)
+
+pub upper-size : (root b : ℤ) → unsigned_abs root < 2 ^ 30 → unsigned_abs b ≤ 2 ^ 29 → unsigned_abs (root -ℤ b) < 2 ^ 31
+upper-size root b h k = omega (arith, ints)
+
+pub lower-size : (root b : ℤ) → unsigned_abs root < 2 ^ 30 → unsigned_abs b ≤ 2 ^ 29 → unsigned_abs (neg_ℤ root -ℤ b) < 2 ^ 31
+lower-size root b h k = omega (arith, ints)
+
+-- ---- wide numbers
+pub below_width : (g m : ℕ) → g ≤ m → m < 2 ^ 63 → g < 2 ^ 63
+below_width g m h k = omega arith
 
 pub wide_from_narrow : (z : ℤ) → unsigned_abs z < 2 ^ 63 → FitsSigned w128 z
 wide_from_narrow z h = fits_signed_from_abs w128 z (omega arith)

@@ -7,7 +7,7 @@ ghost use Rattle.kin_num.specs.Canonical.{discriminant};
 ghost use Rattle.kin_instant.specs.Roots.{quadratic};
 ghost use Rattle.kin_instant.specs.Sides.{IsRootOn};
 
-use crate::product::difference_of_products;
+use crate::product::discriminant_of;
 use crate::ratio::{exact_quotient, ratio};
 use kin_num::divisor::gcd;
 use kin_num::instant::{Instant, Shape};
@@ -125,7 +125,7 @@ pub(crate) fn root_on(p: &Poly, upper: bool) -> Option<Instant>
 {
     p.recall_small();
     let (a, b, c) = (p.a(), p.b(), p.c());
-    let discriminant = difference_of_products(b, b, 4 * a, c);
+    let discriminant = discriminant_of(a, b, c);
     if discriminant < 0 {
         return None;
     }

@@ -12,7 +12,7 @@ ghost use Rattle.kin_num.specs.Canonical.{discriminant};
 ghost use Rattle.kin_num.specs.Instants.{sign_at_instant, derivative, side};
 ghost use Rattle.kin_instant.specs.Remainders.{remainder_slope_of, remainder_start_of};
 
-use crate::product::{difference_of_products, wide_difference_of_products};
+use crate::product::{difference_of_products, discriminant_of, wide_difference_of_products};
 use kin_algebra::sign::Sign;
 use kin_num::pair::pair_sign;
 use kin_num::poly::Poly;
@@ -85,7 +85,7 @@ pub(crate) fn radicand(a: i64, b: i64, c: i64) -> u64
     ensures value { pos result ≡ discriminant a b c }
     ensures small { result < 2 ^ 63 }
 {
-    difference_of_products(b, b, 4 * a, c).unsigned_abs()
+    discriminant_of(a, b, c).unsigned_abs()
 }
 
 /// The sign of the slope of `p` at a root of `(a, b, c)`, the greater one if `upper`.

@@ -1,13 +1,11 @@
 -- What structures report: nothing, one fact in the place of another, and the reports of two parts together.
-use Rattle.std.proofs.Common.{◌≡◌, ◌≢◌, ◌⊎◌, inl, inr, refl, sym, List, [], ◌∷◌, ◌++◌}
+use Rattle.std.proofs.Common.{◌⊎◌, inl, inr, List, ◌++◌}
 use Rattle.std.specs.Prelude.{Contains}
 use Rattle.std.proofs.lemmas.List.Elements.{Contains-append_left, Contains-append_right, Contains-append_cases}
-use Rattle.kin_basics.proofs.Members.{contains_none, contains_head, contains_cases}
 use Rattle.kin_motion.specs.declared.fact.Placed.{Placed}
 use Rattle.kin_motion.specs.Deltas.{Change}
 use Rattle.kin_motion.specs.Kinetics.{HasGained, HasChanged}
 use Rattle.kin_motion.proofs.Gains.{gained_none, gained_both}
-use Rattle.kin_motion.proofs.SetLaws.{exactly_one}
 
 -- the facts that were there and are not
 abbrev pub IsLost : List Placed → List Placed → Placed → Type 0
@@ -16,25 +14,6 @@ IsLost old new p = Contains old p × ¬ (Contains new p)
 -- where the facts are the same, nothing is reported
 pub nothing_changed : (fs : List Placed) (d : Change) → HasChanged fs fs d d
 nothing_changed fs d = record { dropped = gained_none d.dropped (IsLost fs fs) (λ p w. w.1 w.0); born = gained_none d.born (IsLost fs fs) (λ p w. w.1 w.0) }
-
-one_gained : (xs : List Placed) (p q : Placed) → p ≢ q → HasGained xs (xs ++ p ∷ []) (IsLost (p ∷ []) (q ∷ []))
-one_gained xs p q n = record {
-  more = p ∷ [];
-  joined = refl;
-  exactly = exactly_one p _ (contains_head p [], λ h. other (contains_cases q p [] h)) (λ z w. same z (contains_cases p z [] w.0));
-}
-  where
-    other : (q ≡ p) ⊎ Contains [] p → ⊥
-    other (inl e) = n (sym e)
-    other (inr h) = contains_none p h
-
-    same : (z : Placed) → (p ≡ z) ⊎ Contains [] z → z ≡ p
-    same z (inl e) = sym e
-    same z (inr h) = absurd (contains_none z h)
-
--- one fact takes the place of another
-pub one_changed : (p q : Placed) (d : Change) → p ≢ q → HasChanged (p ∷ []) (q ∷ []) d (record { dropped = d.dropped ++ p ∷ []; born = d.born ++ q ∷ [] })
-one_changed p q d n = record { dropped = one_gained d.dropped p q n; born = one_gained d.born q p (λ e. n (sym e)) }
 
 module _ (xs xs' ys ys' : List Placed) (apart : (p : Placed) → Contains xs p ⊎ Contains xs' p → Contains ys p ⊎ Contains ys' p → ⊥) where
   lost-words : (p : Placed) → (IsLost xs xs' p ⊎ IsLost ys ys' p → IsLost (xs ++ ys) (xs' ++ ys') p) × (IsLost (xs ++ ys) (xs' ++ ys') p → IsLost xs xs' p ⊎ IsLost ys ys' p)

@@ -1,16 +1,16 @@
 -- The computed facts of the hull are its facts.
-use Rattle.std.proofs.Common.{◌≡◌, ◌⊎◌, inl, inr, sym, ap, ◌∙◌, subst, arith, List, [], ◌∷◌, ◌++◌, ℕ, zero, suc, ◌+◌, ◌*◌, ◌-◌, ◌/◌, ◌^◌, ◌<◌, ◌≤◌, true, false, ◌||◌, nat_eq, map}
+use Rattle.std.proofs.Common.{◌≡◌, ◌⊎◌, inl, inr, sym, ap, ◌∙◌, subst, arith, List, [], ◌∷◌, ◌++◌, ℕ, ◌+◌, ◌*◌, ◌-◌, ◌/◌, ◌^◌, ◌<◌, ◌≤◌, true, false, ◌||◌, nat_eq, map}
 use Rattle.std.specs.Prelude.{Contains, filter}
 use Rattle.std.proofs.lemmas.List.Elements.{Contains-append_cases}
 use Rattle.std.proofs.lemmas.Bool.Decides.{nat_tests}
-use Rattle.std.proofs.lemmas.Bool.{and_parts, or_cases}
+use Rattle.std.proofs.lemmas.Bool.{and_parts}
 use Rattle.kin_basics.proofs.Members.{contains_none, contains_cases}
 use Rattle.kin_motion.specs.declared.form.Form.{Form}
 use Rattle.kin_motion.specs.declared.fact.Placed.{Placed}
 use Rattle.kin_motion.specs.Numbers.{is_in, IsOnce, IsChain}
 use Rattle.kin_motion.specs.Sets.{AreDistinct, ListsExactly}
 use Rattle.kin_motion.specs.Scene.{Scene, IsReal, placed_at, turned}
-use Rattle.kin_motion.specs.Tournaments.{comes_to, is_under}
+use Rattle.kin_motion.specs.Tournaments.{is_under}
 use Rattle.kin_motion.specs.Chains.{is_left, is_bare, IsUpperChain, upper_chain_of}
 use Rattle.kin_motion.specs.Merges.{Half.{A, B}, Half, Breakpoint, breakpoints_of, IsBreakpointList, breakpoint_list, turns_from, slopes_from, forms_of_ends, forms_of_merge, IsMergeForm, merge_forms, points_under, IsNodeForm, node_forms, IsHullFact, hull_facts_of_node, hull_facts}
 use Rattle.kin_motion.specs.Agreements.{FitsSize, HullFactsAgree}
@@ -21,7 +21,7 @@ use Rattle.kin_motion.proofs.TurnedLaws.{turned-real}
 use Rattle.kin_motion.proofs.ChainLaws.{one_upper_chain, chain_within}
 use Rattle.kin_motion.proofs.Sorting.{sorted-once}
 use Rattle.kin_motion.proofs.AgreementLaws.{chain_agrees, kept-members, kept-once}
-use Rattle.kin_motion.proofs.NodeLaws.{node_with_slot, not_above}
+use Rattle.kin_motion.proofs.NodeLaws.{node_with_slot, not_both_halves}
 use Rattle.kin_motion.proofs.BreakpointLaws.{members_of, breakpoints_agree, one_breakpoint_list, chain_of_list, list_distinct}
 use Rattle.kin_motion.proofs.CurrentLaws.{forms_agree}
 use Rattle.kin_motion.proofs.MergeFormLaws.{lefts, kind, turn_first, turns_distinct, slope_first, slopes_distinct, ends_distinct, ends_kind}
@@ -127,18 +127,6 @@ module _ (s : Scene) (real : IsReal s) where
       right_chain = chain_agrees s (real_line_laws s real) right or
 
 -- ---- nodes
--- no node comes to both and_parts of another
-not_both : (h u v : ℕ) → 0 < v → comes_to h u (2 * v) ≡ true → comes_to h u (2 * v + 1) ≡ true → ⊥
-not_both zero u v some p q = let e : u ≡ 2 * v = grind (arith, nat_tests, p) in let f : u ≡ 2 * v + 1 = grind (arith, nat_tests, q) in omega (arith, e, f)
-not_both (suc h) u v some p q = at (or_cases (nat_eq u (2 * v)) (comes_to h (u / 2) (2 * v)) p) (or_cases (nat_eq u (2 * v + 1)) (comes_to h (u / 2) (2 * v + 1)) q) (not_both h (u / 2) v some)
-  where
-    at : (nat_eq u (2 * v) ≡ true) ⊎ (comes_to h (u / 2) (2 * v) ≡ true) → (nat_eq u (2 * v + 1) ≡ true) ⊎ (comes_to h (u / 2) (2 * v + 1) ≡ true)
-        → (comes_to h (u / 2) (2 * v) ≡ true → comes_to h (u / 2) (2 * v + 1) ≡ true → ⊥) → ⊥
-    at (inl e) (inl f) rest = let g : u ≡ 2 * v = grind (arith, nat_tests, e) in let k : u ≡ 2 * v + 1 = grind (arith, nat_tests, f) in omega (arith, g, k)
-    at (inl e) (inr f) rest = let g : u ≡ 2 * v = grind (arith, nat_tests, e) in let k = not_above h (u / 2) (2 * v + 1) f in omega (arith, g, k, some)
-    at (inr e) (inl f) rest = let g : u ≡ 2 * v + 1 = grind (arith, nat_tests, f) in let k = not_above h (u / 2) (2 * v) e in omega (arith, g, k, some)
-    at (inr e) (inr f) rest = rest e f
-
 module _ (size : ℕ) (s : Scene) (real : IsReal s) (fits : FitsSize size s) where
   live_under : (v i : ℕ) → is_in i (points_under size s v) ≡ true → (is_in i s.live ≡ true) × (is_under size v i ≡ true)
   live_under v i h = and_parts (is_in i s.live) (is_under size v i) (sym (kept-members (is_under size v) s.live i) ∙ h)
@@ -152,7 +140,7 @@ module _ (size : ℕ) (s : Scene) (real : IsReal s) (fits : FitsSize size s) whe
       let p = live_under (2 * v) i h in
       let q = live_under (2 * v + 1) i k in
       let some = (node_with_slot size v i (fits i p.0) p.1).0 in
-      not_both size (2 ^ size + i) v (omega (arith, some)) p.1 q.1
+      not_both_halves size (2 ^ size + i) v (omega (arith, some)) p.1 q.1
 
   pub node_exact : (v : ℕ) → ListsExactly (node_forms size s v) (IsNodeForm size s v)
   node_exact v = merge_exact s real (points_under size s (2 * v)) (points_under size s (2 * v + 1)) (under_once (2 * v)) (under_once (2 * v + 1)) (under_apart v)

@@ -41,6 +41,18 @@ not_none (suc h) u v low e = at (or_cases (nat_eq u v) (comes_to h (u / 2) v) e)
     at (inl f) rest = let g : u ≡ v = grind (arith, nat_tests, f) in let p = positive h in omega (arith, g, low, power, p)
     at (inr f) rest = rest half f
 
+-- no number comes to both halves of a node
+pub not_both_halves : (h u v : ℕ) → 0 < v → comes_to h u (2 * v) ≡ true → comes_to h u (2 * v + 1) ≡ true → ⊥
+not_both_halves zero u v some p q = let e : u ≡ 2 * v = grind (arith, nat_tests, p) in let f : u ≡ 2 * v + 1 = grind (arith, nat_tests, q) in omega (arith, e, f)
+not_both_halves (suc h) u v some p q = at (or_cases (nat_eq u (2 * v)) (comes_to h (u / 2) (2 * v)) p) (or_cases (nat_eq u (2 * v + 1)) (comes_to h (u / 2) (2 * v + 1)) q) (not_both_halves h (u / 2) v some)
+  where
+    at : (nat_eq u (2 * v) ≡ true) ⊎ (comes_to h (u / 2) (2 * v) ≡ true) → (nat_eq u (2 * v + 1) ≡ true) ⊎ (comes_to h (u / 2) (2 * v + 1) ≡ true)
+        → (comes_to h (u / 2) (2 * v) ≡ true → comes_to h (u / 2) (2 * v + 1) ≡ true → ⊥) → ⊥
+    at (inl e) (inl f) rest = let g : u ≡ 2 * v = grind (arith, nat_tests, e) in let k : u ≡ 2 * v + 1 = grind (arith, nat_tests, f) in omega (arith, g, k)
+    at (inl e) (inr f) rest = let g : u ≡ 2 * v = grind (arith, nat_tests, e) in let k = not_above h (u / 2) (2 * v + 1) f in omega (arith, g, k, some)
+    at (inr e) (inl f) rest = let g : u ≡ 2 * v + 1 = grind (arith, nat_tests, f) in let k = not_above h (u / 2) (2 * v) e in omega (arith, g, k, some)
+    at (inr e) (inr f) rest = rest e f
+
 pub node_with_slot : (size v i : ℕ) → i < 2 ^ size → is_under size (2 * v) i ≡ true → (1 ≤ v) × (v < 2 ^ size)
 node_with_slot size v i low e =
     let some = not_none size (2 ^ size + i) (2 * v) (omega arith) e in

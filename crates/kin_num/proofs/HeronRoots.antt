@@ -35,12 +35,6 @@ not_below x g b some e =
     last : (x p q b : ℕ) → x < p → 4 * p ≤ q → q ≤ (2 * (b + 1)) * (2 * (b + 1)) → x < (b + 1) * (b + 1)
     last x p q b h i j = omega arith
 
-pub small_root : (d r : ℕ) → d < 2 ^ 63 → r * r ≤ d → r < 2 ^ 32
-small_root d r h k = root_below r (2 ^ 32) (omega arith)
-
-pub fine_small : (d r : ℕ) → d < 2 ^ 63 → r * r ≤ d * 2 ^ 64 → r < 7 * 2 ^ 61
-fine_small d r h k = root_below r (7 * 2 ^ 61) (omega arith)
-
 -- the line that touches the parabola where x is a ninth of 2^66 lies above it everywhere
 pub tangent : (x h : ℕ) → h ≡ x / 2 ^ 34 → x < (h * 3 + 1431655768 + 1) * (h * 3 + 1431655768 + 1)
 tangent x h e =

@@ -108,6 +108,10 @@ module _ (s : Scene) where
         exact = subst (λ (fs : List Placed). ListsExactly fs (IsMergeFact s a b part)) (sym (ap (all_placed part) (facts-are a b m a_some b_some w) ∙ all-placed-are part (forms_of_merge s a b (breakpoints m.records)))) (right.facts part);
       }
 
+-- what was merged of the same chains is the same merge
+pub merged-same : (s : Scene) (a b a' b' : List ℕ) (m m' : Remembered) → a' ≡ a → b' ≡ b → m' ≡ m → IsMerged s a' b' m' → IsMerged s a b m
+merged-same s a b a' b' m m' e f g h = subst (λ (x : List ℕ). IsMerged s x b m) e (subst (λ (y : List ℕ). IsMerged s a' y m) f (subst (λ (n : Remembered). IsMerged s a' b' n) g h))
+
 -- what the reports of both lists change
 pub changed : (part : ℕ) (old new : Remembered) (before after : Change) → AreDistinct (all_placed part (facts_of old)) → AreDistinct (all_placed part (facts_of new))
     → IsTold part (facts_of new) (facts_of old) before.dropped after.dropped → IsTold part (facts_of old) (facts_of new) before.born after.born → HasChanged (all_placed part (facts_of old)) (all_placed part (facts_of new)) before after

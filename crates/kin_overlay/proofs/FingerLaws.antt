@@ -13,7 +13,8 @@ use Rattle.kin_overlay.specs.declared.fingers.Pick.{Pick}
 use Rattle.kin_overlay.specs.Lists.{first_of, front, behind}
 use Rattle.kin_overlay.specs.Seen.{seen}
 use Rattle.kin_overlay.specs.Remembered.{place_of, breakpoints, left_points}
-use Rattle.kin_overlay.specs.Fingers.{chain_of, IsBefore, IsChosen, IsRival, IsFirstOfBoth, IsPick, next_with, next_of, seen_next, next_for, IsRest, AreLive, AreLess, IsBreakpointOf}
+use Rattle.kin_chain.specs.Supports.{list_of}
+use Rattle.kin_overlay.specs.Fingers.{IsBefore, IsChosen, IsRival, IsFirstOfBoth, IsPick, next_with, next_of, seen_next, next_for, IsRest, AreLive, AreLess, IsBreakpointOf}
 
 -- ---- the first breakpoint of a chain
 pub first-none : (es : List Breakpoint) → first_of es ≡ None → es ≡ []
@@ -35,21 +36,21 @@ first-live live h xs e known q =
     )
 
 -- ---- what is picked
-first-from : (s : Scene) (a b : List ℕ) (h : Half) (e : Breakpoint) (p : Pick) → e.half ≡ h → seen p.at ≡ e → first_of (breakpoints_of h (chain_of h a b)) ≡ Some e
-    → IsRival s e (breakpoints_of (other h) (chain_of (other h) a b)) p.slope → IsFirstOfBoth s a b p
+first-from : (s : Scene) (a b : List ℕ) (h : Half) (e : Breakpoint) (p : Pick) → e.half ≡ h → seen p.at ≡ e → first_of (breakpoints_of h (list_of h a b)) ≡ Some e
+    → IsRival s e (breakpoints_of (other h) (list_of (other h) a b)) p.slope → IsFirstOfBoth s a b p
 first-from s a b h e p q same own rival =
     let half : (seen p.at).half ≡ h = ap (λ (f : Breakpoint). f.half) same ∙ q in
     record {
-      own = subst (λ (g : Half). first_of (breakpoints_of g (chain_of g a b)) ≡ Some (seen p.at)) (sym half) (own ∙ ap (λ (f : Breakpoint). Some f) (sym same));
-      rival = subst (λ (g : Half). IsRival s (seen p.at) (breakpoints_of (other g) (chain_of (other g) a b)) p.slope) (sym half)
-          (subst (λ (f : Breakpoint). IsRival s f (breakpoints_of (other h) (chain_of (other h) a b)) p.slope) (sym same) rival);
+      own = subst (λ (g : Half). first_of (breakpoints_of g (list_of g a b)) ≡ Some (seen p.at)) (sym half) (own ∙ ap (λ (f : Breakpoint). Some f) (sym same));
+      rival = subst (λ (g : Half). IsRival s (seen p.at) (breakpoints_of (other g) (list_of (other g) a b)) p.slope) (sym half)
+          (subst (λ (f : Breakpoint). IsRival s f (breakpoints_of (other h) (list_of (other h) a b)) p.slope) (sym same) rival);
     }
 
-before-first : (s : Scene) (a b : List ℕ) (h : Half) (e f : Breakpoint) (p : Pick) → e.half ≡ h → first_of (breakpoints_of h (chain_of h a b)) ≡ Some e
-    → first_of (breakpoints_of (other h) (chain_of (other h) a b)) ≡ Some f → IsBefore s e f p → IsFirstOfBoth s a b p
+before-first : (s : Scene) (a b : List ℕ) (h : Half) (e f : Breakpoint) (p : Pick) → e.half ≡ h → first_of (breakpoints_of h (list_of h a b)) ≡ Some e
+    → first_of (breakpoints_of (other h) (list_of (other h) a b)) ≡ Some f → IsBefore s e f p → IsFirstOfBoth s a b p
 before-first s a b h e f p q own their w =
     first-from s a b h e p q w.at own
-    (subst (λ (o : Option Sign). IsRival s e (breakpoints_of (other h) (chain_of (other h) a b)) o) (sym w.slope) (f, their, refl, w.before))
+    (subst (λ (o : Option Sign). IsRival s e (breakpoints_of (other h) (list_of (other h) a b)) o) (sym w.slope) (f, their, refl, w.before))
 
 pub chosen-first : (s : Scene) (a b : List ℕ) (e f : Breakpoint) (p : Pick) → first_of (breakpoints_of A a) ≡ Some e → first_of (breakpoints_of B b) ≡ Some f → IsChosen s e f p → IsFirstOfBoth s a b p
 chosen-first s a b e f p own their (inl w) = before-first s a b A e f p (first-shape A a e own).2 own their w

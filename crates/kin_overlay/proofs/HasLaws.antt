@@ -111,64 +111,67 @@ end-is (Some e) f c = at (contains_cases x_line f (y_facts e.a e.b e.y) c)
     at (inl q) = (pos 1, pos 0, e.a, e.b, sym (ap (λ (g : Fact). g.form) q))
     at (inr d) = by-y e.y d
 
--- ---- what a search finds
-module _ (rs : List Record) (once : IsOnce (left_points rs)) (left right : Option End) (f : Fact) where
+-- ---- what a search finds in a list, which callers see as another one
+module _ (rs : List Record) (left right : Option End) (f : Fact) (told : Remembered) (once : IsOnce (left_points rs)) (view : record { records = rs; left = left; right = right } ≡ told) where
   abbrev m : Remembered
   m = record { records = rs; left = left; right = right }
 
-  -- a turn is that of the record at its first number
-  turn-at : (i j k : ℕ) → f.form ≡ Turn i j k → Contains (facts_of m) f → (r : Record) × Contains rs r × (r.at.left ≡ i) × (turn_fact r ≡ f)
-  turn-at i j k is c = at (kinds m f c)
+  in-told : Contains (facts_of m) f → Contains (facts_of told) f
+  in-told = subst (λ (n : Remembered). Contains (facts_of n) f) view
+
+  -- a fact is a turn of a record, a slope of a record, or a line of an end
+  abbrev IsFound : Type 0
+  IsFound =
+      ((r : Record) × Contains rs r × (turn_fact r ≡ f))
+      ⊎ (((r : Record) × Contains rs r × Contains (slope_facts r) f × (k l : ℕ) × (f.form ≡ Slope r.at.left r.at.right k l))
+      ⊎ ((Contains (end_facts left) f ⊎ Contains (end_facts right) f) × (dx dy : ℤ) × (i j : ℕ) × (f.form ≡ Line dx dy (pos 0) i j)))
+
+  found : Contains (facts_of told) f → IsFound
+  found c = at (kinds m f (subst (λ (n : Remembered). Contains (facts_of n) f) (sym view) c))
     where
-      at : Kinds m f → (r : Record) × Contains rs r × (r.at.left ≡ i) × (turn_fact r ≡ f)
-      at (inl (inl d)) =
-          let w = contains_mapped turn_fact rs f d in
-          let same : Turn i j k ≡ Turn w.0.at.left w.0.at.right w.0.across = sym is ∙ ap (λ (g : Fact). g.form) w.2 in
-          let first : w.0.at.left ≡ i = cc in
-          (w.0, w.1, first, sym w.2)
-      at (inl (inr d)) =
-          let w = of-record rs f d in
-          let v = slope-is (place_of w.0) w.0.next f w.2 in
-          absurd (let clash : Turn i j k ≡ Slope w.0.at.left w.0.at.right v.0 v.1 = sym is ∙ v.2 in cc)
-      at (inr (inl d)) = let v = end-is left f d in absurd (let clash : Turn i j k ≡ Line v.0 v.1 (pos 0) v.2 v.3 = sym is ∙ v.4 in cc)
-      at (inr (inr d)) = let v = end-is right f d in absurd (let clash : Turn i j k ≡ Line v.0 v.1 (pos 0) v.2 v.3 = sym is ∙ v.4 in cc)
+      at : Kinds m f → IsFound
+      at (inl (inl d)) = let w = contains_mapped turn_fact rs f d in inl (w.0, w.1, sym w.2)
+      at (inl (inr d)) = let w = of-record rs f d in let v = slope-is (place_of w.0) w.0.next f w.2 in inr (inl (w.0, w.1, w.2, v.0, v.1, v.2))
+      at (inr (inl d)) = let v = end-is left f d in inr (inr (inl d, v.0, v.1, v.2, v.3, v.4))
+      at (inr (inr d)) = let v = end-is right f d in inr (inr (inr d, v.0, v.1, v.2, v.3, v.4))
+
+  -- a turn is that of the record at its first number
+  turn-at : (i j k : ℕ) → f.form ≡ Turn i j k → Contains (facts_of told) f → (r : Record) × Contains rs r × (r.at.left ≡ i) × (turn_fact r ≡ f)
+  turn-at i j k is c = at (found c)
+    where
+      at : IsFound → (r : Record) × Contains rs r × (r.at.left ≡ i) × (turn_fact r ≡ f)
+      at (inl (r, there, e)) = let same : Turn r.at.left r.at.right r.across ≡ Turn i j k = ap (λ (g : Fact). g.form) e ∙ is in (r, there, cc, e)
+      at (inr (inl (r, there, own, k', l, e))) = absurd (let clash : Turn i j k ≡ Slope r.at.left r.at.right k' l = sym is ∙ e in cc)
+      at (inr (inr (side, dx, dy, i', j', e))) = absurd (let clash : Turn i j k ≡ Line dx dy (pos 0) i' j' = sym is ∙ e in cc)
 
   -- a slope is that of the record at its first number
-  slope-at : (i j k l : ℕ) → f.form ≡ Slope i j k l → Contains (facts_of m) f → (r : Record) × Contains rs r × (r.at.left ≡ i) × Contains (slope_facts r) f
-  slope-at i j k l is c = at (kinds m f c)
+  slope-at : (i j k l : ℕ) → f.form ≡ Slope i j k l → Contains (facts_of told) f → (r : Record) × Contains rs r × (r.at.left ≡ i) × Contains (slope_facts r) f
+  slope-at i j k l is c = at (found c)
     where
-      at : Kinds m f → (r : Record) × Contains rs r × (r.at.left ≡ i) × Contains (slope_facts r) f
-      at (inl (inl d)) =
-          let w = contains_mapped turn_fact rs f d in
-          absurd (let clash : Slope i j k l ≡ Turn w.0.at.left w.0.at.right w.0.across = sym is ∙ ap (λ (g : Fact). g.form) w.2 in cc)
-      at (inl (inr d)) =
-          let w = of-record rs f d in
-          let v = slope-is (place_of w.0) w.0.next f w.2 in
-          let same : Slope i j k l ≡ Slope w.0.at.left w.0.at.right v.0 v.1 = sym is ∙ v.2 in
-          let first : w.0.at.left ≡ i = cc in
-          (w.0, w.1, first, w.2)
-      at (inr (inl d)) = let v = end-is left f d in absurd (let clash : Slope i j k l ≡ Line v.0 v.1 (pos 0) v.2 v.3 = sym is ∙ v.4 in cc)
-      at (inr (inr d)) = let v = end-is right f d in absurd (let clash : Slope i j k l ≡ Line v.0 v.1 (pos 0) v.2 v.3 = sym is ∙ v.4 in cc)
+      at : IsFound → (r : Record) × Contains rs r × (r.at.left ≡ i) × Contains (slope_facts r) f
+      at (inl (r, there, e)) = absurd (let clash : Turn r.at.left r.at.right r.across ≡ Slope i j k l = ap (λ (g : Fact). g.form) e ∙ is in cc)
+      at (inr (inl (r, there, own, k', l', e))) = let same : Slope r.at.left r.at.right k' l' ≡ Slope i j k l = sym e ∙ is in (r, there, cc, own)
+      at (inr (inr (side, dx, dy, i', j', e))) = absurd (let clash : Slope i j k l ≡ Line dx dy (pos 0) i' j' = sym is ∙ e in cc)
 
   -- no record has the point on its left
   nowhere : (i : ℕ) → is_in i (left_points rs) ≡ false → (r : Record) → Contains rs r → r.at.left ≡ i → IsTrue false
   nowhere i none r c e = absurd (both_ways (is_in i (left_points rs)) none (ap (λ (n : ℕ). is_in n (left_points rs)) (sym e) ∙ in-lefts rs r c))
 
-  pub turn-found : (i j k : ℕ) → f.form ≡ Turn i j k → (r : Record) → Contains rs r → r.at.left ≡ i → (g : Fact) → g ≡ turn_fact r → (b : Bool) → IsTrue b ↔ (g ≡ f) → IsTrue b ↔ Contains (facts_of m) f
+  pub turn-found : (i j k : ℕ) → f.form ≡ Turn i j k → (r : Record) → Contains rs r → r.at.left ≡ i → (g : Fact) → g ≡ turn_fact r → (b : Bool) → IsTrue b ↔ (g ≡ f) → IsTrue b ↔ Contains (facts_of told) f
   turn-found i j k is r there e g own b test = (
-    λ t. is-turn m f (subst (λ (h : Fact). Contains (map turn_fact rs) h) (sym own ∙ test.0 t) (contains_map turn_fact rs r there)),
+    λ t. in-told (is-turn m f (subst (λ (h : Fact). Contains (map turn_fact rs) h) (sym own ∙ test.0 t) (contains_map turn_fact rs r there))),
     λ c. let w = turn-at i j k is c in test.1 (own ∙ ap turn_fact (same-record rs r w.0 once there w.1 (e ∙ sym w.2)) ∙ w.3),
   )
 
-  pub turn-missing : (i j k : ℕ) → f.form ≡ Turn i j k → is_in i (left_points rs) ≡ false → IsTrue false ↔ Contains (facts_of m) f
+  pub turn-missing : (i j k : ℕ) → f.form ≡ Turn i j k → is_in i (left_points rs) ≡ false → IsTrue false ↔ Contains (facts_of told) f
   turn-missing i j k is none = (
     λ t. absurd (let clash : false ≡ true = t in cc),
     λ c. let w = turn-at i j k is c in nowhere i none w.0 w.1 w.2,
   )
 
-  pub slope-found : (i j k l : ℕ) → f.form ≡ Slope i j k l → (r : Record) → Contains rs r → r.at.left ≡ i → (o : Option Fact) → option_to_list o ≡ slope_facts r → (b : Bool) → IsTrue b ↔ (o ≡ Some f) → IsTrue b ↔ Contains (facts_of m) f
+  pub slope-found : (i j k l : ℕ) → f.form ≡ Slope i j k l → (r : Record) → Contains rs r → r.at.left ≡ i → (o : Option Fact) → option_to_list o ≡ slope_facts r → (b : Bool) → IsTrue b ↔ (o ≡ Some f) → IsTrue b ↔ Contains (facts_of told) f
   slope-found i j k l is r there e o own b test = (
-    λ t. is-slope m f (in-record rs r f there (subst (λ (fs : List Fact). Contains fs f) (ap (λ (q : Option Fact). option_to_list q) (sym (test.0 t)) ∙ own) (contains_head f []))),
+    λ t. in-told (is-slope m f (in-record rs r f there (subst (λ (fs : List Fact). Contains fs f) (ap (λ (q : Option Fact). option_to_list q) (sym (test.0 t)) ∙ own) (contains_head f [])))),
     λ c. let w = slope-at i j k l is c in test.1 (only o (subst (λ (fs : List Fact). Contains fs f) (ap slope_facts (sym (same-record rs r w.0 once there w.1 (e ∙ sym w.2))) ∙ sym own) w.3)),
   )
     where
@@ -180,49 +183,35 @@ module _ (rs : List Record) (once : IsOnce (left_points rs)) (left right : Optio
           at (inl q) = ap (λ (h : Fact). Some h) q
           at (inr d) = absurd (contains_none f d)
 
-  pub slope-missing : (i j k l : ℕ) → f.form ≡ Slope i j k l → is_in i (left_points rs) ≡ false → IsTrue false ↔ Contains (facts_of m) f
+  pub slope-missing : (i j k l : ℕ) → f.form ≡ Slope i j k l → is_in i (left_points rs) ≡ false → IsTrue false ↔ Contains (facts_of told) f
   slope-missing i j k l is none = (
     λ t. absurd (let clash : false ≡ true = t in cc),
     λ c. let w = slope-at i j k l is c in nowhere i none w.0 w.1 w.2,
   )
 
   -- a line is that of an end
-  line-at : (dx dy off : ℤ) (i j : ℕ) → f.form ≡ Line dx dy off i j → Contains (facts_of m) f → Contains (end_facts left) f ⊎ Contains (end_facts right) f
-  line-at dx dy off i j is c = at (kinds m f c)
+  line-at : (dx dy off : ℤ) (i j : ℕ) → f.form ≡ Line dx dy off i j → Contains (facts_of told) f → Contains (end_facts left) f ⊎ Contains (end_facts right) f
+  line-at dx dy off i j is c = at (found c)
     where
-      at : Kinds m f → Contains (end_facts left) f ⊎ Contains (end_facts right) f
-      at (inl (inl d)) =
-          let w = contains_mapped turn_fact rs f d in
-          absurd (let clash : Line dx dy off i j ≡ Turn w.0.at.left w.0.at.right w.0.across = sym is ∙ ap (λ (g : Fact). g.form) w.2 in cc)
-      at (inl (inr d)) =
-          let w = of-record rs f d in
-          let v = slope-is (place_of w.0) w.0.next f w.2 in
-          absurd (let clash : Line dx dy off i j ≡ Slope w.0.at.left w.0.at.right v.0 v.1 = sym is ∙ v.2 in cc)
-      at (inr d) = d
+      at : IsFound → Contains (end_facts left) f ⊎ Contains (end_facts right) f
+      at (inl (r, there, e)) = absurd (let clash : Turn r.at.left r.at.right r.across ≡ Line dx dy off i j = ap (λ (g : Fact). g.form) e ∙ is in cc)
+      at (inr (inl (r, there, own, k, l, e))) = absurd (let clash : Slope r.at.left r.at.right k l ≡ Line dx dy off i j = sym e ∙ is in cc)
+      at (inr (inr (side, dx', dy', i', j', e))) = side
 
-  pub line-left : (b : Bool) → b ≡ true → IsTrue b ↔ Contains (end_facts left) f → IsTrue b ↔ Contains (facts_of m) f
-  line-left b t test = (λ h. is-left m f (test.0 h), λ c. t)
+  pub line-left : (b : Bool) → b ≡ true → IsTrue b ↔ Contains (end_facts left) f → IsTrue b ↔ Contains (facts_of told) f
+  line-left b t test = (λ h. in-told (is-left m f (test.0 h)), λ c. t)
 
-  pub line-right : (dx dy off : ℤ) (i j : ℕ) → f.form ≡ Line dx dy off i j → (d b : Bool) → d ≡ false → IsTrue d ↔ Contains (end_facts left) f → IsTrue b ↔ Contains (end_facts right) f → IsTrue b ↔ Contains (facts_of m) f
-  line-right dx dy off i j is d b out first test = (λ h. is-right m f (test.0 h), λ c. at (line-at dx dy off i j is c))
+  pub line-right : (dx dy off : ℤ) (i j : ℕ) → f.form ≡ Line dx dy off i j → (d b : Bool) → d ≡ false → IsTrue d ↔ Contains (end_facts left) f → IsTrue b ↔ Contains (end_facts right) f → IsTrue b ↔ Contains (facts_of told) f
+  line-right dx dy off i j is d b out first test = (λ h. in-told (is-right m f (test.0 h)), λ c. at (line-at dx dy off i j is c))
     where
       at : Contains (end_facts left) f ⊎ Contains (end_facts right) f → IsTrue b
       at (inl k) = absurd (let clash : false ≡ true = sym out ∙ first.1 k in cc)
       at (inr k) = test.1 k
 
-  pub no-distance : (i j k l : ℕ) → f.form ≡ Dist i j k l → IsTrue false ↔ Contains (facts_of m) f
-  no-distance i j k l is = (λ t. absurd (let clash : false ≡ true = t in cc), λ c. at (kinds m f c))
+  pub no-distance : (i j k l : ℕ) → f.form ≡ Dist i j k l → IsTrue false ↔ Contains (facts_of told) f
+  no-distance i j k l is = (λ t. absurd (let clash : false ≡ true = t in cc), λ c. at (found c))
     where
-      by-end : (o : Option End) → Contains (end_facts o) f → IsTrue false
-      by-end o d = let v = end-is o f d in absurd (let clash : Dist i j k l ≡ Line v.0 v.1 (pos 0) v.2 v.3 = sym is ∙ v.4 in cc)
-
-      at : Kinds m f → IsTrue false
-      at (inl (inl d)) =
-          let w = contains_mapped turn_fact rs f d in
-          absurd (let clash : Dist i j k l ≡ Turn w.0.at.left w.0.at.right w.0.across = sym is ∙ ap (λ (g : Fact). g.form) w.2 in cc)
-      at (inl (inr d)) =
-          let w = of-record rs f d in
-          let v = slope-is (place_of w.0) w.0.next f w.2 in
-          absurd (let clash : Dist i j k l ≡ Slope w.0.at.left w.0.at.right v.0 v.1 = sym is ∙ v.2 in cc)
-      at (inr (inl d)) = by-end left d
-      at (inr (inr d)) = by-end right d
+      at : IsFound → IsTrue false
+      at (inl (r, there, e)) = absurd (let clash : Turn r.at.left r.at.right r.across ≡ Dist i j k l = ap (λ (g : Fact). g.form) e ∙ is in cc)
+      at (inr (inl (r, there, own, k', l', e))) = absurd (let clash : Slope r.at.left r.at.right k' l' ≡ Dist i j k l = sym e ∙ is in cc)
+      at (inr (inr (side, dx, dy, i', j', e))) = absurd (let clash : Line dx dy (pos 0) i' j' ≡ Dist i j k l = sym e ∙ is in cc)

@@ -1,7 +1,8 @@
 -- Remembered facts that stand.
-use Rattle.std.proofs.Common.{◌≡◌, ◌⊎◌, inl, inr, refl, sym, ap, ◌∙◌, subst, List, [], ℕ, pos, ◌+◌, ◌<◌, arith, get_or, Bool, true, false, Some, Contains}
+use Rattle.std.proofs.Common.{◌≡◌, ◌⊎◌, inl, inr, refl, sym, ap, ◌∙◌, subst, List, [], ℕ, pos, ◌+◌, ◌<◌, get_or, Bool, true, false, Some, Contains}
 use Rattle.std.specs.Prelude.{slice_get, IsTrue, ◌↔◌}
 use Rattle.std.proofs.lemmas.Option.{get_or_from_slice_get}
+use borrow.Author.Count.{below_more}
 use Rattle.kin_algebra.proofs.Signs.{equal_or_not}
 use Rattle.kin_basics.proofs.Members.{contains_head, contains_from_get, get_from_contains}
 use Rattle.kin_motion.specs.declared.fact.Fact.{Fact}
@@ -54,16 +55,12 @@ known-slope s w r k n e d f stand at next same other own u =
 -- none of the failed facts so far is this one
 pub none-yet : (failed : List Placed) (f : Fact) (n : ℕ) (d : Placed) (b : Bool) → b ≡ false → IsTrue b ↔ ((get_or failed n d).fact ≡ f) → ((k : ℕ) (p : Placed) → k < n → slice_get failed k ≡ Some p → p.fact ≡ f → ⊥)
     → (k : ℕ) (p : Placed) → k < n + 1 → slice_get failed k ≡ Some p → p.fact ≡ f → ⊥
-none-yet failed f n d b out test before k p l at e = by (earlier k l)
+none-yet failed f n d b out test before k p l at e = below_more (λ i. (q : Placed) → slice_get failed i ≡ Some q → q.fact ≡ f → ⊥) n (λ i m q. before i q m) here k l p at e
   where
-    earlier : (k : ℕ) → k < n + 1 → (k < n) ⊎ (k ≡ n)
-    earlier k l = grind arith
-
-    by : (k < n) ⊎ (k ≡ n) → ⊥
-    by (inl m) = before k p m at e
-    by (inr q) =
-        let here : get_or failed n d ≡ p = ap (λ m. get_or failed m d) (sym q) ∙ get_or_from_slice_get failed k p d at in
-        let yes : b ≡ true = test.1 (ap (λ (r : Placed). r.fact) here ∙ e) in
+    here : (q : Placed) → slice_get failed n ≡ Some q → q.fact ≡ f → ⊥
+    here q at e =
+        let is : get_or failed n d ≡ q = get_or_from_slice_get failed n q d at in
+        let yes : b ≡ true = test.1 (ap (λ (r : Placed). r.fact) is ∙ e) in
         absurd (let clash : false ≡ true = sym out ∙ yes in cc)
 
 pub unfailed : (failed : List Placed) (gone : List ℕ) (f : Fact) → ((k : ℕ) (p : Placed) → slice_get failed k ≡ Some p → p.fact ≡ f → ⊥) → names_any f.form gone ≡ false → IsUnfailed failed gone f

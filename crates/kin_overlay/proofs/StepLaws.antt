@@ -16,7 +16,8 @@ use Rattle.kin_overlay.specs.declared.fingers.Pick.{Pick}
 use Rattle.kin_overlay.specs.Lists.{first_of, front, behind}
 use Rattle.kin_overlay.specs.Seen.{half_of, seen}
 use Rattle.kin_overlay.specs.Remembered.{breakpoints, left_points}
-use Rattle.kin_overlay.specs.Fingers.{chain_of, passed, IsFirstOfBoth, IsPick, next_of, next_for, IsRest, IsMerged, end_at, right_end, AreLive}
+use Rattle.kin_chain.specs.Supports.{list_of}
+use Rattle.kin_overlay.specs.Fingers.{passed, IsFirstOfBoth, IsPick, next_of, next_for, IsRest, IsMerged, end_at, right_end, AreLive}
 use Rattle.kin_overlay.proofs.FingerLaws.{first-shape, IsLinked, link, chain-more, IsUnderway, lefts-push, none-less, none-greater}
 use Rattle.kin_algebra.specs.declared.sign.Sign.{Sign}
 use Rattle.kin_motion.proofs.Members.{in_head, in_tail, not_in_tail}
@@ -37,7 +38,7 @@ module _ (s : Scene) (a b : List ℕ) (start : Option Pick) (i j : ℕ) (t bs : 
       own (Some o) q is w A e apart = absurd cc
       own (Some o) q is w B e apart =
           let v = subst (λ (x : Pick). IsFirstOfBoth s (j ∷ t) bs x) (same_Some o q is) w in
-          subst (λ (g : Half). first_of (breakpoints_of g (chain_of g (j ∷ t) bs)) ≡ Some (seen q.at)) e v.own
+          subst (λ (g : Half). first_of (breakpoints_of g (list_of g (j ∷ t) bs)) ≡ Some (seen q.at)) e v.own
 
   rest-a : IsFirstOfBoth s (i ∷ j ∷ t) bs p → IsPick s (j ∷ t) bs next → k ≡ front bs → turn ≡ s.sign (Turn i j k)
       → (qs : List Record) → IsRest s (j ∷ t) bs next qs → IsRest s (i ∷ j ∷ t) bs (Some p) (r ∷ qs)
@@ -86,7 +87,7 @@ module _ (s : Scene) (a b : List ℕ) (start : Option Pick) (i j : ℕ) (t as' :
       own (Some o) q is w B e apart = absurd cc
       own (Some o) q is w A e apart =
           let v = subst (λ (x : Pick). IsFirstOfBoth s as' (j ∷ t) x) (same_Some o q is) w in
-          subst (λ (g : Half). first_of (breakpoints_of g (chain_of g as' (j ∷ t))) ≡ Some (seen q.at)) e v.own
+          subst (λ (g : Half). first_of (breakpoints_of g (list_of g as' (j ∷ t))) ≡ Some (seen q.at)) e v.own
 
   rest-b : IsFirstOfBoth s as' (i ∷ j ∷ t) p' → IsPick s as' (j ∷ t) next → k ≡ front as' → turn ≡ s.sign (Turn i j k)
       → (qs : List Record) → IsRest s as' (j ∷ t) next qs → IsRest s as' (i ∷ j ∷ t) (Some p') (r' ∷ qs)
@@ -252,6 +253,6 @@ passed_or_not live [] true known = known
 passed_or_not live (x ∷ xs) true known = λ i k. known i (in_tail i x xs k)
 
 pub passed-live : (s : Scene) (a b : List ℕ) (start next : Option Pick) (first second : List ℕ) (h g : Half) (rs : List Record) → IsUnderway s a b start first second next rs
-    → AreLive s.live (passed g h (chain_of g first second))
+    → AreLive s.live (passed g h (list_of g first second))
 passed-live s a b start next first second h A rs u = passed_or_not s.live first (is_of A h) u.a_live
 passed-live s a b start next first second h B rs u = passed_or_not s.live second (is_of B h) u.b_live

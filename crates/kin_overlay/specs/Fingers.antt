@@ -7,6 +7,7 @@ use Rattle.kin_motion.specs.Scene.{Scene, x_sign, y_sign}
 use Rattle.kin_motion.specs.Chains.{is_zero}
 use Rattle.kin_motion.specs.Merges.{Half.{A, B}, Half, Breakpoint, is_of, other, breakpoints_of, slope_form, is_placed_before, IsInterleaving, other_current, current_after, last_of}
 use Rattle.kin_chain.specs.Merging.{is_in_place}
+use Rattle.kin_chain.specs.Supports.{list_of}
 use Rattle.kin_overlay.specs.declared.breakpoint.Breakpoint.{Breakpoint as Pair}
 use Rattle.kin_overlay.specs.declared.record.Record.{Record}
 use Rattle.kin_overlay.specs.declared.record.Next.{Next}
@@ -15,11 +16,6 @@ use Rattle.kin_overlay.specs.declared.fingers.Pick.{Pick}
 use Rattle.kin_overlay.specs.Lists.{first_of, front, behind}
 use Rattle.kin_overlay.specs.Seen.{seen}
 use Rattle.kin_overlay.specs.Remembered.{Remembered, place_of, breakpoints}
-
--- of two chains that of the half
-abbrev pub chain_of : Half → List ℕ → List ℕ → List ℕ
-chain_of A a b = a
-chain_of B a b = b
 
 -- what is left of the chain of a half behind a breakpoint of the half g
 abbrev pub passed : Half → Half → List ℕ → List ℕ
@@ -46,8 +42,8 @@ IsChosen s e f p = IsBefore s e f p ⊎ IsBefore s f e p
 
 -- a breakpoint that comes first of those that are left of both chains
 pub record IsFirstOfBoth (s : Scene) (a b : List ℕ) (p : Pick) : Type 0 where
-  pub own : first_of (breakpoints_of (seen p.at).half (chain_of (seen p.at).half a b)) ≡ Some (seen p.at)
-  pub rival : IsRival s (seen p.at) (breakpoints_of (other (seen p.at).half) (chain_of (other (seen p.at).half) a b)) p.slope
+  pub own : first_of (breakpoints_of (seen p.at).half (list_of (seen p.at).half a b)) ≡ Some (seen p.at)
+  pub rival : IsRival s (seen p.at) (breakpoints_of (other (seen p.at).half) (list_of (other (seen p.at).half) a b)) p.slope
 
 -- what comes first of what is left of both chains, if something is left
 abbrev pub IsPick : Scene → List ℕ → List ℕ → Option Pick → Type 0

@@ -1,6 +1,6 @@
 //! The edits that lead from one list to another.
 
-ghost use Rattle.std.specs.Prelude.{◌≡◌, ◌≢◌, ℕ, ◌+◌, ◌<◌, ◌≤◌, ◌^◌, true, false, List, [], ◌∷◌, ◌++◌, length, take, drop, slice_get, Some, IsTrue, IsFalse, OnOk, IfOk};
+ghost use Rattle.std.specs.Prelude.{◌≡◌, ◌≢◌, ℕ, ◌+◌, ◌<◌, ◌≤◌, ◌^◌, true, false, List, [], ◌∷◌, length, drop, slice_get, Some, IsTrue, IsFalse, OnOk, IfOk};
 ghost use Rattle.kin_motion.specs.Edits.{all_edited, AreFitting};
 ghost use Rattle.kin_motion.specs.Numbers.{is_in};
 ghost use Rattle.kin_overlay.specs.Diffs.{KeepOrder, ArePutApart};

@@ -1,12 +1,12 @@
 //! The list of breakpoints is made by two fingers that run along both chains.
 
-ghost use Rattle.std.specs.Prelude.{◌≡◌, ◌<◌, ◌+◌, ◌≤◌, true, length, Some, OnOk};
+ghost use Rattle.std.specs.Prelude.{◌≡◌, ◌<◌, ◌+◌, length, Some, OnOk};
 ghost use Rattle.kin_motion.specs.Numbers.{IsIn, IsOnce};
 ghost use Rattle.kin_motion.specs.Scene.{IsReal, x_sign};
 ghost use Rattle.kin_motion.specs.declared.form.Form.TheVariants.{Turn};
 ghost use Rattle.kin_motion.specs.Forms.{IsAskable};
-ghost use Rattle.kin_motion.specs.Merges.{Half.{A, B}, other_current, breakpoints_of, slope_form};
-ghost use Rattle.kin_overlay.specs.Fingers.{chain_of, passed, IsChosen, IsPick, next_of, end_at, IsMerged, AreLive, AreLess, IsBreakpointOf};
+ghost use Rattle.kin_motion.specs.Merges.{Half.{A, B}, other_current, slope_form};
+ghost use Rattle.kin_overlay.specs.Fingers.{passed, IsChosen, IsPick, next_of, end_at, IsMerged, AreLive, AreLess, IsBreakpointOf};
 ghost use Rattle.kin_overlay.specs.Lists.{front};
 ghost use Rattle.kin_overlay.specs.Seen.{half_of, seen};
 ghost use Rattle.kin_overlay.specs.Standings.{StandIn};

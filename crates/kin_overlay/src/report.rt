@@ -1,6 +1,6 @@
 //! What a change of the list changes in the facts.
 
-ghost use Rattle.std.specs.Prelude.{◌≡◌, map, flat_map, OnOk, option_to_list};
+ghost use Rattle.std.specs.Prelude.{map, flat_map, OnOk, option_to_list};
 ghost use Rattle.kin_overlay.specs.Remembered.{turn_fact, slope_facts, end_facts, facts_of};
 ghost use Rattle.kin_overlay.specs.Reports.{AreShared, IsTold};
 

@@ -2,7 +2,6 @@
 use Rattle.std.proofs.Common.{◌≡◌, inl, inr, ◌+◌, ◌*◌, ◌^◌, ◌<◌, ◌≤◌, ℕ, arith}
 use Rattle.std.proofs.lemmas.Nat.{mul-le, pow-add}
 use Rattle.std.proofs.lemmas.Bool.{cases_eq}
-use Rattle.kin_queue.specs.Cost.{TakesSteps}
 use Rattle.kin_queue.specs.Hole.{RisesWithin}
 
 -- at most one comparison for a half of the factor
@@ -13,11 +12,6 @@ one_more factor less bound old at new (r, e, b) low high h =
       | inl s ↦ (r, omega arith, omega arith)
       | inr s ↦ let step : 2 ^ (r + 1) ≡ 2 ^ r * 2 = pow-add 2 r 1 in (r + 1, omega arith, rw step (omega arith))
     ]
-
-pub less_factor : (factor less bound old new : ℕ) → RisesWithin factor bound old new → less ≤ factor → RisesWithin less bound old new
-less_factor factor less bound old new (r, e, b) h =
-    let part : 2 ^ r * less ≤ 2 ^ r * factor = mul-le (2 ^ r) less (2 ^ r) factor (omega arith) h in
-    (r, e, omega arith)
 
 pub more_bound : (factor bound more old new : ℕ) → RisesWithin factor bound old new → bound ≤ more → RisesWithin factor more old new
 more_bound factor bound more old new (r, e, b) h = (r, e, omega arith)
@@ -42,11 +36,3 @@ both_ways side bound old at new some (r, e, b) (q, f, c) =
     let one : side * 1 ≤ side * side = mul-le side 1 side side (omega arith) some in
     let second : 2 ^ q * side ≤ 2 ^ q * (side * side) = mul-le (2 ^ q) side (2 ^ q) (side * side) (omega arith) (omega arith) in
     (r + q, omega arith, rw step (omega arith))
-
-pub takes_steps : (side n old new : ℕ) → RisesWithin 1 (side * side) old new → side ≤ n + 1 → TakesSteps n old new
-takes_steps side n old new (r, e, b) h =
-    let more : side * side ≤ (n + 1) * (n + 1) = mul-le side side (n + 1) (n + 1) h h in
-    (r, e, omega arith)
-
-pub no_steps : (n old : ℕ) → TakesSteps n old old
-no_steps n old = (0, omega arith, omega arith)

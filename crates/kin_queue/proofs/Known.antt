@@ -3,7 +3,7 @@ use Rattle.std.proofs.Common.{◌≡◌, ℕ, ◌<◌, ◌≤◌, Bool, List, le
 use Rattle.std.specs.FinMap as map
 use Rattle.std.specs.FinMap.{get-from_entries}
 use Rattle.std.proofs.lemmas.Cmp.{nat_cmp_total}
-use Rattle.std.proofs.lemmas.Bool.{eqb-true, eq-eqb}
+use Rattle.std.proofs.lemmas.Bool.{eqb-true, eq-eqb, false_from_ne_true}
 use Rattle.kin_num.specs.declared.instant.Moment.{Moment}
 use Rattle.kin_queue.specs.Agenda.{Agenda}
 use Rattle.kin_queue.specs.declared.ticket.Ticket.{Ticket}
@@ -38,11 +38,7 @@ module _ (es : List (ℕ × Moment)) (ps : List ℕ) (heap : IsHeap es ps) (id :
       at None h = absurd (let n : false ≡ true = subst (λ (x : Option Moment). IsSome x) (seen ∙ h) some in cc)
 
   pub nowhere_at : (a : Agenda) → agenda_of es ≡ a → ¬ (IsKnownAt es ps id (get_or ps id 0)) → is_some (map.get a.moments id) ≡ false
-  nowhere_at a e n = not_some (is_some (map.get a.moments id)) (λ t. n (known_at a e t))
-    where
-      not_some : (b : Bool) → (b ≡ true → ⊥) → b ≡ false
-      not_some true n = absurd (n refl)
-      not_some false n = refl
+  nowhere_at a e n = false_from_ne_true (is_some (map.get a.moments id)) (λ t. n (known_at a e t))
 
   pub there_at : (a : Agenda) → agenda_of es ≡ a → (place : ℕ) (e : ℕ × Moment) → place < length es → ((d : ℕ × Moment) → get_or es place d ≡ e) → e.0 ≡ id → is_some (map.get a.moments id) ≡ true
   there_at a view place e lt stands names =

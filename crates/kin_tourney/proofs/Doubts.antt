@@ -190,6 +190,21 @@ closed_raised ds node closed inside m = record { top = top_next (read_set ds nod
     next v big e (inr k) (inl j) = absurd (m (sym (ap (doubt_in ds) j.0) ∙ closed.below v big (sym k.1 ∙ e)))
     next v big e (inr k) (inr j) = j.1 ∙ closed.below v big (sym k.1 ∙ e)
 
+-- a node whose halves are clear becomes clear
+pub closed_cleared : (ds : List Doubt) (node : ℕ) → IsClosed ds → 0 < node → node < length ds → ((v : ℕ) → 0 < v → v / 2 ≡ node → doubt_in ds v ≡ Clear) → IsClosed (set ds node Clear)
+closed_cleared ds node closed some inside halves = record {
+  top = get_or-set_other ds node 0 Clear Clear (omega arith) ∙ closed.top;
+  below = λ v big e. below v big e (read_set ds node (v / 2) Clear Clear inside) (read_set ds node v Clear Clear inside);
+}
+  where
+    below : (v : ℕ) → 0 < v → doubt_in (set ds node Clear) (v / 2) ≡ Clear
+        → ((v / 2 ≡ node) × (doubt_in (set ds node Clear) (v / 2) ≡ Clear)) ⊎ ((v / 2 ≢ node) × (doubt_in (set ds node Clear) (v / 2) ≡ doubt_in ds (v / 2)))
+        → ((v ≡ node) × (doubt_in (set ds node Clear) v ≡ Clear)) ⊎ ((v ≢ node) × (doubt_in (set ds node Clear) v ≡ doubt_in ds v))
+        → doubt_in (set ds node Clear) v ≡ Clear
+    below v big e up (inl k) = k.1
+    below v big e (inl j) (inr k) = k.1 ∙ halves v big j.0
+    below v big e (inr j) (inr k) = k.1 ∙ closed.below v big (sym j.1 ∙ e)
+
 module _ (old now mid : List Doubt) (failed : List Placed) (i : ℕ) (d : Placed) (within : i < length failed)
     (h : IsDoubted old now failed i) (inside : (slice_index_or failed i d).part < length old) (closed : IsClosed mid) (spread : IsSpread now mid Below (slice_index_or failed i d).part) where
   abbrev part : ℕ

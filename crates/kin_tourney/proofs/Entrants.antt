@@ -15,7 +15,7 @@ use Rattle.kin_motion.specs.Tournaments.{Key, beats, item_in}
 use Rattle.kin_tourney.specs.declared.entry.Entry.{Entry}
 use Rattle.kin_tourney.specs.Locals.{HasNoFact, IsMatch, IsPlayed}
 use Rattle.kin_tourney.specs.Standings.{Standings, IsTree, IsRight, best_in, fact_in, named_at, entry_at, entry_in, entry_with, item_of, match_of, winners_of, placed_facts}
-use Rattle.kin_tourney.proofs.Entries.{entry_in_slot}
+use Rattle.kin_tourney.proofs.Entries.{entry_in_slot, named_inner}
 use Rattle.kin_tourney.proofs.Placements.{fact_of_placed, placed_of_fact, placed_facts_once}
 
 -- the entry that wins a match
@@ -29,20 +29,13 @@ entry_back : {Item : Type 0} (items : List (Option Item)) (e : Entry Item) → i
 entry_back {Item} items e h = ap (entry_with e.slot) h
 
 module _ {Item : Type 0} (key : Key Item) (sign : Form → Sign) (t : Standings Item) (tree : IsTree t) where
-  named_inner : (v : ℕ) → v < length t.items → named_at t v ≡ best_in t.best v
-  named_inner v inside = at (nat_lt v (length t.items)) refl
-    where
-      at : (b : Bool) → nat_lt v (length t.items) ≡ b → cond b (best_in t.best v) (Some (v - length t.items)) ≡ best_in t.best v
-      at true e = refl
-      at false e = let past : length t.items ≤ v = grind (arith, nat_tests, e) in absurd (omega arith)
-
   holds : (v : ℕ) (e : Entry Item) → entry_at t v ≡ Some e → item_in t.items e.slot ≡ Some e.item
   holds v e f = (entry_in_slot t.items (named_at t v) e f).1
 
   -- a right node has the winning entry of its halves
   pub entry_right : (v : ℕ) → v < length t.items → IsRight key sign t v → entry_at t v ≡ winning key sign (entry_at t (2 * v)) (entry_at t (2 * v + 1))
   entry_right v inside right =
-      ap (entry_in t.items) (named_inner v inside ∙ ap (λ (p : Option ℕ × Option Fact). p.0) right) ∙ at (entry_at t (2 * v)) refl (entry_at t (2 * v + 1)) refl
+      ap (entry_in t.items) (named_inner t v inside ∙ ap (λ (p : Option ℕ × Option Fact). p.0) right) ∙ at (entry_at t (2 * v)) refl (entry_at t (2 * v + 1)) refl
     where
       at : (l : Option (Entry Item)) → entry_at t (2 * v) ≡ l → (r : Option (Entry Item)) → entry_at t (2 * v + 1) ≡ r → entry_in t.items (match_of key sign l r).0 ≡ winning key sign l r
       at None e None f = refl

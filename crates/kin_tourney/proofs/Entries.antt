@@ -22,6 +22,14 @@ entry_in_slot {Item} items (Some i) e h =
     let k = entry_with_slot i (item_in items i) e h in
     (ap Some k.0, ap (item_in items) (sym k.0) ∙ k.1)
 
+-- an inner node names its best slot
+pub named_inner : {Item : Type 0} (t : Standings Item) (v : ℕ) → v < length t.items → named_at t v ≡ best_in t.best v
+named_inner {Item} t v inside = at (nat_lt v (length t.items)) refl
+  where
+    at : (b : Bool) → nat_lt v (length t.items) ≡ b → cond b (best_in t.best v) (Some (v - length t.items)) ≡ best_in t.best v
+    at true e = refl
+    at false e = let past : length t.items ≤ v = grind (arith, nat_tests, e) in absurd (omega arith)
+
 -- the slot that a node names stands under it
 pub named_under : {Item : Type 0} (t : Standings Item) → IsTree t → (v i : ℕ) → v < 2 * length t.items → named_at t v ≡ Some i → (i < length t.items) × (is_under t.size v i ≡ true)
 named_under {Item} t h v i inside e = at (nat_lt v (length t.items)) refl e

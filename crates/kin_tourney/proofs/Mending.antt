@@ -1,7 +1,7 @@
 -- A repair, node by node.
 use Rattle.std.proofs.Common.{◌≡◌, ◌≢◌, ◌⊎◌, inl, inr, refl, sym, ap, ◌∙◌, subst, arith, List, ℕ, ◌+◌, ◌*◌, ◌-◌, ◌/◌, ◌<◌, length, Bool, true, false, cond, nat_lt, set}
 use Rattle.std.specs.Prelude.{Option, Some}
-use Rattle.std.proofs.lemmas.List.{get_or-set_other}
+use Rattle.std.proofs.lemmas.List.{get_or-set_same, get_or-set_other}
 use Rattle.std.proofs.lemmas.Bool.{cases_eq}
 use Rattle.kin_algebra.specs.declared.sign.Sign.{Sign}
 use Rattle.kin_motion.specs.declared.form.Form.{Form}
@@ -13,7 +13,7 @@ use Rattle.kin_motion.proofs.ChangeLaws.{nothing_changed}
 use Rattle.kin_tourney.specs.declared.doubt.Doubt.TheVariants.{Clear, Here}
 use Rattle.kin_tourney.specs.Tournament.{mark_in}
 use Rattle.kin_tourney.specs.Standings.{Standings, IsTree, IsRight, best_in, fact_in, doubt_in, doubt_count, entry_in, entry_at, match_of, match_at, placed_facts}
-use Rattle.kin_tourney.specs.Repairs.{IsDoubtful, IsReplayed, IsRenewed, IsRightOnce, IsCleared, needs_play}
+use Rattle.kin_tourney.specs.Repairs.{IsDoubtful, IsReplayed, IsRenewed, IsRightOnce, IsCleared, IsLowest, IsDone, needs_play}
 use Rattle.kin_tourney.proofs.AfterWrite.{read_set}
 use Rattle.kin_tourney.proofs.Entrants.{right_at_one}
 use Rattle.kin_tourney.proofs.Doubts.{here_is_doubt, count_kept, count_lowered}
@@ -228,19 +228,15 @@ module _ {Item : Type 0} (all : Bool) (key : Key Item) (sign : Form → Sign) wh
     count_cleared = ap (λ ds. doubt_count ds + 1) doubts_are ∙ count_lowered t.doubts node room doubted
 
     pub clear_now : doubt_in next.doubts node ≡ Clear
-    clear_now = at (doubt_next node)
-      where
-        at : ((node ≡ node) × (doubt_in next.doubts node ≡ Clear)) ⊎ ((node ≢ node) × (doubt_in next.doubts node ≡ doubt_in t.doubts node)) → doubt_in next.doubts node ≡ Clear
-        at (inl k) = k.1
-        at (inr k) = absurd (k.0 refl)
+    clear_now = ap (λ ds. doubt_in ds node) doubts_are ∙ get_or-set_same t.doubts node Clear Clear room
 
     -- the node above is still in doubt
-    pub up_in_doubt : 0 < node / 2 → (node / 2 < length next.items) × (doubt_in next.doubts (node / 2) ≢ Clear)
-    up_in_doubt big = (let e = ap length items_are in omega arith, λ e. at e (doubt_next (node / 2)))
+    pub up_in_doubt : doubt_in next.doubts (node / 2) ≢ Clear
+    up_in_doubt e = at (doubt_next (node / 2))
       where
-        at : doubt_in next.doubts (node / 2) ≡ Clear → ((node / 2 ≡ node) × (doubt_in next.doubts (node / 2) ≡ Clear)) ⊎ ((node / 2 ≢ node) × (doubt_in next.doubts (node / 2) ≡ doubt_in t.doubts (node / 2))) → ⊥
-        at e (inl k) = absurd (omega arith)
-        at e (inr k) = above_in_doubt t.doubts h.doubtful.tree.closed node some doubted (sym k.1 ∙ e)
+        at : ((node / 2 ≡ node) × (doubt_in next.doubts (node / 2) ≡ Clear)) ⊎ ((node / 2 ≢ node) × (doubt_in next.doubts (node / 2) ≡ doubt_in t.doubts (node / 2))) → ⊥
+        at (inl k) = absurd (omega arith)
+        at (inr k) = above_in_doubt t.doubts h.doubtful.tree.closed node some doubted (sym k.1 ∙ e)
 
     pub root_cleared : node / 2 ≡ 0 → doubt_in next.doubts 1 ≡ Clear
     root_cleared e = at (doubt_next 1)
@@ -258,24 +254,28 @@ module _ {Item : Type 0} (all : Bool) (key : Key Item) (sign : Form → Sign) wh
     pub same_count : doubt_count mid.doubts ≡ count
     pub same_room : length mid.items ≡ room
 
-  pub passed : (start t mid : Standings Item) (before middle after : Change) (node : ℕ) → 0 < node → node < length t.items → doubt_in t.doubts node ≢ Clear
-      → ((v : ℕ) → 0 < v → v / 2 ≡ node → doubt_in t.doubts v ≡ Clear) → IsMending start 0 t before middle → IsTree mid → IsRenewed all key sign node t mid middle after
+  inside_of : (start t : Standings Item) (before after : Change) (node : ℕ) → IsLowest t.doubts node → IsMending start 0 t before after → node < length t.items
+  inside_of start t before after node at h = omega (arith, at.inside, h.doubtful.tree.doubts_room)
+
+  pub passed : (start t mid : Standings Item) (before middle after : Change) (node : ℕ) → IsLowest t.doubts node → IsMending start 0 t before middle → IsTree mid → IsRenewed all key sign node t mid middle after
       → IsPassed start mid node before after (doubt_count t.doubts) (length t.items)
-  passed start t mid before middle after node some inside in_doubt halves h tree (inl (here, r)) = record {
-    mending = mending_replayed start t mid before middle after node some inside in_doubt h tree r;
-    own = played_right start t mid before middle after node some inside in_doubt h tree r;
-    doubted = doubt_kept start t mid before middle after node some inside in_doubt h tree r;
-    halves_clear = halves_kept start t mid before middle after node some inside in_doubt h tree r halves;
-    same_count = count_replayed start t mid before middle after node some inside in_doubt h tree r;
-    same_room = ap length r.same_items;
-  }
-  passed start t mid before middle after node some inside in_doubt halves h tree (inr (n, same, told)) =
+  passed start t mid before middle after node at h tree (inl (here, r)) =
+      let inside = inside_of start t before middle node at h in
+      record {
+        mending = mending_replayed start t mid before middle after node at.some inside at.doubted h tree r;
+        own = played_right start t mid before middle after node at.some inside at.doubted h tree r;
+        doubted = doubt_kept start t mid before middle after node at.some inside at.doubted h tree r;
+        halves_clear = halves_kept start t mid before middle after node at.some inside at.doubted h tree r at.halves_clear;
+        same_count = count_replayed start t mid before middle after node at.some inside at.doubted h tree r;
+        same_room = ap length r.same_items;
+      }
+  passed start t mid before middle after node at h tree (inr (n, same, told)) =
       subst (λ (x : Standings Item). IsPassed start x node before after (doubt_count t.doubts) (length t.items)) (sym same)
       (subst (λ (d : Change). IsPassed start t node before d (doubt_count t.doubts) (length t.items)) (sym told) (record {
         mending = mending_passed start t before middle node h;
-        own = h.doubtful.right node some inside n;
-        doubted = in_doubt;
-        halves_clear = halves;
+        own = h.doubtful.right node at.some (inside_of start t before middle node at h) n;
+        doubted = at.doubted;
+        halves_clear = at.halves_clear;
         same_count = refl;
         same_room = refl;
       }))
@@ -283,23 +283,23 @@ module _ {Item : Type 0} (all : Bool) (key : Key Item) (sign : Form → Sign) wh
   -- one turn of the loop that clears a node
   pub record IsStepped (start t next : Standings Item) (node : ℕ) (before after : Change) : Type 0 where
     pub mending : IsMending start 0 next before after
-    pub place : 0 < node / 2 → (node / 2 < length next.items) × (doubt_in next.doubts (node / 2) ≢ Clear)
+    pub done : IsDone next.doubts node
     pub ended : node / 2 ≡ 0 → doubt_in next.doubts 1 ≡ Clear
     pub count : doubt_count next.doubts + 1 ≡ doubt_count t.doubts
-    pub inside : node < length next.items
-    pub clear : doubt_in next.doubts node ≡ Clear
 
-  pub stepped : (start t mid next : Standings Item) (before after : Change) (node : ℕ) → 0 < node → node < length t.items
-      → IsPassed start mid node before after (doubt_count t.doubts) (length t.items) → IsTree next → IsCleared node mid next → IsStepped start t next node before after
-  stepped start t mid next before after node some inside p tree c =
-      let room : length next.items ≡ length t.items = ap (λ (x : Standings Item). length x.items) c.same ∙ p.same_room in
-      let here : node < length mid.items = let e = p.same_room in omega arith in
-      let less : doubt_count next.doubts + 1 ≡ doubt_count t.doubts = count_cleared start mid next before after node some here p.doubted p.mending p.own tree c ∙ p.same_count in
+  pub stepped : (start t mid next : Standings Item) (before middle after : Change) (node : ℕ) → IsLowest t.doubts node → IsMending start 0 t before middle → IsTree mid → IsRenewed all key sign node t mid middle after
+      → IsTree next → IsCleared node mid next → IsStepped start t next node before after
+  stepped start t mid next before middle after node at h renewed r tree c =
+      let p = passed start t mid before middle after node at h renewed r in
+      let here : node < length mid.items = let e = p.same_room in let inside = inside_of start t before middle node at h in omega arith in
       record {
-        mending = mending_cleared start mid next before after node some here p.doubted p.mending p.own tree c;
-        place = up_in_doubt start mid next before after node some here p.doubted p.mending p.own tree c;
-        ended = root_cleared start mid next before after node some here p.doubted p.mending p.own tree c;
-        count = less;
-        inside = omega (arith, room, inside);
-        clear = clear_now start mid next before after node some here p.doubted p.mending p.own tree c;
+        mending = mending_cleared start mid next before after node at.some here p.doubted p.mending p.own tree c;
+        done = record {
+          some = at.some;
+          inside = let e = ap (λ (x : Standings Item). length x.items) c.same in let r = tree.doubts_room in omega arith;
+          clear = clear_now start mid next before after node at.some here p.doubted p.mending p.own tree c;
+          above = up_in_doubt start mid next before after node at.some here p.doubted p.mending p.own tree c;
+        };
+        ended = root_cleared start mid next before after node at.some here p.doubted p.mending p.own tree c;
+        count = count_cleared start mid next before after node at.some here p.doubted p.mending p.own tree c ∙ p.same_count;
       }

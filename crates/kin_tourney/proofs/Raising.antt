@@ -1,34 +1,19 @@
 -- Doubts above a marked slot: the matches that it had won are to be played again.
-use Rattle.std.proofs.Common.{◌≡◌, ◌≢◌, ◌⊎◌, inl, inr, refl, sym, ap, ◌∙◌, subst, arith, ℕ, zero, suc, ◌+◌, ◌*◌, ◌/◌, ◌<◌, ◌≤◌, length, true, nat_eq, set, List, ◌-◌, ◌^◌, Bool, false, cond, nat_lt}
+use Rattle.std.proofs.Common.{◌≡◌, ◌≢◌, ◌⊎◌, inl, inr, refl, sym, ap, ◌∙◌, subst, arith, ℕ, zero, suc, ◌+◌, ◌*◌, ◌/◌, ◌<◌, ◌≤◌, length, true, nat_eq, set, ◌^◌, Bool, false, nat_lt}
 use Rattle.std.specs.Prelude.{Some}
 use Rattle.std.proofs.lemmas.Bool.{or_cases, cases_eq, cases_lt}
 use Rattle.std.proofs.lemmas.Bool.Decides.{nat_tests}
 use Rattle.std.proofs.lemmas.List.{get_or-set_same, length-set}
 use Rattle.kin_motion.specs.Tournaments.{comes_to, is_under}
 use Rattle.kin_motion.proofs.NodeLaws.{not_above}
-use Rattle.kin_tourney.specs.declared.doubt.Doubt.{Doubt}
 use Rattle.kin_tourney.specs.declared.doubt.Doubt.TheVariants.{Clear, Below, Here}
-use Rattle.kin_tourney.specs.Standings.{Standings, IsTree, best_in, doubt_in, doubt_count, named_at}
+use Rattle.kin_tourney.specs.Standings.{Standings, IsTree, doubt_in, doubt_count, named_at}
 use Rattle.kin_tourney.specs.Repairs.{IsSpread, IsMarkedUp, IsFed}
 use Rattle.kin_tourney.specs.Under.{is_under-leaf, is_under-left, is_under-right, is_under-one_half}
-use Rattle.kin_tourney.proofs.Entries.{named_under}
+use Rattle.kin_tourney.proofs.Entries.{named_inner, named_under}
 use Rattle.kin_tourney.proofs.AfterWrite.{read_set}
-use Rattle.kin_tourney.proofs.Doubts.{closed_raised, count_kept, here_is_doubt}
+use Rattle.kin_tourney.proofs.Doubts.{count_kept, here_is_doubt}
 use Rattle.kin_tourney.proofs.Trees.{above_in_doubt}
-
--- a node in doubt is to be played again
-pub tree_raised : {Item : Type 0} (t : Standings Item) → IsTree t → (node : ℕ) → node < length t.items → doubt_in t.doubts node ≢ Clear → IsTree (record t { doubts = set t.doubts node Here })
-tree_raised {Item} t h node inside doubted = record {
-  small = h.small;
-  items_room = h.items_room;
-  marked_room = h.marked_room;
-  best_room = h.best_room;
-  facts_room = h.facts_room;
-  doubts_room = length-set t.doubts node Here ∙ h.doubts_room;
-  best_low = h.best_low;
-  best_under = h.best_under;
-  closed = closed_raised t.doubts node h.closed (let r = h.doubts_room in omega arith) doubted;
-}
 
 -- on the way up from a slot: the nodes that are passed are done
 pub record IsRaising {Item : Type 0} (slot : ℕ) (start now : Standings Item) (node : ℕ) : Type 0 where
@@ -83,16 +68,9 @@ module _ {Item : Type 0} (slot : ℕ) (t : Standings Item) (tree : IsTree t) (in
       at (inl e) = is_under-left t.size (node / 2) slot (omega arith) inner low (subst (λ (v : ℕ). is_under t.size v slot ≡ true) e under)
       at (inr e) = is_under-right t.size (node / 2) slot (omega arith) inner low (subst (λ (v : ℕ). is_under t.size v slot ≡ true) e under)
 
-  named_inner : (v : ℕ) → v < length t.items → named_at t v ≡ best_in t.best v
-  named_inner v small = at (nat_lt v (length t.items)) refl
-    where
-      at : (b : Bool) → nat_lt v (length t.items) ≡ b → cond b (best_in t.best v) (Some (v - length t.items)) ≡ best_in t.best v
-      at true e = refl
-      at false e = let past : length t.items ≤ v = grind (arith, nat_tests, e) in absurd (omega arith)
-
   module _ (fed : IsFed t) where
     lost_up : (node : ℕ) → 1 < node → node < 2 * length t.items → is_under t.size node slot ≡ true → (named_at t node ≢ Some slot) → named_at t (node / 2) ≢ Some slot
-    lost_up node big fits under n e = at (fed (node / 2) slot (omega arith) (omega arith) (sym (named_inner (node / 2) (omega arith)) ∙ e)) (half_or_more node)
+    lost_up node big fits under n e = at (fed (node / 2) slot (omega arith) (omega arith) (sym (named_inner t (node / 2) (omega arith)) ∙ e)) (half_or_more node)
       where
         at : (named_at t (2 * (node / 2)) ≡ Some slot) ⊎ (named_at t (2 * (node / 2) + 1) ≡ Some slot) → (node ≡ 2 * (node / 2)) ⊎ (node ≡ 2 * (node / 2) + 1) → ⊥
         at (inl f) (inl g) = n (ap (named_at t) g ∙ f)

@@ -1,7 +1,6 @@
 -- A node in doubt whose halves are as they were: what its fact tells of its match.
-use Rattle.std.proofs.Common.{◌≡◌, ◌≢◌, inl, refl, sym, ap, ◌∙◌, ℕ, ◌+◌, ◌*◌, Bool, true, false}
-use Rattle.std.specs.Prelude.{Option, Some}
-use Rattle.std.proofs.lemmas.Option.{same_Some}
+use Rattle.std.proofs.Common.{◌≡◌, ◌≢◌, inl, refl, ℕ, Bool, true, false}
+use Rattle.std.specs.Prelude.{Some}
 use Rattle.kin_algebra.specs.declared.sign.Sign.{Sign}
 use Rattle.kin_motion.specs.declared.form.Form.{Form}
 use Rattle.kin_motion.specs.declared.fact.Fact.{Fact}
@@ -9,8 +8,8 @@ use Rattle.kin_motion.specs.Deltas.{Change}
 use Rattle.kin_motion.specs.Tournaments.{Key}
 use Rattle.kin_tourney.specs.declared.doubt.Doubt.{Doubt}
 use Rattle.kin_tourney.specs.declared.doubt.Doubt.TheVariants.{Clear, Below, Here}
-use Rattle.kin_tourney.specs.Standings.{Standings, fact_in, entry_at, match_of}
-use Rattle.kin_tourney.specs.Repairs.{IsReplayed, IsRightOnce, IsMatchSign, needs_play}
+use Rattle.kin_tourney.specs.Standings.{Standings, fact_in}
+use Rattle.kin_tourney.specs.Repairs.{IsReplayed, IsRightOnce, needs_play}
 use Rattle.kin_tourney.proofs.Entrants.{right_where_held}
 
 -- of all matches in doubt each is played again
@@ -39,10 +38,3 @@ module _ {Item : Type 0} (key : Key Item) (signs : Form → Sign) (t : Standings
     reported = inl (refl, refl);
     doubts = inl (refl, refl);
   }
-
-  -- the form of its fact is that of its halves
-  pub match_sign : (s : Sign) → (f : Fact) × (fact_in t.facts v ≡ Some f) × (signs f.form ≡ s) → IsMatchSign key signs t v s
-  match_sign s (f, e, told) l r left right =
-      let h : Some f ≡ Some (record { form = key.form l.item r.item; sign = once.0 }) =
-      sym e ∙ ap (λ (p : Option ℕ × Option Fact). p.1) once.1 ∙ ap (λ x. (match_of key (λ g. once.0) x (entry_at t (2 * v + 1))).1) left ∙ ap (λ x. (match_of key (λ g. once.0) (Some l) x).1) right in
-      ap (λ (x : Fact). signs x.form) (sym (same_Some _ _ h)) ∙ told

@@ -1,5 +1,5 @@
 -- A repaired tree of matches is a settled tournament.
-use Rattle.std.proofs.Common.{◌≡◌, ◌≢◌, refl, sym, ap, ◌∙◌, subst, arith, List, ℕ, ◌+◌, ◌^◌, ◌<◌, ◌≤◌, length, set, Bool, true, false, not}
+use Rattle.std.proofs.Common.{◌≡◌, refl, sym, ap, ◌∙◌, subst, arith, List, ℕ, ◌+◌, ◌^◌, ◌<◌, ◌≤◌, length, set, Bool, true, false, not}
 use Rattle.std.proofs.lemmas.Nat.{pow-add}
 use Rattle.kin_tourney.proofs.Vacant.{vacant}
 use Rattle.std.specs.Prelude.{Option, None, Contains, IsTrue, slice_index_or}
@@ -7,11 +7,11 @@ use Rattle.kin_motion.specs.declared.fact.Placed.{Placed}
 use Rattle.kin_motion.specs.Forms.{IsAskable}
 use Rattle.kin_motion.specs.Kinetics.{ListsFailing}
 use Rattle.kin_motion.specs.Scene.{Scene, IsReal}
-use Rattle.kin_motion.specs.Tournaments.{Key, beats, item_in, is_under}
+use Rattle.kin_motion.specs.Tournaments.{Key, item_in, is_under}
 use Rattle.kin_tourney.specs.declared.doubt.Doubt.{Doubt}
 use Rattle.kin_tourney.specs.declared.doubt.Doubt.TheVariants.{Clear, Below, Here}
-use Rattle.kin_tourney.specs.Names.{AreLive}
-use Rattle.kin_tourney.specs.Tournament.{IsAtRest, IsReady, IsSettled, mark_in, is_above_mark, winner_at, CoversFailing, CoversAskable}
+use Rattle.kin_tourney.specs.Names.{AreLive, IsTotal, IsTransitive}
+use Rattle.kin_tourney.specs.Tournament.{Tournament, IsAtRest, IsReady, IsSettled, mark_in, is_above_mark, winner_at, CoversFailing, CoversAskable}
 use Rattle.kin_tourney.specs.Ready.{fair_when_ready}
 use Rattle.kin_tourney.specs.Played.{settled_from_played}
 use Rattle.kin_tourney.specs.Standings.{Standings, IsTree, doubt_in, entry_at, item_of, placed_facts, seen_as}
@@ -26,8 +26,7 @@ pub covers_failing : (facts : List Placed) (is_spared : Placed → Bool) (s : Sc
 covers_failing facts is_spared s failed h = record { only = λ p c. ((h.each p).0 c).0; all = λ p c free fails. (h.each p).1 (c, free, fails) }
 
 module _ {K Item : Type 0} (k : K) (names : Item → List ℕ) (key : Key Item)
-    (total : (s : Scene) (x y : Item) → IsReal s → AreLive s.live (names x) → AreLive s.live (names y) → x ≢ y → beats s key y x ≡ not (beats s key x y))
-    (through : (s : Scene) (x y z : Item) → IsReal s → AreLive s.live (names x) → AreLive s.live (names y) → AreLive s.live (names z) → beats s key x y ≡ true → beats s key y z ≡ true → beats s key x z ≡ true) where
+    (total : IsTotal names key) (through : IsTransitive names key) where
   pub settled_repaired : (all : Bool) (t : Standings Item) (s : Scene) → IsReal s → IsDoubtful all key s.sign t → ((v : ℕ) → 0 < v → doubt_in t.doubts v ≡ Clear) → IsReady names (seen_as k t true) s → IsSettled names key (seen_as k t true) s
   settled_repaired all t s real h clear ready = record {
     room = h.tree.items_room;
@@ -58,65 +57,83 @@ pub record IsLast {K Item : Type 0} (k : K) (names : Item → List ℕ) (key : K
   pub rest : IsAtRest (seen_as k new true)
   pub settled : IsSettled names key (seen_as k new true) s
 
--- failed facts are in doubt
-module _ {K Item : Type 0} (k : K) (names : Item → List ℕ) (key : Key Item) (t doubted : Standings Item) (whole : Bool) (s : Scene) (failed : List Placed)
-    (kept : IsTree t × (IsTrue whole → IsSound key t)) (ready : IsReady names (seen_as k t whole) s) where
+-- a tournament that is seen as another one, which is ready
+module _ {K Item : Type 0} (k : K) (names : Item → List ℕ) (key : Key Item) (t : Standings Item) (whole : Bool) (s : Scene) (seen : Tournament K Item)
+    (kept : IsTree t × (IsTrue whole → IsSound key t)) (view : seen_as k t whole ≡ seen) (may : IsReady names seen s) where
+  ready : IsReady names (seen_as k t whole) s
+  ready = subst (λ (x : Tournament K Item). IsReady names x s) (sym view) may
+
+  sound : IsSound key t
+  sound = kept.1 ready.whole
+
   pub some_slots : 1 ≤ t.size
-  some_slots = (kept.1 ready.whole).some
+  some_slots = sound.some
 
-  pub parts_low : ((p : Placed) → Contains failed p → Contains (placed_facts t) p) → (i : ℕ) (d : Placed) → i < length failed → (slice_index_or failed i d).part < length t.items
-  parts_low only = parts_inside key t failed kept.0 only
+  -- failed facts are in doubt
+  module _ (failed : List Placed) where
+    pub parts_low : ((p : Placed) → Contains failed p → Contains seen.facts p) → (i : ℕ) (d : Placed) → i < length failed → (slice_index_or failed i d).part < length t.items
+    parts_low only = parts_inside key t failed kept.0 (λ p c. subst (λ (x : Tournament K Item). Contains x.facts p) (sym view) (only p c))
 
-  module _ (tree : IsTree doubted) (same : doubted ≡ record t { doubts = doubted.doubts }) (doubts : IsDoubted t.doubts doubted.doubts failed (length failed)) where
-    -- all matches above marks are played again, if there are marks at all
-    pub doubtful_now : CoversFailing (placed_facts t) (λ p. is_above_mark t.size t.marked p.part) s failed → (untouched : Bool) → (untouched ≡ true → doubt_in t.doubts 1 ≡ Clear) → IsDoubtful (not untouched) key s.sign doubted
-    doubtful_now failing untouched root = doubtful_starts key (not untouched) t doubted s failed kept.0 tree (kept.1 ready.whole) same doubts failing (λ v some. first untouched root v some)
-      where
-        was_clear : (v : ℕ) (d : Doubt) → d ≡ doubt_in doubted.doubts v → needs_play true d ≡ false → doubt_in t.doubts v ≡ Clear
-        was_clear v Clear e n = doubts.kept v (sym e)
-        was_clear v Below e n = absurd cc
-        was_clear v Here e n = absurd cc
+    module _ (doubted : Standings Item) (tree : IsTree doubted) (same : doubted ≡ record t { doubts = doubted.doubts }) (doubts : IsDoubted t.doubts doubted.doubts failed (length failed)) where
+      -- all matches above marks are played again, if there are marks at all
+      pub doubtful_now : CoversFailing seen.facts (λ p. is_above_mark seen.size seen.marked p.part) s failed → (untouched : Bool) → (untouched ≡ true → doubt_in t.doubts 1 ≡ Clear) → IsDoubtful (not untouched) key s.sign doubted
+      doubtful_now failing untouched root =
+          doubtful_starts key (not untouched) t doubted s failed kept.0 tree sound same doubts
+          (subst (λ (x : Tournament K Item). CoversFailing x.facts (λ p. is_above_mark x.size x.marked p.part) s failed) (sym view) failing) (λ v some. first untouched root v some)
+        where
+          was_clear : (v : ℕ) (d : Doubt) → d ≡ doubt_in doubted.doubts v → needs_play true d ≡ false → doubt_in t.doubts v ≡ Clear
+          was_clear v Clear e n = doubts.kept v (sym e)
+          was_clear v Below e n = absurd cc
+          was_clear v Here e n = absurd cc
 
-        first : (u : Bool) → (u ≡ true → doubt_in t.doubts 1 ≡ Clear) → (v : ℕ) → 0 < v → needs_play (not u) (doubt_in doubted.doubts v) ≡ false → doubt_in t.doubts v ≡ Clear
-        first true root v some n = all_clear t.doubts kept.0.closed (root refl) v some
-        first false root v some n = was_clear v (doubt_in doubted.doubts v) refl n
+          first : (u : Bool) → (u ≡ true → doubt_in t.doubts 1 ≡ Clear) → (v : ℕ) → 0 < v → needs_play (not u) (doubt_in doubted.doubts v) ≡ false → doubt_in t.doubts v ≡ Clear
+          first true root v some n = all_clear t.doubts kept.0.closed (root refl) v some
+          first false root v some n = was_clear v (doubt_in doubted.doubts v) refl n
 
-    -- only those matches that are in doubt themselves are played again
-    pub doubtful_of_told : ((live : List ℕ) (x y : Item) → AreLive live (names x) → AreLive live (names y) → IsAskable live (key.form x y)) → CoversAskable (placed_facts t) s failed → IsDoubtful false key s.sign doubted
-    doubtful_of_told askable failing = doubtful_told key false t doubted s failed kept.0 tree (kept.1 ready.whole) same doubts failing
-        (λ v sign f right e. right_askable key s.live names (λ x y. askable s.live x y) t ready.live v sign f right e)
+      -- only those matches that are in doubt themselves are played again
+      pub doubtful_of_told : ((live : List ℕ) (x y : Item) → AreLive live (names x) → AreLive live (names y) → IsAskable live (key.form x y)) → CoversAskable seen.facts s failed → IsDoubtful false key s.sign doubted
+      doubtful_of_told askable failing =
+          doubtful_told key false t doubted s failed kept.0 tree sound same doubts
+          (subst (λ (x : Tournament K Item). CoversAskable x.facts s failed) (sym view) failing)
+          (λ v sign f right e. right_askable key s.live names (λ x y. askable s.live x y) t ready.live v sign f right e)
 
-    same_size : doubted.size ≡ t.size
-    same_size = ap (λ (x : Standings Item). x.size) same
+      same_size : doubted.size ≡ t.size
+      same_size = ap (λ (x : Standings Item). x.size) same
 
-    same_items : doubted.items ≡ t.items
-    same_items = ap (λ (x : Standings Item). x.items) same
+      same_items : doubted.items ≡ t.items
+      same_items = ap (λ (x : Standings Item). x.items) same
 
-    pub some_now : 1 ≤ doubted.size
-    some_now = subst (λ n. 1 ≤ n) (sym same_size) some_slots
+      -- and repaired
+      module _ (total : IsTotal names key) (through : IsTransitive names key)
+          (real : IsReal s) (all : Bool) (new : Standings Item) (size : new.size ≡ doubted.size) (items : new.items ≡ doubted.items) (known : IsDoubtful all key s.sign new) (clear : (v : ℕ) → 0 < v → doubt_in new.doubts v ≡ Clear) where
+        some_last : 1 ≤ new.size
+        some_last = subst (λ n. 1 ≤ n) (sym (size ∙ same_size)) some_slots
 
-    -- and repaired
-    module _ (total : (s : Scene) (x y : Item) → IsReal s → AreLive s.live (names x) → AreLive s.live (names y) → x ≢ y → beats s key y x ≡ not (beats s key x y))
-        (through : (s : Scene) (x y z : Item) → IsReal s → AreLive s.live (names x) → AreLive s.live (names y) → AreLive s.live (names z) → beats s key x y ≡ true → beats s key y z ≡ true → beats s key x z ≡ true)
-        (real : IsReal s) (all : Bool) (new : Standings Item) (size : new.size ≡ doubted.size) (items : new.items ≡ doubted.items) (known : IsDoubtful all key s.sign new) (clear : (v : ℕ) → 0 < v → doubt_in new.doubts v ≡ Clear) where
-      some_last : 1 ≤ new.size
-      some_last = subst (λ n. 1 ≤ n) (sym size) some_now
+        many_last : 1 < length new.items
+        many_last = some_inner new known.tree some_last
 
-      many_last : 1 < length new.items
-      many_last = some_inner new known.tree some_last
-
-      pub last : IsLast k names key new s
-      last = record {
-        kept = (known.tree, λ w. sound_repaired key all new s.sign some_last many_last known clear);
-        rest = record { whole = refl; unmarked = unmarked_repaired key all new s.sign known many_last clear };
-        settled = settled_repaired k names key total through all new s real known clear (ready_repaired k names t new s whole (items ∙ same_items) ready);
-      }
+        pub last : IsLast k names key new s
+        last = record {
+          kept = (known.tree, λ w. sound_repaired key all new s.sign some_last many_last known clear);
+          rest = record { whole = refl; unmarked = unmarked_repaired key all new s.sign known many_last clear };
+          settled = settled_repaired k names key total through all new s real known clear (ready_repaired k names t new s whole (items ∙ same_items) ready);
+        }
 
 -- a node has no winner exactly where its slots are empty
-pub winner_none : {K Item : Type 0} (k : K) (key : Key Item) (t : Standings Item) (whole : Bool) → IsTree t × (IsTrue whole → IsSound key t) → IsAtRest (seen_as k t whole) → (v : ℕ) → 0 < v → v < 2 ^ (t.size + 1) → (o : Option Item) → item_of (entry_at t v) ≡ o
-    → (o ≡ None → (i : ℕ) → IsTrue (is_under t.size v i) → item_in t.items i ≡ None) × (((i : ℕ) → IsTrue (is_under t.size v i) → item_in t.items i ≡ None) → o ≡ None)
-winner_none {K} {Item} k key t whole kept rest v some inside o is =
-    let sound = kept.1 rest.whole in
-    let clear = clear_at_rest key t kept.0 sound rest.unmarked in
-    let both = vacant key t kept.0 (λ u big low. sound.consistent u big low (λ e. absurd (let z : Clear ≡ Here = sym (clear u big) ∙ e in cc))) v some (let p = pow-add 2 t.size 1 in omega arith) in
-    ((λ e. both.0 (is ∙ e)), (λ none. sym is ∙ both.1 none))
+module _ {K Item : Type 0} (k : K) (key : Key Item) (t : Standings Item) (whole : Bool) (seen : Tournament K Item) (kept : IsTree t × (IsTrue whole → IsSound key t)) (view : seen_as k t whole ≡ seen)
+    (rest : IsAtRest seen) (v : ℕ) (some : 0 < v) (inside : v < 2 ^ (seen.size + 1)) (o : Option Item) (is : item_of (entry_at t v) ≡ o) where
+  abbrev AreNone : Tournament K Item → Type 0
+  AreNone x = (i : ℕ) → IsTrue (is_under x.size v i) → item_in x.slots i ≡ None
+
+  at_rest : IsAtRest (seen_as k t whole)
+  at_rest = subst (λ (x : Tournament K Item). IsAtRest x) (sym view) rest
+
+  own : (item_of (entry_at t v) ≡ None → AreNone (seen_as k t whole)) × (AreNone (seen_as k t whole) → item_of (entry_at t v) ≡ None)
+  own =
+      let sound = kept.1 at_rest.whole in
+      let clear = clear_at_rest key t kept.0 sound at_rest.unmarked in
+      let high = subst (λ (x : Tournament K Item). v < 2 ^ (x.size + 1)) (sym view) inside in
+      vacant key t kept.0 (λ u big low. sound.consistent u big low (λ e. absurd (let z : Clear ≡ Here = sym (clear u big) ∙ e in cc))) v some (let p = pow-add 2 t.size 1 in omega (arith, p, high))
+
+  pub winner_none : (o ≡ None → AreNone seen) × (AreNone seen → o ≡ None)
+  winner_none = subst (λ (x : Tournament K Item). (o ≡ None → AreNone x) × (AreNone x → o ≡ None)) view (λ e. own.0 (is ∙ e), λ none. sym is ∙ own.1 none)

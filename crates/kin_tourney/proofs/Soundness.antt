@@ -12,11 +12,11 @@ use Rattle.kin_motion.specs.declared.fact.Fact.{Fact}
 use Rattle.kin_motion.specs.declared.fact.Placed.{Placed}
 use Rattle.kin_motion.specs.Scene.{Scene}
 use Rattle.kin_motion.specs.Forms.{IsAskable}
-use Rattle.kin_motion.specs.Tournaments.{Key, item_in, is_under}
+use Rattle.kin_motion.specs.Tournaments.{Key, is_under}
 use Rattle.kin_tourney.specs.declared.doubt.Doubt.{Doubt}
 use Rattle.kin_tourney.specs.declared.doubt.Doubt.TheVariants.{Clear, Here}
 use Rattle.kin_tourney.specs.declared.entry.Entry.{Entry}
-use Rattle.kin_tourney.specs.Names.{AreLive}
+use Rattle.kin_tourney.specs.Names.{AreLive, HoldLive}
 use Rattle.kin_tourney.specs.Tournament.{mark_in, mark_count, is_above_mark, CoversFailing, CoversAskable}
 use Rattle.kin_tourney.specs.Standings.{Standings, IsTree, IsRight, best_in, fact_in, doubt_in, doubt_count, named_at, entry_at, entry_in, match_of, placed_facts, entry_with}
 use Rattle.kin_tourney.specs.Repairs.{IsMarkedUp, IsFed, IsDoubted, IsDoubtful, needs_play}
@@ -221,7 +221,7 @@ module _ {Item : Type 0} (key : Key Item) where
 
   -- the fact of a node that is the match of its halves may be asked for
   pub right_askable : (live : List ℕ) (names : Item → List ℕ) → ((x y : Item) → AreLive live (names x) → AreLive live (names y) → IsAskable live (key.form x y)) → (t : Standings Item)
-      → ((i : ℕ) (a : Item) → item_in t.items i ≡ Some a → AreLive live (names a)) → (v : ℕ) (sign : Sign) (f : Fact) → IsRight key (λ g. sign) t v → fact_in t.facts v ≡ Some f → IsAskable live f.form
+      → HoldLive names live t.items → (v : ℕ) (sign : Sign) (f : Fact) → IsRight key (λ g. sign) t v → fact_in t.facts v ≡ Some f → IsAskable live f.form
   right_askable live names askable t each v sign f right e = at (entry_at t (2 * v)) refl (entry_at t (2 * v + 1)) refl (sym (ap (λ (p : Option ℕ × Option Fact). p.1) right) ∙ e)
     where
       item_live : (u : ℕ) (x : Entry Item) → entry_at t u ≡ Some x → AreLive live (names x.item)

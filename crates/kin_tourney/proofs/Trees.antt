@@ -1,7 +1,7 @@
 -- Trees of matches under writes.
 use Rattle.std.proofs.Common.{◌≡◌, ◌≢◌, ◌⊎◌, inl, inr, refl, sym, ap, ◌∙◌, subst, arith, List, ℕ, zero, suc, ◌+◌, ◌*◌, ◌/◌, ◌^◌, ◌<◌, ◌≤◌, length, Bool, true, set, get_or}
 use Rattle.std.specs.Prelude.{Option, Some, None, IfSome}
-use Rattle.std.proofs.lemmas.List.{length-set, get_or-set_other, get_or_read}
+use Rattle.std.proofs.lemmas.List.{length-set, get_or_read}
 use Rattle.std.proofs.lemmas.Nat.{pow-add}
 use Rattle.std.proofs.Math.Pow.{pow_mono}
 use Rattle.std.proofs.lemmas.Bool.{cases_eq}
@@ -10,52 +10,56 @@ use Rattle.kin_motion.specs.Tournaments.{is_under}
 use Rattle.kin_tourney.specs.declared.doubt.Doubt.{Doubt}
 use Rattle.kin_tourney.specs.declared.doubt.Doubt.TheVariants.{Clear, Here}
 use Rattle.kin_tourney.specs.Standings.{Standings, IsTree, IsClosed, best_in, doubt_in}
+use Rattle.kin_tourney.specs.Repairs.{IsPerfect}
 use Rattle.kin_tourney.proofs.AfterWrite.{read_set}
-use Rattle.kin_tourney.proofs.Doubts.{closed_raised}
+use Rattle.kin_tourney.proofs.Doubts.{closed_raised, closed_cleared}
 
 odd_power : (k v : ℕ) → 0 < v → 2 ^ k ≢ 2 * v + 1
 odd_power zero v some e = absurd (let p : 2 ^ 0 ≡ 1 = refl in omega arith)
 odd_power (suc k) v some e = absurd (let p = pow-add 2 k 1 in let q : 2 ^ suc k ≡ 2 ^ (k + 1) = ap (λ (j : ℕ). 2 ^ j) (let r : suc k ≡ k + 1 = omega arith in r) in omega arith)
 
--- the number of slots is even
-pub odd_room : {Item : Type 0} (t : Standings Item) → IsTree t → (v : ℕ) → 0 < v → length t.items ≢ 2 * v + 1
-odd_room {Item} t h v some e = odd_power t.size v some (sym h.items_room ∙ e)
+-- in a perfect tree each inner node has two halves
+pub odd_room : (ds : List Doubt) → IsPerfect ds → (v : ℕ) → 0 < v → length ds ≢ 2 * v + 1
+odd_room ds p v some e = odd_power p.0 v some (sym p.1 ∙ e)
 
-pub right_inside : {Item : Type 0} (t : Standings Item) → IsTree t → (v : ℕ) → 0 < v → 2 * v < length t.items → 2 * v + 1 < length t.items
-right_inside {Item} t h v some inside = at (cases_eq (length t.items) (2 * v + 1))
+pub right_inside : (ds : List Doubt) → IsPerfect ds → (v : ℕ) → 0 < v → 2 * v < length ds → 2 * v + 1 < length ds
+right_inside ds p v some inside = at (cases_eq (length ds) (2 * v + 1))
   where
-    at : (length t.items ≡ 2 * v + 1) ⊎ (length t.items ≢ 2 * v + 1) → 2 * v + 1 < length t.items
-    at (inl e) = absurd (odd_room t h v some e)
+    at : (length ds ≡ 2 * v + 1) ⊎ (length ds ≢ 2 * v + 1) → 2 * v + 1 < length ds
+    at (inl e) = absurd (odd_room ds p v some e)
     at (inr n) = omega arith
+
+pub perfect : {Item : Type 0} (t : Standings Item) → IsTree t → IsPerfect t.doubts
+perfect {Item} t h = (t.size, h.doubts_room ∙ h.items_room)
 
 -- the node above one in doubt is in doubt
 pub above_in_doubt : (ds : List Doubt) → IsClosed ds → (v : ℕ) → 0 < v → doubt_in ds v ≢ Clear → doubt_in ds (v / 2) ≢ Clear
 above_in_doubt ds h v some n e = n (h.below v some e)
 
--- where a repair begins: at the first node if it is in doubt, and else it has ended
-pub place_first : (ds : List Doubt) (n node : ℕ) → 1 < n → (node ≡ 0) × (doubt_in ds 1 ≡ Clear) ⊎ (node ≡ 1) × (doubt_in ds 1 ≢ Clear) → 0 < node → (node < n) × (doubt_in ds node ≢ Clear)
-place_first ds n node many (inl k) some = absurd (omega arith)
-place_first ds n node many (inr k) some = (omega arith, λ e. k.1 (sym (ap (doubt_in ds) k.0) ∙ e))
-
-pub ended_first : (ds : List Doubt) (node : ℕ) → (node ≡ 0) × (doubt_in ds 1 ≡ Clear) ⊎ (node ≡ 1) × (doubt_in ds 1 ≢ Clear) → node ≡ 0 → doubt_in ds 1 ≡ Clear
-ended_first ds node (inl k) none = k.1
-ended_first ds node (inr k) none = absurd (omega arith)
+-- a tree with other marks, bests, facts and doubts
+tree_changed : {Item : Type 0} (t : Standings Item) → IsTree t → (marked : List Bool) (best : List (Option ℕ)) (facts : List (Option Fact)) (doubts : List Doubt)
+    → length marked ≡ length t.marked → length best ≡ length t.best → length facts ≡ length t.facts → length doubts ≡ length t.doubts
+    → ((v i : ℕ) → best_in best v ≡ Some i → (i < length t.items) × (is_under t.size v i ≡ true)) → IsClosed doubts → IsTree (record t { marked = marked; best = best; facts = facts; doubts = doubts })
+tree_changed {Item} t h marked best facts doubts marked_room best_room facts_room doubts_room under closed = record {
+  small = h.small;
+  items_room = h.items_room;
+  marked_room = marked_room ∙ h.marked_room;
+  best_room = best_room ∙ h.best_room;
+  facts_room = facts_room ∙ h.facts_room;
+  doubts_room = doubts_room ∙ h.doubts_room;
+  best_low = λ v i e. (under v i e).0;
+  best_under = λ v i e. (under v i e).1;
+  closed = closed;
+}
 
 -- a node got another best slot, its fact may have changed, and the node above it has to be played again
 pub tree_replayed : {Item : Type 0} (t : Standings Item) → IsTree t → (node : ℕ) → 0 < node → node < length t.items → doubt_in t.doubts node ≢ Clear
     → (best : Option ℕ) (facts : List (Option Fact)) → length facts ≡ length t.facts → ((i : ℕ) → best ≡ Some i → (i < length t.items) × (is_under t.size node i ≡ true))
     → IsTree (record t { best = set t.best node best; facts = facts; doubts = set t.doubts (node / 2) Here })
-tree_replayed {Item} t h node some inside doubted best facts room under = record {
-  small = h.small;
-  items_room = h.items_room;
-  marked_room = h.marked_room;
-  best_room = length-set t.best node best ∙ h.best_room;
-  facts_room = room ∙ h.facts_room;
-  doubts_room = length-set t.doubts (node / 2) Here ∙ h.doubts_room;
-  best_low = λ v i e. (at v i e (read_set t.best node v best None (let r = h.best_room in omega arith))).0;
-  best_under = λ v i e. (at v i e (read_set t.best node v best None (let r = h.best_room in omega arith))).1;
-  closed = closed_raised t.doubts (node / 2) h.closed (let r = h.doubts_room in omega arith) (above_in_doubt t.doubts h.closed node some doubted);
-}
+tree_replayed {Item} t h node some inside doubted best facts room under =
+    tree_changed t h t.marked (set t.best node best) facts (set t.doubts (node / 2) Here) refl (length-set t.best node best) room (length-set t.doubts (node / 2) Here)
+    (λ v i e. at v i e (read_set t.best node v best None (let r = h.best_room in omega arith)))
+    (closed_raised t.doubts (node / 2) h.closed (let r = h.doubts_room in omega arith) (above_in_doubt t.doubts h.closed node some doubted))
   where
     at : (v i : ℕ) → best_in (set t.best node best) v ≡ Some i → ((v ≡ node) × (best_in (set t.best node best) v ≡ best)) ⊎ ((v ≢ node) × (best_in (set t.best node best) v ≡ best_in t.best v)) → (i < length t.items) × (is_under t.size v i ≡ true)
     at v i e (inl k) = let u = under i (sym k.1 ∙ e) in (u.0, subst (λ w. is_under t.size w i ≡ true) (sym k.0) u.1)
@@ -64,28 +68,8 @@ tree_replayed {Item} t h node some inside doubted best facts room under = record
 -- a node whose halves are clear was cleared
 pub tree_cleared : {Item : Type 0} (t : Standings Item) → IsTree t → (node : ℕ) → 0 < node → node < length t.items → ((v : ℕ) → 0 < v → v / 2 ≡ node → doubt_in t.doubts v ≡ Clear)
     → (marked : List Bool) → length marked ≡ length t.marked → IsTree (record t { marked = marked; doubts = set t.doubts node Clear })
-tree_cleared {Item} t h node some inside halves marked room = record {
-  small = h.small;
-  items_room = h.items_room;
-  marked_room = room ∙ h.marked_room;
-  best_room = h.best_room;
-  facts_room = h.facts_room;
-  doubts_room = length-set t.doubts node Clear ∙ h.doubts_room;
-  best_low = h.best_low;
-  best_under = h.best_under;
-  closed = record { top = get_or-set_other t.doubts node 0 Clear Clear (omega arith) ∙ h.closed.top; below = λ v big e. below v big e (read_set t.doubts node (v / 2) Clear Clear fits) (read_set t.doubts node v Clear Clear fits) };
-}
-  where
-    fits : node < length t.doubts
-    fits = let r = h.doubts_room in omega arith
-
-    below : (v : ℕ) → 0 < v → doubt_in (set t.doubts node Clear) (v / 2) ≡ Clear
-        → ((v / 2 ≡ node) × (doubt_in (set t.doubts node Clear) (v / 2) ≡ Clear)) ⊎ ((v / 2 ≢ node) × (doubt_in (set t.doubts node Clear) (v / 2) ≡ doubt_in t.doubts (v / 2)))
-        → ((v ≡ node) × (doubt_in (set t.doubts node Clear) v ≡ Clear)) ⊎ ((v ≢ node) × (doubt_in (set t.doubts node Clear) v ≡ doubt_in t.doubts v))
-        → doubt_in (set t.doubts node Clear) v ≡ Clear
-    below v big e up (inl k) = k.1
-    below v big e (inl j) (inr k) = k.1 ∙ halves v big j.0
-    below v big e (inr j) (inr k) = k.1 ∙ h.closed.below v big (sym j.1 ∙ e)
+tree_cleared {Item} t h node some inside halves marked room =
+    tree_changed t h marked t.best t.facts (set t.doubts node Clear) room refl refl (length-set t.doubts node Clear) (λ v i e. (h.best_low v i e, h.best_under v i e)) (closed_cleared t.doubts node h.closed some (let r = h.doubts_room in omega arith) halves)
 
 pub named_low : {Item : Type 0} (t : Standings Item) → IsTree t → (v : ℕ) (o : Option ℕ) → v < length t.items → o ≡ get_or t.best v o → IfSome o (λ i. i < length t.items)
 named_low {Item} t h v o inside e = at o (get_or_read t.best v o (let r = h.best_room in omega arith) e None)

@@ -1,8 +1,7 @@
 -- Signs at a whole time.
-use Rattle.std.proofs.Common.{◌≡◌, refl, ap, ◌∙◌, subst, arith, ℕ, zero, suc, ◌*◌, List, length, set, replicate, [], ◌∷◌}
+use Rattle.std.proofs.Common.{◌≡◌, refl, sym, ap, ◌∙◌, subst, arith, ℕ, zero, suc, List, length, set, replicate, [], ◌∷◌}
 use Rattle.std.specs.Prelude.{Option, Some, None, is_some}
-use Rattle.std.specs.Int.{◌∣◌}
-use Rattle.std.proofs.Math.Nat.{dvd-mul_right}
+use Rattle.std.proofs.Math.Nat.{one-dvd}
 use Rattle.std.proofs.lemmas.Int.{ints}
 use Rattle.std.proofs.lemmas.List.{length-set, get_or-set_same, get_or-set_other}
 use Rattle.kin_motion.specs.Course.{Course, live_of}
@@ -26,15 +25,9 @@ pub sign_at_whole : (p : Quadratic) (t : ℤ) → sign_at p (record { at = Ratio
 unfolding sign_at sign_at_instant
 sign_at_whole p t = ap sign_of (whole_value p.a p.b p.c t)
 
-one : (x : ℕ) → 1 ∣ x
-one x = subst (λ z. 1 ∣ z) (times_one x) (dvd-mul_right 1 x)
-  where
-    times_one : (x : ℕ) → 1 * x ≡ x
-    times_one x = omega arith
-
 pub whole_canonical : (t : ℤ) → unsigned_abs t ≤ 2 ^ 4 → IsCanonical (Ratio t (pos 1))
 whole_canonical t small = record {
-  form = record { positive = omega (arith, ints); lowest = (one (unsigned_abs t), one 1, λ d e f. f) };
+  form = record { positive = omega (arith, ints); lowest = (one-dvd (unsigned_abs t), one-dvd 1, λ d e f. f) };
   small = record { n_small = omega arith; d_small = omega arith };
 }
 
@@ -52,7 +45,14 @@ both_live ms first second room (suc zero) a e = subst (λ k. IsIn k (live_of bot
 both_live ms first second room (suc (suc i)) a e = absurd cc
 
 -- two slots that were set and cleared hold nothing
-pub none_held : (i a : ℕ) → item_in (set (set (set (set (replicate (2 ^ 1) None) 0 (Some 0)) 1 (Some 1)) 0 None) 1 None) i ≡ Some a → ⊥
+none_held : (i a : ℕ) → item_in (set (set (set (set (replicate (2 ^ 1) None) 0 (Some 0)) 1 (Some 1)) 0 None) 1 None) i ≡ Some a → ⊥
 none_held zero a e = absurd cc
 none_held (suc zero) a e = absurd cc
 none_held (suc (suc i)) a e = absurd cc
+
+pub none_left : (l m n o p : List (Option ℕ)) → l ≡ replicate (2 ^ 1) None → m ≡ set l 0 (Some 0) → n ≡ set m 1 (Some 1) → o ≡ set n 0 None → p ≡ set o 1 None → (i a : ℕ) → item_in p i ≡ Some a → ⊥
+none_left l m n o p none first second third last i a e =
+    none_held i a (sym (ap (λ (k : List (Option ℕ)). item_in k i) slots) ∙ e)
+  where
+    slots : p ≡ set (set (set (set (replicate (2 ^ 1) None) 0 (Some 0)) 1 (Some 1)) 0 None) 1 None
+    slots = last ∙ ap (λ k. set k 1 None) (third ∙ ap (λ k. set k 0 None) (second ∙ ap (λ k. set k 1 (Some 1)) (first ∙ ap (λ k. set k 0 (Some 0)) none)))

@@ -1,16 +1,14 @@
 -- Items that are ready are fair.
-use Rattle.std.proofs.Common.{◌≡◌, ◌≢◌, sym, ap, ◌∙◌, subst, ℕ, true, not, List}
+use Rattle.std.proofs.Common.{sym, ap, ◌∙◌, subst, ℕ, List}
 use Rattle.std.specs.Prelude.{Some}
 use Rattle.kin_motion.specs.Scene.{Scene, IsReal}
 use Rattle.kin_motion.specs.Kinetics.{HaveSameLive}
-use Rattle.kin_motion.specs.Tournaments.{Key, beats}
-use Rattle.kin_tourney.specs.Names.{AreLive}
+use Rattle.kin_motion.specs.Tournaments.{Key}
+use Rattle.kin_tourney.specs.Names.{AreLive, IsTotal, IsTransitive}
 use Rattle.kin_tourney.specs.Fair.{IsFair}
 use Rattle.kin_tourney.specs.Tournament.{Tournament, IsReady}
 
-pub fair_when_ready : {K Item : Type 0} (names : Item → List ℕ) (key : Key Item)
-    → ((s : Scene) (x y : Item) → IsReal s → AreLive s.live (names x) → AreLive s.live (names y) → x ≢ y → beats s key y x ≡ not (beats s key x y))
-    → ((s : Scene) (x y z : Item) → IsReal s → AreLive s.live (names x) → AreLive s.live (names y) → AreLive s.live (names z) → beats s key x y ≡ true → beats s key y z ≡ true → beats s key x z ≡ true)
+pub fair_when_ready : {K Item : Type 0} (names : Item → List ℕ) (key : Key Item) → IsTotal names key → IsTransitive names key
     → (t : Tournament K Item) (s : Scene) → IsReal s → IsReady names t s → IsFair s key t.slots
 fair_when_ready {K} {Item} names key total through t s real ready = record {
   total = λ i j a b n here there. total s a b real (ready.live i a here) (ready.live j b there) (λ e. n (ready.apart i j a here (there ∙ ap Some (sym e))));

@@ -60,11 +60,23 @@ IsMatchSign {Item} key sign t v s = (l r : Entry Item) → entry_at t (2 * v) �
 abbrev pub IsRightOnce : {Item : Type 0} → Key Item → Standings Item → ℕ → Type 0
 IsRightOnce key t v = (sign : Sign) × IsRight key (λ f. sign) t v
 
+-- the doubts of a perfect tree, in which each inner node has two halves
+abbrev pub IsPerfect : List Doubt → Type 0
+IsPerfect doubts = (height : ℕ) × (length doubts ≡ 2 ^ height)
+
 -- a node in doubt whose halves are clear
-pub record IsLowest {Item : Type 0} (t : Standings Item) (node : ℕ) : Type 0 where
-  pub inside : node < length t.items
-  pub doubted : doubt_in t.doubts node ≢ Clear
-  pub halves_clear : (v : ℕ) → 0 < v → v / 2 ≡ node → doubt_in t.doubts v ≡ Clear
+pub record IsLowest (doubts : List Doubt) (node : ℕ) : Type 0 where
+  pub some : 0 < node
+  pub inside : node < length doubts
+  pub doubted : doubt_in doubts node ≢ Clear
+  pub halves_clear : (v : ℕ) → 0 < v → v / 2 ≡ node → doubt_in doubts v ≡ Clear
+
+-- a node that is clear, below one in doubt
+pub record IsDone (doubts : List Doubt) (node : ℕ) : Type 0 where
+  pub some : 0 < node
+  pub inside : node < length doubts
+  pub clear : doubt_in doubts node ≡ Clear
+  pub above : doubt_in doubts (node / 2) ≢ Clear
 
 -- how many signs a match asks for: none where it is known
 abbrev pub asked_for : Option Sign → ℕ

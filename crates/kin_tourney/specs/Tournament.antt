@@ -6,7 +6,7 @@ use Rattle.kin_motion.specs.Forms.{IsAskable}
 use Rattle.kin_motion.specs.Scene.{Scene, Holds}
 use Rattle.kin_motion.specs.Tournaments.{Key, item_in, is_under}
 use Rattle.kin_motion.specs.Contents.{IsSettledTournament}
-use Rattle.kin_tourney.specs.Names.{AreLive}
+use Rattle.kin_tourney.specs.Names.{HoldLive}
 
 -- what each slot holds and whether it is marked; the winner of each node; the facts, each in the part of its node; false where a settle was cut off
 pub record Tournament (K Item : Type 0) : Type 0 where
@@ -48,7 +48,7 @@ pub record IsAtRest {K Item : Type 0} (t : Tournament K Item) : Type 0 where
 pub record IsReady {K Item : Type 0} (names : Item → List ℕ) (t : Tournament K Item) (s : Scene) : Type 0 where
   pub whole : IsTrue t.whole
   pub apart : (i j : ℕ) (a : Item) → item_in t.slots i ≡ Some a → item_in t.slots j ≡ Some a → i ≡ j
-  pub live : (i : ℕ) (a : Item) → item_in t.slots i ≡ Some a → AreLive s.live (names a)
+  pub live : HoldLive names s.live t.slots
 
 -- the winner of each node is the best of its slots, and the facts are those of the nodes
 pub record IsSettled {K Item : Type 0} (names : Item → List ℕ) (key : Key Item) (t : Tournament K Item) (s : Scene) : Type 0 where

@@ -6,7 +6,7 @@ use Rattle.std.proofs.lemmas.Bool.{or_cases, or_left, or_right, eq-eqb}
 use Rattle.std.proofs.Math.Nat.{pow-succ'}
 use Rattle.kin_motion.specs.Tournaments.{comes_to, is_under}
 use Rattle.kin_motion.proofs.TournamentLaws.{is_under-halves}
-use Rattle.kin_motion.proofs.NodeLaws.{not_above}
+use Rattle.kin_motion.proofs.NodeLaws.{not_above, not_both_halves}
 
 -- below twice a node only the node itself comes to it
 comes_to-own : (h u v : ℕ) → u < 2 * v → comes_to h u v ≡ true → u ≡ v
@@ -46,19 +46,8 @@ pub is_under-le : (size v i : ℕ) → is_under size v i ≡ true → v ≤ 2 ^ 
 is_under-le size v i e = not_above size (2 ^ size + i) v e
 
 -- no slot is under both halves of a node
-siblings : (h u v : ℕ) → 0 < v → comes_to h u (2 * v) ≡ true → comes_to h u (2 * v + 1) ≡ true → ⊥
-siblings zero u v some e f = let a : u ≡ 2 * v = grind (arith, nat_tests, e) in let b : u ≡ 2 * v + 1 = grind (arith, nat_tests, f) in absurd (omega arith)
-siblings (suc h) u v some e f = at (or_cases (nat_eq u (2 * v)) (comes_to h (u / 2) (2 * v)) e) (or_cases (nat_eq u (2 * v + 1)) (comes_to h (u / 2) (2 * v + 1)) f) (siblings h (u / 2) v some)
-  where
-    at : (nat_eq u (2 * v) ≡ true) ⊎ (comes_to h (u / 2) (2 * v) ≡ true) → (nat_eq u (2 * v + 1) ≡ true) ⊎ (comes_to h (u / 2) (2 * v + 1) ≡ true)
-        → (comes_to h (u / 2) (2 * v) ≡ true → comes_to h (u / 2) (2 * v + 1) ≡ true → ⊥) → ⊥
-    at (inl a) (inl b) rest = let c : u ≡ 2 * v = grind (arith, nat_tests, a) in let d : u ≡ 2 * v + 1 = grind (arith, nat_tests, b) in absurd (omega arith)
-    at (inl a) (inr b) rest = let c : u ≡ 2 * v = grind (arith, nat_tests, a) in let k = not_above h (u / 2) (2 * v + 1) b in absurd (omega arith)
-    at (inr a) (inl b) rest = let d : u ≡ 2 * v + 1 = grind (arith, nat_tests, b) in let k = not_above h (u / 2) (2 * v) a in absurd (omega arith)
-    at (inr a) (inr b) rest = rest a b
-
 pub is_under-one_half : (size v i : ℕ) → 0 < v → is_under size (2 * v) i ≡ true → is_under size (2 * v + 1) i ≡ true → ⊥
-is_under-one_half size v i = siblings size (2 ^ size + i) v
+is_under-one_half size v i = not_both_halves size (2 ^ size + i) v
 
 pub is_under-left : (size v i : ℕ) → 0 < v → v < 2 ^ size → i < 2 ^ size → is_under size (2 * v) i ≡ true → is_under size v i ≡ true
 is_under-left size v i some inner low e = is_under-halves size v i some inner low ∙ or_left (is_under size (2 * v) i) (is_under size (2 * v + 1) i) e

@@ -1,11 +1,13 @@
 //! Which nodes have to be looked at between a change and the repair.
 
-ghost use Rattle.std.specs.Prelude.{◌≡◌, ◌≢◌, ◌↔◌, ℕ, ◌<◌, length, slice_index_or, IsTrue};
+ghost use Rattle.std.specs.Prelude.{◌≡◌, ◌≢◌, ◌↔◌, ℕ, ◌<◌, length, replicate, slice_set, slice_index_or, IsTrue, IfOk};
 ghost use Rattle.kin_motion.specs.declared.fact.Placed.{Placed as Put};
 ghost use Rattle.kin_tourney.specs.Standings.{IsClosed};
 ghost use Rattle.kin_tourney.specs.Repairs.{IsSpread, IsDoubted};
 
 use kin_motion::fact::Placed;
+use kin_num::memory::NoMemory;
+use std::alloc::Global;
 
 /// Whether a node has to be looked at.
 #[derive(Clone, Copy, Debug, PartialEq, Eq)]
@@ -36,6 +38,16 @@ impl Doubt {
             Doubt::Clear | Doubt::Below => false,
         }
     }
+}
+
+/// So many nodes of which only node 0 isn't clear.
+pub fn no_doubts(alloc: Global, count: usize) -> Result<Vec<Doubt>, NoMemory>
+    requires { 0 < count }
+    ensures { IfOk result (λ v. v.items ≡ slice_set (replicate count Doubt.Clear) 0 Doubt.Here) }
+{
+    let mut doubts = Vec::from_elem(alloc, Doubt::Clear, count)?;
+    doubts[0] = Doubt::Here;
+    Ok(doubts)
 }
 
 /// Puts a node and those above it into this doubt, as far as they are clear.

@@ -15,7 +15,7 @@ pub use keyed::Keyed;
 pub use tourney::Tourney;
 
 pub mod along;
-mod descent;
+pub mod descent;
 pub mod doubt;
 mod entry;
 pub mod keyed;

@@ -5,13 +5,13 @@ ghost use Rattle.kin_algebra.specs.declared.sign.Sign.{Sign as Signum};
 ghost use Rattle.kin_motion.specs.declared.fact.Fact.{Fact as Told};
 ghost use Rattle.kin_motion.specs.Forms.{IsAskable};
 ghost use Rattle.kin_motion.specs.Scene.{Scene};
-ghost use Rattle.kin_motion.specs.Tournaments.{item_in};
 ghost use Rattle.kin_motion.specs.Kinetics.{HasChanged};
-ghost use Rattle.kin_tourney.specs.Names.{AreLive};
-ghost use Rattle.kin_tourney.specs.Standings.{IsTree, entry_at, match_at, match_of, fact_in, doubt_in, doubt_count, placed_facts};
+ghost use Rattle.kin_tourney.specs.Names.{AreLive, HoldLive};
+ghost use Rattle.kin_tourney.specs.Standings.{IsTree, match_at, match_of, fact_in, doubt_in, doubt_count, placed_facts};
 ghost use Rattle.kin_tourney.specs.Tournament.{mark_in};
 ghost use Rattle.kin_tourney.specs.Repairs.{IsMatchSign, IsRightOnce, asked_for, needs_play, IsReplayed, IsRenewed, IsReported, IsCleared, IsDoubtful};
 
+use crate::descent::{first_doubt, next_doubt};
 use crate::doubt::Doubt;
 use crate::entry::Entry;
 use crate::keyed::Keyed;
@@ -77,7 +77,7 @@ impl<I: Copy> Tree<I> {
     ) -> Result<Option<u32>, NoMemory>
         requires tree { IsTree self.old }
         requires node { node < length self.old.items }
-        requires live { (i : ℕ) (a : I) → item_in self.old.items i ≡ Some a → AreLive (O.scene now.now).live (K.names a) }
+        requires live { HoldLive K.names (O.scene now.now).live self.old.items }
         requires known { (s : Signum) → known ≡ Some s → IsMatchSign (K.key key.now) (O.scene now.now).sign self.old node s }
         ensures same { self.new ≡ record self.old { facts = self.new.facts } }
         ensures room { length self.new.facts ≡ length self.old.facts }
@@ -119,7 +119,7 @@ impl<I: Copy> Tree<I> {
         requires root { 0 < node }
         requires inner { node < length self.old.items }
         requires doubted { doubt_in self.old.doubts node ≢ Doubt.Clear }
-        requires live { (i : ℕ) (a : I) → item_in self.old.items i ≡ Some a → AreLive (O.scene now.now).live (K.names a) }
+        requires live { HoldLive K.names (O.scene now.now).live self.old.items }
         requires known { (s : Signum) → known ≡ Some s → IsMatchSign (K.key key.now) (O.scene now.now).sign self.old node s }
         ensures tree { IsTree self.new }
         ensures replayed { OnOk result (IsReplayed (K.key key.now) (O.scene now.now).sign node self.old self.new out.old out.new) }
@@ -169,7 +169,7 @@ impl<I: Copy> Tree<I> {
         requires inner { node < length self.old.items }
         requires doubted { doubt_in self.old.doubts node ≢ Doubt.Clear }
         requires consistent { needs_play false (doubt_in self.old.doubts node) ≡ false → IsRightOnce (K.key key.now) self.old node }
-        requires live { (i : ℕ) (a : I) → item_in self.old.items i ≡ Some a → AreLive (O.scene now.now).live (K.names a) }
+        requires live { HoldLive K.names (O.scene now.now).live self.old.items }
         ensures tree { IsTree self.new }
         ensures renewed { OnOk result (IsRenewed all (K.key key.now) (O.scene now.now).sign node self.old self.new out.old out.new) }
         ensures cost { OnOk result (steps.new ≤ steps.old + 1) }
@@ -211,7 +211,7 @@ impl<I: Copy> Tree<I> {
     ) -> Result<(), NoMemory>
         requires doubtful { IsDoubtful all (K.key key.now) (O.scene now.now).sign self.old }
         requires some { 1 ≤ self.old.size }
-        requires live { (i : ℕ) (a : I) → item_in self.old.items i ≡ Some a → AreLive (O.scene now.now).live (K.names a) }
+        requires live { HoldLive K.names (O.scene now.now).live self.old.items }
         ensures tree { IsTree self.new }
         ensures same_size { OnOk result (self.new.size ≡ self.old.size) }
         ensures same_items { OnOk result (self.new.items ≡ self.old.items) }
@@ -220,11 +220,11 @@ impl<I: Copy> Tree<I> {
         ensures delta { OnOk result (HasChanged (placed_facts self.old) (placed_facts self.new) out.old out.new) }
         ensures cost { OnOk result (steps.new + 1 ≤ steps.old + doubt_count self.old.doubts) }
     {
-        let mut node = self.first_doubt();
+        let mut node = first_doubt(&self.doubts, self.latest);
         while node > 0 {
             self.renew(node, all, key, now, out, steps)?;
             self.settle_node(node);
-            node = self.next_doubt(node);
+            node = next_doubt(&self.doubts, node);
         }
         Ok(())
     }

@@ -4,24 +4,16 @@ ghost use Rattle.std.specs.Prelude.{◌≡◌, ◌≢◌, ◌⊎◌, ℕ, ◌+�
 ghost use Rattle.kin_motion.specs.declared.fact.Placed.{Placed as Put};
 ghost use Rattle.kin_motion.specs.Scene.{Scene};
 ghost use Rattle.kin_tourney.specs.declared.doubt.Doubt.TheVariants.{Below};
-ghost use Rattle.kin_motion.specs.Tournaments.{item_in};
-ghost use Rattle.kin_tourney.specs.Names.{AreLive};
-ghost use Rattle.kin_motion.specs.Kinetics.{HasChanged};
-ghost use Rattle.kin_tourney.specs.Standings.{Standings, IsTree, named_at, entry_at, match_at, match_of, fact_in, doubt_in, doubt_count, placed_facts};
+ghost use Rattle.kin_tourney.specs.Standings.{Standings, IsTree, named_at, entry_at, doubt_in};
 ghost use Rattle.kin_tourney.specs.Tournament.{mark_in};
-ghost use Rattle.kin_tourney.specs.Repairs.{IsSpread, IsMarkedUp, IsDoubted, needs_play, IsReplayed, IsRenewed, IsReported, IsCleared, IsDoubtful};
+ghost use Rattle.kin_tourney.specs.Repairs.{IsSpread, IsMarkedUp, IsDoubted};
 
-use crate::doubt::{Doubt, doubt_failed, doubt_path};
+use crate::doubt::{Doubt, doubt_failed, doubt_path, no_doubts};
 use crate::entry::Entry;
-use crate::keyed::Keyed;
-use crate::report::{tell, untell};
-use kin_motion::fact::{Delta, Fact, Placed};
-use kin_motion::signs::Signs;
+use kin_motion::fact::{Fact, Placed};
 use kin_num::memory::NoMemory;
-use kin_num::steps::Steps;
 use std::alloc::Global;
 use std::marker::Model;
-use std::sync::ledger::Ledger;
 
 /// A tree over `2^size` slots. Node 1 is the root, node v has the halves 2v and 2v + 1, and slot s
 /// is node `2^size + s`.
@@ -40,7 +32,7 @@ pub struct Tree<I: Copy> {
     /// never is, so that every way upwards ends there.
     pub(crate) doubts: Vec<Doubt>,
     /// The node that came into doubt last, where a repair begins.
-    latest: usize,
+    pub(crate) latest: usize,
 }
 
 impl<I: Copy> Model for Tree<I> {
@@ -63,8 +55,7 @@ impl<I: Copy> Tree<I> {
         let marked = Vec::from_elem(alloc, false, slots)?;
         let best = Vec::from_elem(alloc, None, slots)?;
         let facts = Vec::from_elem(alloc, None, slots)?;
-        let mut doubts = Vec::from_elem(alloc, Doubt::Clear, slots)?;
-        doubts[0] = Doubt::Here;
+        let doubts = no_doubts(alloc, slots)?;
         Ok(Tree {
             size,
             items,
@@ -108,7 +99,7 @@ impl<I: Copy> Tree<I> {
         Some(Entry { slot, item })
     }
 
-    pub(crate) fn is_clear(&self, node: usize) -> bool
+    fn is_clear(&self, node: usize) -> bool
         requires tree { IsTree self.now }
         requires inner { node < length self.now.items }
         ensures { IsTrue result ↔ (doubt_in self.now.doubts node ≡ Doubt.Clear) }
@@ -220,31 +211,6 @@ impl<I: Copy> Tree<I> {
         doubt_failed(&mut self.doubts, failed);
         if let Some(placed) = failed.last() {
             self.latest = placed.part as usize;
-        }
-    }
-
-    /// The root where it isn't clear, or 0.
-    fn doubted_root(&self) -> usize
-        requires tree { IsTree self.now }
-        requires some { 1 < length self.now.items }
-        ensures { (result ≡ 0) × (doubt_in self.now.doubts 1 ≡ Doubt.Clear) ⊎ (result ≡ 1) × (doubt_in self.now.doubts 1 ≢ Doubt.Clear) }
-    {
-        if self.is_clear(1) { 0 } else { 1 }
-    }
-
-    /// A node in doubt, the last one that came into it, or 0 where none is.
-    pub(crate) fn doubted_node(&self) -> usize
-        requires tree { IsTree self.now }
-        requires some { 1 < length self.now.items }
-        ensures none { result ≡ 0 → doubt_in self.now.doubts 1 ≡ Doubt.Clear }
-        ensures inner { result < length self.now.items }
-        ensures doubted { doubt_in self.now.doubts result ≢ Doubt.Clear }
-    {
-        let latest = self.latest;
-        if 0 < latest && latest < self.slots() && !self.is_clear(latest) {
-            latest
-        } else {
-            self.doubted_root()
         }
     }
 }

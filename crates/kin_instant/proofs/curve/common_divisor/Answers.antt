@@ -1,9 +1,9 @@
-use Rattle.std.proofs.Common.{◌≡◌, ℕ, ◌<◌, ◌≤◌, ◌^◌, ℤ, pos, unsigned_abs, w64, to_z, arith, ap, sym, ◌∙◌, subst}
+use Rattle.std.proofs.Common.{◌≡◌, ℕ, ◌<◌, ◌^◌, ℤ, pos, unsigned_abs, w64, to_z, ap, sym, ◌∙◌, subst}
 use Rattle.std.specs.Prelude.{◌<ℤ◌}
 use Rattle.std.specs.Int.{IsGcd, ◌∣◌}
 use Rattle.std.proofs.lemmas.Int.{fits_signed_from_abs, to_z_pos}
 use Rattle.std.proofs.lemmas.Nat.Gcd.{dvd_trans, le_of_dvd}
-use Rattle.kin_instant.proofs.Widths.{clean, positive_out}
+use Rattle.kin_instant.proofs.Widths.{clean, positive_out, below_width}
 use Rattle.std.proofs.Math.Nat.{pos_of_dvd_of_pos, one-dvd}
 use Rattle.kin_basics.proofs.Integers.{size-some}
 use Rattle.kin_instant.proofs.curve.common_divisor.Goals as goal
@@ -25,15 +25,12 @@ shared_of a b c a' b' c' u v w h g some small ea eb ec pu pv pw i j =
     let first : g ∣ unsigned_abs a = subst (λ (x : ℕ). g ∣ x) fu (dvd_trans g j.1 i.1) in
     record {
       some = pos_of_dvd_of_pos first (size-some a some);
-      less = below g (unsigned_abs a) (le_of_dvd (size-some a some) first) small;
+      less = below_width g (unsigned_abs a) (le_of_dvd (size-some a some) first) small;
       first = first;
       second = subst (λ (x : ℕ). g ∣ x) fv (dvd_trans g j.1 i.0);
       third = subst (λ (x : ℕ). g ∣ x) fw j.0;
       greatest = λ k p q r. j.2 k (subst (λ (x : ℕ). k ∣ x) (sym fw) r) (i.2 k (subst (λ (x : ℕ). k ∣ x) (sym fv) q) (subst (λ (x : ℕ). k ∣ x) (sym fu) p));
     }
-  where
-    below : (g m : ℕ) → g ≤ m → m < 2 ^ 63 → g < 2 ^ 63
-    below g m h k = omega arith
 
 read : (g : ℕ) → g < 2 ^ 63 → unsigned_abs (to_z w64 g) ≡ g
 read g h = ap unsigned_abs (to_z_pos w64 g h)

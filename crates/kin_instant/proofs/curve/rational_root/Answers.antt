@@ -7,20 +7,11 @@ use Rattle.kin_num.specs.Canonical.{IsCanonical, discriminant}
 use Rattle.kin_instant.specs.declared.roots.Roots.TheVariants.{One, Two}
 use Rattle.kin_instant.specs.Roots.{quadratic, IsFraction}
 use Rattle.kin_instant.specs.Sides.{IsRootOn}
-use Rattle.kin_instant.proofs.Widths.{small_difference-value, doubled-value}
-use Rattle.kin_instant.proofs.RootsOf.{double_root, two_fractions, fraction_read}
+use Rattle.kin_instant.proofs.Widths.{small_difference-value, doubled-value, doubled-size, upper-size, lower-size}
+use Rattle.kin_instant.proofs.RootsOf.{one_root_above, double_root, two_fractions, fraction_read}
 use Rattle.kin_instant.proofs.Zeros.{doubled_positive}
 use Rattle.kin_instant.proofs.Existence.{ratio_exists}
 use Rattle.kin_instant.proofs.curve.rational_root.Goals as goal
-
-doubled_size : (a : ℤ) → unsigned_abs a ≤ 2 ^ 28 → unsigned_abs (pos 2 *ℤ a) < 2 ^ 31
-doubled_size a h = omega (arith, ints)
-
-upper_size : (x y : ℤ) → unsigned_abs x < 2 ^ 30 → unsigned_abs y ≤ 2 ^ 29 → unsigned_abs (x -ℤ y) < 2 ^ 31
-upper_size x y h k = omega (arith, ints)
-
-lower_size : (x y : ℤ) → unsigned_abs x < 2 ^ 30 → unsigned_abs y ≤ 2 ^ 29 → unsigned_abs (neg_ℤ x -ℤ y) < 2 ^ 31
-lower_size x y h k = omega (arith, ints)
 
 -- the two roots, of which one is made
 module _ (a b c root : ℤ) (h : pos 0 <ℤ a) (a_small : unsigned_abs a ≤ 2 ^ 28) (b_small : unsigned_abs b ≤ 2 ^ 29) (root_small : unsigned_abs root < 2 ^ 30) (some : pos 0 ≤ℤ root)
@@ -34,20 +25,17 @@ module _ (a b c root : ℤ) (h : pos 0 <ℤ a) (a_small : unsigned_abs a ≤ 2 ^
       by_root : (x : ℤ) → root ≡ x → IsRootOn (quadratic a b c) true (Some r)
       by_root (pos zero) z = record { answer = One r; roots = double_root a b c root h e z r f k; same = refl }
       by_root (pos (suc n)) z =
-          let l = ratio_exists (neg_ℤ root -ℤ b) (pos 2 *ℤ a) (lower_size root b root_small b_small) (doubled_size a a_small) (doubled_positive a h) in
+          let l = ratio_exists (neg_ℤ root -ℤ b) (pos 2 *ℤ a) (lower-size root b root_small b_small) (doubled-size a a_small) (doubled_positive a h) in
           record { answer = Two l.0 r; roots = two_fractions a b c root h e (more (pos (suc n)) z (omega (arith, ints))) l.0 r l.1 f l.2 k; same = refl }
       by_root (negsuc n) z = absurd (omega (arith, ints, some, z))
 
   lower_root : IsFraction (neg_ℤ root -ℤ b) (pos 2 *ℤ a) r → IsRootOn (quadratic a b c) false (Some r)
   lower_root f = by_root root refl
     where
-      turned : (x y : ℤ) → x ≡ pos 0 → neg_ℤ x -ℤ y ≡ x -ℤ y
-      turned x y z = omega (arith, ints, z)
-
       by_root : (x : ℤ) → root ≡ x → IsRootOn (quadratic a b c) false (Some r)
-      by_root (pos zero) z = record { answer = One r; roots = double_root a b c root h e z r (fraction_read (root -ℤ b) (pos 2 *ℤ a) (neg_ℤ root -ℤ b) (pos 2 *ℤ a) r (turned root b z) refl f) k; same = refl }
+      by_root (pos zero) z = record { answer = One r; roots = double_root a b c root h e z r (fraction_read (root -ℤ b) (pos 2 *ℤ a) (neg_ℤ root -ℤ b) (pos 2 *ℤ a) r (one_root_above root b z) refl f) k; same = refl }
       by_root (pos (suc n)) z =
-          let u = ratio_exists (root -ℤ b) (pos 2 *ℤ a) (upper_size root b root_small b_small) (doubled_size a a_small) (doubled_positive a h) in
+          let u = ratio_exists (root -ℤ b) (pos 2 *ℤ a) (upper-size root b root_small b_small) (doubled-size a a_small) (doubled_positive a h) in
           record { answer = Two r u.0; roots = two_fractions a b c root h e (more (pos (suc n)) z (omega (arith, ints))) r u.0 f u.1 k u.2; same = refl }
       by_root (negsuc n) z = absurd (omega (arith, ints, some, z))
 

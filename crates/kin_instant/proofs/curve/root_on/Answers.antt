@@ -1,29 +1,43 @@
 use Rattle.std.proofs.Common.{◌≡◌, ◌≢◌, ℕ, zero, suc, ◌*◌, ◌<◌, ◌≤◌, ◌^◌, Bool, Option, ℤ, pos, ◌*ℤ◌, unsigned_abs, w64, to_z, of_z, arith, refl, ap, sym, ◌∙◌, subst}
 use Rattle.std.specs.Prelude.{◌<ℤ◌, ◌≤ℤ◌}
 use Rattle.std.proofs.lemmas.Int.{ints, to_z_pos}
+use mir.Val.{hbits}
+use lib.Signed.{mag}
 use Rattle.kin_num.specs.declared.instant.Shape.{Shape}
 use Rattle.kin_num.specs.Quadratic.{Quadratic}
 use Rattle.kin_num.specs.Canonical.{discriminant}
 use Rattle.kin_instant.specs.declared.roots.Roots.TheVariants.{Nowhere}
 use Rattle.kin_instant.specs.Roots.{quadratic}
 use Rattle.kin_instant.specs.Sides.{IsRootOn}
-use Rattle.kin_instant.proofs.Widths.{clean, less_out, not_less_out, same_differences}
+use Rattle.kin_instant.proofs.Widths.{clean, less_out, not_less_out}
 use Rattle.kin_instant.proofs.RootsOf.{negative_discriminant}
 use Rattle.kin_instant.proofs.Discriminants.{size, root_size, same_discriminant}
 use Rattle.kin_instant.proofs.curve.root_on.Goals as goal
 
-four : (a' a : ℤ) → a' ≡ a → unsigned_abs a' ≤ 2 ^ 28 → to_z w64 (of_z w64 (pos 4 *ℤ to_z w64 (of_z w64 a'))) ≡ pos 4 *ℤ a
-four a' a e h = read a' h ∙ ap (λ (x : ℤ). pos 4 *ℤ x) e
-  where
-    read : (a : ℤ) → unsigned_abs a ≤ 2 ^ 28 → to_z w64 (of_z w64 (pos 4 *ℤ to_z w64 (of_z w64 a))) ≡ pos 4 *ℤ a
-    read a h = omega (arith, ints)
+-- the coefficients and the discriminant, as the code has them
+record IsRead (p : Quadratic) (a b c d : ℤ) : Type 0 where
+  a_is : a ≡ p.a
+  b_is : b ≡ p.b
+  c_is : c ≡ p.c
+  d_is : d ≡ discriminant p.a p.b p.c
+
+abbrev as_read : ℤ → ℤ
+as_read x = to_z w64 (of_z w64 x)
+
+read : (p : Quadratic) (a b c d : ℤ) → mag a < 2 ^ hbits w64 → mag b < 2 ^ hbits w64 → mag c < 2 ^ hbits w64 → mag d < 2 ^ hbits w64
+    → a ≡ p.a → b ≡ p.b → c ≡ p.c → d ≡ discriminant (as_read a) (as_read b) (as_read c) → IsRead p (as_read a) (as_read b) (as_read c) (as_read d)
+read p a b c d fa fb fc fd ea eb ec ed =
+    let a_is : as_read a ≡ p.a = clean w64 a fa ∙ ea in
+    let b_is : as_read b ≡ p.b = clean w64 b fb ∙ eb in
+    let c_is : as_read c ≡ p.c = clean w64 c fc ∙ ec in
+    record { a_is = a_is; b_is = b_is; c_is = c_is; d_is = clean w64 d fd ∙ ed ∙ same_discriminant p.a p.b p.c _ _ _ a_is b_is c_is }
 
 -- the discriminant, at least 0, and its size s
 not_negative : (d d' : ℤ) (s : ℕ) → d' ≡ d → pos 0 ≤ℤ d' → s ≡ unsigned_abs d' → pos s ≡ d
 not_negative d d' s e h f = omega (arith, ints, e, f)
 
-read : (r : ℕ) → r < 2 ^ 30 → to_z w64 r ≡ pos r
-read r h = to_z_pos w64 r (omega arith)
+root_read : (r : ℕ) → r < 2 ^ 30 → to_z w64 r ≡ pos r
+root_read r h = to_z_pos w64 r (omega arith)
 
 exact_size : (r s : ℕ) → r * r ≡ s → s ≤ 2 ^ 59 → r < 2 ^ 30
 exact_size r s e h = root_size r s (subst (λ (x : ℕ). r * r ≤ x) e (same (r * r))) h
@@ -45,62 +59,45 @@ same_polynomial p a b c u o e f g h =
 pub returns-then-discriminant-lt0 : goal.returns-then-discriminant-lt0
 returns-then-discriminant-lt0 c =
     let p = c.args.p.now in
-    let a = clean w64 c.a-a.result c.a-a.type_inv ∙ c.a-a.ensures.value in
-    let b = clean w64 c.b-b.result c.b-b.type_inv ∙ c.b-b.ensures.value in
-    let k = clean w64 c.c-c.result c.c-c.type_inv ∙ c.c-c.ensures.value in
-    let d = clean w64 c.difference_of_products-discriminant.result c.difference_of_products-discriminant.type_inv ∙ c.difference_of_products-discriminant.ensures.value ∙ same_differences p.b p.b (pos 4 *ℤ p.a) p.c _ _ _ _ b b (four c.a-a.result p.a c.a-a.ensures.value c.a-a.ensures.small) k in
+    let r = read c.args.p.now _ _ _ _ c.a-a.type_inv c.b-b.type_inv c.c-c.type_inv c.discriminant_of-discriminant.type_inv c.a-a.ensures.value c.b-b.ensures.value c.c-c.ensures.value c.discriminant_of-discriminant.ensures in
     record {
       answer = Nowhere;
-      roots = negative_discriminant p.a p.b p.c c.requires.a_positive (subst (λ (z : ℤ). z <ℤ pos 0) d (less_out _ _ c.if-discriminant-lt0.true));
+      roots = negative_discriminant p.a p.b p.c c.requires.a_positive (subst (λ (z : ℤ). z <ℤ pos 0) r.d_is (less_out _ _ c.if-discriminant-lt0.true));
       same = refl;
     }
 
 pub rational_root-requires-clause-root_small : goal.rational_root-requires-clause-root_small
 rational_root-requires-clause-root_small c =
     let p = c.args.p.now in
-    let b = clean w64 c.b-b.result c.b-b.type_inv ∙ c.b-b.ensures.value in
-    let k = clean w64 c.c-c.result c.c-c.type_inv ∙ c.c-c.ensures.value in
-    let d = clean w64 c.difference_of_products-discriminant.result c.difference_of_products-discriminant.type_inv ∙ c.difference_of_products-discriminant.ensures.value ∙ same_differences p.b p.b (pos 4 *ℤ p.a) p.c _ _ _ _ b b (four c.a-a.result p.a c.a-a.ensures.value c.a-a.ensures.small) k in
-    let s = not_negative (discriminant p.a p.b p.c) _ c.unsigned_abs.result d (not_less_out _ _ c.if-discriminant-lt0.false) c.unsigned_abs.ensures.value in
+    let r = read c.args.p.now _ _ _ _ c.a-a.type_inv c.b-b.type_inv c.c-c.type_inv c.discriminant_of-discriminant.type_inv c.a-a.ensures.value c.b-b.ensures.value c.c-c.ensures.value c.discriminant_of-discriminant.ensures in
+    let s = not_negative (discriminant p.a p.b p.c) _ c.unsigned_abs.result r.d_is (not_less_out _ _ c.if-discriminant-lt0.false) c.unsigned_abs.ensures.value in
     let l = exact_size c.in-Some.root c.unsigned_abs.result c.in-Some.ensures.some (size p.a p.b p.c c.unsigned_abs.result c.recall_small.ensures s) in
-    subst (λ (z : ℤ). unsigned_abs z < 2 ^ 30) (sym (read c.in-Some.root l)) l
+    subst (λ (z : ℤ). unsigned_abs z < 2 ^ 30) (sym (root_read c.in-Some.root l)) l
 
 pub irrational_root-requires-clause-real : goal.irrational_root-requires-clause-real
 irrational_root-requires-clause-real c =
     let p = c.args.p.now in
-    let a = clean w64 c.a-a.result c.a-a.type_inv ∙ c.a-a.ensures.value in
-    let b = clean w64 c.b-b.result c.b-b.type_inv ∙ c.b-b.ensures.value in
-    let k = clean w64 c.c-c.result c.c-c.type_inv ∙ c.c-c.ensures.value in
-    let d = clean w64 c.difference_of_products-discriminant.result c.difference_of_products-discriminant.type_inv ∙ c.difference_of_products-discriminant.ensures.value ∙ same_differences p.b p.b (pos 4 *ℤ p.a) p.c _ _ _ _ b b (four c.a-a.result p.a c.a-a.ensures.value c.a-a.ensures.small) k in
-    let s = not_negative (discriminant p.a p.b p.c) _ c.unsigned_abs.result d (not_less_out _ _ c.if-discriminant-lt0.false) c.unsigned_abs.ensures.value in
-    subst (λ (z : ℤ). pos 0 <ℤ z) (sym (same_discriminant p.a p.b p.c _ _ _ a b k)) (positive c.unsigned_abs.result (discriminant p.a p.b p.c) s c.in-None.ensures.none)
+    let r = read c.args.p.now _ _ _ _ c.a-a.type_inv c.b-b.type_inv c.c-c.type_inv c.discriminant_of-discriminant.type_inv c.a-a.ensures.value c.b-b.ensures.value c.c-c.ensures.value c.discriminant_of-discriminant.ensures in
+    let s = not_negative (discriminant p.a p.b p.c) _ c.unsigned_abs.result r.d_is (not_less_out _ _ c.if-discriminant-lt0.false) c.unsigned_abs.ensures.value in
+    subst (λ (z : ℤ). pos 0 <ℤ z) (sym (same_discriminant p.a p.b p.c _ _ _ r.a_is r.b_is r.c_is)) (positive c.unsigned_abs.result (discriminant p.a p.b p.c) s c.in-None.ensures.none)
 
 pub irrational_root-requires-clause-irrational : goal.irrational_root-requires-clause-irrational
 irrational_root-requires-clause-irrational c = λ n e.
     let p = c.args.p.now in
-    let a = clean w64 c.a-a.result c.a-a.type_inv ∙ c.a-a.ensures.value in
-    let b = clean w64 c.b-b.result c.b-b.type_inv ∙ c.b-b.ensures.value in
-    let k = clean w64 c.c-c.result c.c-c.type_inv ∙ c.c-c.ensures.value in
-    let d = clean w64 c.difference_of_products-discriminant.result c.difference_of_products-discriminant.type_inv ∙ c.difference_of_products-discriminant.ensures.value ∙ same_differences p.b p.b (pos 4 *ℤ p.a) p.c _ _ _ _ b b (four c.a-a.result p.a c.a-a.ensures.value c.a-a.ensures.small) k in
-    let s = not_negative (discriminant p.a p.b p.c) _ c.unsigned_abs.result d (not_less_out _ _ c.if-discriminant-lt0.false) c.unsigned_abs.ensures.value in
-    c.in-None.ensures.none n (no_square n c.unsigned_abs.result (discriminant p.a p.b p.c) s (e ∙ same_discriminant p.a p.b p.c _ _ _ a b k))
+    let r = read c.args.p.now _ _ _ _ c.a-a.type_inv c.b-b.type_inv c.c-c.type_inv c.discriminant_of-discriminant.type_inv c.a-a.ensures.value c.b-b.ensures.value c.c-c.ensures.value c.discriminant_of-discriminant.ensures in
+    let s = not_negative (discriminant p.a p.b p.c) _ c.unsigned_abs.result r.d_is (not_less_out _ _ c.if-discriminant-lt0.false) c.unsigned_abs.ensures.value in
+    c.in-None.ensures.none n (no_square n c.unsigned_abs.result (discriminant p.a p.b p.c) s (e ∙ same_discriminant p.a p.b p.c _ _ _ r.a_is r.b_is r.c_is))
 
 pub returns-in-Some : goal.returns-in-Some
 returns-in-Some c =
     let p = c.args.p.now in
-    let a = clean w64 c.a-a.result c.a-a.type_inv ∙ c.a-a.ensures.value in
-    let b = clean w64 c.b-b.result c.b-b.type_inv ∙ c.b-b.ensures.value in
-    let k = clean w64 c.c-c.result c.c-c.type_inv ∙ c.c-c.ensures.value in
-    let d = clean w64 c.difference_of_products-discriminant.result c.difference_of_products-discriminant.type_inv ∙ c.difference_of_products-discriminant.ensures.value ∙ same_differences p.b p.b (pos 4 *ℤ p.a) p.c _ _ _ _ b b (four c.a-a.result p.a c.a-a.ensures.value c.a-a.ensures.small) k in
-    let s = not_negative (discriminant p.a p.b p.c) _ c.unsigned_abs.result d (not_less_out _ _ c.if-discriminant-lt0.false) c.unsigned_abs.ensures.value in
+    let r = read c.args.p.now _ _ _ _ c.a-a.type_inv c.b-b.type_inv c.c-c.type_inv c.discriminant_of-discriminant.type_inv c.a-a.ensures.value c.b-b.ensures.value c.c-c.ensures.value c.discriminant_of-discriminant.ensures in
+    let s = not_negative (discriminant p.a p.b p.c) _ c.unsigned_abs.result r.d_is (not_less_out _ _ c.if-discriminant-lt0.false) c.unsigned_abs.ensures.value in
     let l = exact_size c.in-Some.root c.unsigned_abs.result c.in-Some.ensures.some (size p.a p.b p.c c.unsigned_abs.result c.recall_small.ensures s) in
-    same_polynomial p _ _ p.c c.args.upper _ a b refl
-    (c.rational_root.ensures p.c (ap (λ (z : ℤ). z *ℤ z) (read c.in-Some.root l) ∙ ap pos c.in-Some.ensures.some ∙ s ∙ sym (same_discriminant p.a p.b p.c _ _ p.c a b refl)))
+    same_polynomial p _ _ p.c c.args.upper _ r.a_is r.b_is refl
+    (c.rational_root.ensures p.c (ap (λ (z : ℤ). z *ℤ z) (root_read c.in-Some.root l) ∙ ap pos c.in-Some.ensures.some ∙ s ∙ sym (same_discriminant p.a p.b p.c _ _ p.c r.a_is r.b_is refl)))
 
 pub returns-in-None : goal.returns-in-None
 returns-in-None c =
-    let p = c.args.p.now in
-    let a = clean w64 c.a-a.result c.a-a.type_inv ∙ c.a-a.ensures.value in
-    let b = clean w64 c.b-b.result c.b-b.type_inv ∙ c.b-b.ensures.value in
-    let k = clean w64 c.c-c.result c.c-c.type_inv ∙ c.c-c.ensures.value in
-    same_polynomial p _ _ _ c.args.upper _ a b k c.irrational_root.ensures
+    let r = read c.args.p.now _ _ _ _ c.a-a.type_inv c.b-b.type_inv c.c-c.type_inv c.discriminant_of-discriminant.type_inv c.a-a.ensures.value c.b-b.ensures.value c.c-c.ensures.value c.discriminant_of-discriminant.ensures in
+    same_polynomial c.args.p.now _ _ _ c.args.upper _ r.a_is r.b_is r.c_is c.irrational_root.ensures

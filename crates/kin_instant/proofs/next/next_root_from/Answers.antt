@@ -1,8 +1,6 @@
-use Rattle.std.proofs.Common.{◌≡◌, ◌≢◌, ◌⊎◌, inl, inr, refl, Option, Some, None, IfSome, IfNone, ap, sym, ◌∙◌, subst}
+use Rattle.std.proofs.Common.{◌≡◌, ◌⊎◌, inl, inr, Option, Some, None, IfSome, IfNone, ap, sym, ◌∙◌, subst}
 use Rattle.kin_algebra.specs.declared.sign.Sign.{Sign}
-use Rattle.kin_algebra.specs.declared.sign.Sign.TheVariants.{Minus, Zero, Plus}
 use Rattle.kin_algebra.specs.Signs.{opposite_of}
-use Rattle.kin_algebra.proofs.Signs.{code}
 use Rattle.kin_num.specs.declared.instant.Shape.{Shape}
 use Rattle.kin_num.specs.declared.instant.Moment.{Moment}
 use Rattle.kin_num.specs.Quadratic.{Quadratic, negated}
@@ -20,15 +18,6 @@ IsTurned p s q t = ((q ≡ p) × (t ≡ s)) ⊎ ((q ≡ negated p) × (t ≡ opp
 turned_sign : (p q : Quadratic) (s t : Sign) (m : Moment) → IsTurned p s q t → sign_at p m ≡ s → sign_at q m ≡ t
 turned_sign p q s t m (inl h) e = ap (λ (x : Quadratic). sign_at x m) h.0 ∙ e ∙ sym h.1
 turned_sign p q s t m (inr h) e = ap (λ (x : Quadratic). sign_at x m) h.0 ∙ sign_at-neg p m ∙ ap opposite_of e ∙ sym h.1
-
-some_turned : (p q : Quadratic) (s t : Sign) → IsTurned p s q t → s ≢ Zero → t ≢ Zero
-some_turned p q s t (inl h) n e = n (sym h.1 ∙ e)
-some_turned p q s t (inr h) n e = opposite s n (sym h.1 ∙ e)
-  where
-    opposite : (s : Sign) → s ≢ Zero → opposite_of s ≢ Zero
-    opposite Minus n e = code e
-    opposite Zero n e = n refl
-    opposite Plus n e = code e
 
 back : (p q : Quadratic) (s t : Sign) (w : Shape) (o : Option Shape) → IsTurned p s q t → IsNext q w o → IsNext p w o
 back p q s t w o (inl h) n = subst (λ (x : Quadratic). IsNext x w o) h.0 n

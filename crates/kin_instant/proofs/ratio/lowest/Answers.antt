@@ -1,4 +1,4 @@
-use Rattle.std.proofs.Common.{◌≡◌, ℕ, ◌<◌, ◌≤◌, ◌^◌, ℤ, pos, ◌*ℤ◌, unsigned_abs, w64, to_z, of_z, arith, ap, sym, ◌∙◌, subst}
+use Rattle.std.proofs.Common.{◌≡◌, ℕ, ◌<◌, ◌≤◌, ◌^◌, ℤ, pos, ◌*ℤ◌, unsigned_abs, w64, to_z, of_z, ap, sym, ◌∙◌, subst}
 use Rattle.std.specs.Prelude.{◌<ℤ◌}
 use Rattle.std.specs.Int.{IsGcd, ◌∣◌}
 use Rattle.std.proofs.lemmas.Int.{to_z_pos, fits_signed_from_abs}
@@ -6,7 +6,7 @@ use Rattle.std.proofs.lemmas.Nat.Gcd.{le_of_dvd}
 use Rattle.std.proofs.Math.Nat.{pos_of_dvd_of_pos}
 use Rattle.kin_basics.proofs.Integers.{size-some}
 use Rattle.kin_num.specs.Canonical.{IsLowest}
-use Rattle.kin_instant.proofs.Widths.{clean, positive_out}
+use Rattle.kin_instant.proofs.Widths.{clean, positive_out, below_width}
 use Rattle.kin_instant.proofs.Lowest.{lowest_of, crossed, not_more}
 use Rattle.kin_instant.proofs.ratio.lowest.Goals as goal
 
@@ -20,10 +20,7 @@ common_of : (n d n' d' : ℤ) (u v g : ℕ) → pos 0 <ℤ d → unsigned_abs d 
 common_of n d n' d' u v g h k e f p q i =
     let j : IsGcd (unsigned_abs n) (unsigned_abs d) g = subst (λ (x : ℕ). IsGcd x (unsigned_abs d) g) (p ∙ ap unsigned_abs e) (subst (λ (y : ℕ). IsGcd u y g) (q ∙ ap unsigned_abs f) i) in
     let positive : 0 < unsigned_abs d = size-some d h in
-    record { some = pos_of_dvd_of_pos j.1 positive; less = below g (unsigned_abs d) (le_of_dvd positive j.1) k; common = j }
-  where
-    below : (g m : ℕ) → g ≤ m → m < 2 ^ 63 → g < 2 ^ 63
-    below g m h k = omega arith
+    record { some = pos_of_dvd_of_pos j.1 positive; less = below_width g (unsigned_abs d) (le_of_dvd positive j.1) k; common = j }
 
 read : (g : ℕ) → g < 2 ^ 63 → to_z w64 g ≡ pos g
 read g h = to_z_pos w64 g h

@@ -1,7 +1,8 @@
-use Rattle.std.proofs.Common.{◌≡◌, ℕ, ◌+◌, ◌<◌, List, get_or, Some, Bool, true, false, sym, ap, ◌∙◌, arith, inl, inr, ◌⊎◌, nat_eq}
+use Rattle.std.proofs.Common.{◌≡◌, ℕ, ◌+◌, ◌<◌, List, get_or, Some, Bool, true, false, refl, sym, ap, ◌∙◌, arith, nat_eq}
 use Rattle.std.specs.Prelude.{slice_get}
 use Rattle.std.specs.List.{list_any}
 use Rattle.std.proofs.lemmas.Option.{slice_get_within, get_or_from_slice_get}
+use borrow.Author.Count.{below_more}
 use Rattle.kin_motion.specs.Numbers.{is_in}
 use Rattle.kin_overlay.proofs.ListLaws.{is_in-any}
 use Rattle.kin_overlay.proofs.diff.strangers.Goals as goal
@@ -14,14 +15,8 @@ found list others n k x b r p q e at =
 
 one_more : (list others : List ℕ) (n : ℕ) (r : Bool) → r ≡ false → r ≡ list_any (λ y. nat_eq y (get_or list n 0)) others
     → ((k x : ℕ) → k < n → slice_get list k ≡ Some x → is_in x others ≡ false) → (k x : ℕ) → k < n + 1 → slice_get list k ≡ Some x → is_in x others ≡ false
-one_more list others n r p q before k x l at = by (earlier k l)
-  where
-    earlier : (k : ℕ) → k < n + 1 → (k < n) ⊎ (k ≡ n)
-    earlier k l = grind arith
-
-    by : (k < n) ⊎ (k ≡ n) → is_in x others ≡ false
-    by (inl m) = before k x m at
-    by (inr e) = found list others n k x false r p q e at
+one_more list others n r p q before k x l at =
+    below_more (λ i. (y : ℕ) → slice_get list i ≡ Some y → is_in y others ≡ false) n (λ i m y. before i y m) (λ y there. found list others n n y false r p q refl there) k l x at
 
 pub loop-count-preserved : goal.loop-count-preserved
 loop-count-preserved c = record {

@@ -1,43 +1,75 @@
-use Rattle.std.proofs.Common.{◌≡◌, sym, ap, ◌∙◌, subst, arith, ◌<◌, ◌*◌, ◌/◌, ◌^◌, List}
+use Rattle.std.proofs.Common.{◌≡◌, sym, ap, ◌∙◌, subst, arith, ◌+◌, ◌*◌, ◌<◌, ◌/◌, ◌^◌, List, length}
+use Rattle.std.proofs.lemmas.Nat.{pow-add}
 use Rattle.std.proofs.Math.Pow.{pow_pos}
 use Rattle.kin_motion.specs.declared.fact.Placed.{Placed}
 use Rattle.kin_motion.specs.Kinetics.{HasChanged}
+use Rattle.kin_tourney.specs.declared.doubt.Doubt.TheVariants.{Clear}
 use Rattle.kin_tourney.specs.Standings.{doubt_in}
-use Rattle.kin_tourney.proofs.Trees.{above_in_doubt, place_first, ended_first}
+use Rattle.kin_tourney.specs.Repairs.{IsPerfect, IsLowest, IsDone}
+use Rattle.kin_tourney.proofs.Trees.{above_in_doubt}
 use Rattle.kin_env.specs.declared.branches.Branches.{Branches}
-use Rattle.kin_env.specs.Walks.{tree_facts}
+use Rattle.kin_env.specs.Walks.{IsShaped, tree_facts}
 use Rattle.kin_env.proofs.Reports.{reporting_starts, reporting_on}
 use Rattle.kin_env.proofs.Ends.{all_sound, all_right, facts_stay}
 use Rattle.kin_env.proofs.branches.Branches.repair.Goals as goal
 
+perfect : (t : Branches) → IsShaped t → IsPerfect t.doubts.items
+perfect t h = (t.size + 1, h.doubts_room ∙ (let double : 2 ^ (t.size + 1) ≡ 2 ^ t.size * 2 = pow-add 2 t.size 1 in omega arith))
+
+pub first_doubt-node-requires : goal.first_doubt-node-requires
+first_doubt-node-requires g c =
+    let shape = c.requires.walked.shape in
+    let same = c.deref.ensures.value in
+    record { tree = subst IsPerfect (sym same) (perfect c.args.self.now shape); some = subst (λ ds. 1 < length ds) (sym same) (omega (arith, shape.doubts_room, pow_pos c.args.self.now.size)) }
+
 pub loop-node-init : goal.loop-node-init
 loop-node-init g c =
-    let t = c.args.self.now in
-    let w = c.requires.walked in
-    let many : 1 < 2 * 2 ^ t.size = omega (arith, pow_pos t.size) in
+    let same = c.deref.ensures.value in
     record {
-      walked = w;
-      report = reporting_starts t c.args.out.now w.joined;
-      place = place_first t.doubts.items (2 * 2 ^ t.size) c.doubted_root-node.result many c.doubted_root-node.ensures;
-      ended = ended_first t.doubts.items c.doubted_root-node.result c.doubted_root-node.ensures;
+      walked = c.requires.walked;
+      report = reporting_starts c.args.self.now c.args.out.now c.requires.walked.joined;
+      place = subst (λ ds. 0 < c.first_doubt-node.result → IsLowest ds c.first_doubt-node.result) same c.first_doubt-node.ensures.lowest;
+      ended = subst (λ ds. c.first_doubt-node.result ≡ 0 → doubt_in ds 1 ≡ Clear) same c.first_doubt-node.ensures.none;
     }
+
+pub next_doubt-node-requires : goal.next_doubt-node-requires
+next_doubt-node-requires g c =
+    let t = c.loop-node.self in
+    let x = c.renew.new.self in
+    let v = c.loop-node.node in
+    let i = c.loop-node.invariant in
+    let at = i.place c.loop-node-test.true in
+    let r = c.in_ok-renew.ensures.renewed in
+    let shape = c.in_ok-renew.ensures.walked.shape in
+    let size_is : 2 ^ x.size ≡ 2 ^ t.size = ap (λ n. 2 ^ n) r.same_size in
+    let same = c.deref-in-loop-node.ensures.value in
+    record {
+      tree = subst IsPerfect (sym same) (perfect x shape);
+      done = subst (λ ds. IsDone ds v) (sym same) (record {
+        some = at.some;
+        inside = omega (arith, at.inside, i.walked.shape.doubts_room, shape.doubts_room, size_is);
+        clear = r.cleared;
+        above = r.others (v / 2) (let some = at.some in omega arith) (above_in_doubt t.doubts.items i.walked.shape.closed v at.some at.doubted);
+      });
+    }
+
+pub loop-node-smaller : goal.loop-node-smaller
+loop-node-smaller g c = omega (arith, c.in_ok-renew.ensures.renewed.count)
 
 pub loop-node-preserved : goal.loop-node-preserved
 loop-node-preserved g c =
     let i = c.loop-node.invariant in
-    let t = c.loop-node.self in
     let x = c.renew.new.self in
     let v = c.loop-node.node in
-    let at = i.place c.loop-node-test.true in
-    let inside = at.0 in
     let some = c.loop-node-test.true in
+    let at = i.place some in
     let r = c.in_ok-renew.ensures.renewed in
     let w = c.in_ok-renew.ensures.walked in
     record {
       walked = w;
-      report = reporting_on c.args.self.now t x c.args.out.now c.loop-node.out c.renew.new.out v at.1 i.walked.joined w.joined i.report r;
-      place = λ some. (subst (λ n. v / 2 < 2 * 2 ^ n) (sym r.same_size) (omega arith), r.others (v / 2) (omega arith) (above_in_doubt t.doubts.items i.walked.shape.closed v c.loop-node-test.true at.1));
-      ended = λ none. ap (doubt_in x.doubts.items) (let one : 1 ≡ v = omega arith in one) ∙ r.cleared;
+      report = reporting_on c.args.self.now c.loop-node.self x c.args.out.now c.loop-node.out c.renew.new.out v at.doubted i.walked.joined w.joined i.report r;
+      place = subst (λ ds. 0 < c.next_doubt-node.result → IsLowest ds c.next_doubt-node.result) c.deref-in-loop-node.ensures.value c.next_doubt-node.ensures.lowest;
+      ended = λ none. ap (doubt_in x.doubts.items) (let up = c.next_doubt-node.ensures.none none in let one : 1 ≡ v = omega arith in one) ∙ r.cleared;
     }
 
 pub returns-clause-sound : goal.returns-clause-sound

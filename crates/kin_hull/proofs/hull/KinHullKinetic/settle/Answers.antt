@@ -7,57 +7,47 @@ use Rattle.kin_env.specs.Trees.{Envelope, names_leaving}
 use Rattle.kin_hull.specs.declared.side.Side.TheVariants.{Upper, Lower}
 use Rattle.kin_hull.specs.declared.sorting.Failed.{Failed}
 use Rattle.kin_hull.specs.HullLaws.{hull_settled}
-use Rattle.kin_hull.specs.Hulls.{Hull, IsReadyHull, facts_of}
+use Rattle.kin_hull.specs.Hulls.{Hull, facts_of}
 use Rattle.kin_hull.specs.Sides.{outward}
 use Rattle.kin_hull.proofs.Parts.{facts_low}
-use Rattle.kin_hull.proofs.Settling.{upper_failing, lower_failing, paired_again, both_reported}
+use Rattle.kin_hull.proofs.Settling.{known, upper_failing, lower_failing, paired_again, both_reported}
 use Rattle.kin_hull.proofs.hull.KinHullKinetic.settle.Goals as goal
 
 pub settle-requires-clause-failing : goal.settle-requires-clause-failing
 settle-requires-clause-failing g c =
-    let failing = subst (λ (k : Hull). ListsFailing (facts_of k) (names_leaving k.upper) (g.O.Signs.scene c.args.now.now) c.args.failed.now) (sym c.self.view_is) c.requires.failing in
-    let may = subst (λ (k : Hull). IsReadyHull k (g.O.Signs.scene c.args.now.now)) (sym c.self.view_is) c.requires.ready in
-    let known = c.self.invariant may.whole in
     subst (λ (fs : List Placed). ListsFailing c.self.inside.upper.facts (names_leaving c.self.inside.upper) (g.O.Signs.scene c.args.now.now) fs) (sym c.in_ok-sort.ensures.upper)
-    (upper_failing c.self.inside.upper c.self.inside.lower (g.O.Signs.scene c.args.now.now) c.args.failed.now known c.requires.real failing)
+    (upper_failing _ _ _ _ _ c.self.invariant c.self.view_is c.requires.ready _ c.requires.real c.requires.failing)
 
 pub settle-requires-clause-low : goal.settle-requires-clause-low
 settle-requires-clause-low g c =
-    let may = subst (λ (k : Hull). IsReadyHull k (g.O.Signs.scene c.args.now.now)) (sym c.self.view_is) c.requires.ready in
-    let known = c.self.invariant may.whole in
-    facts_low c.self.inside.upper known.seen known.settled.upper known.small
+    let pair = known _ _ _ (g.O.Signs.scene c.args.now.now) _ c.self.invariant c.self.view_is c.requires.ready in
+    facts_low c.self.inside.upper pair.seen pair.settled.upper pair.small
 
 pub settle-requires-2-clause-real : goal.settle-requires-2-clause-real
 settle-requires-2-clause-real g c = turned-real (g.O.Signs.scene c.args.now.now) c.requires.real
 
 pub settle-requires-2-clause-failing : goal.settle-requires-2-clause-failing
 settle-requires-2-clause-failing g c =
-    let failing = subst (λ (k : Hull). ListsFailing (facts_of k) (names_leaving k.upper) (g.O.Signs.scene c.args.now.now) c.args.failed.now) (sym c.self.view_is) c.requires.failing in
-    let may = subst (λ (k : Hull). IsReadyHull k (g.O.Signs.scene c.args.now.now)) (sym c.self.view_is) c.requires.ready in
-    let known = c.self.invariant may.whole in
     subst (λ (fs : List Placed). ListsFailing c.self.inside.lower.facts (names_leaving c.self.inside.lower) (turned (g.O.Signs.scene c.args.now.now)) fs)
     (sym (ap (λ (f : Failed). f.lower.items) c.settle.ensures.others ∙ c.in_ok-sort.ensures.lower))
-    (lower_failing c.self.inside.upper c.self.inside.lower (g.O.Signs.scene c.args.now.now) c.args.failed.now known c.requires.real failing)
+    (lower_failing _ _ _ _ _ c.self.invariant c.self.view_is c.requires.ready _ c.requires.real c.requires.failing)
 
 pub settle-requires-2-clause-low : goal.settle-requires-2-clause-low
 settle-requires-2-clause-low g c =
-    let may = subst (λ (k : Hull). IsReadyHull k (g.O.Signs.scene c.args.now.now)) (sym c.self.view_is) c.requires.ready in
-    let known = c.self.invariant may.whole in
-    facts_low c.self.inside.lower (turned known.seen) known.settled.lower (subst (λ (n : ℕ). n ≤ 12) (sym known.size) known.small)
+    let pair = known _ _ _ (g.O.Signs.scene c.args.now.now) _ c.self.invariant c.self.view_is c.requires.ready in
+    facts_low c.self.inside.lower (turned pair.seen) pair.settled.lower (subst (λ (n : ℕ). n ≤ 12) (sym pair.size) pair.small)
 
 pub invariant_of-self-2 : goal.invariant_of-self-2
 invariant_of-self-2 g c =
-    let may = subst (λ (k : Hull). IsReadyHull k (g.O.Signs.scene c.args.now.now)) (sym c.self.view_is) c.requires.ready in
-    let known = c.self.invariant may.whole in
-    λ w. paired_again c.self.inside.upper c.self.inside.lower c.settle.new.tree c.settle-2.new.tree (g.O.Signs.scene c.args.now.now) c.requires.real known
+    let pair = known _ _ _ (g.O.Signs.scene c.args.now.now) _ c.self.invariant c.self.view_is c.requires.ready in
+    λ w. paired_again c.self.inside.upper c.self.inside.lower c.settle.new.tree c.settle-2.new.tree (g.O.Signs.scene c.args.now.now) c.requires.real pair
     c.in_ok-settle.ensures.same c.in_ok-settle-2.ensures.same c.in_ok-settle.ensures.rest c.in_ok-settle-2.ensures.rest c.in_ok-settle.ensures.settled c.in_ok-settle-2.ensures.settled
 
 pub returns-clause-settled : goal.returns-clause-settled
 returns-clause-settled g c =
-    let may = subst (λ (k : Hull). IsReadyHull k (g.O.Signs.scene c.args.now.now)) (sym c.self.view_is) c.requires.ready in
-    let known = c.self.invariant may.whole in
+    let pair = known _ _ _ (g.O.Signs.scene c.args.now.now) _ c.self.invariant c.self.view_is c.requires.ready in
     hull_settled (record { upper = c.settle.new.tree; lower = c.settle-2.new.tree; whole = true }) (g.O.Signs.scene c.args.now.now) c.requires.real c.in_ok-settle.ensures.settled c.in_ok-settle-2.ensures.settled
-    (ap (λ (t : Envelope). t.size) c.in_ok-settle-2.ensures.same ∙ known.size ∙ sym (ap (λ (t : Envelope). t.size) c.in_ok-settle.ensures.same))
+    (ap (λ (t : Envelope). t.size) c.in_ok-settle-2.ensures.same ∙ pair.size ∙ sym (ap (λ (t : Envelope). t.size) c.in_ok-settle.ensures.same))
 
 pub returns-clause-delta : goal.returns-clause-delta
 returns-clause-delta g c =

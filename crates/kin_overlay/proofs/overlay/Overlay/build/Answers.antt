@@ -24,10 +24,7 @@ pub invariant_of-result : goal.invariant_of-result
 invariant_of-result g c =
     let s = g.O.Signs.scene c.args.now.now in
     let a = c.args.a.now in
-    let b = c.args.b.now in
-    let m = c.merge.new.self in
-    let chain = c.merged_chain.new.chain.items in
-    let settled = merged-settled s c.requires.real a b chain c.args.part m c.requires.a_some c.requires.b_some c.requires.less c.requires.a_chain c.requires.b_chain c.in_ok-merge.ensures (c.in_ok-merged_chain.ensures s a b c.requires.a_some c.requires.b_some c.in_ok-merge.ensures) in
+    let settled = merged-settled s c.requires.real _ _ _ c.args.part _ c.requires.a_some c.requires.b_some c.requires.less c.requires.a_chain c.requires.b_chain c.in_ok-merge.ensures (c.in_ok-merged_chain.ensures s _ _ c.requires.a_some c.requires.b_some c.in_ok-merge.ensures) in
     record {
       less = subst (λ (l : List ℕ). AreLess l c.in_ok-copied-2.field-0.items) (sym c.in_ok-copied.ensures) (subst (λ (l : List ℕ). AreLess a l) (sym c.in_ok-copied-2.ensures) c.requires.less);
       distinct = settled.exact.once;
@@ -37,10 +34,8 @@ pub returns : goal.returns
 returns g c =
     let s = g.O.Signs.scene c.args.now.now in
     let a = c.args.a.now in
-    let b = c.args.b.now in
     let m = c.merge.new.self in
-    let chain = c.merged_chain.new.chain.items in
-    let settled = merged-settled s c.requires.real a b chain c.args.part m c.requires.a_some c.requires.b_some c.requires.less c.requires.a_chain c.requires.b_chain c.in_ok-merge.ensures (c.in_ok-merged_chain.ensures s a b c.requires.a_some c.requires.b_some c.in_ok-merge.ensures) in
+    let settled = merged-settled s c.requires.real _ _ _ c.args.part _ c.requires.a_some c.requires.b_some c.requires.less c.requires.a_chain c.requires.b_chain c.in_ok-merge.ensures (c.in_ok-merged_chain.ensures s _ _ c.requires.a_some c.requires.b_some c.in_ok-merge.ensures) in
     let done = all-born c.args.part m c.new-none.result c.out.inside.dropped.items c.out.inside.born.items c.tell_missing.new.told.items c.new-none.ensures settled.exact.once c.in_ok-tell_missing.ensures in
     record {
       a = search rules;
@@ -48,8 +43,8 @@ returns g c =
       part = search rules;
       rest = search rules;
       settled =
-          subst (λ (l : List ℕ). IsSettledMerge s l c.in_ok-copied-2.field-0.items chain c.args.part (all_placed c.args.part (facts_of m))) (sym c.in_ok-copied.ensures)
-          (subst (λ (l : List ℕ). IsSettledMerge s a l chain c.args.part (all_placed c.args.part (facts_of m))) (sym c.in_ok-copied-2.ensures) settled);
+          subst (λ (l : List ℕ). IsSettledMerge s l c.in_ok-copied-2.field-0.items c.merged_chain.new.chain.items c.args.part (all_placed c.args.part (facts_of m))) (sym c.in_ok-copied.ensures)
+          (subst (λ (l : List ℕ). IsSettledMerge s a l c.merged_chain.new.chain.items c.args.part (all_placed c.args.part (facts_of m))) (sym c.in_ok-copied-2.ensures) settled);
       edits = search rules;
       gone = search rules;
       born = subst (λ (d : Change). HasChanged [] (all_placed c.args.part (facts_of m)) d (record { dropped = c.out.inside.dropped.items; born = c.tell_missing.new.told.items })) c.out.view_is done;

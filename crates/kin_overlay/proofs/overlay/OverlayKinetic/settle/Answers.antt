@@ -5,12 +5,11 @@ use Rattle.kin_motion.proofs.RealLaws.{real_line_laws}
 use Rattle.kin_chain.proofs.MergeFacts.{rising_once}
 use Rattle.kin_motion.specs.Deltas.{Change}
 use Rattle.kin_motion.specs.Kinetics.{HasChanged, ListsFailing}
-use Rattle.kin_overlay.specs.Fingers.{IsMerged}
 use Rattle.kin_overlay.specs.Overlays.{Merge, IsReady, names_gone}
 use Rattle.kin_overlay.specs.Remembered.{Remembered, facts_of, all_placed}
 use Rattle.kin_overlay.specs.Reports.{IsTold}
 use Rattle.kin_overlay.specs.Standings.{IsUnfailed}
-use Rattle.kin_overlay.proofs.FactLaws.{merged-settled, changed}
+use Rattle.kin_overlay.proofs.FactLaws.{merged-settled, merged-same, changed}
 use Rattle.kin_overlay.proofs.SoundLaws.{whole}
 use Rattle.kin_overlay.proofs.StandingLaws.{still-stand}
 use Rattle.kin_overlay.proofs.overlay.OverlayKinetic.settle.Goals as goal
@@ -40,11 +39,9 @@ invariant_of-self-2 g c =
     let o = c.self.inside in
     let m = c.swap.new.x in
     let ready = subst (λ (v : Merge). IsReady v s) (sym c.self.view_is) c.requires.ready in
-    let kept = whole o.stage o.a.items o.b.items (all_placed o.part (facts_of o.list)) ready.whole c.self.invariant in
-    let merged =
-    subst (λ (l : List ℕ). IsMerged s l o.b.items m) c.deref-2.ensures.value
-    (subst (λ (l : List ℕ). IsMerged s c.deref-2.result.now l m) c.deref-3.ensures.value (subst (λ (n : Remembered). IsMerged s c.deref-2.result.now c.deref-3.result.now n) (sym c.swap.ensures.x_after) c.in_ok-merge.ensures)) in
-    let settled = merged-settled s c.requires.real o.a.items o.b.items c.merged_chain.new.chain.items o.part m ready.a_some ready.b_some kept.less ready.a_chain ready.b_chain merged (c.in_ok-merged_chain.ensures s o.a.items o.b.items ready.a_some ready.b_some merged) in
+    let kept = whole _ _ _ _ ready.whole c.self.invariant in
+    let merged = merged-same s _ _ _ _ _ _ c.deref-2.ensures.value c.deref-3.ensures.value (sym c.swap.ensures.x_after) c.in_ok-merge.ensures in
+    let settled = merged-settled s c.requires.real _ _ _ o.part _ ready.a_some ready.b_some kept.less ready.a_chain ready.b_chain merged (c.in_ok-merged_chain.ensures s _ _ ready.a_some ready.b_some merged) in
     record { less = kept.less; distinct = settled.exact.once }
 
 pub returns : goal.returns
@@ -53,11 +50,9 @@ returns g c =
     let o = c.self.inside in
     let m = c.swap.new.x in
     let ready = subst (λ (v : Merge). IsReady v s) (sym c.self.view_is) c.requires.ready in
-    let kept = whole o.stage o.a.items o.b.items (all_placed o.part (facts_of o.list)) ready.whole c.self.invariant in
-    let merged =
-    subst (λ (l : List ℕ). IsMerged s l o.b.items m) c.deref-2.ensures.value
-    (subst (λ (l : List ℕ). IsMerged s c.deref-2.result.now l m) c.deref-3.ensures.value (subst (λ (n : Remembered). IsMerged s c.deref-2.result.now c.deref-3.result.now n) (sym c.swap.ensures.x_after) c.in_ok-merge.ensures)) in
-    let settled = merged-settled s c.requires.real o.a.items o.b.items c.merged_chain.new.chain.items o.part m ready.a_some ready.b_some kept.less ready.a_chain ready.b_chain merged (c.in_ok-merged_chain.ensures s o.a.items o.b.items ready.a_some ready.b_some merged) in
+    let kept = whole _ _ _ _ ready.whole c.self.invariant in
+    let merged = merged-same s _ _ _ _ _ _ c.deref-2.ensures.value c.deref-3.ensures.value (sym c.swap.ensures.x_after) c.in_ok-merge.ensures in
+    let settled = merged-settled s c.requires.real _ _ _ o.part _ ready.a_some ready.b_some kept.less ready.a_chain ready.b_chain merged (c.in_ok-merged_chain.ensures s _ _ ready.a_some ready.b_some merged) in
     let dropped = subst (λ (n : Remembered). IsTold o.part (facts_of n) (facts_of o.list) c.out.inside.dropped.items c.tell_missing.new.told.items) (sym c.swap.ensures.x_after) c.in_ok-tell_missing.ensures in
     let born = subst (λ (n : Remembered). IsTold o.part (facts_of o.list) (facts_of n) c.out.inside.born.items c.tell_missing-2.new.told.items) (sym c.swap.ensures.x_after) c.in_ok-tell_missing-2.ensures in
     let done = changed o.part o.list m (record { dropped = c.out.inside.dropped.items; born = c.out.inside.born.items }) (record { dropped = c.tell_missing.new.told.items; born = c.tell_missing-2.new.told.items }) kept.distinct settled.exact.once dropped born in

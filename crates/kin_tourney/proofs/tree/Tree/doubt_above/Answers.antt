@@ -1,8 +1,8 @@
-use Rattle.std.proofs.Common.{◌≡◌, ◌≢◌, ◌⊎◌, inl, inr, ◌∙◌, sym, subst, refl, ap, arith, ◌/◌, ◌+◌, ◌<◌, ◌≤◌, ℕ, length, Some, true, false}
+use Rattle.std.proofs.Common.{◌≡◌, ◌≢◌, inl, ◌∙◌, sym, subst, ap, arith, ◌/◌, ◌+◌, ◌<◌, ℕ, length}
 use Rattle.std.proofs.lemmas.Bool.Decides.{nat_tests}
-use Rattle.kin_tourney.specs.Standings.{Standings, doubt_in, named_at}
+use Rattle.kin_tourney.specs.Standings.{Standings, doubt_in}
 use Rattle.kin_tourney.specs.declared.doubt.Doubt.TheVariants.{Below, Clear}
-use Rattle.kin_tourney.specs.Repairs.{IsSpread, IsMarkedUp}
+use Rattle.kin_tourney.specs.Repairs.{IsSpread}
 use Rattle.kin_tourney.proofs.Raising.{IsRaising, raised, raising_starts, raising_done}
 use Rattle.kin_tourney.proofs.tree.Tree.doubt_above.Goals as goal
 

@@ -8,7 +8,7 @@ use Rattle.kin_tourney.proofs.tree.Tree.repair.Given as goal
 abbrev pub invariant-loop-node : goal.invariant-loop-node
 invariant-loop-node g l = record {
   mending : IsMending l.all (g.K.Keyed.key l.key) (g.O.Signs.scene l.now).sign l.initial.self 0 l.self l.initial.out l.out;
-  place : 0 < l.node → IsLowest l.self l.node;
+  place : 0 < l.node → IsLowest l.self.doubts l.node;
   ended : l.node ≡ 0 → doubt_in l.self.doubts 1 ≡ Clear;
   cost : l.steps + doubt_count l.self.doubts ≤ l.initial.steps + doubt_count l.initial.self.doubts;
 }
