@@ -7,7 +7,6 @@ use Rattle.std.proofs.lemmas.List.{get_or-set_same, get_or-set_other, length-set
 use Rattle.kin_motion.specs.declared.fact.Placed.{Placed}
 use Rattle.kin_motion.specs.Course.{Course, live_of, motion_of, is_live}
 use Rattle.kin_motion.specs.Numbers.{is_in, IsIn}
-use Rattle.kin_motion.specs.Sets.{ListsExactly}
 use Rattle.kin_motion.proofs.LiveLaws.{live-members}
 use Rattle.kin_motion.proofs.Members.{in_head, is_in-push, in_from_contains, contains_from_in}
 use Rattle.kin_list.proofs.LeaveLaws.{in_push_last}
@@ -32,30 +31,28 @@ rest_left t rest i low = subst (λ (l : List ℕ). false ≡ is_in i l && not (s
 rest_entered : (t : Envelope) → IsEnvelopeAtRest t → (i : ℕ) → i < 2 ^ t.size → false ≡ slot_in t.slots i && not (is_in i (chain_of_slot t i))
 rest_entered t rest i low = subst (λ (l : List ℕ). false ≡ slot_in t.slots i && not (is_in i l)) (sym (rest.unmarked i low)) (held_before i (slot_in t.slots i))
 
-pub followed_at_rest : (size : ℕ) (ms : List (Option Course)) (t : Envelope) (facts : List Placed) (gone fresh : List ℕ) → size ≤ 12 → length ms ≡ 2 ^ size → t.size ≡ size → IsEnvelopeAtRest t
-    → ((i : ℕ) → is_in i (live_of ms) ≡ slot_in t.slots i) → ListsExactly facts (Contains t.facts) → gone ≡ [] → fresh ≡ [] → IsFollowed size ms t facts gone fresh
-followed_at_rest size ms t facts gone fresh small motions_room sized rest members told none_gone none_fresh = record {
+pub followed_at_rest : (size : ℕ) (ms : List (Option Course)) (t : Envelope) (gone fresh : List ℕ) → size ≤ 12 → length ms ≡ 2 ^ size → t.size ≡ size → IsEnvelopeAtRest t
+    → ((i : ℕ) → is_in i (live_of ms) ≡ slot_in t.slots i) → gone ≡ [] → fresh ≡ [] → IsFollowed size ms t gone fresh
+followed_at_rest size ms t gone fresh small motions_room sized rest members none_gone none_fresh = record {
   small = small;
   motions_room = motions_room;
   sized = sized;
   room = rest.room ∙ ap (λ n. 2 ^ n) sized;
   whole = rest.whole;
   members = members;
-  told = told;
   gone_low = λ i h. absurd (let e : false ≡ true = subst (λ (l : List ℕ). IsIn i l) none_gone h in cc);
   left = λ i low. ap (λ (l : List ℕ). is_in i l) none_gone ∙ rest_left t rest i (subst (λ n. i < 2 ^ n) (sym sized) low);
   entered = λ i low. ap (λ (l : List ℕ). is_in i l) none_fresh ∙ rest_entered t rest i (subst (λ n. i < 2 ^ n) (sym sized) low);
 }
 
 -- after a settle
-pub followed_settled : (size : ℕ) (ms : List (Option Course)) (t t' : Envelope) (was facts : List Placed) (gone fresh gone' fresh' : List ℕ) → IsFollowed size ms t was gone fresh → t' ≡ record t { chains = t'.chains; facts = t'.facts } → IsEnvelopeAtRest t'
-    → ListsExactly facts (Contains t'.facts) → gone' ≡ [] → fresh' ≡ [] → IsFollowed size ms t' facts gone' fresh'
-followed_settled size ms t t' was facts gone fresh gone' fresh' f same rest told none_gone none_fresh =
-    followed_at_rest size ms t' facts gone' fresh' f.small f.motions_room (ap (λ (x : Envelope). x.size) same ∙ f.sized) rest (λ i. f.members i ∙ ap (λ (x : Envelope). slot_in x.slots i) (sym same)) told none_gone none_fresh
+pub followed_settled : (size : ℕ) (ms : List (Option Course)) (t t' : Envelope) (gone fresh gone' fresh' : List ℕ) → IsFollowed size ms t gone fresh → t' ≡ record t { chains = t'.chains; facts = t'.facts } → IsEnvelopeAtRest t' → gone' ≡ [] → fresh' ≡ [] → IsFollowed size ms t' gone' fresh'
+followed_settled size ms t t' gone fresh gone' fresh' f same rest none_gone none_fresh =
+    followed_at_rest size ms t' gone' fresh' f.small f.motions_room (ap (λ (x : Envelope). x.size) same ∙ f.sized) rest (λ i. f.members i ∙ ap (λ (x : Envelope). slot_in x.slots i) (sym same)) none_gone none_fresh
 
 -- ---- what is spared
-pub spares_gone : (size : ℕ) (ms : List (Option Course)) (t : Envelope) (facts : List Placed) (gone fresh : List ℕ) → IsFollowed size ms t facts gone fresh → (p : Placed) → names_any p.fact.form gone ≡ names_leaving t p
-spares_gone size ms t facts gone fresh f p = same_named p.fact.form gone (leaving_of t) (λ i. (to i, from i))
+pub spares_gone : (size : ℕ) (ms : List (Option Course)) (t : Envelope) (gone fresh : List ℕ) → IsFollowed size ms t gone fresh → (p : Placed) → names_any p.fact.form gone ≡ names_leaving t p
+spares_gone size ms t gone fresh f p = same_named p.fact.form gone (leaving_of t) (λ i. (to i, from i))
   where
     to : (i : ℕ) → Contains gone i → Contains (leaving_of t) i
     to i c = let h = in_from_contains gone i c in let low = f.gone_low i h in (in_leaving t i).1 (subst (λ n. i < 2 ^ n) (sym f.sized) low, sym (f.left i low) ∙ h)
@@ -79,7 +76,7 @@ not_false false e = absurd cc
 pushed_other : (i n : ℕ) (xs : List ℕ) → i ≢ n → is_in i (xs ++ n ∷ []) ≡ is_in i xs
 pushed_other i n xs m = is_in-push i n xs ∙ ap (λ b. b || is_in i xs) (let e : nat_eq i n ≡ false = grind (arith, nat_tests, m) in e)
 
-module _ (size : ℕ) (ms : List (Option Course)) (t : Envelope) (facts : List Placed) (gone fresh : List ℕ) (f : IsFollowed size ms t facts gone fresh) (n : ℕ) (low : n < 2 ^ size) where
+module _ (size : ℕ) (ms : List (Option Course)) (t : Envelope) (gone fresh : List ℕ) (f : IsFollowed size ms t gone fresh) (n : ℕ) (low : n < 2 ^ size) where
   slot_room : n < length t.slots
   slot_room = subst (λ k. n < k) (sym f.room) low
 
@@ -110,9 +107,9 @@ module _ (size : ℕ) (ms : List (Option Course)) (t : Envelope) (facts : List P
 
   -- a number enters
   pub followed_entering : (ms' : List (Option Course)) (t' : Envelope) (fresh' : List ℕ) (c : Course) → is_live ms n ≡ false → is_in n gone ≡ false → ms' ≡ set ms n (Some c) → t' ≡ record t { slots = set t.slots n true } → fresh' ≡ fresh ++ n ∷ []
-      → IsFollowed size ms' t' facts gone fresh'
+      → IsFollowed size ms' t' gone fresh'
   followed_entering ms' t' fresh' c free stays moved marked grown =
-      subst (λ (l : List (Option Course)). IsFollowed size l t' facts gone fresh') (sym moved) (subst (λ (x : Envelope). IsFollowed size (set ms n (Some c)) x facts gone fresh') (sym marked) (subst (λ (l : List ℕ). IsFollowed size (set ms n (Some c)) (record t { slots = set t.slots n true }) facts gone l) (sym grown) so))
+      subst (λ (l : List (Option Course)). IsFollowed size l t' gone fresh') (sym moved) (subst (λ (x : Envelope). IsFollowed size (set ms n (Some c)) x gone fresh') (sym marked) (subst (λ (l : List ℕ). IsFollowed size (set ms n (Some c)) (record t { slots = set t.slots n true }) gone l) (sym grown) so))
     where
       not_there : is_in n (chain_of_slot t n) ≡ false
       not_there = sym (first_of (is_in n (chain_of_slot t n))) ∙ ap (λ b. is_in n (chain_of_slot t n) && not b) (sym (slot_free free)) ∙ sym (f.left n low) ∙ stays
@@ -125,7 +122,7 @@ module _ (size : ℕ) (ms : List (Option Course)) (t : Envelope) (facts : List P
       entered i (inl e) inside = subst (λ j. is_in j (fresh ++ n ∷ []) ≡ slot_in (set t.slots n true) j && not (is_in j (chain_of_slot t j))) (sym e) (in_push_last n fresh ∙ sym (ap (λ b. b && not (is_in n (chain_of_slot t n))) (here true) ∙ ap not not_there))
       entered i (inr m) inside = pushed_other i n fresh m ∙ f.entered i inside ∙ ap (λ b. b && not (is_in i (chain_of_slot t i))) (sym (elsewhere true i m))
 
-      so : IsFollowed size (set ms n (Some c)) (record t { slots = set t.slots n true }) facts gone (fresh ++ n ∷ [])
+      so : IsFollowed size (set ms n (Some c)) (record t { slots = set t.slots n true }) gone (fresh ++ n ∷ [])
       so = record {
         small = f.small;
         motions_room = length-set ms n (Some c) ∙ f.motions_room;
@@ -133,7 +130,6 @@ module _ (size : ℕ) (ms : List (Option Course)) (t : Envelope) (facts : List P
         room = length-set t.slots n true ∙ f.room;
         whole = f.whole;
         members = members_again true (Some c) refl;
-        told = f.told;
         gone_low = f.gone_low;
         left = λ i inside. left i (cases_eq i n) inside;
         entered = λ i inside. entered i (cases_eq i n) inside;
@@ -141,9 +137,9 @@ module _ (size : ℕ) (ms : List (Option Course)) (t : Envelope) (facts : List P
 
   -- a number leaves
   pub followed_leaving : (ms' : List (Option Course)) (t' : Envelope) (gone' : List ℕ) → is_in n (live_of ms) ≡ true → is_in n fresh ≡ false → ms' ≡ set ms n None → t' ≡ record t { slots = set t.slots n false } → gone' ≡ gone ++ n ∷ []
-      → IsFollowed size ms' t' facts gone' fresh
+      → IsFollowed size ms' t' gone' fresh
   followed_leaving ms' t' gone' there stood moved marked grown =
-      subst (λ (l : List (Option Course)). IsFollowed size l t' facts gone' fresh) (sym moved) (subst (λ (x : Envelope). IsFollowed size (set ms n None) x facts gone' fresh) (sym marked) (subst (λ (l : List ℕ). IsFollowed size (set ms n None) (record t { slots = set t.slots n false }) facts l fresh) (sym grown) so))
+      subst (λ (l : List (Option Course)). IsFollowed size l t' gone' fresh) (sym moved) (subst (λ (x : Envelope). IsFollowed size (set ms n None) x gone' fresh) (sym marked) (subst (λ (l : List ℕ). IsFollowed size (set ms n None) (record t { slots = set t.slots n false }) l fresh) (sym grown) so))
     where
       in_chain : is_in n (chain_of_slot t n) ≡ true
       in_chain = not_false (is_in n (chain_of_slot t n)) (sym stood ∙ f.entered n low ∙ ap (λ b. b && not (is_in n (chain_of_slot t n))) (slot_taken there))
@@ -160,7 +156,7 @@ module _ (size : ℕ) (ms : List (Option Course)) (t : Envelope) (facts : List P
       gone_low i (inl e) h = subst (λ j. j < 2 ^ size) (sym e) low
       gone_low i (inr m) h = f.gone_low i (sym (pushed_other i n gone m) ∙ h)
 
-      so : IsFollowed size (set ms n None) (record t { slots = set t.slots n false }) facts (gone ++ n ∷ []) fresh
+      so : IsFollowed size (set ms n None) (record t { slots = set t.slots n false }) (gone ++ n ∷ []) fresh
       so = record {
         small = f.small;
         motions_room = length-set ms n None ∙ f.motions_room;
@@ -168,7 +164,6 @@ module _ (size : ℕ) (ms : List (Option Course)) (t : Envelope) (facts : List P
         room = length-set t.slots n false ∙ f.room;
         whole = f.whole;
         members = members_again false None refl;
-        told = f.told;
         gone_low = λ i h. gone_low i (cases_eq i n) h;
         left = λ i inside. left i (cases_eq i n) inside;
         entered = λ i inside. entered i (cases_eq i n) inside;

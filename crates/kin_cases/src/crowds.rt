@@ -35,7 +35,7 @@ fn points<L: Ledger>(
     let mut octants = Octants::new(alloc, 3)?;
     let mut no = 0u32;
     for motion in motions {
-        octants = octants.enter(no, *motion, &at(0), tally, steps)?;
+        octants = octants.enter(no, *motion)?.go(&at(0), tally, steps)?;
         no = no.wrapping_add(1);
     }
     Ok(octants)
@@ -138,11 +138,8 @@ fn meeting<L: Ledger>(alloc: Global, leaves: bool, blank: Blank) -> Result<[Told
     let octants = points(alloc, &three, &tally, &mut steps)?;
     let octants = octants.go(&at(5), &tally, &mut steps)?;
     let meet = told(alloc, &octants)?;
-    let octants = if leaves {
-        octants.leave(2, &after(5), &tally, &mut steps)?
-    } else {
-        octants.go(&after(5), &tally, &mut steps)?
-    };
+    let octants = if leaves { octants.leave(2)? } else { octants };
+    let octants = octants.go(&after(5), &tally, &mut steps)?;
     Ok([meet, told(alloc, &octants)?])
 }
 
@@ -175,7 +172,9 @@ fn crowd<L: Ledger>(alloc: Global, tally: &Tally, steps: &mut Steps<L>) -> Resul
     let mut seed = 1;
     for no in 0..64 {
         seed = after_number(seed);
-        octants = octants.enter(no, motion_for(seed), &start, tally, steps)?;
+        octants = octants
+            .enter(no, motion_for(seed))?
+            .go(&start, tally, steps)?;
     }
     Ok(octants)
 }

@@ -1,48 +1,58 @@
 //! An envelope tree, with the motions that it follows.
 
-ghost use Rattle.std.specs.Prelude.{◌≡◌, ◌≤◌, [], ◌∷◌, ◌++◌, Contains, OnOk};
-ghost use Rattle.kin_motion.specs.declared.fact.Placed.{Placed as Put};
-ghost use Rattle.kin_motion.specs.Scene.{scene_at};
-ghost use Rattle.kin_motion.specs.Sets.{ListsExactly};
-ghost use Rattle.kin_env.specs.Trees.{IsEnvelopeAtRest, IsReadyEnvelope, names_leaving};
+ghost use Rattle.std.specs.Prelude.{◌≡◌, ◌≤◌, ◌<◌, ◌^◌, [], ◌∷◌, ◌++◌, true, false, slice_set, IsTrue, OnOk};
+ghost use Rattle.kin_env.specs.Walks.{slot_in};
 
 use crate::ask::is_live;
 use crate::chains::has_number;
-use crate::failing::{after, failing_at};
+use crate::driver::{Driver, Steady};
 use crate::fault::Fault;
-use crate::spares::{Spares, SparesNamed};
+use crate::spares::SparesNamed;
 use crate::watch::{Tally, Watch};
 use kin_cert::Now;
 use kin_env::EnvTree;
-use kin_motion::fact::Delta;
 use kin_motion::kinetic::Kinetic;
-use kin_motion::{Motion, Motions, Placed};
-use kin_num::{Moment, Steps};
+use kin_motion::signs::Signs;
+use kin_motion::{Delta, Motion, Motions, Placed};
+use kin_num::{Moment, NoMemory, Steps};
 use std::alloc::Global;
 use std::marker::Model;
 use std::sync::ledger::Ledger;
 
-/// Settles a tree at a moment, by the facts that fail there, and takes its report over.
-fn settle<S: Spares, L: Ledger>(
-    alloc: Global,
-    tree: &mut EnvTree,
-    facts: &mut Vec<Placed>,
-    now: &Watch<'_>,
-    spares: &S,
-    steps: &mut Steps<L>,
-) -> Result<(), Fault>
-    requires ready { IsReadyEnvelope tree.old (scene_at now.now.motions.now now.now.moment.now) }
-    requires facts { ListsExactly facts.old.items (Contains tree.old.facts) }
-    requires spares { (p : Put) → S.is_spared spares.now p ≡ names_leaving tree.old p }
-    ensures rest { OnOk result (IsEnvelopeAtRest tree.new) }
-    ensures same { OnOk result (tree.new ≡ record tree.old { chains = tree.new.chains; facts = tree.new.facts }) }
-    ensures facts { OnOk result (ListsExactly facts.new.items (Contains tree.new.facts)) }
-{
-    let failed = failing_at(alloc, facts, now, spares)?;
-    let mut out = Delta::new(alloc);
-    tree.settle(now, &failed, &mut out, steps)?;
-    *facts = after(alloc, facts, &out)?;
-    Ok(())
+impl Steady for EnvTree {
+    ghost use Rattle.std.specs.Prelude.{◌≡◌};
+
+    ghost stays = { λ old new. new ≡ record old { chains = new.chains; facts = new.facts } };
+
+    fn repair<O: Signs, L: Ledger>(
+        &mut self,
+        now: &O,
+        failed: &[Placed],
+        out: &mut Delta,
+        steps: &mut Steps<L>,
+    ) -> Result<(), NoMemory> {
+        self.settle(now, failed, out, steps)
+    }
+}
+
+impl Driver<EnvTree> {
+    fn set(&mut self, slot: u32)
+        requires whole { IsTrue self.old.whole }
+        requires within { slot < 2 ^ self.old.size }
+        requires new { slot_in self.old.slots slot ≡ false }
+        ensures { self.new ≡ record self.old { slots = slice_set self.old.slots slot true } }
+    {
+        self.structure.set(slot);
+    }
+
+    fn clear(&mut self, slot: u32)
+        requires whole { IsTrue self.old.whole }
+        requires within { slot < 2 ^ self.old.size }
+        requires member { slot_in self.old.slots slot ≡ true }
+        ensures { self.new ≡ record self.old { slots = slice_set self.old.slots slot false } }
+    {
+        self.structure.clear(slot);
+    }
 }
 
 fn note(numbers: &mut Vec<u32>, no: u32) -> Result<(), Fault>
@@ -52,15 +62,14 @@ fn note(numbers: &mut Vec<u32>, no: u32) -> Result<(), Fault>
     Ok(())
 }
 
-/// The upper chain of the live points, by a tree whose live facts are kept by its reports alone.
-/// Points may enter and leave between two moments at which it is settled, each once.
+/// The upper chain of the live points, by a tree. Points may enter and leave between two moments at
+/// which it is settled, each once.
 #[derive(Drop)]
 pub struct Envelope {
     alloc: Global,
     size: u32,
     motions: Motions,
-    tree: EnvTree,
-    facts: Vec<Placed>,
+    tree: Driver<EnvTree>,
     /// The numbers that have left since the last settle, and those that have entered.
     gone: Vec<u32>,
     fresh: Vec<u32>,
@@ -76,7 +85,7 @@ impl Model for Envelope {
 
     ghost view = { λ e. e.tree };
 
-    ghost invariant = { λ e. IsFollowed e.size e.motions e.tree e.facts.items e.gone.items e.fresh.items };
+    ghost invariant = { λ e. IsFollowed e.size e.motions e.tree e.gone.items e.fresh.items };
 }
 
 impl Envelope {
@@ -86,13 +95,12 @@ impl Envelope {
         requires high { size ≤ 12 }
     {
         let motions = Motions::new(alloc, size)?;
-        let tree = EnvTree::new(alloc, size)?;
+        let tree = Driver::new(alloc, EnvTree::new(alloc, size)?);
         Ok(Envelope {
             alloc,
             size,
             motions,
             tree,
-            facts: Vec::new(alloc),
             gone: Vec::new(alloc),
             fresh: Vec::new(alloc),
             top: Vec::new(alloc),
@@ -132,8 +140,7 @@ impl Envelope {
             alloc,
             size,
             motions,
-            mut tree,
-            mut facts,
+            tree,
             gone,
             fresh: _,
             top: _,
@@ -144,14 +151,13 @@ impl Envelope {
             tally,
         };
         let spares = SparesNamed { gone: &gone };
-        settle(alloc, &mut tree, &mut facts, &now, &spares, steps)?;
-        let top = Vec::from_slice(alloc, tree.top())?;
+        let tree = tree.settle(&now, &spares, steps)?;
+        let top = Vec::from_slice(alloc, tree.structure.top())?;
         Ok(Envelope {
             alloc,
             size,
             motions,
             tree,
-            facts,
             gone: Vec::new(alloc),
             fresh: Vec::new(alloc),
             top,
@@ -165,7 +171,7 @@ impl Envelope {
 
     /// The live facts, in any order.
     pub fn facts(&self) -> &[Placed] {
-        &self.facts
+        self.tree.facts()
     }
 
     /// The motions at a moment.

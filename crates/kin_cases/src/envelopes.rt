@@ -9,7 +9,7 @@ use crate::moments::at;
 use crate::random::{after_number, motion_for};
 use crate::under::is_right;
 use crate::watch::{Callers, Tally};
-use crate::written::{are_written, moment_of, motions};
+use crate::written::{are_written, motions, told_at};
 use kin_motion::Motion;
 use kin_num::{Moment, Steps};
 use std::alloc::Global;
@@ -53,7 +53,7 @@ fn goes_to<L: Ledger>(
     tally: &Tally,
     steps: &mut Steps<L>,
 ) -> Result<Envelope, Fault> {
-    let (Some(moment), Some((_, told))) = (moment_of(line), line.split_once(':')) else {
+    let Some((moment, told)) = told_at(line) else {
         return Err(Fault::NotNew);
     };
     let envelope = go(alloc, envelope, &moment, tally, steps)?;

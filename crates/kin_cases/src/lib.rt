@@ -26,6 +26,8 @@ pub mod failing;
 mod failures;
 pub mod fault;
 #[cfg(test)]
+mod halves;
+#[cfg(test)]
 mod many;
 #[cfg(test)]
 mod meetings;
@@ -38,6 +40,8 @@ pub mod octants;
 pub mod order;
 #[cfg(test)]
 mod random;
+#[cfg(test)]
+mod sixteens;
 pub mod spares;
 #[cfg(test)]
 mod under;

@@ -26,7 +26,7 @@ fn crowd<L: Ledger>(alloc: Global, tally: &Tally, steps: &mut Steps<L>) -> Resul
     let mut seed = 1;
     for no in 0..64 {
         seed = after_number(seed);
-        order = order.enter(no, motion_for(seed), &start, tally, steps)?;
+        order = order.enter(no, motion_for(seed))?.go(&start, tally, steps)?;
     }
     Ok(order)
 }

@@ -36,9 +36,15 @@ fn three_meet<L: Ledger>(alloc: Global, blank: Blank) -> Result<[Seen; 3], Fault
     let tally = Tally::new();
     let start = at(0);
     let order = Order::new(alloc, 2)?;
-    let order = order.enter(0, Motion::new(0, 0, 1, 0), &start, &tally, &mut steps)?;
-    let order = order.enter(1, Motion::new(5, 0, 0, 0), &start, &tally, &mut steps)?;
-    let order = order.enter(2, Motion::new(10, 0, -1, 0), &start, &tally, &mut steps)?;
+    let order = order
+        .enter(0, Motion::new(0, 0, 1, 0))?
+        .go(&start, &tally, &mut steps)?;
+    let order = order
+        .enter(1, Motion::new(5, 0, 0, 0))?
+        .go(&start, &tally, &mut steps)?;
+    let order = order
+        .enter(2, Motion::new(10, 0, -1, 0))?
+        .go(&start, &tally, &mut steps)?;
     let before = seen(&order, &tally);
     let order = order.go(&at(5), &tally, &mut steps)?;
     let meeting = seen(&order, &tally);

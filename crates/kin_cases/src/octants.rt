@@ -1,76 +1,90 @@
 //! Candidates in octants, with the motions that they follow.
 
-ghost use Rattle.std.specs.Prelude.{◌≡◌, ◌≤◌, ◌<◌, Contains, IfOk, OnOk};
-ghost use Rattle.kin_motion.specs.declared.fact.Placed.{Placed as Put};
-ghost use Rattle.kin_motion.specs.Scene.{scene_at};
-ghost use Rattle.kin_motion.specs.Sets.{ListsExactly};
-ghost use Rattle.kin_list.specs.Listing.{names_leaving};
-ghost use Rattle.kin_wedge.specs.Wedging.{IsReadyWedging, IsSettledWedging, IsWedgingAtRest};
+ghost use Rattle.std.specs.Prelude.{◌≡◌, ◌≤◌, ◌<◌, ◌^◌, true, false, IsTrue, IfOk};
+ghost use Rattle.kin_motion.specs.Numbers.{is_in};
+ghost use Rattle.kin_list.specs.declared.mark.Mark.TheVariants.{Rest, Enters, Leaves};
+ghost use Rattle.kin_wedge.specs.Wedging.{members_of};
 
 use crate::ask::is_live;
-use crate::failing::{after, failing_at};
+use crate::driver::{Driver, Steady};
 use crate::fault::Fault;
-use crate::spares::{Spares, SparesNone};
+use crate::spares::SparesLeaving;
 use crate::watch::{Tally, Watch};
 use kin_cert::Now;
-use kin_motion::fact::Delta;
+use kin_list::Mark;
 use kin_motion::kinetic::Kinetic;
-use kin_motion::{Motion, Motions, Placed};
-use kin_num::{Moment, Steps};
+use kin_motion::signs::Signs;
+use kin_motion::{Delta, Motion, Motions, Placed};
+use kin_num::{Moment, NoMemory, Steps};
 use kin_wedge::Wedges;
 use std::alloc::Global;
 use std::marker::Model;
 use std::sync::ledger::Ledger;
 
-/// The facts that name a number are spared.
-#[derive(Clone, Copy, Debug, PartialEq, Eq)]
-pub struct SparesNumber {
-    pub no: u32,
-}
+impl Steady for Wedges {
+    ghost use Rattle.std.specs.Prelude.{◌≡◌};
 
-impl Spares for SparesNumber {
-    ghost use Rattle.kin_motion.specs.Forms.{names};
+    ghost stays = { λ old new. new.size ≡ old.size };
 
-    ghost is_spared = { λ s p. names p.fact.form s.no };
-
-    fn spares(&self, fact: &Placed) -> bool {
-        fact.fact.form.names(self.no)
+    fn repair<O: Signs, L: Ledger>(
+        &mut self,
+        now: &O,
+        failed: &[Placed],
+        out: &mut Delta,
+        steps: &mut Steps<L>,
+    ) -> Result<(), NoMemory> {
+        self.settle(now, failed, out, steps)
     }
 }
 
-/// Settles octants at a moment, by the facts that fail there, and takes their report over.
-fn settle<S: Spares, L: Ledger>(
-    alloc: Global,
-    wedges: &mut Wedges,
-    facts: &mut Vec<Placed>,
-    now: &Watch<'_>,
-    spares: &S,
-    steps: &mut Steps<L>,
-) -> Result<(), Fault>
-    requires ready { IsReadyWedging wedges.old (scene_at now.now.motions.now now.now.moment.now) }
-    requires facts { ListsExactly facts.old.items (Contains wedges.old.facts) }
-    requires spares { (p : Put) → S.is_spared spares.now p ≡ names_leaving wedges.old.mark p }
-    ensures rest { OnOk result (IsWedgingAtRest wedges.new) }
-    ensures settled { OnOk result (IsSettledWedging wedges.new (scene_at now.now.motions.now now.now.moment.now)) }
-    ensures facts { OnOk result (ListsExactly facts.new.items (Contains wedges.new.facts)) }
-    ensures size { OnOk result (wedges.new.size ≡ wedges.old.size) }
-{
-    let failed = failing_at(alloc, facts, now, spares)?;
-    let mut out = Delta::new(alloc);
-    wedges.settle(now, &failed, &mut out, steps)?;
-    *facts = after(alloc, facts, &out)?;
-    Ok(())
+impl Driver<Wedges> {
+    /// Marks a number as entering.
+    fn insert(self, no: u32) -> Result<Driver<Wedges>, Fault>
+        requires rest { self.mark ≡ Rest }
+        requires within { no < 2 ^ self.size }
+        requires new { is_in no (members_of self) ≡ false }
+        ensures { IfOk result (λ k. k ≡ record self { mark = Enters no }) }
+    {
+        let Driver {
+            alloc,
+            mut structure,
+            facts,
+        } = self;
+        structure.insert(no)?;
+        Ok(Driver {
+            alloc,
+            structure,
+            facts,
+        })
+    }
+
+    /// Marks a number as leaving.
+    fn remove(&mut self, no: u32)
+        requires rest { self.old.mark ≡ Rest }
+        requires member { is_in no (members_of self.old) ≡ true }
+        ensures { self.new ≡ record self.old { mark = Leaves no } }
+    {
+        self.structure.remove(no);
+    }
 }
 
-/// The live points with their candidates, and the list of the live facts, which is kept by the
-/// reports alone.
+fn is_rest(mark: Mark) -> bool
+    ensures { IsTrue result → mark ≡ Rest }
+{
+    match mark {
+        Mark::Rest => true,
+        _ => false,
+    }
+}
+
+/// The live points with their candidates.
 #[derive(Drop)]
 pub struct Octants {
-    alloc: Global,
     size: u32,
     motions: Motions,
-    wedges: Wedges,
-    facts: Vec<Placed>,
+    wedges: Driver<Wedges>,
+    /// The number that has entered or left since the last settle.
+    mark: Mark,
 }
 
 impl Model for Octants {
@@ -81,7 +95,7 @@ impl Model for Octants {
 
     ghost view = { λ o. o.wedges };
 
-    ghost invariant = { λ o. AreFollowed o.size o.motions o.wedges o.facts.items };
+    ghost invariant = { λ o. AreFollowed o.size o.motions o.mark o.wedges };
 }
 
 impl Octants {
@@ -91,96 +105,48 @@ impl Octants {
         requires high { size ≤ 12 }
     {
         let motions = Motions::new(alloc, size)?;
-        let wedges = Wedges::new(alloc, size)?;
-        let facts = Vec::new(alloc);
+        let wedges = Driver::new(alloc, Wedges::new(alloc, size)?);
         Ok(Octants {
-            alloc,
             size,
             motions,
             wedges,
-            facts,
+            mark: Mark::Rest,
         })
     }
 
-    /// Lets a new point enter at a moment.
-    pub fn enter<L: Ledger>(
-        self,
-        no: u32,
-        motion: Motion,
-        moment: &Moment,
-        tally: &Tally,
-        steps: &mut Steps<L>,
-    ) -> Result<Octants, Fault> {
+    /// Marks a new point as entering, where no mark stands.
+    pub fn enter(self, no: u32, motion: Motion) -> Result<Octants, Fault> {
         let Octants {
-            alloc,
             size,
             mut motions,
-            mut wedges,
-            mut facts,
+            wedges,
+            mark,
         } = self;
-        if no >= 1 << size || motions.get(no).is_some() {
+        if !is_rest(mark) || no >= 1 << size || motions.get(no).is_some() {
             return Err(Fault::NotNew);
         }
         motions.set(no, motion);
-        wedges.insert(no)?;
-        let now = Watch {
-            motions: &motions,
-            moment,
-            tally,
-        };
-        settle(alloc, &mut wedges, &mut facts, &now, &SparesNone, steps)?;
+        let wedges = wedges.insert(no)?;
         Ok(Octants {
-            alloc,
             size,
             motions,
             wedges,
-            facts,
+            mark: Mark::Enters(no),
         })
     }
 
-    /// Lets a point leave at a moment.
-    pub fn leave<L: Ledger>(
-        self,
-        no: u32,
-        moment: &Moment,
-        tally: &Tally,
-        steps: &mut Steps<L>,
-    ) -> Result<Octants, Fault> {
-        let Octants {
-            alloc,
-            size,
-            mut motions,
-            mut wedges,
-            mut facts,
-        } = self;
-        if no >= 1 << size || !is_live(&motions, no) {
+    /// Marks a point as leaving, where no mark stands.
+    pub fn leave(mut self, no: u32) -> Result<Octants, Fault> {
+        if !is_rest(self.mark) || no >= 1 << self.size || !is_live(&self.motions, no) {
             return Err(Fault::NotLive);
         }
-        motions.clear(no);
-        wedges.remove(no);
-        let now = Watch {
-            motions: &motions,
-            moment,
-            tally,
-        };
-        settle(
-            alloc,
-            &mut wedges,
-            &mut facts,
-            &now,
-            &SparesNumber { no },
-            steps,
-        )?;
-        Ok(Octants {
-            alloc,
-            size,
-            motions,
-            wedges,
-            facts,
-        })
+        self.motions.clear(no);
+        self.wedges.remove(no);
+        self.mark = Mark::Leaves(no);
+        Ok(self)
     }
 
-    /// Goes on to a moment.
+    /// Goes on to a moment, and carries the mark out.
     pub fn go<L: Ledger>(
         self,
         moment: &Moment,
@@ -188,30 +154,28 @@ impl Octants {
         steps: &mut Steps<L>,
     ) -> Result<Octants, Fault> {
         let Octants {
-            alloc,
             size,
             motions,
-            mut wedges,
-            mut facts,
+            wedges,
+            mark,
         } = self;
         let now = Watch {
             motions: &motions,
             moment,
             tally,
         };
-        settle(alloc, &mut wedges, &mut facts, &now, &SparesNone, steps)?;
+        let wedges = wedges.settle(&now, &SparesLeaving { mark }, steps)?;
         Ok(Octants {
-            alloc,
             size,
             motions,
             wedges,
-            facts,
+            mark: Mark::Rest,
         })
     }
 
     /// The live facts, in any order.
     pub fn facts(&self) -> &[Placed] {
-        &self.facts
+        self.wedges.facts()
     }
 
     /// The motions at a moment.
@@ -227,13 +191,13 @@ impl Octants {
         if apex >= 1 << self.size || octant >= 8 {
             return None;
         }
-        self.wedges.candidate(apex, octant)
+        self.wedges.structure.candidate(apex, octant)
     }
 
     /// The slots whose candidate a number is, rising.
     pub fn hits(&self, no: u32) -> Result<Vec<u64>, Fault> {
-        let mut slots = Vec::new(self.alloc);
-        for (apex, octant) in self.wedges.hits(no) {
+        let mut slots = Vec::new(self.wedges.alloc);
+        for (apex, octant) in self.wedges.structure.hits(no) {
             slots
                 .push(8 * u64::from(apex) + u64::from(octant))
                 .map_err(|_| Fault::NoMemory)?;
@@ -244,6 +208,6 @@ impl Octants {
 
     /// The slots whose candidate has changed last.
     pub fn changed(&self) -> &[u32] {
-        self.wedges.changed()
+        self.wedges.structure.changed()
     }
 }

@@ -1,40 +1,48 @@
 //! An order, with the motions that it follows.
 
-ghost use Rattle.std.specs.Prelude.{◌≡◌, ◌≤◌, ◌<◌, false, IfOk};
+ghost use Rattle.std.specs.Prelude.{◌≡◌, ◌≤◌, ◌<◌, false, OnOk};
 ghost use Rattle.kin_motion.specs.Numbers.{is_in};
 ghost use Rattle.kin_list.specs.declared.mark.Mark.TheVariants.{Rest, Enters};
 
-use crate::driver::Driver;
+use crate::driver::{Driver, Steady};
 use crate::fault::Fault;
 use crate::spares::SparesNone;
 use crate::watch::{Tally, Watch};
 use kin_cert::Now;
 use kin_list::KinList;
-use kin_motion::{Motion, Motions, Placed};
-use kin_num::{Moment, Steps};
+use kin_motion::kept::Kept;
+use kin_motion::signs::Signs;
+use kin_motion::{Delta, Motion, Motions, Placed};
+use kin_num::{Moment, NoMemory, Steps};
 use std::alloc::Global;
 use std::marker::Model;
 use std::sync::ledger::Ledger;
 
+impl Steady for KinList {
+    ghost use Rattle.kin_list.specs.Keeping.{StaysList};
+
+    ghost stays = { StaysList };
+
+    fn repair<O: Signs, L: Ledger>(
+        &mut self,
+        now: &O,
+        failed: &[Placed],
+        out: &mut Delta,
+        steps: &mut Steps<L>,
+    ) -> Result<(), NoMemory> {
+        self.settle_steadily(now, failed, out, steps)
+    }
+}
+
 impl Driver<KinList> {
     /// Marks a number as entering.
-    fn insert(self, no: u32) -> Result<Driver<KinList>, Fault>
-        requires rest { self.mark ≡ Rest }
-        requires within { no < self.room }
-        requires new { is_in no self.items ≡ false }
-        ensures { IfOk result (λ k. k ≡ record self { mark = Enters no }) }
+    fn insert(&mut self, no: u32) -> Result<(), NoMemory>
+        requires rest { self.old.mark ≡ Rest }
+        requires within { no < self.old.room }
+        requires new { is_in no self.old.items ≡ false }
+        ensures { OnOk result (self.new ≡ record self.old { mark = Enters no }) }
     {
-        let Driver {
-            alloc,
-            mut structure,
-            facts,
-        } = self;
-        structure.insert(no)?;
-        Ok(Driver {
-            alloc,
-            structure,
-            facts,
-        })
+        self.structure.insert(no)
     }
 }
 
@@ -72,39 +80,18 @@ impl Order {
         })
     }
 
-    /// Lets a new point enter at a moment.
-    pub fn enter<L: Ledger>(
-        self,
-        no: u32,
-        motion: Motion,
-        moment: &Moment,
-        tally: &Tally,
-        steps: &mut Steps<L>,
-    ) -> Result<Order, Fault> {
-        let Order {
-            size,
-            mut motions,
-            list,
-        } = self;
-        if no >= 1 << size || motions.get(no).is_some() {
+    /// Marks a new point as entering, where no mark stands.
+    pub fn enter(mut self, no: u32, motion: Motion) -> Result<Order, Fault> {
+        let is_at_rest = self.list.structure().is_at_rest();
+        if !is_at_rest || no >= 1 << self.size || self.motions.get(no).is_some() {
             return Err(Fault::NotNew);
         }
-        motions.set(no, motion);
-        let list = list.insert(no)?;
-        let now = Watch {
-            motions: &motions,
-            moment,
-            tally,
-        };
-        let list = list.settle(&now, &SparesNone, steps)?;
-        Ok(Order {
-            size,
-            motions,
-            list,
-        })
+        self.motions.set(no, motion);
+        self.list.insert(no)?;
+        Ok(self)
     }
 
-    /// Goes on to a moment.
+    /// Goes on to a moment, and carries the mark out.
     pub fn go<L: Ledger>(
         self,
         moment: &Moment,

@@ -4,6 +4,7 @@ ghost use Rattle.std.specs.Prelude.{◌≡◌, ◌^◌, ◌<◌, ◌≤◌, Bool
 ghost use Rattle.kin_motion.specs.declared.fact.Placed.{Placed as Put};
 ghost use Rattle.kin_motion.specs.Tournaments.{comes_to};
 
+use kin_list::Mark;
 use kin_motion::fact::Placed;
 
 /// Which facts a structure spares.
@@ -26,6 +27,25 @@ impl Spares for SparesNone {
 
     fn spares(&self, _fact: &Placed) -> bool {
         false
+    }
+}
+
+/// The facts that name a leaving number are spared.
+#[derive(Clone, Copy, Debug, PartialEq, Eq)]
+pub struct SparesLeaving {
+    pub mark: Mark,
+}
+
+impl Spares for SparesLeaving {
+    ghost use Rattle.kin_list.specs.Listing.{names_leaving};
+
+    ghost is_spared = { λ s p. names_leaving s.mark p };
+
+    fn spares(&self, fact: &Placed) -> bool {
+        match self.mark {
+            Mark::Leaves(no) => fact.fact.form.names(no),
+            _ => false,
+        }
     }
 }
 

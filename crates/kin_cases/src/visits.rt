@@ -8,6 +8,7 @@ use crate::definition::{are_same, are_short, facts_of_merge, is_difference};
 use crate::fault::Fault;
 use crate::merging::Merging;
 use crate::watch::{Tally, Watch};
+use crate::written::motions;
 use kin_cert::Now;
 use kin_motion::fact::Placed;
 use kin_motion::signs::Signs;
@@ -69,6 +70,14 @@ impl State {
         })
     }
 
+    /// What is before a merge is built: no facts, and so that it has no edits, its own chain.
+    fn before_all(alloc: Global, merging: &Merging) -> Result<State, Fault> {
+        Ok(State {
+            chain: Vec::from_slice(alloc, merging.chain())?,
+            facts: Vec::new(alloc),
+        })
+    }
+
     /// What the definition says of a merge of these chains.
     fn defined<P: Signs>(
         alloc: Global,
@@ -88,66 +97,19 @@ impl State {
     }
 }
 
-/// Whether the merge is that of the definition, exactly what changed was reported, and short edits lead
+/// The merge, if it is that of the definition, exactly what changed was reported, and short edits lead
 /// from the chain before.
-fn is_right<P: Signs>(
+fn tested<P: Signs>(
     alloc: Global,
-    merging: &Merging,
+    merging: Merging,
     before: &State,
     chains: &Chains,
     sight: &Sight<'_, P>,
-) -> Result<bool, Fault> {
+) -> Result<Merging, Fault> {
     let defined = State::defined(alloc, chains, sight)?;
     let is_short = are_short(alloc, merging.edits(), &before.chain, merging.chain())?;
     let is_told = is_difference(merging.report(), &before.facts, merging.facts());
-    Ok(defined.is_of(merging) && is_told && is_short)
-}
-
-/// What is before a merge is built: no facts, and so that it has no edits, its own chain.
-fn before_all(alloc: Global, merging: &Merging) -> Result<State, Fault> {
-    Ok(State {
-        chain: Vec::from_slice(alloc, merging.chain())?,
-        facts: Vec::new(alloc),
-    })
-}
-
-/// Builds the merge.
-fn begin<P: Signs, O: Signs, L: Ledger>(
-    alloc: Global,
-    halves: &Halves,
-    sight: &Sight<'_, P>,
-    now: &O,
-    steps: &mut Steps<L>,
-) -> Result<Merging, Fault>
-    requires real { IsReal (O.scene now.now) }
-    requires same { P.scene sight.now.signs.now ≡ O.scene now.now }
-{
-    let chains = Chains::of(alloc, halves, sight)?;
-    let merging = Merging::build(alloc, &chains.a, &chains.b, PART, sight, now, steps)?;
-    let before = before_all(alloc, &merging)?;
-    if is_right(alloc, &merging, &before, &chains, sight)? {
-        Ok(merging)
-    } else {
-        Err(Fault::Differs)
-    }
-}
-
-/// Goes on to the merge of another moment.
-fn go_on<P: Signs, O: Signs, L: Ledger>(
-    alloc: Global,
-    merging: Merging,
-    halves: &Halves,
-    sight: &Sight<'_, P>,
-    now: &O,
-    steps: &mut Steps<L>,
-) -> Result<Merging, Fault>
-    requires real { IsReal (O.scene now.now) }
-    requires same { P.scene sight.now.signs.now ≡ O.scene now.now }
-{
-    let before = State::of(alloc, &merging)?;
-    let chains = Chains::of(alloc, halves, sight)?;
-    let merging = merging.go(&chains.a, &chains.b, sight, now, steps)?;
-    if is_right(alloc, &merging, &before, &chains, sight)? {
+    if defined.is_of(&merging) && is_told && is_short {
         Ok(merging)
     } else {
         Err(Fault::Differs)
@@ -166,10 +128,16 @@ fn visit<P: Signs, O: Signs, L: Ledger>(
     requires real { IsReal (O.scene now.now) }
     requires same { P.scene sight.now.signs.now ≡ O.scene now.now }
 {
-    match merging {
-        Some(merging) => go_on(alloc, merging, halves, sight, now, steps),
-        None => begin(alloc, halves, sight, now, steps),
+    let chains = Chains::of(alloc, halves, sight)?;
+    let (a, b) = (chains.a.as_slice(), chains.b.as_slice());
+    if let Some(merging) = merging {
+        let before = State::of(alloc, &merging)?;
+        let merging = merging.go(a, b, sight, now, steps)?;
+        return tested(alloc, merging, &before, &chains, sight);
     }
+    let merging = Merging::build(alloc, a, b, PART, sight, now, steps)?;
+    let before = State::before_all(alloc, &merging)?;
+    tested(alloc, merging, &before, &chains, sight)
 }
 
 /// Points that move, in two halves.
@@ -183,6 +151,22 @@ pub struct Stage {
 }
 
 impl Stage {
+    /// The numbers below `end`, cut at `split`.
+    pub fn new(alloc: Global, motions: Motions, split: u32, end: u32) -> Result<Stage, Fault> {
+        Ok(Stage {
+            alloc,
+            motions,
+            halves: Halves::new(alloc, split, end)?,
+            tally: Tally::new(),
+        })
+    }
+
+    /// The points that are written, cut at `split`.
+    pub fn written(alloc: Global, points: &str, split: u32) -> Result<Stage, Fault> {
+        let (motions, end) = motions(alloc, points)?;
+        Stage::new(alloc, motions, split, end)
+    }
+
     /// The merge of the upper chains at a moment.
     pub fn upper<'a, L: Ledger>(
         &'a self,

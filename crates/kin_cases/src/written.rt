@@ -64,32 +64,11 @@ fn moment(text: &str) -> Option<Moment> {
     }
 }
 
-/// The moment of a line as `5: 0 1 2 / 3, 0 2 / 3`. Behind it stand the upper and the lower chain, each
-/// with a count.
-pub fn moment_of(line: &str) -> Option<Moment> {
-    match line.split_once(':') {
-        Some((text, _)) => moment(text.trim()),
-        None => None,
-    }
-}
-
-/// Whether a chain and a count are the first ones of a line.
-pub fn is_upper(line: &str, chain: &[u32], count: usize) -> bool {
-    match line.split_once(':') {
-        Some((_, chains)) => match chains.split_once(',') {
-            Some((text, _)) => are_written(chain, count, text),
-            None => false,
-        },
-        None => false,
-    }
-}
-
-/// Whether a chain and a count are the second ones of a line.
-pub fn is_lower(line: &str, chain: &[u32], count: usize) -> bool {
-    match line.split_once(',') {
-        Some((_, text)) => are_written(chain, count, text),
-        None => false,
-    }
+/// The moment of a line as `5: 0 1 2 / 3`, and what is told of it, behind the colon.
+pub fn told_at(line: &str) -> Option<(Moment, &str)> {
+    let (text, told) = line.split_once(':')?;
+    let moment = moment(text.trim())?;
+    Some((moment, told))
 }
 
 /// Whether a chain and a count are those that are written: `0 1 2 / 3`.

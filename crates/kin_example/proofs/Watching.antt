@@ -1,6 +1,6 @@
 -- Why the world is watched at the start, and how an event leaves it.
 use Rattle.std.proofs.Common.{◌≡◌, refl, rules, sym, ap, subst, ℕ, zero, suc, List, [], ◌∷◌, Option, Some, None}
-use Rattle.std.specs.Prelude.{slice_get, ◌↔◌, true}
+use Rattle.std.specs.Prelude.{slice_get, ◌↔◌, true, IsTrue}
 use Rattle.std.specs.Ordering.{is_lt}
 use Rattle.std.specs.declared.cmp.Ordering.{Ordering}
 use Rattle.std.specs.declared.cmp.Ordering.TheVariants.{Less, Equal, Greater}
@@ -11,17 +11,14 @@ use Rattle.kin_num.proofs.Grains.{moments_run_out}
 use Rattle.kin_motion.specs.declared.keep.Keep.{Keep}
 use Rattle.kin_motion.specs.declared.keep.Keep.TheVariants.{Closest, Range}
 use Rattle.kin_motion.specs.Journal.{Block}
+use Rattle.kin_motion.specs.Keeps.{are_few}
 use Rattle.kin_motion.specs.Live.{IsSmallKeep}
 use Rattle.kin_world.specs.Worlds.{World, IsWhole, AreKeepable, HasStepped, empty}
 use Rattle.kin_example.specs.Watched.{AreKept, IsWatched, CanGoOn, HasGoneOn}
 
 -- ---- at the start
--- what is kept, as it is handed to `World::new`
-abbrev kept : List Keep
-kept = Closest ∷ Range ∷ []
-
 -- each direction is small
-abbrev AreSmall : List Keep → Type 0
+abbrev pub AreSmall : List Keep → Type 0
 AreSmall [] = Unit {0}
 AreSmall (keep ∷ keeps) = IsSmallKeep keep × AreSmall keeps
 
@@ -30,15 +27,15 @@ each_small [] small k keep e = absurd cc
 each_small (first ∷ rest) small zero keep e = subst IsSmallKeep (same_Some _ _ e) small.0
 each_small (first ∷ rest) small (suc k) keep e = each_small rest small.1 k keep e
 
--- they may be kept together
-pub are_keepable : AreKeepable kept
-are_keepable = record { few = refl; small = each_small kept (search rules) }
+-- such keeps may be kept together, where they are few
+pub are_keepable : (keeps : List Keep) → IsTrue (are_few keeps) → AreSmall keeps → AreKeepable keeps
+are_keepable keeps few small = record { few = few; small = each_small keeps small }
 
--- and stand in their places
-are_kept : AreKept kept
+-- what is kept stands in its places
+are_kept : AreKept (Closest ∷ Range ∷ [])
 are_kept = search rules
 
-pub starts : (size : ℕ) (w : World) → w ≡ empty size kept → IsWhole w → IsWatched w
+pub starts : (size : ℕ) (w : World) → w ≡ empty size (Closest ∷ Range ∷ []) → IsWhole w → IsWatched w
 starts size w e whole = record { whole = whole; kept = subst AreKept (sym (ap (λ (v : World). v.keeps) e)) are_kept }
 
 -- ---- from event to event

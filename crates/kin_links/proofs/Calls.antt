@@ -15,6 +15,12 @@ use Rattle.kin_links.proofs.Moves.{detach_family, detached_away, attach_family, 
 use Rattle.kin_links.proofs.Reading.{family_apart, same_node, same_place}
 use Rattle.kin_links.proofs.Slots.{same_but, other_slot, read, some_item, gap_held, AreSameBut}
 
+-- a node that is in no list may go into the gap
+pub record IsAttachable {T : Type 0} (firsts : List (Option ℕ)) (slots : List (Option (Node T))) (key : ℕ) (gap : Gap) : Type 0 where
+  pub apart : gap ≢ Behind key
+  pub held : IsHeld (pointers firsts slots) gap
+  pub next : (k : ℕ) → (pointers firsts slots).next gap ≡ Some k → (k ≢ key) × IsSome (slice_index_or slots k None)
+
 with_none : {R : Type 0} {P P' : Type 0} (Q : R → Type 0) (r : Option R) → (P → P') → MatchOption r P Q → MatchOption r P' Q
 with_none Q None f h = f h
 with_none Q (Some n) f h = h
@@ -167,7 +173,7 @@ module _ {T : Type 0} (firsts : List (Option ℕ)) (slots : List (Option (Node T
     filled_family = other_slot (pointers firsts slots) (pointers firsts mid.slots) value key family same_pointers vacant_away
 
     module _ (l i : ℕ) (xs : List (Linked T)) (gap : Gap) (listed : slice_get value l ≡ Some xs) (at-gap : gap_at l xs i ≡ Some gap) where
-      pub gap_elsewhere : gap ≢ Behind key
+      gap_elsewhere : gap ≢ Behind key
       gap_elsewhere s = at i at-gap
         where
           at : (i : ℕ) → gap_at l xs i ≡ Some gap → ⊥
@@ -178,10 +184,10 @@ module _ {T : Type 0} (firsts : List (Option ℕ)) (slots : List (Option (Node T
               there None m k = cc
               there (Some x) m k = vacant_away (record { list = l; place = j; items = xs; item = x.item; listed = listed; at = m ∙ ap (λ (n : ℕ). Some (record { node = n; item = x.item })) (same_node x.node key (same_Some _ _ k ∙ s)) })
 
-      pub mid_held : IsHeld (pointers firsts mid.slots) gap
+      mid_held : IsHeld (pointers firsts mid.slots) gap
       mid_held = gap_held (pointers firsts mid.slots) value filled_family l i xs gap listed at-gap
 
-      pub mid_next : (k : ℕ) → (pointers firsts mid.slots).next gap ≡ Some k → (k ≢ key) × IsSome (slice_index_or mid.slots k None)
+      mid_next : (k : ℕ) → (pointers firsts mid.slots).next gap ≡ Some k → (k ≢ key) × IsSome (slice_index_or mid.slots k None)
       mid_next k n = at (slice_get xs i) refl (sym (filled_family.next l i xs gap listed at-gap) ∙ n)
         where
           at : (o : Option (Linked T)) → slice_get xs i ≡ o → id_of o ≡ Some k → (k ≢ key) × IsSome (slice_index_or mid.slots k None)
@@ -191,6 +197,9 @@ module _ {T : Type 0} (firsts : List (Option ℕ)) (slots : List (Option (Node T
                 λ s. vacant_away (record { list = l; place = i; items = xs; item = x.item; listed = listed; at = h ∙ ap (λ (j : ℕ). Some (record { node = j; item = x.item })) (e ∙ s) }),
                 subst (λ (j : ℕ). IsSome (slice_index_or mid.slots j None)) e (some_item _ x.item (filled_family.item l i xs x listed h)),
               )
+
+      pub attachable : IsAttachable firsts mid.slots key gap
+      attachable = record { apart = gap_elsewhere; held = mid_held; next = mid_next }
 
       pub linked_family : (firsts' : List (Option ℕ)) (slots' : List (Option (Node T))) → IsAttached (pointers firsts mid.slots) (pointers firsts' slots') key gap → IsFamily (pointers firsts' slots') (set value l (insert xs i (record { node = key; item = node.item })))
       linked_family firsts' slots' a =

@@ -1,16 +1,22 @@
-use Rattle.std.proofs.Common.{◌≡◌, sym, ap, ◌∙◌, rules, ◌<◌, length, false}
+use Rattle.std.proofs.Common.{◌≡◌, sym, ap, ◌∙◌, subst, rules, ◌<◌, ◌^◌, false}
 use Rattle.std.specs.Prelude.{is_some}
 use Rattle.kin_motion.specs.Course.{is_live}
-use Rattle.kin_cases.proofs.Members.{no_member, ready_to_enter}
+use Rattle.kin_list.specs.declared.mark.Mark.TheVariants.{Rest}
+use Rattle.kin_list.specs.Listing.{Listing}
+use Rattle.kin_cases.proofs.Members.{is_new, kept_entering}
 use Rattle.kin_cases.proofs.order.Order.enter.Goals as goal
 
 pub insert-requires-clause-new : goal.insert-requires-clause-new
-insert-requires-clause-new g c =
-    let free : is_live c.self.inside.motions c.args.no ≡ false = ap is_some (sym c.get.ensures.motion) ∙ sym c.is_some.ensures ∙ c.if-is_some.false in
-    no_member c.self.inside.motions c.self.inside.list.items c.args.no free c.self.invariant.members
+insert-requires-clause-new c =
+    let o = c.self.inside in
+    let rest : o.list.mark ≡ Rest = subst (λ (k : Listing). k.mark ≡ Rest) c.structure.ensures (c.is_at_rest-is_at_rest.ensures.0 c.if-not-is_at_rest.false) in
+    let free : is_live o.motions c.args.no ≡ false = ap is_some (sym c.get.ensures.motion) ∙ sym c.is_some.ensures ∙ c.if-is_some.false in
+    is_new o.size o.motions o.list c.self.invariant rest c.args.no free
 
-pub settle-requires-clause-ready : goal.settle-requires-clause-ready
-settle-requires-clause-ready g c =
-    let free : is_live c.self.inside.motions c.args.no ≡ false = ap is_some (sym c.get.ensures.motion) ∙ sym c.is_some.ensures ∙ c.if-is_some.false in
-    let within : c.args.no < length c.self.inside.motions = search rules in
-    ready_to_enter c.self.inside.motions c.set.new.self c.args.moment.now c.self.inside.list c.in_ok-list.list c.args.no c.args.motion within free c.self.invariant.members c.set.ensures.value c.in_ok-list.ensures
+pub invariant_of-self : goal.invariant_of-self
+invariant_of-self c =
+    let o = c.self.inside in
+    let rest : o.list.mark ≡ Rest = subst (λ (k : Listing). k.mark ≡ Rest) c.structure.ensures (c.is_at_rest-is_at_rest.ensures.0 c.if-not-is_at_rest.false) in
+    let free : is_live o.motions c.args.no ≡ false = ap is_some (sym c.get.ensures.motion) ∙ sym c.is_some.ensures ∙ c.if-is_some.false in
+    let low : c.args.no < 2 ^ o.size = search rules in
+    kept_entering o.size o.motions o.list c.self.invariant rest c.args.no c.args.motion c.set.new.self c.insert.new.self low free c.set.ensures.value c.in_ok-insert.ensures

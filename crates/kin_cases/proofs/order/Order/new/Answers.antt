@@ -7,4 +7,4 @@ use Rattle.kin_cases.proofs.order.Order.new.Goals as goal
 pub invariant_of-result : goal.invariant_of-result
 invariant_of-result c =
     subst (λ (k : Listing). IsKept c.args.size c.in_ok-motions.motions k) (sym (c.new-list.ensures ∙ c.in_ok-new.ensures))
-    (record { small = c.requires.high; slots = c.in_ok-motions.ensures.room; room = refl; rest = refl; members = none_live c.in_ok-motions.motions c.in_ok-motions.ensures.none })
+    (record { small = c.requires.high; slots = c.in_ok-motions.ensures.room; room = refl; none_leaves = λ p. refl; members = none_live c.in_ok-motions.motions c.in_ok-motions.ensures.none })

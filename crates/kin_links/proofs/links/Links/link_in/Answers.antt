@@ -1,9 +1,9 @@
-use Rattle.std.proofs.Common.{◌∙◌, sym, ap, subst, List, Option}
+use Rattle.std.proofs.Common.{◌∙◌, sym, ap, subst, rules, List, Option}
 use Rattle.std.specs.Prelude.{slice_index_or, None}
 use Rattle.slab.specs.Slab.{Slab}
 use Rattle.kin_links.specs.declared.node.Node.{Node}
 use Rattle.kin_links.specs.Pointers.{IsFamily, pointers, lists_of}
-use Rattle.kin_links.proofs.Calls.{gap_elsewhere, mid_held, mid_next, linked_family, has_linked}
+use Rattle.kin_links.proofs.Calls.{attachable, linked_family, has_linked}
 use Rattle.kin_links.proofs.Slots.{closed}
 use Rattle.kin_links.proofs.links.Links.link_in.Goals as goal
 
@@ -12,29 +12,14 @@ invariant_of-self g c =
     let same = ap (λ (s : Slab (Node g.row.T.Denot)). s.slots) (sym c.reserve.ensures.rest_kept) in
     subst (λ (slots : List (Option (Node g.row.T.Denot))). IsFamily (pointers c.self.inside.arena.firsts.items slots) (lists_of (pointers c.self.inside.arena.firsts.items slots))) same c.self.invariant
 
-pub attach-requires-clause-apart : goal.attach-requires-clause-apart
-attach-requires-clause-apart g c =
+pub attach-requires : goal.attach-requires
+attach-requires g c =
     let same = ap (λ (s : Slab (Node g.row.T.Denot)). s.slots) c.reserve.ensures.rest_kept in
     let r = c.requires in
-    gap_elsewhere c.self.inside.arena.firsts.items c.self.inside.arena.nodes.slots c.args.self.now c.self.invariant c.self.view_is
+    let a = attachable c.self.inside.arena.firsts.items c.self.inside.arena.nodes.slots c.args.self.now c.self.invariant c.self.view_is
     c.insert_reserved-node.new.self c.insert_reserved-node.result _ (ap (λ slots. slice_index_or slots c.insert_reserved-node.result None) (sym same) ∙ c.insert_reserved-node.ensures.was_vacant) c.reserve.new.self same c.insert_reserved-node.ensures.updates
-    r.0 r.1 r.2 c.args.gap r.3 r.4
-
-pub attach-requires-clause-held : goal.attach-requires-clause-held
-attach-requires-clause-held g c =
-    let same = ap (λ (s : Slab (Node g.row.T.Denot)). s.slots) c.reserve.ensures.rest_kept in
-    let r = c.requires in
-    mid_held c.self.inside.arena.firsts.items c.self.inside.arena.nodes.slots c.args.self.now c.self.invariant c.self.view_is
-    c.insert_reserved-node.new.self c.insert_reserved-node.result _ (ap (λ slots. slice_index_or slots c.insert_reserved-node.result None) (sym same) ∙ c.insert_reserved-node.ensures.was_vacant) c.reserve.new.self same c.insert_reserved-node.ensures.updates
-    r.0 r.1 r.2 c.args.gap r.3 r.4
-
-pub attach-requires-clause-next : goal.attach-requires-clause-next
-attach-requires-clause-next g c =
-    let same = ap (λ (s : Slab (Node g.row.T.Denot)). s.slots) c.reserve.ensures.rest_kept in
-    let r = c.requires in
-    mid_next c.self.inside.arena.firsts.items c.self.inside.arena.nodes.slots c.args.self.now c.self.invariant c.self.view_is
-    c.insert_reserved-node.new.self c.insert_reserved-node.result _ (ap (λ slots. slice_index_or slots c.insert_reserved-node.result None) (sym same) ∙ c.insert_reserved-node.ensures.was_vacant) c.reserve.new.self same c.insert_reserved-node.ensures.updates
-    r.0 r.1 r.2 c.args.gap r.3 r.4
+    r.0 r.1 r.2 c.args.gap r.3 r.4 in
+    record { node = search rules; apart = a.apart; held = a.held; next = a.next }
 
 pub invariant_of-self-2 : goal.invariant_of-self-2
 invariant_of-self-2 g c =

@@ -1,0 +1,75 @@
+//! Merges of two chains of many points, through many failures.
+
+ghost use Rattle.std.specs.Prelude.{◌≡◌, ◌<◌};
+
+use crate::ask::Sight;
+use crate::certificates::certificates;
+use crate::failures::{earlier, next_failure};
+use crate::fault::Fault;
+use crate::many::Passed;
+use crate::merging::Merging;
+use crate::moments::at;
+use crate::random::crowd_of_motions;
+use crate::visits::Stage;
+use crate::watch::Callers;
+use kin_cert::Now;
+use kin_num::{Moment, Steps};
+use std::alloc::Global;
+use std::marker::Brand;
+use std::sync::ledger::{Blank, Ledger};
+use std::test::Fail;
+
+/// When a fact of the merge fails, or one that keeps a chain of its halves.
+fn next_change<'a>(
+    stage: &'a Stage,
+    merging: &Merging,
+    moment: &'a Moment,
+) -> Result<Option<Moment>, Fault> {
+    let now = Now {
+        motions: &stage.motions,
+        moment,
+    };
+    let sight = Sight {
+        signs: &now,
+        motions: now.motions,
+    };
+    let (a, b) = merging.told();
+    let of_a = certificates(stage.alloc, &sight, &stage.halves.left, a)?;
+    let of_b = certificates(stage.alloc, &sight, &stage.halves.right, b)?;
+    let halves = earlier(next_failure(&of_a, &now)?, next_failure(&of_b, &now)?);
+    Ok(earlier(halves, next_failure(merging.facts(), &now)?))
+}
+
+/// A merge of twice 16 points goes through 100 failure moments.
+fn crowd_passes<L: Ledger>(alloc: Global, seed: u64, blank: Blank) -> Result<Passed, Fault>
+    requires name { blank.name ≡ L.name }
+    requires parts { blank.parts ≡ L.parts }
+    requires some { 0 < L.parts }
+{
+    let mut steps = Steps::<Callers<L>>::open(blank);
+    let stage = Stage::new(alloc, crowd_of_motions(alloc, seed)?, 16, 32)?;
+    let mut now = at(-1);
+    let mut merging = stage.upper(None, &now, &mut steps)?;
+    let mut passed = 0;
+    for turn in 0..100 {
+        let Some(next) = next_change(&stage, &merging, &now)? else {
+            break;
+        };
+        merging = stage.upper(Some(merging), &next, &mut steps)?;
+        now = next;
+        passed = turn + 1;
+    }
+    let (all, counted) = stage.tally.take();
+    Ok((passed, all, counted))
+}
+
+#[test]
+fn twice_sixteen_points_through_300_failure_moments(rt: HostRuntime) -> Result<(), Fail> {
+    for seed in [1, 2, 3] {
+        let (passed, all, counted) = crowd_passes::<Brand>(rt.alloc(), seed, Blank::new(1))?;
+        assert_eq!(rt; passed, 100, "{seed}");
+        assert!(rt; all >= 100);
+        assert_eq!(rt; all, counted);
+    }
+    Ok(())
+}
