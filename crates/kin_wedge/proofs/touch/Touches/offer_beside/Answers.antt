@@ -1,4 +1,4 @@
-use Rattle.std.proofs.Common.{◌≡◌, sym, ap, ◌∙◌, not}
+use Rattle.std.proofs.Common.{ap, ◌∙◌, not}
 use Rattle.kin_wedge.specs.Seen.{rows_of}
 use Rattle.kin_wedge.proofs.Touching.{both_read, touched_through}
 use Rattle.kin_wedge.proofs.touch.Touches.offer_beside.Goals as goal
