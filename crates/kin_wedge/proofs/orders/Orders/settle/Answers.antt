@@ -40,40 +40,25 @@ loop-part-init g c =
       mail = refl;
     }
 
-pub settle_list-requires-clause-ready : goal.settle_list-requires-clause-ready
-settle_list-requires-clause-ready g c =
+pub settle_list-requires : goal.settle_list-requires
+settle_list-requires g c =
     let s = g.O.Signs.scene c.args.now.now in
+    let first = c.args.self.now.lists.items in
     let still = c.stand_still.new.self.lists.items in
-    let l = c.index_mut-list.result.now in
-    let a = c.loop-part.invariant in
-    let h = c.loop-part-test.true in
-    let end = c.span-from.ensures.end in
-    still_ready c.args.self.now.lists.items still c.stand_still.ensures s c.requires.ready c.loop-part.part l
-    (next_still (IsResettled s) still c.loop-part.self.lists.items c.loop-part.part l a.lists.made (c.stand_still.ensures.count ∙ c.requires.count) (omega (arith, h, end)) c.index_mut-list.ensures.value)
-
-pub settle_list-requires-clause-nought : goal.settle_list-requires-clause-nought
-settle_list-requires-clause-nought g c =
-    let s = g.O.Signs.scene c.args.now.now in
-    let still = c.stand_still.new.self.lists.items in
-    let l = c.index_mut-list.result.now in
-    let a = c.loop-part.invariant in
-    let h = c.loop-part-test.true in
-    let end = c.span-from.ensures.end in
-    still_nought c.args.self.now.lists.items still c.stand_still.ensures c.requires.nought c.loop-part.part l
-    (next_still (IsResettled s) still c.loop-part.self.lists.items c.loop-part.part l a.lists.made (c.stand_still.ensures.count ∙ c.requires.count) (omega (arith, h, end)) c.index_mut-list.ensures.value)
-
-pub settle_list-requires-clause-failing : goal.settle_list-requires-clause-failing
-settle_list-requires-clause-failing g c =
-    let s = g.O.Signs.scene c.args.now.now in
-    let still = c.stand_still.new.self.lists.items in
+    let stood = c.stand_still.ensures in
     let l = c.index_mut-list.result.now in
     let a = c.loop-part.invariant in
     let h = c.loop-part-test.true in
     let end = c.span-from.ensures.end in
     let boxes = c.stand_still.new.self.told in
-    failing_in c.args.self.now.lists.items still c.stand_still.ensures s c.args.mark c.args.failed.now c.requires.real c.requires.nought c.requires.marked c.requires.ready c.requires.failing c.loop-part.part l c.told.result.now
-    (next_still (IsResettled s) still c.loop-part.self.lists.items c.loop-part.part l a.lists.made (c.stand_still.ensures.count ∙ c.requires.count) (omega (arith, h, end)) c.index_mut-list.ensures.value)
-    (c.told.ensures ∙ ap (λ (boxes : List (List Placed)). told_to boxes c.loop-part.part) a.mail ∙ c.in_ok-sort.ensures.told c.loop-part.part (omega (arith, h, end, boxes)))
+    let there = next_still (IsResettled s) still c.loop-part.self.lists.items c.loop-part.part l a.lists.made (stood.count ∙ c.requires.count) (omega (arith, h, end)) c.index_mut-list.ensures.value in
+    record {
+      real = c.requires.real;
+      ready = still_ready first still stood s c.requires.ready c.loop-part.part l there;
+      nought = still_nought first still stood c.requires.nought c.loop-part.part l there;
+      failing = failing_in first still stood s c.args.mark c.args.failed.now c.requires.real c.requires.nought c.requires.marked c.requires.ready c.requires.failing c.loop-part.part l c.told.result.now there
+          (c.told.ensures ∙ ap (λ (boxes : List (List Placed)). told_to boxes c.loop-part.part) a.mail ∙ c.in_ok-sort.ensures.told c.loop-part.part (omega (arith, h, end, boxes)));
+    }
 
 pub loop-part-preserved : goal.loop-part-preserved
 loop-part-preserved g c =
@@ -87,7 +72,7 @@ loop-part-preserved g c =
     let now = a.lists.made.count in
     let boxes = c.loop-part.self.mail.boxes.items in
     let there = next_still (IsResettled s) still c.loop-part.self.lists.items c.loop-part.part l a.lists.made count (omega (arith, h, end)) c.index_mut-list.ensures.value in
-    let here = next_list (IsResettled s) still c.loop-part.self.lists.items c.loop-part.part l a.lists.made (c.stand_still.ensures.count ∙ c.requires.count) (omega (arith, h, end)) c.index_mut-list.ensures.value in
+    let here = next_list (IsResettled s) still c.loop-part.self.lists.items c.loop-part.part l a.lists.made count (omega (arith, h, end)) c.index_mut-list.ensures.value in
     record {
       within = omega (arith, h, end);
       lists = settled_more s still c.args.out.now c.args.steps.now c.loop-part.self.lists.items c.loop-part.out c.settle_list.new.out c.loop-part.steps c.settle_list.new.steps c.loop-part.part l c.settle_list.new.list
