@@ -5,6 +5,7 @@ use Rattle.std.proofs.lemmas.Bool.{cases_eq}
 use Rattle.std.proofs.lemmas.Bool.Decides.{nat_tests}
 use Rattle.std.proofs.lemmas.List.{length-set, length-map, set-get_or, get_or-set_same, get_or-set_other}
 use Rattle.std.proofs.lemmas.Option.{same_Some}
+use Rattle.kin_basics.proofs.Places.{get_within}
 use Rattle.kin_list.specs.declared.mark.Mark.{Mark}
 use Rattle.kin_list.specs.declared.mark.Mark.TheVariants.{Rest}
 use Rattle.kin_list.specs.Listing.{Listing, staying, lasting, without}
@@ -129,6 +130,16 @@ module _ (mark : Mark) (lists : List Listing) (candidates : List (Option ℕ)) (
           a.left i (omega arith)
           ∙ unmoved mark (row_of old i) (row_of (rows_of lists) i) rest (sym (ap (λ (sw : List ℕ). exchanged sw (staying mark (row_of old i))) (swaps_there lists i l here ∙ still)) ∙ e)
           ∙ items_there lists i l here
+
+  -- the same of all lists from one to before another
+  pub followed_past : (now : List (List ℕ)) (ts : List Touch) (n i j : ℕ) → n + i ≡ j → j ≤ length lists → length now ≡ length lists → ((part : ℕ) (l : Listing) → i ≤ part → part < j → slice_get lists part ≡ Some l → (mark ≡ Rest) × (l.swaps ≡ []))
+      → ((part : ℕ) → exchanged (row_of (swaps_of lists) part) (staying mark (row_of old part)) ≡ lasting mark (row_of (rows_of lists) part)) → AreFollowed mark lists candidates old now first ts i → AreFollowed mark lists candidates old now first ts j
+  followed_past now ts zero i j s w m still e a = subst (AreFollowed mark lists candidates old now first ts) (omega (arith, s)) a
+  followed_past now ts (suc n) i j s w m still e a =
+      let l = get_within lists i (omega (arith, s, w)) in
+      let k = still i l.0 (omega arith) (omega (arith, s)) l.1 in
+      followed_past now ts n (i + 1) j (omega (arith, s)) w m (λ part x h. still part x (omega (arith, h))) e
+      (followed_still now ts i l.0 l.1 (omega (arith, s, w, m)) a (e i) k.0 k.1)
 
   pub followed_rows : (now : List (List ℕ)) (ts : List Touch) (i : ℕ) → length old ≡ 8 → length lists ≡ 8 → 8 ≤ i → AreFollowed mark lists candidates old now first ts i → now ≡ rows_of lists
   followed_rows now ts i m n h a =

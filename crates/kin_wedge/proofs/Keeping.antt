@@ -20,6 +20,7 @@ use Rattle.kin_wedge.specs.Rows.{row_of, stands_after, is_in_wedge, IsFirstAnswe
 use Rattle.kin_wedge.specs.Seen.{rows_of}
 use Rattle.kin_wedge.specs.Wedging.{Wedging, AreKept, AreKeptIf, AreWedges, IsListOf, IsMarkable}
 use Rattle.kin_wedge.proofs.AllRows.{items_there, row_past, same_rows}
+use Rattle.kin_wedge.proofs.Unmoved.{rows_kept, facts_kept}
 
 -- where a mark stands that can be carried out, nothing is broken
 pub kept_at : (size : ℕ) (mark mark' : Mark) (lists : List Listing) (rows : List (List ℕ)) (candidates : List (Option ℕ)) → mark ≡ mark' → mark' ≡ Rest → AreKeptIf size mark lists rows candidates → AreKept size Rest lists rows candidates
@@ -45,17 +46,11 @@ member_as size mark lists rows candidates k part l i e =
     ap (is_in i) (sym (items_there lists part l e)) ∙ k.alike part i (omega (arith, w, c))
 
 -- a mark changes neither the members nor the facts
-pub marked_rows : (mark : Mark) (old new : List Listing) → length new ≡ length old → ((part : ℕ) (l m : Listing) → slice_get old part ≡ Some l → slice_get new part ≡ Some m → m ≡ record l { mark = mark }) → rows_of new ≡ rows_of old
-marked_rows mark [] [] c e = refl
-marked_rows mark [] (m ∷ ms) c e = absurd (omega (arith, c))
-marked_rows mark (l ∷ ls) [] c e = absurd (omega (arith, c))
-marked_rows mark (l ∷ ls) (m ∷ ms) c e = ap₂ (λ (r : List ℕ) (rs : List (List ℕ)). r ∷ rs) (ap (λ (x : Listing). x.items) (e 0 l m refl refl)) (marked_rows mark ls ms (omega (arith, c)) (λ part k n f g. e (suc part) k n f g))
+pub marked_rows : (mark : Mark) (old new : List Listing) → EachTo (IsMarked mark) old new → rows_of new ≡ rows_of old
+marked_rows mark old new e = rows_kept old new e.count (λ part l m f g. ap (λ (x : Listing). x.items) (e.each part l m f g))
 
-pub marked_facts : (mark : Mark) (n : ℕ) (old new : List Listing) → length new ≡ length old → ((part : ℕ) (l m : Listing) → slice_get old part ≡ Some l → slice_get new part ≡ Some m → m ≡ record l { mark = mark }) → facts_from n new ≡ facts_from n old
-marked_facts mark n [] [] c e = refl
-marked_facts mark n [] (m ∷ ms) c e = absurd (omega (arith, c))
-marked_facts mark n (l ∷ ls) [] c e = absurd (omega (arith, c))
-marked_facts mark n (l ∷ ls) (m ∷ ms) c e = ap₂ (λ (a b : List Placed). a ++ b) (ap (λ (x : Listing). map (moved_by n) x.facts) (e 0 l m refl refl)) (marked_facts mark (n + 1) ls ms (omega (arith, c)) (λ part k o f g. e (suc part) k o f g))
+pub marked_facts : (mark : Mark) (n : ℕ) (old new : List Listing) → EachTo (IsMarked mark) old new → facts_from n new ≡ facts_from n old
+marked_facts mark n old new e = facts_kept n old new e.count (λ part l m f g. ap (λ (x : Listing). x.facts) (e.each part l m f g))
 
 pub kept_with : (size : ℕ) (mark : Mark) (old new : List Listing) (rows : List (List ℕ)) (candidates : List (Option ℕ)) → AreKept size Rest old rows candidates → EachTo (IsMarked mark) old new → IsMarkable size mark (row_of (rows_of old) 0) → AreKept size mark new rows candidates
 kept_with size mark old new rows candidates k e m = record {
@@ -70,7 +65,7 @@ kept_with size mark old new rows candidates k e m = record {
 }
   where
     r : rows_of new ≡ rows_of old
-    r = marked_rows mark old new e.count e.each
+    r = marked_rows mark old new e
 
     each : (part : ℕ) (n : Listing) → slice_get new part ≡ Some n → (l : Listing) × (slice_get old part ≡ Some l) → IsListOf size mark part n
     each part n f l =

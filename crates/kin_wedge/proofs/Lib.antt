@@ -24,6 +24,8 @@ pub mod Departing
 pub mod Posted
 pub mod Parting
 pub mod Settling
+pub mod Unmoved
+pub mod Standing
 pub mod Joining
 pub mod Keeping
 pub mod Told

@@ -1,7 +1,7 @@
 -- What one list is told, and what it reports.
 use Rattle.std.proofs.Common.{◌≡◌, ◌≢◌, ◌⊎◌, inl, inr, refl, sym, ap, ap₂, ◌∙◌, arith, List, [], ◌∷◌, ◌++◌, ℕ, zero, suc, ◌+◌, ◌<◌, ◌≤◌, Bool, true, false, cond, length, map, filter, take, drop, set, get_or, append_assoc, add-one}
 use Rattle.std.proofs.lemmas.Bool.{cases_eq, cases_lt}
-use Rattle.std.proofs.lemmas.List.{drop_more, drop_all, take_all, append-nil, length-set, get_or-set_same, get_or-set_other, get_or_past}
+use Rattle.std.proofs.lemmas.List.{drop_more, drop_all, take_all, append-nil, length-set, get_or-set_same, get_or-set_other}
 use Rattle.kin_motion.specs.declared.fact.Placed.{Placed}
 use Rattle.kin_wedge.specs.Parts.{in_part, is_of_part, told_to}
 
@@ -28,27 +28,29 @@ picked_more f test xs picked next whole i d l e n = at (test (get_or xs i d)) re
 pub picked_all : (f : Placed → Placed) (test : Placed → Bool) (xs picked whole : List Placed) (i : ℕ) → length xs ≤ i → picked ++ map f (filter test (drop i xs)) ≡ whole → picked ≡ whole
 picked_all f test xs picked whole i l e = sym (ap (λ (v : List Placed). picked ++ map f (filter test v)) (drop_all i xs l) ∙ append-nil picked) ∙ e
 
--- the first i boxes are empty
-pub record AreEmptied (first now : List (List Placed)) (i : ℕ) : Type 0 where
+-- the boxes up to a place and those from the end on are empty
+pub record AreEmptied (first now : List (List Placed)) (end i : ℕ) : Type 0 where
   pub count : length now ≡ length first
   pub empty : (part : ℕ) → part < i → told_to now part ≡ []
+  pub behind : (part : ℕ) → end ≤ part → told_to now part ≡ []
 
-pub emptied_more : (first now : List (List Placed)) (i : ℕ) (facts : List Placed) → i < length now → AreEmptied first now i → facts ≡ [] → AreEmptied first (set now i facts) (i + 1)
-emptied_more first now i facts l a e = record {
+pub emptied_more : (first now : List (List Placed)) (end i : ℕ) (facts : List Placed) → i < end → i < length now → AreEmptied first now end i → facts ≡ [] → AreEmptied first (set now i facts) end (i + 1)
+emptied_more first now end i facts h l a e = record {
   count = length-set now i facts ∙ a.count;
-  empty = λ part h. at part (cases_eq part i) h;
+  empty = λ part k. at part (cases_eq part i) k;
+  behind = λ part k. get_or-set_other now i part facts [] (λ s. omega (arith, s, h, k)) ∙ a.behind part k;
 }
   where
     at : (part : ℕ) → (part ≡ i) ⊎ (part ≢ i) → part < i + 1 → told_to (set now i facts) part ≡ []
-    at part (inl s) h = ap (told_to (set now i facts)) s ∙ get_or-set_same now i facts [] l ∙ e
-    at part (inr n) h = get_or-set_other now i part facts [] n ∙ a.empty part (omega (arith, h, n))
+    at part (inl s) k = ap (told_to (set now i facts)) s ∙ get_or-set_same now i facts [] l ∙ e
+    at part (inr n) k = get_or-set_other now i part facts [] n ∙ a.empty part (omega (arith, k, n))
 
-pub emptied_all : (first now : List (List Placed)) (i part : ℕ) → length first ≤ i → AreEmptied first now i → told_to now part ≡ []
-emptied_all first now i part l a = at (cases_lt part i)
+pub emptied_all : (first now : List (List Placed)) (end i part : ℕ) → end ≤ i → AreEmptied first now end i → told_to now part ≡ []
+emptied_all first now end i part l a = at (cases_lt part i)
   where
     at : (part < i) ⊎ (i ≤ part) → told_to now part ≡ []
     at (inl h) = a.empty part h
-    at (inr h) = let c = a.count in get_or_past now part [] (omega (arith, l, h, c))
+    at (inr h) = a.behind part (omega (arith, l, h))
 
 -- so many of the facts are sorted out among as many boxes
 pub record AreSorted (failed : List Placed) (first now : List (List Placed)) (i : ℕ) : Type 0 where

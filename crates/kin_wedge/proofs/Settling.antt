@@ -1,13 +1,15 @@
 -- The eight lists settle one after another.
 use Rattle.std.proofs.Common.{◌≡◌, ◌≢◌, refl, sym, ap, ap₂, ◌∙◌, subst, arith, List, ℕ, zero, suc, ◌+◌, ◌<◌, ◌≤◌, map, set, length, Some}
 use Rattle.std.specs.Prelude.{slice_get}
-use Rattle.std.proofs.lemmas.Option.{slice_get_within}
+use Rattle.std.proofs.lemmas.List.{set-get_or}
+use Rattle.std.proofs.lemmas.Option.{slice_get_within, get_or_from_slice_get}
 use Rattle.kin_basics.proofs.Places.{get_within, get-set_same, get-set_other}
 use Rattle.kin_motion.specs.Changes.{moved_pairs}
 use Rattle.kin_motion.specs.Deltas.{Change}
 use Rattle.kin_motion.specs.Kinetics.{HasGained, HasChanged}
 use Rattle.kin_motion.specs.Parts.{moved_by}
 use Rattle.kin_motion.specs.Scene.{Scene}
+use Rattle.kin_motion.proofs.ChangeLaws.{nothing_changed}
 use Rattle.kin_motion.proofs.Gains.{gained_none}
 use Rattle.kin_list.specs.declared.mark.Mark.{Mark}
 use Rattle.kin_list.specs.Listing.{Listing, AreHalvings, AreFewTests}
@@ -77,6 +79,23 @@ module _ (s : Scene) (first : List Listing) (out : Change) (before : ℕ) where
     where
       one_more : (n : ℕ) → suc n ≡ n + 1
       one_more n = omega arith
+
+  -- a list that stands as it settled has settled
+  settled_still : (now : List Listing) (out' : Change) (after i : ℕ) (m : Listing) → AllAtNought first → AreSettledTo s first now out out' before after i → slice_get first i ≡ Some m → IsResettled s m m → AreSettledTo s first now out out' before after (i + 1)
+  settled_still now out' after i m nought a there r =
+      let here : slice_get now i ≡ Some m = a.made.left i (omega arith) ∙ there in
+      subst (λ (ls : List Listing). AreSettledTo s first ls out out' before after (i + 1)) (ap (set now i) (sym (get_or_from_slice_get now i m m here)) ∙ set-get_or now i m)
+      (settled_more now out' out' after after i m m nought a here r (nothing_changed (map (moved_by i) m.facts) out')
+      (record { halvings = 0; allowed = subst (λ (mark : Mark). AreHalvings mark (length m.items) 0) (sym r.rest) refl; bound = omega arith }))
+
+  -- the same of all lists from one to before another
+  pub settled_past : (now : List Listing) (out' : Change) (after n i j : ℕ) → n + i ≡ j → j ≤ length first → AllAtNought first → ((part : ℕ) (m : Listing) → i ≤ part → part < j → slice_get first part ≡ Some m → IsResettled s m m)
+      → AreSettledTo s first now out out' before after i → AreSettledTo s first now out out' before after j
+  settled_past now out' after zero i j e w nought still a = subst (AreSettledTo s first now out out' before after) (omega (arith, e)) a
+  settled_past now out' after (suc n) i j e w nought still a =
+      let m = get_within first i (omega (arith, e, w)) in
+      settled_past now out' after n (i + 1) j (omega (arith, e)) w nought (λ part x h. still part x (omega (arith, h)))
+      (settled_still now out' after i m.0 nought a m.1 (still i m.0 (omega arith) (omega (arith, e)) m.1))
 
   all_nought : (now : List Listing) → EachTo (IsResettled s) first now → AllAtNought now
   all_nought now e part m h =

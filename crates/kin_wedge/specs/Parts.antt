@@ -1,12 +1,13 @@
 -- The eight kinetic lists, each in a part of its own.
 use Rattle.std.specs.Prelude.{◌≡◌, ℕ, ◌+◌, ◌^◌, List, [], ◌++◌, ◌∷◌, map, length, Some, slice_get, slice_index_or, Contains, Bool, nat_eq}
 use Rattle.kin_motion.specs.declared.fact.Placed.{Placed}
+use Rattle.kin_motion.specs.Kinetics.{ListsFailing}
 use Rattle.kin_motion.specs.Octants.{direction_of}
 use Rattle.kin_motion.specs.Parts.{moved_by}
-use Rattle.kin_motion.specs.Scene.{Scene}
+use Rattle.kin_motion.specs.Scene.{Scene, IsReal}
 use Rattle.kin_list.specs.declared.mark.Mark.{Mark}
 use Rattle.kin_list.specs.declared.mark.Mark.TheVariants.{Rest}
-use Rattle.kin_list.specs.Listing.{Listing, IsSettledListing, staying, lasting}
+use Rattle.kin_list.specs.Listing.{Listing, IsAtRest, IsReadyListing, IsSettledListing, names_leaving, staying, lasting}
 use Rattle.kin_list.specs.Rows.{exchanged}
 
 -- the facts of these lists, whose parts are numbered from n on
@@ -51,9 +52,18 @@ told_to boxes part = slice_index_or boxes part []
 abbrev pub AreAtNought : List Placed → Type 0
 AreAtNought facts = (p : Placed) → Contains facts p → p.part ≡ 0
 
+-- the list has forgotten its exchanges, and where no mark stands and no fact has failed it has settled by that
+pub record StandsStill (l m : Listing) : Type 0 where
+  pub same : m ≡ record l { swaps = [] }
+  pub settled : IsAtRest l → (s : Scene) → IsReal s → IsReadyListing l s → ListsFailing l.facts (names_leaving l.mark) s [] → IsSettledListing m s
+
 -- the list has settled, and its exchanges lead from the old order to the new one
 pub record IsResettled (s : Scene) (l m : Listing) : Type 0 where
   pub rest : m.mark ≡ Rest
   pub settled : IsSettledListing m s
   pub exchanges : exchanged m.swaps (staying l.mark l.items) ≡ lasting l.mark m.items
   pub same : (m.dx ≡ l.dx) × (m.dy ≡ l.dy) × (m.room ≡ l.room)
+
+-- a list that was told nothing and had no mark has exchanged nothing
+abbrev pub AreQuiet : Mark → List (List Placed) → List Listing → Type 0
+AreQuiet mark boxes lists = (part : ℕ) (l : Listing) → slice_get lists part ≡ Some l → told_to boxes part ≡ [] → mark ≡ Rest → l.swaps ≡ []

@@ -1,7 +1,7 @@
 //! The candidates follow the orders.
 
 ghost use Rattle.std.specs.Prelude.{◌≡◌, ℕ, ◌+◌, ◌*◌, ◌<◌, ◌≤◌, ◌^◌, [], None, true, length, replicate, IfOk, OnOk};
-ghost use Rattle.kin_wedge.specs.Parts.{swaps_of};
+ghost use Rattle.kin_wedge.specs.Parts.{swaps_of, AreQuiet};
 ghost use Rattle.kin_wedge.specs.Passages.{AreAnswered, AreChanged, AreExchangesOffered, AreVacantRows, IsMarkOffered, IsNumberOf, IsPassage};
 ghost use Rattle.kin_wedge.specs.Rows.{AreAlike, AreRows, AreRanked, HaveSlots};
 ghost use Rattle.kin_wedge.specs.Seen.{rows_of};
@@ -53,6 +53,7 @@ impl Candidates {
         requires members { HaveSlots (rows_of orders.now.lists.items) (length self.old.table) }
         requires old_rows { length self.old.rows.rows.items ≡ 8 }
         requires small { length self.old.table < 2 ^ 32 }
+        requires quiet { AreQuiet mark orders.now.mail.boxes.items orders.now.lists.items }
         requires passage { IsPassage mark (swaps_of orders.now.lists.items) self.old.rows.rows.items (rows_of orders.now.lists.items) }
         requires slot { (i : ℕ) → IsNumberOf mark i → 8 * i + 7 < length self.old.table }
         ensures rows { OnOk result (self.new.rows.rows.items ≡ rows_of orders.now.lists.items) }
@@ -77,6 +78,7 @@ impl Candidates {
         requires members { HaveSlots (rows_of orders.now.lists.items) (length self.old.table) }
         requires old_rows { length self.old.rows.rows.items ≡ 8 }
         requires small { length self.old.table < 2 ^ 32 }
+        requires quiet { AreQuiet mark orders.now.mail.boxes.items orders.now.lists.items }
         requires passage { IsPassage mark (swaps_of orders.now.lists.items) self.old.rows.rows.items (rows_of orders.now.lists.items) }
         requires slot { (i : ℕ) → IsNumberOf mark i → 8 * i + 7 < length self.old.table }
         requires answered { AreAnswered self.old.rows.rows.items self.old.table }

@@ -56,6 +56,9 @@ pub fn list_changed(
     ensures rising { OnOk result (IsChain nat_lt changed.new.items) }
 {
     note_all(table, touches, changed)?;
+    if changed.len() < 2 {
+        return Ok(());
+    }
     changed.sort_unstable();
     changed.dedup();
     Ok(())

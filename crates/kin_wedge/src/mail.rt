@@ -1,6 +1,6 @@
 //! What each list is told.
 
-ghost use Rattle.std.specs.Prelude.{◌≡◌, ℕ, ◌<◌, [], ◌∷◌, ◌++◌, cond, filter, map, length, IfOk, OnOk};
+ghost use Rattle.std.specs.Prelude.{◌≡◌, ℕ, ◌<◌, ◌≤◌, [], ◌∷◌, ◌++◌, cond, filter, map, length, IfOk, OnOk};
 ghost use Rattle.kin_wedge.specs.Parts.{in_part, is_of_part, told_to};
 
 use crate::push::push;
@@ -56,6 +56,14 @@ impl Letters {
 #[derive(Drop)]
 pub struct Mail {
     boxes: Vec<Letters>,
+    /// All that are told something are of the parts from this one on,
+    from: usize,
+    /// and before this one.
+    end: usize,
+    ghost from_within: { from ≤ length boxes.items },
+    ghost end_within: { end ≤ length boxes.items },
+    ghost before: { (part : ℕ) → part < from → told_to boxes.items part ≡ [] },
+    ghost behind: { (part : ℕ) → end ≤ part → told_to boxes.items part ≡ [] },
 }
 
 /// A fact, moved to part 0.
@@ -78,16 +86,23 @@ impl Mail {
             let _ = part;
             push(&mut boxes, Letters::new(alloc))?;
         }
-        Ok(Mail { boxes })
+        let end = boxes.len();
+        Ok(Mail {
+            boxes,
+            from: 0,
+            end,
+        })
     }
 
     fn clear(&mut self)
         ensures cleared { (part : ℕ) → told_to self.new.boxes.items part ≡ [] }
         ensures count { length self.new.boxes.items ≡ length self.old.boxes.items }
     {
-        for part in 0..self.boxes.len() {
+        for part in self.from..self.end {
             self.boxes[part].clear();
         }
+        self.from = self.boxes.len();
+        self.end = 0;
     }
 
     /// Tells the list of its part of a fact, if there is one.
@@ -99,6 +114,8 @@ impl Mail {
         if part >= self.boxes.len() {
             return Ok(());
         }
+        self.from = self.from.min(part);
+        self.end = self.end.max(part + 1);
         self.boxes[part].add(own(placed))
     }
 
@@ -112,6 +129,16 @@ impl Mail {
             self.tell(*placed)?;
         }
         Ok(())
+    }
+
+    /// The parts from the first that is told something to behind the last.
+    pub(crate) fn span(&self) -> (usize, usize)
+        ensures from { result.0 ≤ length self.now.boxes.items }
+        ensures end { result.1 ≤ length self.now.boxes.items }
+        ensures before { (part : ℕ) → part < result.0 → told_to self.now.boxes.items part ≡ [] }
+        ensures behind { (part : ℕ) → result.1 ≤ part → told_to self.now.boxes.items part ≡ [] }
+    {
+        (self.from, self.end)
     }
 
     /// What the list of a part is told.

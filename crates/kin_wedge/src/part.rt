@@ -1,9 +1,10 @@
 //! A list settles as one part of a structure.
 
-ghost use Rattle.std.specs.Prelude.{◌≡◌, ◌≤◌, ◌++◌, length, drop, map, take, OnOk};
+ghost use Rattle.std.specs.Prelude.{◌≡◌, ◌≤◌, [], ◌++◌, length, drop, map, take, OnOk};
 ghost use Rattle.kin_motion.specs.Kinetics.{ListsFailing, HasChanged};
 ghost use Rattle.kin_motion.specs.Parts.{moved_by};
 ghost use Rattle.kin_motion.specs.Scene.{IsReal};
+ghost use Rattle.kin_list.specs.declared.mark.Mark.TheVariants.{Rest};
 ghost use Rattle.kin_list.specs.Listing.{IsReadyListing, AreFewTests, names_leaving};
 ghost use Rattle.kin_wedge.specs.Parts.{in_part, AreAtNought, IsResettled};
 
@@ -65,6 +66,7 @@ pub fn settle_list<O: Signs, L: Ledger>(
     requires nought { AreAtNought list.old.facts }
     requires failing { ListsFailing list.old.facts (names_leaving list.old.mark) (O.scene now.now) told.now }
     ensures resettled { OnOk result (IsResettled (O.scene now.now) list.old list.new) }
+    ensures quiet { OnOk result (told.now ≡ [] → list.old.mark ≡ Rest → list.new.swaps ≡ []) }
     ensures delta { OnOk result (HasChanged (map (moved_by part) list.old.facts) (map (moved_by part) list.new.facts) out.old out.new) }
     ensures tests { OnOk result (AreFewTests list.old.mark list.old.items list.new.items out.old out.new steps.old steps.new) }
 {

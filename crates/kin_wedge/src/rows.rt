@@ -5,7 +5,7 @@ ghost use Rattle.kin_motion.specs.Numbers.{is_in};
 ghost use Rattle.kin_list.specs.declared.mark.Mark.TheVariants.{Rest};
 ghost use Rattle.kin_list.specs.Listing.{staying, lasting, without};
 ghost use Rattle.kin_list.specs.Rows.{exchange, exchanged};
-ghost use Rattle.kin_wedge.specs.Parts.{swaps_of};
+ghost use Rattle.kin_wedge.specs.Parts.{swaps_of, AreQuiet};
 ghost use Rattle.kin_wedge.specs.Passages.{AreExchangesOffered, AreVacantRows};
 ghost use Rattle.kin_wedge.specs.Rows.{row_of, AreAlike, AreRows, HaveSlots, WereExchanged};
 ghost use Rattle.kin_wedge.specs.Seen.{rows_of};
@@ -229,13 +229,16 @@ impl Rows {
         requires members { HaveSlots (rows_of orders.now.lists.items) (length table.now) }
         requires count { length orders.now.lists.items ≡ 8 }
         requires rows { length self.old.rows.items ≡ 8 }
+        requires quiet { AreQuiet mark orders.now.mail.boxes.items orders.now.lists.items }
         requires exchanges { (part : ℕ) → exchanged (row_of (swaps_of orders.now.lists.items) part) (staying mark (row_of self.old.rows.items part)) ≡ lasting mark (row_of (rows_of orders.now.lists.items) part) }
         requires small { length table.now < 2 ^ 32 }
         ensures rows { OnOk result (self.new.rows.items ≡ rows_of orders.now.lists.items) }
         ensures offered { OnOk result (AreExchangesOffered mark (swaps_of orders.now.lists.items) self.old.rows.items (rows_of orders.now.lists.items) table.now touches.new.all.items) }
         ensures touched { OnOk result (HasTouched table.now touches.old.all.items touches.new.all.items) }
     {
-        for part in 0..8 {
+        let (from, end) = orders.span(mark);
+        for part in from..end {
+            let part = part as u32;
             let list = orders.list(part);
             if !stands_still(mark, list) {
                 let row = &mut self.rows[part as usize];

@@ -1,19 +1,19 @@
 //! The eight lists settle one after another.
 
-ghost use Rattle.std.specs.Prelude.{◌≡◌, ℕ, ◌<◌, Some, List, false, true, slice_get, length, OnOk};
+ghost use Rattle.std.specs.Prelude.{◌≡◌, ℕ, ◌<◌, ◌≤◌, Some, [], false, true, slice_get, length, OnOk};
 ghost use Rattle.kin_motion.specs.Kinetics.{ListsFailing, HasChanged};
 ghost use Rattle.kin_motion.specs.Numbers.{is_in};
 ghost use Rattle.kin_motion.specs.Scene.{IsReal};
 ghost use Rattle.kin_list.specs.Listing.{Listing};
-ghost use Rattle.kin_list.specs.declared.mark.Mark.{Mark as Marking};
 ghost use Rattle.kin_list.specs.declared.mark.Mark.TheVariants.{Rest, Enters, Leaves};
 ghost use Rattle.kin_list.specs.Listing.{IsReadyListing, names_leaving};
 ghost use Rattle.kin_wedge.specs.Costs.{AreFewBelow};
-ghost use Rattle.kin_wedge.specs.Parts.{facts_from, AreAtNought, EachTo, IsMarked, IsResettled};
+ghost use Rattle.kin_wedge.specs.Parts.{facts_from, told_to, AreAtNought, AreQuiet, EachTo, IsMarked, IsResettled, StandsStill};
 ghost use Rattle.kin_wedge.specs.Seen.{rows_of};
 
 use crate::orders::Orders;
 use crate::part::settle_list;
+use kin_list::Mark;
 use kin_motion::fact::{Delta, Placed};
 use kin_motion::signs::Signs;
 use kin_num::memory::NoMemory;
@@ -47,26 +47,57 @@ impl Orders {
         }
     }
 
-    /// Settles all lists. Each is told those of the failed facts that are in its part.
+    /// Lets each list forget the exchanges of the last settle.
+    fn stand_still(&mut self)
+        requires { length self.old.lists.items ≡ 8 }
+        ensures { EachTo StandsStill self.old.lists.items self.new.lists.items }
+    {
+        for part in 0..8 {
+            self.lists[part].stand_still();
+        }
+    }
+
+    /// All lists that have something to do are of the parts from the first of these to before the second.
+    /// With a mark all have.
+    pub fn span(&self, mark: Mark) -> (usize, usize)
+        ensures from { result.0 ≤ 8 }
+        ensures end { result.1 ≤ 8 }
+        ensures before { (part : ℕ) → part < result.0 → (mark ≡ Rest) × (told_to self.now.mail.boxes.items part ≡ []) }
+        ensures behind { (part : ℕ) → result.1 ≤ part → part < 8 → (mark ≡ Rest) × (told_to self.now.mail.boxes.items part ≡ []) }
+    {
+        match mark {
+            Mark::Rest => self.mail.span(),
+            _ => (0, 8),
+        }
+    }
+
+    /// Settles all lists, in which this mark stands. Each is told those of the failed facts that are in its
+    /// part, and one that is told none and has no mark only stands still.
     pub fn settle<O: Signs, L: Ledger>(
         &mut self,
+        mark: Mark,
         now: &O,
         failed: &[Placed],
         out: &mut Delta,
         steps: &mut Steps<L>,
     ) -> Result<(), NoMemory>
         requires real { IsReal (O.scene now.now) }
+        requires marked { (part : ℕ) (l : Listing) → slice_get self.old.lists.items part ≡ Some l → l.mark ≡ mark }
         requires ready { (part : ℕ) (l : Listing) → slice_get self.old.lists.items part ≡ Some l → IsReadyListing l (O.scene now.now) }
         requires nought { (part : ℕ) (l : Listing) → slice_get self.old.lists.items part ≡ Some l → AreAtNought l.facts }
-        requires failing { (part : ℕ) (l : Listing) → slice_get self.old.lists.items part ≡ Some l → ListsFailing (facts_from 0 self.old.lists.items) (names_leaving l.mark) (O.scene now.now) failed.now }
+        requires failing { ListsFailing (facts_from 0 self.old.lists.items) (names_leaving mark) (O.scene now.now) failed.now }
         requires count { length self.old.lists.items ≡ 8 }
         ensures settled { OnOk result (EachTo (IsResettled (O.scene now.now)) self.old.lists.items self.new.lists.items) }
+        ensures quiet { OnOk result (AreQuiet mark self.new.mail.boxes.items self.new.lists.items) }
         ensures delta { OnOk result (HasChanged (facts_from 0 self.old.lists.items) (facts_from 0 self.new.lists.items) out.old out.new) }
-        ensures tests { OnOk result ((mark : Marking) → ((part : ℕ) (l : Listing) → slice_get self.old.lists.items part ≡ Some l → l.mark ≡ mark) → AreFewBelow 8 mark (rows_of self.old.lists.items) (rows_of self.new.lists.items) out.old out.new steps.old steps.new) }
+        ensures tests { OnOk result (AreFewBelow 8 mark (rows_of self.old.lists.items) (rows_of self.new.lists.items) out.old out.new steps.old steps.new) }
     {
+        self.stand_still();
         self.mail.sort(failed)?;
-        for part in 0..8 {
-            let list = &mut self.lists[part as usize];
+        let (from, end) = self.span(mark);
+        for part in from..end {
+            let list = &mut self.lists[part];
+            let part = part as u32;
             settle_list(list, part, self.mail.told(part), now, out, steps)?;
         }
         Ok(())

@@ -1,6 +1,7 @@
 //! Slots whose candidate may change.
 
 ghost use Rattle.std.specs.Prelude.{◌≡◌, ℕ, ◌+◌, ◌*◌, ◌%◌, ◌<◌, ◌≤◌, ◌^◌, [], Option, Some, None, true, length, slice_get, OnOk};
+ghost use Rattle.kin_motion.specs.Changes.{stands_before};
 ghost use Rattle.kin_motion.specs.Octants.{Octant as Bounds, octants};
 ghost use Rattle.kin_motion.specs.Numbers.{is_in};
 ghost use Rattle.kin_wedge.specs.Rows.{row_of, is_in_wedge, AreAlike, AreRows, HaveSlots};
@@ -165,7 +166,7 @@ impl Touches {
     }
 
     /// Offers a number to the slots whose candidate another is, in the octants that an order ranks, where it
-    /// has passed the other by.
+    /// has passed the other by. Whether it is the first or the last of the two in the order is known.
     fn offer_beside(
         &mut self,
         orders: &Orders,
@@ -173,19 +174,21 @@ impl Touches {
         part: u32,
         of: u32,
         no: u32,
+        is_first: bool,
+        is_last: bool,
     ) -> Result<(), NoMemory>
         requires rows { AreRows (rows_of orders.now.lists.items) }
         requires low { 4 ≤ part }
         requires high { part < 8 }
+        requires first { is_first ≡ stands_before (row_of (rows_of orders.now.lists.items) part) no of }
+        requires last { is_last ≡ stands_before (row_of (rows_of orders.now.lists.items) part) of no }
         requires small { length table.now < 2 ^ 32 }
         ensures offered { OnOk result ((apex w : ℕ) (o : Bounds) → slice_get octants w ≡ Some o → o.third.part ≡ part → slice_get table.now (8 * apex + w) ≡ Some (Some of) → HasPassedBy (rows_of orders.now.lists.items) o apex of no → IsOffered self.new.all.items (8 * apex + w) (Some no)) }
         ensures touched { OnOk result (HasTouched table.now self.old.all.items self.new.all.items) }
     {
         // Of the two octants that the order ranks, one reads it from the front and one from the end.
-        let from_front = !orders.stands_before(part, of, no);
-        let from_end = !orders.stands_before(part, no, of);
-        self.offer_in_if(from_front, orders, table, part - 4, of, no)?;
-        self.offer_in_if(from_end, orders, table, part, of, no)?;
+        self.offer_in_if(!is_last, orders, table, part - 4, of, no)?;
+        self.offer_in_if(!is_first, orders, table, part, of, no)?;
         Ok(())
     }
 
@@ -287,8 +290,12 @@ impl Touches {
             self.offer_within(orders, table, b, spot, a, at)?;
             return Ok(());
         }
-        self.offer_beside(orders, table, part, a, b)?;
-        self.offer_beside(orders, table, part, b, a)?;
+        let place = orders.place_of_member(part, a);
+        let other = orders.place_of_member(part, b);
+        let rises = orders.rises(part, place, other);
+        let falls = orders.rises(part, other, place);
+        self.offer_beside(orders, table, part, a, b, falls, rises)?;
+        self.offer_beside(orders, table, part, b, a, rises, falls)?;
         Ok(())
     }
 }

@@ -151,7 +151,7 @@ impl Kinetic for Wedges {
     {
         let mark = self.mark;
         self.mark = Mark::Broken;
-        self.orders.settle(now, failed, out, steps)?;
+        self.orders.settle(mark, now, failed, out, steps)?;
         self.candidates.follow(mark, &self.orders)?;
         self.mark = Mark::Rest;
         Ok(())

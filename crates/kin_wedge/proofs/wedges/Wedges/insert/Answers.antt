@@ -26,5 +26,5 @@ returns-clause-ok c =
     let e = c.in_ok-insert.ensures in
     let old = c.self.inside.orders.lists.items in
     let new = c.insert.new.self.lists.items in
-    ap₂ (wedging c.self.inside.size c.self.inside.candidates.table c.self.inside.candidates.changed.items (Enters c.args.no)) (marked_rows (Enters c.args.no) old new e.count e.each) (marked_facts (Enters c.args.no) 0 old new e.count e.each)
+    ap₂ (wedging c.self.inside.size c.self.inside.candidates.table c.self.inside.candidates.changed.items (Enters c.args.no)) (marked_rows (Enters c.args.no) old new e) (marked_facts (Enters c.args.no) 0 old new e)
     ∙ ap (λ (v : Wedging). record v { mark = Enters c.args.no }) c.self.view_is

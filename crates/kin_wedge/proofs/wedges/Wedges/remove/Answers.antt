@@ -26,5 +26,5 @@ returns c =
     let e = c.remove.ensures in
     let old = c.self.inside.orders.lists.items in
     let new = c.remove.new.self.lists.items in
-    ap₂ (wedging c.self.inside.size c.self.inside.candidates.table c.self.inside.candidates.changed.items (Leaves c.args.no)) (marked_rows (Leaves c.args.no) old new e.count e.each) (marked_facts (Leaves c.args.no) 0 old new e.count e.each)
+    ap₂ (wedging c.self.inside.size c.self.inside.candidates.table c.self.inside.candidates.changed.items (Leaves c.args.no)) (marked_rows (Leaves c.args.no) old new e) (marked_facts (Leaves c.args.no) 0 old new e)
     ∙ ap (λ (v : Wedging). record v { mark = Leaves c.args.no }) c.self.view_is

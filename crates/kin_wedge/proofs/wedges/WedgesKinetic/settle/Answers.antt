@@ -1,10 +1,8 @@
 use Rattle.std.proofs.Common.{◌∙◌, sym, subst}
 use Rattle.kin_motion.specs.Kinetics.{ListsFailing}
 use Rattle.kin_motion.specs.Octants.{ListsChanged}
-use Rattle.kin_list.specs.declared.mark.Mark.{Mark}
 use Rattle.kin_list.specs.Listing.{names_leaving}
 use Rattle.kin_wedge.specs.Costs.{AreFewBelow}
-use Rattle.kin_wedge.specs.Parts.{facts_from}
 use Rattle.kin_wedge.specs.Seen.{rows_of}
 use Rattle.kin_wedge.specs.Wedging.{Wedging, candidate_at, candidate_told}
 use Rattle.kin_wedge.proofs.Resettled.{may_settle, kept, lists_ready, orders, rows_now, ranked_now, parted_now, alike_now, slots_now, passage, wedges_now, kept_now}
@@ -17,11 +15,11 @@ settle-requires-clause-ready g c = lists_ready (may_settle c.requires.real c.sel
 pub settle-requires-clause-nought : goal.settle-requires-clause-nought
 settle-requires-clause-nought g c = λ part l e. ((kept (may_settle c.requires.real c.self.invariant c.self.view_is c.requires.ready)).each part l e).nought
 
+pub settle-requires-clause-marked : goal.settle-requires-clause-marked
+settle-requires-clause-marked g c = λ part l e. ((kept (may_settle c.requires.real c.self.invariant c.self.view_is c.requires.ready)).each part l e).marked
+
 pub settle-requires-clause-failing : goal.settle-requires-clause-failing
-settle-requires-clause-failing g c = λ part l e.
-    let s = g.O.Signs.scene c.args.now.now in
-    subst (λ (m : Mark). ListsFailing (facts_from 0 c.self.inside.orders.lists.items) (names_leaving m) s c.args.failed.now) (sym ((kept (may_settle c.requires.real c.self.invariant c.self.view_is c.requires.ready)).each part l e).marked)
-    (subst (λ (v : Wedging). ListsFailing v.facts (names_leaving v.mark) s c.args.failed.now) (sym c.self.view_is) c.requires.failing)
+settle-requires-clause-failing g c = subst (λ (v : Wedging). ListsFailing v.facts (names_leaving v.mark) (g.O.Signs.scene c.args.now.now) c.args.failed.now) (sym c.self.view_is) c.requires.failing
 
 pub follow-requires-clause-rows : goal.follow-requires-clause-rows
 follow-requires-clause-rows g c = rows_now (may_settle c.requires.real c.self.invariant c.self.view_is c.requires.ready) c.in_ok-settle.ensures.settled
@@ -60,5 +58,4 @@ returns-clause-changed g c =
 
 pub returns-clause-tests : goal.returns-clause-tests
 returns-clause-tests g c =
-    subst (λ (v : Wedging). AreFewBelow 8 v.mark v.orders (rows_of c.settle.new.self.lists.items) c.args.out.now c.settle.new.out c.args.steps.now c.settle.new.steps) c.self.view_is
-    (c.in_ok-settle.ensures.tests c.self.inside.mark (λ part l e. ((kept (may_settle c.requires.real c.self.invariant c.self.view_is c.requires.ready)).each part l e).marked))
+    subst (λ (v : Wedging). AreFewBelow 8 v.mark v.orders (rows_of c.settle.new.self.lists.items) c.args.out.now c.settle.new.out c.args.steps.now c.settle.new.steps) c.self.view_is c.in_ok-settle.ensures.tests
