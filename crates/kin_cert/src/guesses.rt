@@ -116,11 +116,11 @@ fn asked(firsts: &IndexMap<Place, Holder>, place: &Place) -> Option<Spot>
     })
 }
 
-// Where the guess of a place stands. The places of a few lists of up to 1,024 points share none.
+// Where the guess of a place stands. The lists of one structure of each kind, of up to 1,024 points, share none.
 fn slot_of(place: &Place) -> usize {
     let [structure, part, number] = *place;
     let mixed = number
-        .wrapping_add(part.wrapping_mul(1_031))
-        .wrapping_add(structure.wrapping_mul(4_111));
+        .wrapping_add(part.wrapping_mul(5_171))
+        .wrapping_add(structure.wrapping_mul(17_807));
     mixed as usize % COUNT
 }

@@ -22,6 +22,7 @@ use std::cmp::Ordering;
 use std::sync::ledger::Ledger;
 
 /// Puts an entry in, for which there is room. Its id isn't there yet.
+#[inline(always)]
 pub fn put_in<L: Ledger>(
     entries: &mut Vec<Ticket>,
     places: &mut [usize],

@@ -160,6 +160,7 @@ fn reaching(id: usize, len: usize) -> Option<usize>
 }
 
 // Makes the places reach the id.
+#[inline(always)]
 fn reach(places: &mut Vec<usize>, id: usize) -> Result<(), NoMemory>
     ensures reached { OnOk result (id < length places.new.items) }
     ensures kept { Extends places.old.items places.new.items }
