@@ -5,6 +5,7 @@ pub mod Giving
 pub mod Ranks
 pub mod Places
 pub mod Rolls
+pub mod Succession
 pub mod Enrolling
 pub mod Replacing
 pub mod Alone
