@@ -28,7 +28,6 @@ pub mod ToldLaws
 pub mod NextLaws
 pub mod JustAfter
 pub mod Schedules
-pub mod LineFailures
 pub mod Costs
 pub mod QueueSizes
 pub mod Ungiven
