@@ -5,6 +5,7 @@ pub mod Giving
 pub mod Ranks
 pub mod Places
 pub mod Rolls
+pub mod Succession
 pub mod Enrolling
 pub mod Replacing
 pub mod Alone
@@ -27,7 +28,6 @@ pub mod ToldLaws
 pub mod NextLaws
 pub mod JustAfter
 pub mod Schedules
-pub mod LineFailures
 pub mod Costs
 pub mod QueueSizes
 pub mod Ungiven

@@ -1,16 +1,14 @@
 //! The first failure of a fact.
 
-ghost use Rattle.std.specs.Prelude.{◌≡◌, ◌≢◌, ◌⊎◌, ◌+◌, ◌↔◌, pos, IsTrue, IfSome, IfNone};
-ghost use Rattle.kin_algebra.specs.declared.sign.Sign.TheVariants.{Zero};
+ghost use Rattle.std.specs.Prelude.{◌≡◌, ◌+◌, ◌↔◌, IsTrue};
 ghost use Rattle.kin_num.specs.Instants.{sign_at};
 ghost use Rattle.kin_motion.specs.declared.fact.Fact.{Fact as Known};
-ghost use Rattle.kin_instant.specs.Places.{IsZeroPolynomial, IsNextRoot, HasNoRootAfter, KeepsSign};
+ghost use Rattle.kin_instant.specs.Places.{IsZeroPolynomial};
 ghost use Rattle.kin_cert.specs.Failures.{IsFirstFailure, seen_by};
 
 use kin_instant::next::next_root_from;
-use kin_instant::ratio::ratio;
 use kin_motion::fact::Fact;
-use kin_num::{Instant, Moment, Phase, Poly, Sign, Steps};
+use kin_num::{Moment, Phase, Poly, Sign, Steps};
 use std::sync::ledger::Ledger;
 
 /// The first moment after now at which the fact doesn't hold, or `None` exactly where it holds at
@@ -34,58 +32,13 @@ pub fn first_fail<L: Ledger>(
     if let Sign::Zero = fact.sign {
         return left_zero(p, now);
     }
-    let Some(at) = root_from(p, now, fact.sign) else {
+    let Some(at) = next_root_from(p, now, fact.sign) else {
         return None;
     };
     Some(Moment {
         at,
         phase: Phase::At,
     })
-}
-
-// The least root later than now of a polynomial with this sign, which isn't 0.
-#[inline(always)]
-fn root_from(p: &Poly, now: &Moment, sign: Sign) -> Option<Instant>
-    requires sign { sign_at p.now now.now ≡ sign }
-    requires some { sign ≢ Zero }
-    ensures next { IfSome result (λ r. IsNextRoot p.now now.now.at r) }
-    ensures none { IfNone result (IsZeroPolynomial p.now ⊎ HasNoRootAfter p.now now.now.at) }
-    ensures kept { KeepsSign p.now now.now.at result }
-{
-    if p.a() == 0 {
-        line_root_from(p, now, sign)
-    } else {
-        next_root_from(p, now, sign)
-    }
-}
-
-// The root of a line later than now, where the line has this sign, which isn't 0. It comes to 0 exactly where its slope has
-// the other sign.
-#[inline(always)]
-fn line_root_from(p: &Poly, now: &Moment, sign: Sign) -> Option<Instant>
-    requires flat { p.now.a ≡ pos 0 }
-    requires sign { sign_at p.now now.now ≡ sign }
-    requires some { sign ≢ Zero }
-    ensures next { IfSome result (λ r. IsNextRoot p.now now.now.at r) }
-    ensures none { IfNone result (IsZeroPolynomial p.now ⊎ HasNoRootAfter p.now now.now.at) }
-    ensures kept { KeepsSign p.now now.now.at result }
-{
-    p.recall_small();
-    now.at.recall_canonical();
-    let (b, c) = (p.b(), p.c());
-    if b > 0 {
-        return match sign {
-            Sign::Minus => Some(ratio(-c, b)),
-            _ => None,
-        };
-    }
-    if b < 0 {
-        return match sign {
-            Sign::Plus => Some(ratio(c, -b)),
-            _ => None,
-        };
-    }
-    None
 }
 
 // When a polynomial leaves the sign 0.

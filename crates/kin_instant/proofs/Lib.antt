@@ -16,6 +16,7 @@ pub mod NextExistence
 pub mod KeyOrder
 pub mod Spans
 pub mod LineRoots
+pub mod LineFailures
 pub mod Crossing
 pub mod CurveRoots
 pub mod LongerRoots

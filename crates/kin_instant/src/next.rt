@@ -14,6 +14,7 @@ ghost use Rattle.kin_instant.specs.Laws.{IsNext};
 
 use crate::curve::{negative, root_on};
 use crate::order::compare;
+use crate::ratio::ratio;
 use crate::roots::Roots;
 use crate::sign::slope_sign;
 use crate::solve::roots;
@@ -55,7 +56,7 @@ pub fn next_root(p: &Poly, w: &Instant) -> Option<Instant>
 /// No two instants are compared, and a root is made only where it is still to come. A line whose slope has its sign moves
 /// away from 0; any other line with a slope comes to its root. A curve tells by its sign whether it is between its roots,
 /// and by that of its slope whether it is before them.
-#[inline(never)]
+#[inline(always)]
 pub fn next_root_from(p: &Poly, m: &Moment, sign: Sign) -> Option<Instant>
     requires sign { sign_at p.now m.now ≡ sign }
     requires some { sign ≢ Zero }
@@ -64,8 +65,22 @@ pub fn next_root_from(p: &Poly, m: &Moment, sign: Sign) -> Option<Instant>
     ensures kept { KeepsSign p.now m.now.at result }
 {
     if p.a() == 0 {
-        return line_root_from(p, m, sign);
+        line_root_from(p, m, sign)
+    } else {
+        curve_root_from(p, m, sign)
     }
+}
+
+/// The same for a curve, out of the way of lines.
+#[inline(never)]
+fn curve_root_from(p: &Poly, m: &Moment, sign: Sign) -> Option<Instant>
+    requires curved { p.now.a ≢ pos 0 }
+    requires sign { sign_at p.now m.now ≡ sign }
+    requires some { sign ≢ Zero }
+    ensures next { IfSome result (λ r. IsNextRoot p.now m.now.at r) }
+    ensures none { IfNone result (IsZeroPolynomial p.now ⊎ HasNoRootAfter p.now m.now.at) }
+    ensures kept { KeepsSign p.now m.now.at result }
+{
     let (cup, sign) = as_cup(p, sign);
     cup_root_from(&cup, m, sign)
 }
@@ -119,7 +134,9 @@ fn next_side(p: &Poly, m: &Moment, sign: Sign) -> Option<bool>
     }
 }
 
-/// The root of a line later than the moment `m`, at which the line has this sign, which isn't 0.
+/// The root of a line later than the moment `m`, at which the line has this sign, which isn't 0. It comes to 0 exactly where
+/// its slope has the other sign.
+#[inline(always)]
 fn line_root_from(p: &Poly, m: &Moment, sign: Sign) -> Option<Instant>
     requires flat { p.now.a ≡ pos 0 }
     requires sign { sign_at p.now m.now ≡ sign }
@@ -130,11 +147,18 @@ fn line_root_from(p: &Poly, m: &Moment, sign: Sign) -> Option<Instant>
 {
     p.recall_small();
     m.at.recall_canonical();
-    if let Sign::Plus = sign.times(Sign::of(i128::from(p.b()))) {
-        return None;
+    let (b, c) = (p.b(), p.c());
+    if b > 0 {
+        return match sign {
+            Sign::Minus => Some(ratio(-c, b)),
+            _ => None,
+        };
     }
-    match roots(p) {
-        Roots::One(r) => Some(r),
-        _ => None,
+    if b < 0 {
+        return match sign {
+            Sign::Plus => Some(ratio(c, -b)),
+            _ => None,
+        };
     }
+    None
 }

@@ -4,10 +4,10 @@ use Rattle.kin_cert.proofs.first_fail.first_fail.Goals as goal
 pub returns-in-Zero-clause-failure : goal.returns-in-Zero-clause-failure
 returns-in-Zero-clause-failure g c = c.left_zero.ensures c.args.fact.now c.in-Zero.is
 
-pub returns-in_default-root_from : goal.returns-in_default-root_from
-returns-in_default-root_from g c =
+pub returns-in_default-next_root_from : goal.returns-in_default-next_root_from
+returns-in_default-next_root_from g c =
     record {
-      failure = never_fails c.args.p.now c.args.now.now c.recall_canonical.ensures c.args.fact.now c.requires.holds c.in_default.not-Zero c.in_default-root_from.ensures.kept;
+      failure = never_fails c.args.p.now c.args.now.now c.recall_canonical.ensures c.args.fact.now c.requires.holds c.in_default.not-Zero c.in_default-next_root_from.ensures.kept;
       count = c.tick.ensures;
     }
 

@@ -9,7 +9,7 @@ use Rattle.kin_num.proofs.SignLaws.{sign_at-neg}
 use Rattle.kin_instant.specs.Places.{IsZeroPolynomial, IsNextRoot, HasNoRootAfter}
 use Rattle.kin_instant.specs.Laws.{IsNext}
 use Rattle.kin_instant.proofs.CurveRoots.{next_back}
-use Rattle.kin_instant.proofs.next.next_root_from.Goals as goal
+use Rattle.kin_instant.proofs.next.curve_root_from.Goals as goal
 
 -- the polynomial with its sign, or its opposite with the opposite sign
 abbrev IsTurned : Quadratic → Sign → Quadratic → Sign → Type 0
