@@ -1,6 +1,6 @@
 //! Where a keep stands among others.
 
-ghost use Rattle.std.specs.Prelude.{◌≡◌, ◌≢◌, ◌≤◌, ◌↔◌, ℕ, Some, IsTrue, IfSome, IfNone, length, slice_get};
+ghost use Rattle.std.specs.Prelude.{◌≡◌, ◌≢◌, ◌≤◌, ℕ, Some, IfSome, IfNone, length, slice_get};
 
 use kin_motion::Keep;
 
@@ -10,7 +10,7 @@ pub(crate) fn find(keep: &Keep, keeps: &[Keep]) -> Option<usize>
     ensures none { IfNone result ((k : ℕ) → slice_get keeps.now k ≢ Some keep.now) }
 {
     for k in 0..keeps.len() {
-        if is_same(&keeps[k], keep) {
+        if keeps[k].is(keep) {
             return Some(k);
         }
     }
@@ -26,23 +26,5 @@ pub(crate) fn place_of(keep: &Keep, keeps: &[Keep]) -> u32
     match find(keep, keeps) {
         Some(k) => k as u32,
         None => unreachable!(),
-    }
-}
-
-fn is_same(keep: &Keep, other: &Keep) -> bool
-    ensures { IsTrue result ↔ (keep.now ≡ other.now) }
-{
-    match *keep {
-        Keep::Order { dx, dy } => match *other {
-            Keep::Order { dx: x, dy: y } => dx == x && dy == y,
-            _ => false,
-        },
-        Keep::Extreme { dx, dy } => match *other {
-            Keep::Extreme { dx: x, dy: y } => dx == x && dy == y,
-            _ => false,
-        },
-        Keep::Hull => matches!(*other, Keep::Hull),
-        Keep::Closest => matches!(*other, Keep::Closest),
-        Keep::Range => matches!(*other, Keep::Range),
     }
 }

@@ -1,7 +1,6 @@
 ghost use Rattle.std.specs.Prelude.{◌≡◌, ◌≤◌, ◌<◌, ◌^◌, unsigned_abs, IsTrue};
 ghost use Rattle.kin_num.specs.Order.{IsEarlier};
 ghost use Rattle.kin_motion.specs.Boxes.{IsRectInRange};
-ghost use Rattle.kin_motion.specs.Live.{IsSmallDirection, IsSmallKeep};
 ghost use Rattle.kin_world.specs.Worlds.{AreKeepable};
 
 use crate::asked::ASKED;
@@ -21,27 +20,11 @@ use std::marker::Brand;
 use std::sync::ledger::{Blank, Ledger};
 use std::test::Fail;
 
-fn is_small_direction(dx: i32, dy: i32) -> bool
-    ensures { IsTrue result → IsSmallDirection dx dy }
-{
-    dx.unsigned_abs() <= 16 && dy.unsigned_abs() <= 16
-}
-
-fn is_small(keep: &Keep) -> bool
-    ensures { IsTrue result → IsSmallKeep keep.now }
-{
-    match *keep {
-        Keep::Order { dx, dy } => is_small_direction(dx, dy),
-        Keep::Extreme { dx, dy } => is_small_direction(dx, dy),
-        Keep::Hull | Keep::Closest | Keep::Range => true,
-    }
-}
-
 fn are_keepable(keeps: &[Keep]) -> bool
     ensures { IsTrue result → AreKeepable keeps.now }
 {
     for keep in keeps {
-        if !is_small(keep) {
+        if !keep.is_small() {
             return false;
         }
     }

@@ -217,21 +217,9 @@ fn room_for_facts(size: u32, keeps: &[Keep]) -> usize
 {
     let mut room: usize = 0;
     for keep in keeps {
-        room = room.saturating_add(facts_of_a_point(keep) << size);
+        room = room.saturating_add(keep.facts_of_a_point() << size);
     }
     room
-}
-
-// How many facts a keep has for each point, as a rule. Two neighbours in an order have one, and so has a match.
-fn facts_of_a_point(keep: &Keep) -> usize
-    ensures { result ≤ 16 }
-{
-    match keep {
-        Keep::Order { .. } | Keep::Extreme { .. } => 1,
-        Keep::Range => 2,
-        Keep::Hull => 8,
-        Keep::Closest => 16,
-    }
 }
 
 fn count_of(taken: &[Owned]) -> usize
