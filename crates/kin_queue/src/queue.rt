@@ -81,8 +81,7 @@ impl Queue {
         self.entries[known].id as usize == id
     }
 
-    /// Puts an id in at a moment. The id isn't there yet. Want of memory changes nothing. It is made in line, so that
-    /// the moment is written once.
+    /// Puts an id in that isn't there yet. Want of memory changes nothing. In line, so that its moment is written once.
     #[inline(always)]
     pub fn insert<L: Ledger>(
         &mut self,
