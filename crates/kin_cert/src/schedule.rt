@@ -116,6 +116,7 @@ impl Schedule {
 
     /// The least moment of an id, or `None` exactly where there is no id. Compares moments at most
     /// once, which isn't counted.
+    #[inline(always)]
     pub(crate) fn least(&self) -> Option<Moment>
         ensures { MatchOption result (self.now ≡ empty) (λ m. (id : ℕ) × IsLeast self.now (id, m)) }
     {

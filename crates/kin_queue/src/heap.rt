@@ -126,10 +126,10 @@ fn rise<L: Ledger>(
     let mut hole = start;
     while hole > 0 {
         let parent = (hole - 1) / 2;
-        let above = entries[parent];
-        if !is_earlier(entry, &above, moments, steps) {
+        if !is_earlier(entry, &entries[parent], moments, steps) {
             return hole;
         }
+        let above = entries[parent];
         put(entries, places, hole, above);
         hole = parent;
     }
@@ -155,10 +155,10 @@ fn sink<L: Ledger>(
 {
     let mut hole = start;
     while let Some(child) = earliest_below(entries, moments, hole, steps) {
-        let below = entries[child];
-        if !is_earlier(&below, entry, moments, steps) {
+        if !is_earlier(&entries[child], entry, moments, steps) {
             return hole;
         }
+        let below = entries[child];
         put(entries, places, hole, below);
         hole = child;
     }
@@ -219,7 +219,7 @@ fn is_earlier_moment<L: Ledger>(x: &Moment, y: &Moment, steps: &mut Steps<L>) ->
     matches!(compare_moments(x, y, steps), Ordering::Less)
 }
 
-// Puts an entry at a place.
+// Puts an entry at a place. Its id is read there, so that the entry is copied in one piece.
 fn put(entries: &mut [Ticket], places: &mut [usize], place: usize, entry: Ticket)
     requires place { place < length entries.old }
     requires known { entry.id < length places.old }
@@ -227,5 +227,5 @@ fn put(entries: &mut [Ticket], places: &mut [usize], place: usize, entry: Ticket
     ensures places { places.new ≡ slice_set places.old entry.id place }
 {
     entries[place] = entry;
-    places[entry.id as usize] = place;
+    places[entries[place].id as usize] = place;
 }
