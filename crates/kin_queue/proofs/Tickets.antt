@@ -1,6 +1,6 @@
 -- Tickets, and the entries that they stand for.
-use Rattle.std.proofs.Common.{◌≡◌, ◌≢◌, ℕ, suc, ◌<◌, List, [], ◌∷◌, ◌++◌, length, get_or, set, false, refl, sym, ap₂, subst, arith}
-use Rattle.std.proofs.lemmas.List.{get_or-map, length-map, map-append, map-set}
+use Rattle.std.proofs.Common.{◌≡◌, ◌≢◌, ℕ, suc, ◌+◌, ◌-◌, ◌<◌, List, [], ◌∷◌, ◌++◌, length, get_or, set, drop, take, false, refl, sym, ap, ap₂, ◌∙◌, subst, arith}
+use Rattle.std.proofs.lemmas.List.{get_or-map, get_or-drop, get_or-take, length-map, map-append, map-set}
 use Rattle.kin_num.specs.declared.instant.Phase.TheVariants.{At}
 use Rattle.kin_num.specs.declared.instant.Moment.{Moment}
 use Rattle.kin_num.specs.Canonical.{IsCanonical}
@@ -12,6 +12,13 @@ use Rattle.kin_queue.specs.Heap.{IsNoted}
 -- what a slice gives outside
 abbrev pub blank : Ticket
 blank = record { span = 0; id = 0; phase = At; is_vague = false }
+
+-- the first two tickets of those from a place on
+pub first_from : (ts : List Ticket) (i : ℕ) → i < length ts → get_or (take (length ts - i) (drop i ts)) 0 blank ≡ get_or ts i blank
+first_from ts i lt = get_or-take (length ts - i) (drop i ts) 0 blank (omega arith) ∙ get_or-drop i ts 0 blank ∙ ap (λ (k : ℕ). get_or ts k blank) (omega arith)
+
+pub second_from : (ts : List Ticket) (i : ℕ) → i + 1 < length ts → get_or (take (length ts - i) (drop i ts)) 1 blank ≡ get_or ts (i + 1) blank
+second_from ts i lt = get_or-take (length ts - i) (drop i ts) 1 blank (omega arith) ∙ get_or-drop i ts 1 blank
 
 module _ (ms : List Moment) where
   -- the entry of the ticket at a place

@@ -187,7 +187,8 @@ fn earliest_below<L: Ledger>(
     if right == entries.len() {
         return Some(left);
     }
-    if is_earlier(&entries[right], &entries[left], moments, steps) {
+    let below = &entries[left..];
+    if is_earlier(&below[1], &below[0], moments, steps) {
         Some(right)
     } else {
         Some(left)

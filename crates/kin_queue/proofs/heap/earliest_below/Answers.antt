@@ -1,6 +1,6 @@
 use Rattle.std.proofs.Common.{◌≡◌, ◌+◌, ◌*◌, ◌<◌, true, false, length, get_or, sym, ◌∙◌, arith}
 use Rattle.kin_queue.specs.Tickets.{entry_of, entries_of}
-use Rattle.kin_queue.proofs.Tickets.{blank, entry_at, entry_there}
+use Rattle.kin_queue.proofs.Tickets.{blank, entry_at, entry_there, first_from, second_from}
 use Rattle.kin_queue.proofs.Steps.{right_earliest, left_earliest}
 use Rattle.kin_queue.proofs.heap.earliest_below.Goals as goal
 
@@ -12,7 +12,7 @@ returns-then-is_earlier-clause-some g c =
     let inside : 2 * c.args.place + 1 + 1 < length c.args.entries.now = omega arith in
     let low : 2 * c.args.place + 1 < length c.args.entries.now = omega arith in
     right_earliest (entries_of ms ts) p (entry_of ms (get_or ts (2 * p + 1) blank)) (entry_of ms (get_or ts (2 * p + 1 + 1) blank)) (entry_there ms ts (2 * p + 1 + 1) inside) (entry_at ms ts (2 * p + 1) low) (entry_at ms ts (2 * p + 1 + 1) inside)
-    (c.requires (2 * p + 1) blank low).canonical (c.requires (2 * p + 1 + 1) blank inside).canonical (c.is_earlier.ensures.earlier.0 c.if-is_earlier.true)
+    (c.requires (2 * p + 1) blank low).canonical (c.requires (2 * p + 1 + 1) blank inside).canonical (rw (second_from ts (2 * p + 1) inside, first_from ts (2 * p + 1) low) at (c.is_earlier.ensures.earlier.0 c.if-is_earlier.true))
 
 pub returns-else-is_earlier-clause-some : goal.returns-else-is_earlier-clause-some
 returns-else-is_earlier-clause-some g c =
@@ -22,4 +22,4 @@ returns-else-is_earlier-clause-some g c =
     let inside : 2 * c.args.place + 1 + 1 < length c.args.entries.now = omega arith in
     let low : 2 * c.args.place + 1 < length c.args.entries.now = omega arith in
     left_earliest (entries_of ms ts) p (entry_of ms (get_or ts (2 * p + 1) blank)) (entry_of ms (get_or ts (2 * p + 1 + 1) blank)) (entry_there ms ts (2 * p + 1 + 1) inside) (entry_at ms ts (2 * p + 1) low) (entry_at ms ts (2 * p + 1 + 1) inside)
-    (λ h. absurd (let k : false ≡ true = sym c.if-is_earlier.false ∙ c.is_earlier.ensures.earlier.1 h in cc))
+    (λ h. absurd (let k : false ≡ true = sym c.if-is_earlier.false ∙ c.is_earlier.ensures.earlier.1 (rw (second_from ts (2 * p + 1) inside, first_from ts (2 * p + 1) low) h) in cc))
