@@ -13,6 +13,7 @@ pub mod HeldLaws
 pub mod ArrangeLaws
 pub mod ChangeLaws
 pub mod ReportLaws
+pub mod TellingLaws
 pub mod SettleLaws
 pub mod BoundLaws
 pub mod WholeLaws

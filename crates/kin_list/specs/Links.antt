@@ -1,8 +1,9 @@
 -- The live facts of a list, each found by the number on its left.
-use Rattle.std.specs.Prelude.{◌≡◌, ◌≢◌, ◌++◌, ℕ, ◌+◌, ℤ, pos, cond, nat_eq, slice_get, List, [], ◌∷◌, Option, Some, None}
+use Rattle.std.specs.Prelude.{◌≡◌, ◌≢◌, ◌++◌, ℕ, ◌+◌, ℤ, pos, cond, nat_eq, slice_get, List, [], ◌∷◌, map, Option, Some, None}
 use Rattle.kin_algebra.specs.declared.sign.Sign.{Sign}
 use Rattle.kin_motion.specs.declared.form.Form.TheVariants.{Line}
 use Rattle.kin_motion.specs.declared.fact.Placed.{Placed}
+use Rattle.kin_motion.specs.Parts.{moved_by}
 use Rattle.kin_list.specs.declared.link.Link.{Link}
 
 -- the link to a right neighbour with a sign, where both are there
@@ -31,7 +32,7 @@ abbrev pub link_facts : ℤ → ℤ → ℕ → Option Link → List Placed
 link_facts dx dy i None = []
 link_facts dx dy i (Some l) = fact_of dx dy i l ∷ []
 
--- the fact of one link took the place of another's, where they differ
-pub record IsTold (dx dy : ℤ) (i : ℕ) (old new : Option Link) (dropped born dropped' born' : List Placed) : Type 0 where
+-- the fact of one link took the place of another's in a part, where they differ
+pub record IsTold (part : ℕ) (dx dy : ℤ) (i : ℕ) (old new : Option Link) (dropped born dropped' born' : List Placed) : Type 0 where
   pub same : old ≡ new → (dropped' ≡ dropped) × (born' ≡ born)
-  pub changed : old ≢ new → (dropped' ≡ dropped ++ link_facts dx dy i old) × (born' ≡ born ++ link_facts dx dy i new)
+  pub changed : old ≢ new → (dropped' ≡ dropped ++ map (moved_by part) (link_facts dx dy i old)) × (born' ≡ born ++ map (moved_by part) (link_facts dx dy i new))

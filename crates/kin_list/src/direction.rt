@@ -3,6 +3,7 @@
 ghost use Rattle.std.specs.Prelude.{◌≡◌, ◌≤◌, pos, unsigned_abs};
 ghost use Rattle.kin_motion.specs.declared.form.Form.TheVariants.{Line};
 ghost use Rattle.kin_motion.specs.Orders.{leads};
+ghost use Rattle.kin_motion.specs.Parts.{moved_by};
 ghost use Rattle.kin_list.specs.Links.{fact_of};
 
 use kin_motion::fact::{Fact, Placed};
@@ -43,12 +44,12 @@ impl Direction {
 }
 
 impl Direction {
-    /// The fact of a link of `i` to `right`.
-    pub fn fact(self, i: u32, right: u32, sign: Sign) -> Placed
-        ensures { result ≡ fact_of self.dx self.dy i (record { right = right; sign = sign }) }
+    /// The fact of a link of `i` to `right`, in a part.
+    pub fn fact(self, part: u32, i: u32, right: u32, sign: Sign) -> Placed
+        ensures { result ≡ moved_by part (fact_of self.dx self.dy i (record { right = right; sign = sign })) }
     {
         Placed {
-            part: 0,
+            part,
             fact: Fact {
                 form: self.line(i, right),
                 sign,

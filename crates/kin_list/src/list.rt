@@ -1,9 +1,10 @@
 //! The kinetic sorted list.
 
-ghost use Rattle.std.specs.Prelude.{◌≡◌, ◌<◌, ◌≤◌, ◌^◌, ◌↔◌, unsigned_abs, [], Some, true, false, length, slice_get, IsTrue, IfOk, OnOk, OnErr, IfSome, IsNone};
+ghost use Rattle.std.specs.Prelude.{◌≡◌, ◌<◌, ◌≤◌, ◌^◌, ◌↔◌, unsigned_abs, [], Some, true, false, length, map, slice_get, IsTrue, IfOk, OnOk, OnErr, IfSome, IsNone};
 ghost use Rattle.kin_motion.specs.Changes.{moved_pairs};
 ghost use Rattle.kin_motion.specs.Kinetics.{ListsFailing, HasChanged};
 ghost use Rattle.kin_motion.specs.Numbers.{is_in};
+ghost use Rattle.kin_motion.specs.Parts.{moved_by};
 ghost use Rattle.kin_motion.specs.Scene.{Scene, IsReal};
 ghost use Rattle.kin_list.specs.declared.mark.Mark.TheVariants.{Rest, Enters, Leaves, Broken};
 ghost use Rattle.kin_list.specs.Listing.{IsAtRest, IsReadyListing, IsSettledListing, AreFewTests, names_leaving, staying, lasting};
@@ -116,6 +117,39 @@ impl KinList {
         self.lineup.swaps.clear();
     }
 
+    /// `settle` as a part of a structure: the change is told as that of the facts in this part.
+    pub fn settle_in<O: Signs, L: Ledger>(
+        &mut self,
+        part: u32,
+        now: &O,
+        failed: &[Placed],
+        out: &mut Delta,
+        steps: &mut Steps<L>,
+    ) -> Result<(), NoMemory>
+        requires real { IsReal (O.scene now.now) }
+        requires ready { IsReadyListing self.old (O.scene now.now) }
+        requires failing { ListsFailing self.old.facts (names_leaving self.old.mark) (O.scene now.now) failed.now }
+        ensures rest { OnOk result (IsAtRest self.new) }
+        ensures settled { OnOk result (IsSettledListing self.new (O.scene now.now)) }
+        ensures delta { OnOk result (HasChanged (map (moved_by part) self.old.facts) (map (moved_by part) self.new.facts) out.old out.new) }
+        ensures broken { OnErr result (self.new.mark ≡ Broken) }
+
+        // The exchanges lead from the old order to the new one, one for each moved pair.
+        ensures exchanges { OnOk result (exchanged self.new.swaps (staying self.old.mark self.old.items) ≡ lasting self.old.mark self.new.items) }
+        ensures moved { OnOk result (length self.new.swaps ≡ moved_pairs self.old.items self.new.items) }
+
+        // The tests, and what stays.
+        ensures tests { OnOk result (AreFewTests self.old.mark self.old.items self.new.items out.old out.new steps.old steps.new) }
+        ensures same { OnOk result ((self.new.dx ≡ self.old.dx) × (self.new.dy ≡ self.old.dy) × (self.new.room ≡ self.old.room)) }
+    {
+        let mark = self.mark;
+        self.mark = Mark::Broken;
+        self.lineup.arrange(mark, self.along, failed, now, steps)?;
+        report(&self.lineup, part, self.along, &mut self.links, out)?;
+        self.mark = Mark::Rest;
+        Ok(())
+    }
+
     /// The places of the exchanges of the last `settle`, in their order.
     pub fn swaps(&self) -> &[u32]
         ensures { result.now ≡ self.now.swaps }
@@ -180,12 +214,7 @@ impl Kinetic for KinList {
         ensures tests { OnOk result (AreFewTests self.old.mark self.old.items self.new.items out.old out.new steps.old steps.new) }
         ensures same { OnOk result ((self.new.dx ≡ self.old.dx) × (self.new.dy ≡ self.old.dy) × (self.new.room ≡ self.old.room)) }
     {
-        let mark = self.mark;
-        self.mark = Mark::Broken;
-        self.lineup.arrange(mark, self.along, failed, now, steps)?;
-        report(&self.lineup, self.along, &mut self.links, out)?;
-        self.mark = Mark::Rest;
-        Ok(())
+        self.settle_in(0, now, failed, out, steps)
     }
 }
 

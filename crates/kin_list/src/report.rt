@@ -2,11 +2,11 @@
 
 ghost use Rattle.std.specs.Prelude.{◌≡◌, ℕ, ◌+◌, ◌<◌, ◌≤◌, List, Option, Some, None, true, false, length, slice_get, slice_set, vec_len, vec_capacity, OnOk};
 ghost use Rattle.kin_motion.specs.declared.fact.Placed.{Placed as Put};
-ghost use Rattle.kin_motion.specs.Kinetics.{HasChanged};
 ghost use Rattle.kin_motion.specs.Numbers.{is_in};
 ghost use Rattle.kin_list.specs.declared.link.Link.{Link as LinkValue};
 ghost use Rattle.kin_algebra.specs.declared.sign.Sign.{Sign as Signum};
 ghost use Rattle.kin_list.specs.Links.{linked, link_for, facts_from, IsTold};
+ghost use Rattle.kin_list.specs.Telling.{IsToldIn};
 
 use crate::direction::Direction;
 use crate::lineup::Lineup;
@@ -33,6 +33,7 @@ fn right_of(row: &Row, no: u32) -> Option<u32>
 /// Links a number to this one with this sign. Where it wasn't linked so, the change is told.
 fn link_to(
     told: &mut Option<Link>,
+    part: u32,
     along: Direction,
     no: u32,
     right: u32,
@@ -43,7 +44,7 @@ fn link_to(
     requires dropped_room { vec_len dropped.old < vec_capacity dropped.old }
     requires born_room { vec_len born.old < vec_capacity born.old }
     ensures told { told.new ≡ Some (record { right = right; sign = sign }) }
-    ensures tells { IsTold along.dx along.dy no told.old (Some (record { right = right; sign = sign })) dropped.old.items born.old.items dropped.new.items born.new.items }
+    ensures tells { IsTold part along.dx along.dy no told.old (Some (record { right = right; sign = sign })) dropped.old.items born.old.items dropped.new.items born.new.items }
     ensures dropped_fits { (vec_len dropped.new ≤ vec_len dropped.old + 1) × (vec_capacity dropped.new ≡ vec_capacity dropped.old) }
     ensures born_fits { (vec_len born.new ≤ vec_len born.old + 1) × (vec_capacity born.new ≡ vec_capacity born.old) }
 {
@@ -51,21 +52,21 @@ fn link_to(
         if old.right == right && old.sign == sign {
             return;
         }
-        dropped.push_reserved(along.fact(no, old.right, old.sign));
+        dropped.push_reserved(along.fact(part, no, old.right, old.sign));
     }
-    born.push_reserved(along.fact(no, right, sign));
+    born.push_reserved(along.fact(part, no, right, sign));
     *told = Some(Link { right, sign });
 }
 
 /// Takes a number's link away, and tells it where there was one.
-fn unlink(told: &mut Option<Link>, along: Direction, no: u32, dropped: &mut Vec<Placed>)
+fn unlink(told: &mut Option<Link>, part: u32, along: Direction, no: u32, dropped: &mut Vec<Placed>)
     requires dropped_room { vec_len dropped.old < vec_capacity dropped.old }
     ensures told { told.new ≡ None }
-    ensures tells { (born : List Put) → IsTold along.dx along.dy no told.old None dropped.old.items born dropped.new.items born }
+    ensures tells { (born : List Put) → IsTold part along.dx along.dy no told.old None dropped.old.items born dropped.new.items born }
     ensures dropped_fits { (vec_len dropped.new ≤ vec_len dropped.old + 1) × (vec_capacity dropped.new ≡ vec_capacity dropped.old) }
 {
     if let Some(link) = told {
-        dropped.push_reserved(along.fact(no, link.right, link.sign));
+        dropped.push_reserved(along.fact(part, no, link.right, link.sign));
         *told = None;
     }
 }
@@ -74,6 +75,7 @@ fn unlink(told: &mut Option<Link>, along: Direction, no: u32, dropped: &mut Vec<
 fn renew(
     links: &mut Vec<Option<Link>>,
     lineup: &Lineup,
+    part: u32,
     along: Direction,
     no: u32,
     dropped: &mut Vec<Placed>,
@@ -85,7 +87,7 @@ fn renew(
     ensures length { length links.new.items ≡ length links.old.items }
     ensures links { links.new.items ≡ slice_set links.old.items no (link_for lineup.now.row.items lineup.now.signs.items no) }
     ensures past { length links.old.items ≤ no → (dropped.new.items ≡ dropped.old.items) × (born.new.items ≡ born.old.items) }
-    ensures tells { (old : Option LinkValue) → slice_get links.old.items no ≡ Some old → IsTold along.dx along.dy no old (link_for lineup.now.row.items lineup.now.signs.items no) dropped.old.items born.old.items dropped.new.items born.new.items }
+    ensures tells { (old : Option LinkValue) → slice_get links.old.items no ≡ Some old → IsTold part along.dx along.dy no old (link_for lineup.now.row.items lineup.now.signs.items no) dropped.old.items born.old.items dropped.new.items born.new.items }
     ensures dropped_fits { (vec_len dropped.new ≤ vec_len dropped.old + 1) × (vec_capacity dropped.new ≡ vec_capacity dropped.old) }
     ensures born_fits { (vec_len born.new ≤ vec_len born.old + 1) × (vec_capacity born.new ≡ vec_capacity born.old) }
 {
@@ -95,15 +97,25 @@ fn renew(
     }
     let told = &mut links[place];
     match right_of(&lineup.row, no) {
-        Some(right) => link_to(told, along, no, right, lineup.signs[place], dropped, born),
-        None => unlink(told, along, no, dropped),
+        Some(right) => link_to(
+            told,
+            part,
+            along,
+            no,
+            right,
+            lineup.signs[place],
+            dropped,
+            born,
+        ),
+        None => unlink(told, part, along, no, dropped),
     }
 }
 
 /// Brings the links of the touched numbers up to date. There is room for what the facts may lose and
-/// gain before any of it is told.
+/// gain before any of it is told, in a part.
 fn renew_touched(
     lineup: &Lineup,
+    part: u32,
     along: Direction,
     links: &mut Vec<Option<Link>>,
     dropped: &mut Vec<Placed>,
@@ -113,20 +125,21 @@ fn renew_touched(
     ensures length { length links.new.items ≡ length links.old.items }
     ensures touched { OnOk result ((i : ℕ) → i < length links.old.items → is_in i lineup.now.touched.items ≡ true → slice_get links.new.items i ≡ Some (link_for lineup.now.row.items lineup.now.signs.items i)) }
     ensures others { OnOk result ((i : ℕ) → is_in i lineup.now.touched.items ≡ false → slice_get links.new.items i ≡ slice_get links.old.items i) }
-    ensures changed { OnOk result (HasChanged (facts_from along.dx along.dy 0 links.old.items) (facts_from along.dx along.dy 0 links.new.items) (record { dropped = dropped.old.items; born = born.old.items }) (record { dropped = dropped.new.items; born = born.new.items })) }
+    ensures told { OnOk result (IsToldIn part (facts_from along.dx along.dy 0 links.old.items) (facts_from along.dx along.dy 0 links.new.items) (record { dropped = dropped.old.items; born = born.old.items }) (record { dropped = dropped.new.items; born = born.new.items })) }
 {
     dropped.reserve(lineup.touched.len())?;
     born.reserve(lineup.touched.len())?;
     for no in &lineup.touched {
-        renew(links, lineup, along, *no, dropped, born);
+        renew(links, lineup, part, along, *no, dropped, born);
     }
     Ok(())
 }
 
 /// Brings the links of the touched numbers up to date. What the facts have lost and gained is told
-/// once.
+/// once, in a part.
 pub fn report(
     lineup: &Lineup,
+    part: u32,
     along: Direction,
     links: &mut Vec<Option<Link>>,
     out: &mut Delta,
@@ -135,8 +148,8 @@ pub fn report(
     ensures length { length links.new.items ≡ length links.old.items }
     ensures touched { OnOk result ((i : ℕ) → i < length links.old.items → is_in i lineup.now.touched.items ≡ true → slice_get links.new.items i ≡ Some (link_for lineup.now.row.items lineup.now.signs.items i)) }
     ensures others { OnOk result ((i : ℕ) → is_in i lineup.now.touched.items ≡ false → slice_get links.new.items i ≡ slice_get links.old.items i) }
-    ensures changed { OnOk result (HasChanged (facts_from along.dx along.dy 0 links.old.items) (facts_from along.dx along.dy 0 links.new.items) out.old out.new) }
+    ensures told { OnOk result (IsToldIn part (facts_from along.dx along.dy 0 links.old.items) (facts_from along.dx along.dy 0 links.new.items) out.old out.new) }
 {
-    renew_touched(lineup, along, links, &mut out.dropped, &mut out.born)?;
+    renew_touched(lineup, part, along, links, &mut out.dropped, &mut out.born)?;
     Ok(())
 }

@@ -1,16 +1,13 @@
 -- The failed facts of a part are those that its list is told, and its report is that of its part.
-use Rattle.std.proofs.Common.{◌≡◌, refl, sym, ap, ◌∙◌, subst, arith, List, [], ◌∷◌, ◌++◌, ℕ, ◌+◌, Bool, true, false, cond, nat_eq, length, map, filter, take, drop}
+use Rattle.std.proofs.Common.{◌≡◌, refl, sym, ap, ◌∙◌, subst, arith, List, [], ◌∷◌, ℕ, ◌+◌, Bool, true, false, cond, nat_eq, length, map, filter}
 use Rattle.std.proofs.lemmas.Bool.{eqb-true}
 use Rattle.std.proofs.lemmas.Bool.Decides.{nat_tests}
-use Rattle.kin_basics.proofs.Members.{contains_head, contains_tail}
 use Rattle.kin_motion.specs.declared.fact.Placed.{Placed}
-use Rattle.kin_motion.specs.Deltas.{Change}
-use Rattle.kin_motion.specs.Kinetics.{ListsFailing, HasChanged}
+use Rattle.kin_motion.specs.Kinetics.{ListsFailing}
 use Rattle.kin_motion.specs.Parts.{moved_by}
 use Rattle.kin_motion.specs.Scene.{Scene}
-use Rattle.kin_motion.proofs.Gains.{gained_behind, mapped_report}
 use Rattle.kin_motion.proofs.ClosestFactLaws.{part_of_order}
-use Rattle.kin_motion.proofs.PartLaws.{moved_one, moved_facts_fail}
+use Rattle.kin_motion.proofs.PartLaws.{moved_facts_fail}
 use Rattle.kin_list.specs.declared.mark.Mark.{Mark}
 use Rattle.kin_list.specs.declared.mark.Mark.TheVariants.{Rest, Enters, Leaves, Broken}
 use Rattle.kin_list.specs.Listing.{Listing, IsSettledListing, names_leaving, staying, lasting}
@@ -53,22 +50,6 @@ failing_told part mark facts failed picked s e h =
 -- the facts of a settled list are in part 0
 pub nought_settled : (l : Listing) (s : Scene) → IsSettledListing l s → AreAtNought l.facts
 nought_settled l s h = λ p c. part_of_order s l.dx l.dy 0 p ((h.exact.each p).0 c)
-
-same_move : (part : ℕ) (xs : List Placed) → AreAtNought xs → map (in_part part) xs ≡ map (moved_by part) xs
-same_move part [] h = refl
-same_move part (x ∷ xs) h =
-    let z = h x (contains_head x xs) in
-    let e : part ≡ part + x.part = omega (arith, z) in
-    let rest = same_move part xs (λ p c. h p (contains_tail x p xs c)) in
-    λ t. record { part = e t; fact = x.fact } ∷ rest t
-
-pub report_moved : (part n m : ℕ) (old new : List Placed) (out mid out' : Change) → AreAtNought old → AreAtNought new → n ≡ length out.dropped → m ≡ length out.born → HasChanged old new out mid
-    → out'.dropped ≡ take n mid.dropped ++ map (in_part part) (drop n mid.dropped) → out'.born ≡ take m mid.born ++ map (in_part part) (drop m mid.born)
-    → HasChanged (map (moved_by part) old) (map (moved_by part) new) out out'
-report_moved part n m old new out mid out' old_nought new_nought dropped born h d b =
-    mapped_report (moved_by part) (moved_one part) old new out mid out' n m dropped born h
-    (d ∙ ap (λ (l : List Placed). take n mid.dropped ++ l) (same_move part (drop n mid.dropped) (λ p c. old_nought p (gained_behind n out.dropped mid.dropped _ dropped h.dropped p c).0)))
-    (b ∙ ap (λ (l : List Placed). take m mid.born ++ l) (same_move part (drop m mid.born) (λ p c. new_nought p (gained_behind m out.born mid.born _ born h.born p c).0)))
 
 pub none_told : (facts : List Placed) → nat_eq (length facts) 0 ≡ true → facts ≡ []
 none_told [] e = refl

@@ -1,7 +1,7 @@
 -- What one list is told, and what it reports.
-use Rattle.std.proofs.Common.{◌≡◌, ◌≢◌, ◌⊎◌, inl, inr, refl, sym, ap, ap₂, ◌∙◌, arith, List, [], ◌∷◌, ◌++◌, ℕ, zero, suc, ◌+◌, ◌<◌, ◌≤◌, Bool, true, false, cond, length, map, filter, take, drop, set, get_or, append_assoc, add-one}
+use Rattle.std.proofs.Common.{◌≡◌, ◌≢◌, ◌⊎◌, inl, inr, refl, sym, ap, ◌∙◌, arith, List, [], ◌∷◌, ◌++◌, ℕ, zero, suc, ◌+◌, ◌<◌, ◌≤◌, Bool, true, false, cond, length, map, filter, take, drop, set, get_or, append_assoc}
 use Rattle.std.proofs.lemmas.Bool.{cases_eq, cases_lt}
-use Rattle.std.proofs.lemmas.List.{drop_more, drop_all, take_all, append-nil, length-set, get_or-set_same, get_or-set_other}
+use Rattle.std.proofs.lemmas.List.{drop_more, drop_all, append-nil, length-set, get_or-set_same, get_or-set_other}
 use Rattle.kin_motion.specs.declared.fact.Placed.{Placed}
 use Rattle.kin_wedge.specs.Parts.{in_part, is_of_part, told_to}
 
@@ -71,29 +71,8 @@ module _ (failed : List Placed) (first : List (List Placed)) where
   pub sorted_all : (now : List (List Placed)) (i part : ℕ) → length failed ≤ i → AreSorted failed first now i → part < length first → told_to now part ≡ map (in_part 0) (filter (is_of_part part) failed)
   sorted_all now i part l a h = picked_all (in_part 0) (is_of_part part) failed (told_to now part) (map (in_part 0) (filter (is_of_part part) failed)) i l (a.told part h)
 
--- the facts up to a place are as they are wanted, and those from there on are still to be moved
-pub record AreMoved (part from : ℕ) (first now : List Placed) (k : ℕ) : Type 0 where
-  pub count : length now ≡ length first
-  pub rest : take k now ++ map (in_part part) (drop k now) ≡ take from first ++ map (in_part part) (drop from first)
-
+-- one fact more is moved
 pub moved_here : (f : Placed → Placed) (xs : List Placed) (k : ℕ) (d : Placed) → k < length xs → take (suc k) (set xs k (f (get_or xs k d))) ++ map f (drop (suc k) (set xs k (f (get_or xs k d)))) ≡ take k xs ++ map f (drop k xs)
 moved_here f [] k d l = absurd (omega (arith, l))
 moved_here f (x ∷ xs) zero d l = refl
 moved_here f (x ∷ xs) (suc k) d l = ap (λ (v : List Placed). x ∷ v) (moved_here f xs k d (omega (arith, l)))
-
-module _ (part from : ℕ) (first : List Placed) where
-  pub moved_none : AreMoved part from first first from
-  moved_none = record { count = refl; rest = refl }
-
-  pub moved_more : (now : List Placed) (k : ℕ) (d fact : Placed) → k < length now → AreMoved part from first now k → fact ≡ in_part part (get_or now k d) → AreMoved part from first (set now k fact) (k + 1)
-  moved_more now k d fact l a e = record {
-    count = length-set now k fact ∙ a.count;
-    rest = ap (λ (x : Placed). take (k + 1) (set now k x) ++ map (in_part part) (drop (k + 1) (set now k x))) e
-        ∙ ap (λ (n : ℕ). take n (set now k (in_part part (get_or now k d))) ++ map (in_part part) (drop n (set now k (in_part part (get_or now k d))))) (add-one k)
-        ∙ moved_here (in_part part) now k d l ∙ a.rest;
-  }
-
-  pub moved_all : (now : List Placed) (k : ℕ) → length first ≤ k → AreMoved part from first now k → now ≡ take from first ++ map (in_part part) (drop from first)
-  moved_all now k l a =
-      let c = a.count in
-      sym (ap₂ (λ (u v : List Placed). u ++ map (in_part part) v) (take_all k now (omega (arith, l, c))) (drop_all k now (omega (arith, l, c))) ∙ append-nil now) ∙ a.rest

@@ -3,11 +3,11 @@ use Rattle.std.specs.Prelude.{slice_get}
 use Rattle.std.proofs.lemmas.Option.{slice_get-get_or, slice_get_within}
 use Rattle.kin_motion.specs.declared.fact.Placed.{Placed}
 use Rattle.kin_motion.specs.Deltas.{Change}
-use Rattle.kin_motion.specs.Kinetics.{HasChanged}
-use Rattle.kin_motion.proofs.ChangeLaws.{nothing_changed}
 use Rattle.kin_list.specs.Links.{link_for, facts_from}
+use Rattle.kin_list.specs.Telling.{IsToldIn}
 use Rattle.kin_list.proofs.ReportLaws.{renewed, renewed_each, renewed_done, renewed_others}
 use Rattle.kin_list.proofs.RowLaws.{get_from_is_in}
+use Rattle.kin_list.proofs.TellingLaws.{told_none}
 use Rattle.kin_list.proofs.report.renew_touched.Goals as goal
 
 -- the change is made of both lists
@@ -20,10 +20,10 @@ loop-no-init c = record {
   each = λ i. inl refl;
   done = λ k i l. absurd (omega arith);
   others = λ i out. refl;
-  changed =
+  told =
       let facts = facts_from c.args.along.dx c.args.along.dy 0 c.args.links.now.items in
       let start : Change = record { dropped = c.args.dropped.now.items; born = c.args.born.now.items } in
-      subst (λ (now : Change). HasChanged facts facts start now) (sym (both c.args.dropped.now.items c.reserve.new.self.items c.args.born.now.items c.reserve-2.new.self.items (c.in_ok-reserve.ensures.items, c.in_ok-reserve-2.ensures.items))) (nothing_changed facts start);
+      subst (λ (now : Change). IsToldIn c.args.part facts facts start now) (sym (both c.args.dropped.now.items c.reserve.new.self.items c.args.born.now.items c.reserve-2.new.self.items (c.in_ok-reserve.ensures.items, c.in_ok-reserve-2.ensures.items))) (told_none c.args.part facts start);
   dropped_room = let ok = c.in_ok-reserve.ensures.ok in let len = c.len.ensures in let same = c.args.lineup.now.touched.ok.0 in omega (arith, ok, len, same);
   born_room = let ok = c.in_ok-reserve-2.ensures.ok in let len = c.len-2.ensures in let same = c.args.lineup.now.touched.ok.0 in omega (arith, ok, len, same);
 }
@@ -43,12 +43,12 @@ loop-no-preserved c =
       each = renewed_each c.args.along.dx c.args.along.dy first now c.renew.new.links.items no (target no) c.renew.ensures.links target refl c.loop-no.invariant.each;
       done = renewed_done c.args.along.dx c.args.along.dy first now c.renew.new.links.items no (target no) c.renew.ensures.links target c.args.lineup.now.touched.items c.loop-no.no-index refl at c.loop-no.invariant.same_length c.loop-no.invariant.done;
       others = renewed_others c.args.along.dx c.args.along.dy first now c.renew.new.links.items no (target no) c.renew.ensures.links c.args.lineup.now.touched.items c.loop-no.no-index at c.loop-no.invariant.others;
-      changed = renewed c.args.along.dx c.args.along.dy first now c.renew.new.links.items no (target no) c.renew.ensures.links (record { dropped = c.args.dropped.now.items; born = c.args.born.now.items }) (record { dropped = c.loop-no.dropped.items; born = c.loop-no.born.items }) (record { dropped = c.renew.new.dropped.items; born = c.renew.new.born.items })
+      told = renewed c.args.along.dx c.args.along.dy first now c.renew.new.links.items no (target no) c.renew.ensures.links c.args.part (record { dropped = c.args.dropped.now.items; born = c.args.born.now.items }) (record { dropped = c.loop-no.dropped.items; born = c.loop-no.born.items }) (record { dropped = c.renew.new.dropped.items; born = c.renew.new.born.items })
           (c.loop-no.invariant.each no)
           (λ l. both c.loop-no.dropped.items c.renew.new.dropped.items c.loop-no.born.items c.renew.new.born.items (c.renew.ensures.past l))
           (λ h. both c.loop-no.dropped.items c.renew.new.dropped.items c.loop-no.born.items c.renew.new.born.items ((c.renew.ensures.tells (target no) h).same refl))
           (λ old h n. both _ c.renew.new.dropped.items _ c.renew.new.born.items ((c.renew.ensures.tells old h).changed n))
-          c.loop-no.invariant.changed;
+          c.loop-no.invariant.told;
       dropped_room = let fits = c.renew.ensures.dropped_fits in let room = c.loop-no.invariant.dropped_room in omega (arith, fits.0, fits.1, room);
       born_room = let fits = c.renew.ensures.born_fits in let room = c.loop-no.invariant.born_room in omega (arith, fits.0, fits.1, room);
     }

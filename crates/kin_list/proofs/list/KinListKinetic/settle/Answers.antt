@@ -1,44 +1,14 @@
-use Rattle.std.proofs.Common.{◌≡◌, sym, ◌∙◌, subst, length, rules}
-use Rattle.kin_motion.specs.Changes.{moved_pairs}
-use Rattle.kin_motion.specs.Kinetics.{ListsFailing}
-use Rattle.kin_motion.proofs.RealLaws.{real_line_laws}
-use Rattle.kin_list.specs.Links.{facts_from}
-use Rattle.kin_list.specs.Listing.{Listing, IsReadyMark, IsReadyListing, names_leaving, staying, lasting, AreFewTests}
-use Rattle.kin_list.specs.Rows.{exchanged}
-use Rattle.kin_list.proofs.WholeLaws.{held_when_ready, whole_settle}
+use Rattle.std.proofs.Common.{subst, List, map}
+use Rattle.kin_basics.proofs.Results.{for_ok, at_ok}
+use Rattle.kin_motion.specs.declared.fact.Placed.{Placed}
+use Rattle.kin_motion.specs.Kinetics.{HasChanged}
+use Rattle.kin_motion.specs.Parts.{moved_by}
+use Rattle.kin_list.proofs.TellingLaws.{moved_nowhere}
 use Rattle.kin_list.proofs.list.KinListKinetic.settle.Goals as goal
 
-pub invariant_of-self-2 : goal.invariant_of-self-2
-invariant_of-self-2 g c =
-    let s = g.O.Signs.scene c.args.now.now in
-    let k = c.self.inside in
-    let ready : IsReadyMark k.mark k.lineup.row.items s = subst (λ l. IsReadyListing l s) (sym c.self.view_is) c.requires.ready in
-    let failing : ListsFailing (facts_from k.along.dx k.along.dy 0 k.links.items) (names_leaving k.mark) s c.args.failed.now = subst (λ (l : Listing). ListsFailing l.facts (names_leaving l.mark) s c.args.failed.now) (sym c.self.view_is) c.requires.failing in
-    let held = held_when_ready k.mark k.links.items k.lineup.row.items k.lineup.signs.items s ready c.self.invariant.held in
-    let arranged = c.in_ok-arrange.ensures.arranged k.links.items held failing in
-    let fits = c.self.invariant.fits ∙ sym c.in_ok-arrange.ensures.room in
-    let whole = whole_settle s (real_line_laws s c.requires.real) k.along.dx k.along.dy k.mark k.lineup.row k.links.items c.report.new.links.items c.arrange.new.self.row.items k.lineup.signs.items c.arrange.new.self.signs.items c.arrange.new.self.touched.items c.arrange.new.self.swaps.items c.args.failed.now c.args.steps.now c.arrange.new.steps c.args.out.now c.report.new.out
-    ready c.self.invariant.markable held failing arranged c.in_ok-report.ensures.length (fits ∙ sym c.arrange.new.self.fits) c.in_ok-report.ensures.touched c.in_ok-report.ensures.others in
-    record { fits = c.in_ok-report.ensures.length ∙ fits; markable = tt; held = whole.held }
-
-pub returns : goal.returns
-returns g c =
-    let s = g.O.Signs.scene c.args.now.now in
-    let k = c.self.inside in
-    let ready : IsReadyMark k.mark k.lineup.row.items s = subst (λ l. IsReadyListing l s) (sym c.self.view_is) c.requires.ready in
-    let failing : ListsFailing (facts_from k.along.dx k.along.dy 0 k.links.items) (names_leaving k.mark) s c.args.failed.now = subst (λ (l : Listing). ListsFailing l.facts (names_leaving l.mark) s c.args.failed.now) (sym c.self.view_is) c.requires.failing in
-    let held = held_when_ready k.mark k.links.items k.lineup.row.items k.lineup.signs.items s ready c.self.invariant.held in
-    let arranged = c.in_ok-arrange.ensures.arranged k.links.items held failing in
-    let fits = c.self.invariant.fits ∙ sym c.in_ok-arrange.ensures.room in
-    let whole = whole_settle s (real_line_laws s c.requires.real) k.along.dx k.along.dy k.mark k.lineup.row k.links.items c.report.new.links.items c.arrange.new.self.row.items k.lineup.signs.items c.arrange.new.self.signs.items c.arrange.new.self.touched.items c.arrange.new.self.swaps.items c.args.failed.now c.args.steps.now c.arrange.new.steps c.args.out.now c.report.new.out
-    ready c.self.invariant.markable held failing arranged c.in_ok-report.ensures.length (fits ∙ sym c.arrange.new.self.fits) c.in_ok-report.ensures.touched c.in_ok-report.ensures.others in
-    record {
-      rest = search rules;
-      settled = whole.settled;
-      delta = search rules;
-      broken = tt;
-      exchanges = subst (λ (l : Listing). exchanged c.arrange.new.self.swaps.items (staying l.mark l.items) ≡ lasting l.mark c.arrange.new.self.row.items) c.self.view_is arranged.exchanges;
-      moved = subst (λ (l : Listing). length c.arrange.new.self.swaps.items ≡ moved_pairs l.items c.arrange.new.self.row.items) c.self.view_is arranged.moved;
-      tests = subst (λ (l : Listing). AreFewTests l.mark l.items c.arrange.new.self.row.items c.args.out.now c.report.new.out c.args.steps.now c.arrange.new.steps) c.self.view_is (whole.tests c.in_ok-report.ensures.changed);
-      same = search rules;
-    }
+pub returns-clause-delta : goal.returns-clause-delta
+returns-clause-delta g c = for_ok c.settle_in.result _ (λ v e.
+    let old = c.args.self.now.facts in
+    let new = c.settle_in.new.self.facts in
+    subst (λ (fs : List Placed). HasChanged fs new c.args.out.now c.settle_in.new.out) (moved_nowhere old)
+    (subst (λ (fs : List Placed). HasChanged (map (moved_by 0) old) fs c.args.out.now c.settle_in.new.out) (moved_nowhere new) (at_ok c.settle_in.result _ v e c.settle_in.ensures.delta)))

@@ -55,7 +55,6 @@ settle_list-requires g c =
     record {
       real = c.requires.real;
       ready = still_ready first still stood s c.requires.ready c.loop-part.part l there;
-      nought = still_nought first still stood c.requires.nought c.loop-part.part l there;
       failing = failing_in first still stood s c.args.mark c.args.failed.now c.requires.real c.requires.nought c.requires.marked c.requires.ready c.requires.failing c.loop-part.part l c.told.result.now there
           (c.told.ensures ∙ ap (λ (boxes : List (List Placed)). told_to boxes c.loop-part.part) a.mail ∙ c.in_ok-sort.ensures.told c.loop-part.part (omega (arith, h, end, boxes)));
     }
