@@ -2,9 +2,12 @@
 use Rattle.std.specs.Prelude.{◌≡◌, ℕ, ◌<◌, true, false, List, [], Option, length}
 use Rattle.kin_algebra.specs.declared.sign.Sign.{Sign}
 use Rattle.kin_motion.specs.Numbers.{is_in}
+use Rattle.kin_motion.specs.declared.fact.Placed.{Placed}
+use Rattle.kin_list.specs.declared.direction.Direction.{Direction}
 use Rattle.kin_list.specs.declared.link.Link.{Link}
 use Rattle.kin_list.specs.declared.mark.Mark.{Mark}
 use Rattle.kin_list.specs.declared.mark.Mark.TheVariants.{Rest, Enters, Leaves, Broken}
+use Rattle.kin_list.specs.Links.{AreKept}
 use Rattle.kin_list.specs.Repairs.{IsHeld}
 use Rattle.kin_list.specs.Rows.{Row}
 
@@ -22,7 +25,9 @@ IsHeldIf (Enters i) links items signs = IsHeld links items signs [] []
 IsHeldIf (Leaves i) links items signs = IsHeld links items signs [] []
 IsHeldIf Broken links items signs = Unit {0}
 
-pub record IsSound (mark : Mark) (row : Row) (signs : List Sign) (links : List (Option Link)) : Type 0 where
+pub record IsSound (along : Direction) (mark : Mark) (row : Row) (signs : List Sign) (links : List (Option Link)) (facts : List Placed) : Type 0 where
   pub fits : length links ≡ row.room
   pub markable : IsMarkable mark row
   pub held : IsHeldIf mark links row.items signs
+  pub kept : AreKept along.dx along.dy links facts
+  pub matched : length facts ≡ length links

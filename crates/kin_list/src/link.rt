@@ -1,7 +1,9 @@
 //! The link of a number to its right neighbour.
 
-ghost use Rattle.std.specs.Prelude.{◌≡◌, None, replicate, IfOk};
+ghost use Rattle.std.specs.Prelude.{◌≡◌, None, length, replicate, IfOk};
 
+use crate::direction::Direction;
+use kin_motion::fact::Placed;
 use kin_num::Sign;
 use std::alloc::{AllocError, Global};
 
@@ -18,4 +20,11 @@ pub fn no_links(alloc: Global, room: usize) -> Result<Vec<Option<Link>>, AllocEr
     ensures { IfOk result (λ links. links.items ≡ replicate room None) }
 {
     Vec::from_elem(alloc, None, room)
+}
+
+/// A fact for each number below `room`. None of them counts.
+pub fn no_facts(alloc: Global, along: Direction, room: usize) -> Result<Vec<Placed>, AllocError>
+    ensures { IfOk result (λ facts. length facts.items ≡ room) }
+{
+    Vec::from_elem(alloc, along.fact(0, 0, 0, Sign::Zero), room)
 }

@@ -12,7 +12,7 @@ ghost use Rattle.kin_list.specs.Rows.{exchanged};
 
 use crate::direction::Direction;
 use crate::lineup::Lineup;
-use crate::link::{Link, no_links};
+use crate::link::{Link, no_facts, no_links};
 use crate::mark::Mark;
 use crate::report::report;
 use kin_motion::fact::{Delta, Placed};
@@ -31,6 +31,8 @@ pub struct KinList {
     lineup: Lineup,
     /// By number: the live fact whose left number it is.
     links: Vec<Option<Link>>,
+    /// By number: that fact as it was told, so that it is told again by a copy.
+    facts: Vec<Placed>,
     mark: Mark,
 }
 
@@ -43,7 +45,7 @@ impl Model for KinList {
 
     ghost view = { λ k. record { dx = k.along.dx; dy = k.along.dy; room = k.lineup.row.room; items = k.lineup.row.items; facts = facts_from k.along.dx k.along.dy 0 k.links.items; swaps = k.lineup.swaps.items; mark = k.mark } };
 
-    ghost invariant = { λ k. IsSound k.mark k.lineup.row k.lineup.signs.items k.links.items };
+    ghost invariant = { λ k. IsSound k.along k.mark k.lineup.row k.lineup.signs.items k.links.items k.facts.items };
 }
 
 /// How many numbers have this size.
@@ -68,10 +70,12 @@ impl KinList {
         let room = room_for(size);
         let lineup = Lineup::new(alloc, room)?;
         let links = no_links(alloc, room)?;
+        let facts = no_facts(alloc, along, room)?;
         Ok(KinList {
             along,
             lineup,
             links,
+            facts,
             mark: Mark::Rest,
         })
     }
@@ -145,7 +149,14 @@ impl KinList {
         let mark = self.mark;
         self.mark = Mark::Broken;
         self.lineup.arrange(mark, self.along, failed, now, steps)?;
-        report(&self.lineup, part, self.along, &mut self.links, out)?;
+        report(
+            &self.lineup,
+            part,
+            self.along,
+            &mut self.links,
+            &mut self.facts,
+            out,
+        )?;
         self.mark = Mark::Rest;
         Ok(())
     }

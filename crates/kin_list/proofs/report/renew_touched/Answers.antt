@@ -17,6 +17,8 @@ both ds ds' bs bs' e = ap₂ (λ (d b : List Placed). record { dropped = d; born
 pub loop-no-init : goal.loop-no-init
 loop-no-init c = record {
   same_length = refl;
+  matched = c.requires.matched;
+  kept = c.requires.kept;
   each = λ i. inl refl;
   done = λ k i l. absurd (omega arith);
   others = λ i out. refl;
@@ -40,6 +42,8 @@ loop-no-preserved c =
     let target = link_for c.args.lineup.now.row.items c.args.lineup.now.signs.items in
     record {
       same_length = c.renew.ensures.length ∙ c.loop-no.invariant.same_length;
+      matched = c.renew.ensures.matched;
+      kept = c.renew.ensures.kept;
       each = renewed_each c.args.along.dx c.args.along.dy first now c.renew.new.links.items no (target no) c.renew.ensures.links target refl c.loop-no.invariant.each;
       done = renewed_done c.args.along.dx c.args.along.dy first now c.renew.new.links.items no (target no) c.renew.ensures.links target c.args.lineup.now.touched.items c.loop-no.no-index refl at c.loop-no.invariant.same_length c.loop-no.invariant.done;
       others = renewed_others c.args.along.dx c.args.along.dy first now c.renew.new.links.items no (target no) c.renew.ensures.links c.args.lineup.now.touched.items c.loop-no.no-index at c.loop-no.invariant.others;

@@ -4,7 +4,7 @@ use Rattle.std.proofs.lemmas.List.{length-replicate}
 use Rattle.kin_list.specs.declared.mark.Mark.TheVariants.{Rest}
 use Rattle.kin_list.specs.Repairs.{IsHeld}
 use Rattle.kin_list.specs.Rows.{Row}
-use Rattle.kin_list.proofs.WholeLaws.{empty_held, empty_facts}
+use Rattle.kin_list.proofs.WholeLaws.{empty_held, empty_facts, none_kept}
 use Rattle.kin_list.proofs.list.KinList.new.Goals as goal
 
 pub invariant_of-result : goal.invariant_of-result
@@ -12,6 +12,8 @@ invariant_of-result c = record {
   fits = ap length c.in_ok-links.ensures ∙ length-replicate _ None ∙ sym (ap (λ (r : Row). r.room) c.in_ok-lineup.ensures.row);
   markable = tt;
   held = subst (λ (xs : List ℕ). IsHeld c.in_ok-links.links.items xs c.in_ok-lineup.lineup.signs.items [] []) (sym (ap (λ (r : Row). r.items) c.in_ok-lineup.ensures.row)) (empty_held _ c.in_ok-links.links.items c.in_ok-lineup.lineup.signs.items c.in_ok-links.ensures);
+  kept = none_kept c.new-along.result.dx c.new-along.result.dy _ c.in_ok-links.links.items c.in_ok-facts.facts.items c.in_ok-links.ensures;
+  matched = c.in_ok-facts.ensures ∙ sym (ap length c.in_ok-links.ensures ∙ length-replicate _ None);
 }
 
 pub returns : goal.returns

@@ -22,7 +22,7 @@ invariant_of-self-2 g c =
     let fits = c.self.invariant.fits ∙ sym c.in_ok-arrange.ensures.room in
     let whole = whole_settle s (real_line_laws s c.requires.real) k.along.dx k.along.dy k.mark k.lineup.row k.links.items c.report.new.links.items c.arrange.new.self.row.items k.lineup.signs.items c.arrange.new.self.signs.items c.arrange.new.self.touched.items c.arrange.new.self.swaps.items c.args.failed.now c.args.steps.now c.arrange.new.steps nothing_told c.in_ok-report.ensures.told.change
     ready c.self.invariant.markable held failing arranged c.in_ok-report.ensures.length (fits ∙ sym c.arrange.new.self.fits) c.in_ok-report.ensures.touched c.in_ok-report.ensures.others in
-    record { fits = c.in_ok-report.ensures.length ∙ fits; markable = tt; held = whole.held }
+    record { fits = c.in_ok-report.ensures.length ∙ fits; markable = tt; held = whole.held; kept = c.report.ensures.kept; matched = c.report.ensures.matched }
 
 pub returns : goal.returns
 returns g c =
