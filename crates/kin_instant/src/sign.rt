@@ -45,7 +45,27 @@ pub(crate) fn slope_sign(p: &Poly, w: &Instant) -> Sign
 }
 
 /// The sign of `p` at the moment `m`. Just after an instant it is that of the first of `p`, its slope and its
-/// curvature that isn't zero there. Counts one step.
+/// curvature that isn't zero there.
+#[inline(always)]
+fn moment_sign(p: &Poly, m: &Moment) -> Sign
+    ensures { result ≡ sign_at_moment p.now m.now }
+{
+    let value = value_sign(p, &m.at);
+    match (m.phase, value) {
+        (Phase::After, Sign::Zero) => slope_sign(p, &m.at).then(Sign::of(i128::from(p.a()))),
+        _ => value,
+    }
+}
+
+/// The same where the instant is an irrational root. It is one call, so that at a fraction nothing has to outlive one.
+#[inline(never)]
+fn moment_sign_at_root(p: &Poly, m: &Moment) -> Sign
+    ensures { result ≡ sign_at_moment p.now m.now }
+{
+    moment_sign(p, m)
+}
+
+/// The sign of `p` at the moment `m`. Counts one step.
 ///
 /// At a fraction this takes a handful of products of 64-bit numbers, and two for a line; at an irrational root about
 /// ten. No root is taken. It is made in line, so that whoever asks about a line is spared what only curves need.
@@ -55,9 +75,12 @@ pub fn sign_at<L: Ledger>(p: &Poly, m: &Moment, steps: &mut Steps<L>) -> Sign
     ensures count { steps.new ≡ steps.old + 1 }
 {
     steps.tick();
-    let value = value_sign(p, &m.at);
-    match (m.phase, value) {
-        (Phase::After, Sign::Zero) => slope_sign(p, &m.at).then(Sign::of(i128::from(p.a()))),
-        _ => value,
+    match m.at.shape() {
+        Shape::Ratio { .. } => moment_sign(p, m),
+        Shape::Root { .. } => {
+            // a copy, so that the polynomial of a line needs no place in memory
+            let p = *p;
+            moment_sign_at_root(&p, m)
+        }
     }
 }
