@@ -10,6 +10,7 @@ pub mod ListLaws
 pub mod OrderingLaws
 pub mod LinkLaws
 pub mod HeldLaws
+pub mod CoverLaws
 pub mod ArrangeLaws
 pub mod ChangeLaws
 pub mod ReportLaws

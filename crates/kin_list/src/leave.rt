@@ -1,6 +1,6 @@
 //! What comes in doubt before a repair: the gap of a number that leaves, and the failed facts.
 
-ghost use Rattle.std.specs.Prelude.{◌≡◌, ℕ, ℤ, ◌+◌, ◌<◌, ◌≤◌, ◌⊎◌, true, [], Some, length, slice_get, OnOk};
+ghost use Rattle.std.specs.Prelude.{◌≡◌, ℕ, ℤ, ◌+◌, ◌<◌, ◌≤◌, ◌^◌, ◌⊎◌, true, [], Some, length, slice_get, IfSome, OnOk};
 ghost use Rattle.kin_motion.specs.declared.form.Form.TheVariants.{Line};
 ghost use Rattle.kin_motion.specs.Numbers.{is_in};
 ghost use Rattle.kin_list.specs.Repairs.{IsTakenOut, AreCovered};
@@ -22,6 +22,23 @@ pub fn doubt_failed(row: &Row, doubts: &mut Doubts, failed: &[Placed]) -> Result
     Ok(())
 }
 
+/// The place of the left number of a line, where there is a next one.
+pub fn place_of_line(row: &Row, form: Form) -> Option<u32>
+    ensures within { IfSome result (λ p. p + 1 < length row.now.items) }
+    ensures small { IfSome result (λ p. p ≤ 2 ^ 15) }
+    ensures found { (dx dy off : ℤ) (i j p : ℕ) → form ≡ Line dx dy off i j → slice_get row.now.items p ≡ Some i → p + 1 < length row.now.items → result ≡ Some p }
+{
+    let Form::Line { i, .. } = form else {
+        return None;
+    };
+    let place = row.place_of(i)?;
+    if place as usize + 1 < row.len() {
+        Some(place)
+    } else {
+        None
+    }
+}
+
 /// Puts the place of the left number of a line in doubt.
 fn doubt_line(row: &Row, doubts: &mut Doubts, form: Form) -> Result<(), AllocError>
     ensures covered { OnOk result ((dx dy off : ℤ) (i j p : ℕ) → form ≡ Line dx dy off i j → slice_get row.now.items p ≡ Some i → p + 1 < length row.now.items → is_in p doubts.new ≡ true) }
@@ -29,11 +46,8 @@ fn doubt_line(row: &Row, doubts: &mut Doubts, form: Form) -> Result<(), AllocErr
     ensures inside { OnOk result ((q : ℕ) → is_in q doubts.new ≡ true → (is_in q doubts.old ≡ true) ⊎ (q + 1 < length row.now.items)) }
     ensures few { length doubts.new ≤ length doubts.old + 1 }
 {
-    let Form::Line { i, .. } = form else {
-        return Ok(());
-    };
-    match row.place_of(i) {
-        Some(place) => doubts.add(place as usize, row.len()),
+    match place_of_line(row, form) {
+        Some(place) => doubts.put(place as usize),
         None => Ok(()),
     }
 }
