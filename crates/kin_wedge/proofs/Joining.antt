@@ -13,8 +13,8 @@ use Rattle.kin_list.specs.Listing.{staying, lasting}
 use Rattle.kin_list.specs.Rows.{exchanged}
 use Rattle.kin_wedge.specs.declared.touch.Touch.{Touch}
 use Rattle.kin_wedge.specs.Passages.{AreAnswered, AreBeside, AreChanged, AreExchangesOffered, HasNoted, IsMarkOffered, IsPassage}
-use Rattle.kin_wedge.specs.Rows.{row_of, stands_after, is_in_wedge, IsFirstAnswer, WereExchanged}
-use Rattle.kin_wedge.specs.Touched.{offers_for, AreKnown, ComesFirst, ComesOrGoes, HasOffered, IsAnswered, IsAwaited, IsOffered, IsOnItsWay}
+use Rattle.kin_wedge.specs.Rows.{row_of, stands_after, IsFirstAnswer, WereExchanged}
+use Rattle.kin_wedge.specs.Touched.{offers_for, AreKnown, ComesFirst, HasOffered, IsBoundedAs, IsLeftOut, IsAnswered, IsAwaited, IsOffered, IsOnItsWay}
 use Rattle.kin_wedge.proofs.Exchanges.{kept_or_exchanged, order-without}
 use Rattle.kin_wedge.proofs.Places.{first_is_in, second_is_in}
 use Rattle.kin_wedge.proofs.StillThere.{HasPassed, AreOffered, awaited_first}
@@ -203,18 +203,18 @@ module _ (mark : Mark) (swaps old new : List (List ℕ)) (h : IsPassage mark swa
       left (Leaves i) g c e k = g.1 (8 * p + w) (held ∙ ap (λ (x : Option ℕ). Some x) (e ∙ ap (λ (x : ℕ). Some x) k))
       left Broken g c e k = absurd k
 
-      comes_or_goes : (q : ℕ) → ((is_in_wedge new o p q ≡ true) × ((c : ℕ) → now ≡ Some c → stands_after new o.third c q ≡ false)) ⊎ (now ≡ Some q) → ComesOrGoes new candidates o p w q
-      comes_or_goes q (inl k) = inl (k.0, λ c f. k.1 c (same_Some now (Some c) (sym held ∙ f)))
-      comes_or_goes q (inr k) = inr (held ∙ ap (λ (v : Option ℕ). Some v) k)
+      by_bounds : (q : ℕ) → WereBothExchanged o.first.part p q ⊎ WereBothExchanged o.second.part p q → ComesFirst new candidates o p w q → Contains (offers_for (8 * p + w) ts) (Some q)
+      by_bounds q (inl x) k = offer_among ts (8 * p + w) (Some q) ((exchange_offered o.first.part p q x).comes w o here (inl refl) k)
+      by_bounds q (inr x) k = offer_among ts (8 * p + w) (Some q) ((exchange_offered o.second.part p q x).comes w o here (inr refl) k)
 
-      by_bounds : (q : ℕ) → WereBothExchanged o.first.part p q ⊎ WereBothExchanged o.second.part p q → ComesOrGoes new candidates o p w q → Contains (offers_for (8 * p + w) ts) (Some q)
-      by_bounds q (inl x) k = offer_among ts (8 * p + w) (Some q) ((exchange_offered o.first.part p q x).bounded w o here (inl refl) k)
-      by_bounds q (inr x) k = offer_among ts (8 * p + w) (Some q) ((exchange_offered o.second.part p q x).bounded w o here (inr refl) k)
+      left_out : (q : ℕ) (r : Reading) → IsBoundedAs o r → stands_after new r p q ≡ false → IsLeftOut new o r.part p q
+      left_out q r bound out = record { from_end = r.from_end; bound = bound; out = out }
 
       pub are_offered : AreOffered old new passed o p now (offers_for (8 * p + w) ts)
       unfolding passed
       are_offered = record {
-        bounded = λ q x k. by_bounds q x (comes_or_goes q k);
+        comes = λ q x k first. by_bounds q x (k, λ c f. first c (same_Some now (Some c) (sym held ∙ f)));
+        goes = λ q r bound x out e. offer_among ts (8 * p + w) (Some q) ((exchange_offered r.part p q x).goes w o here (left_out q r bound out) (held ∙ ap (λ (v : Option ℕ). Some v) e));
         ranked = λ c q e x k. offer_among ts (8 * p + w) (Some q) ((exchange_offered o.third.part c q x).ranked p w o here refl (held ∙ ap (λ (v : Option ℕ). Some v) e) k);
         entered = λ q e k first. offer_among ts (8 * p + w) (Some q) (entered mark number q e (k, λ c f. first c (same_Some now (Some c) (sym held ∙ f))));
         apex = λ e. offer_among ts (8 * p + w) None (apex mark number e);

@@ -5,7 +5,7 @@ use Rattle.std.proofs.lemmas.Option.{same_Some}
 use Rattle.std.proofs.lemmas.Bool.{cases_Bool, and_parts, both_ways}
 use Rattle.kin_motion.specs.Octants.{Octant, Reading}
 use Rattle.kin_wedge.specs.Rows.{stands_after, is_in_wedge, IsFirstAnswer}
-use Rattle.kin_wedge.specs.Touched.{IsAwaited, HasPassedBy}
+use Rattle.kin_wedge.specs.Touched.{IsAwaited, IsBoundedAs, HasPassedBy}
 
 -- in the course of a settle a number stays, enters or leaves; an order of two that stay is kept, or they were exchanged in it
 pub record HasPassed (old new : List (List ℕ)) : Type 1 where
@@ -22,7 +22,8 @@ pub record HasPassed (old new : List (List ℕ)) : Type 1 where
 
 -- what is offered to the slot of p that had this candidate
 pub record AreOffered (old new : List (List ℕ)) (passed : HasPassed old new) (o : Octant) (p : ℕ) (now : Option ℕ) (offers : List (Option ℕ)) : Type 0 where
-  pub bounded : (q : ℕ) → passed.Exchanged o.first.part p q ⊎ passed.Exchanged o.second.part p q → ((is_in_wedge new o p q ≡ true) × ((c : ℕ) → now ≡ Some c → stands_after new o.third c q ≡ false)) ⊎ (now ≡ Some q) → Contains offers (Some q)
+  pub comes : (q : ℕ) → passed.Exchanged o.first.part p q ⊎ passed.Exchanged o.second.part p q → is_in_wedge new o p q ≡ true → ((c : ℕ) → now ≡ Some c → stands_after new o.third c q ≡ false) → Contains offers (Some q)
+  pub goes : (q : ℕ) (r : Reading) → IsBoundedAs o r → passed.Exchanged r.part p q → stands_after new r p q ≡ false → now ≡ Some q → Contains offers (Some q)
   pub ranked : (c q : ℕ) → now ≡ Some c → passed.Exchanged o.third.part c q → HasPassedBy new o p c q → Contains offers (Some q)
   pub entered : (q : ℕ) → passed.Enters q → is_in_wedge new o p q ≡ true → ((c : ℕ) → now ≡ Some c → stands_after new o.third c q ≡ false) → Contains offers (Some q)
   pub apex : passed.Enters p ⊎ passed.Leaves p → Contains offers None
@@ -38,6 +39,27 @@ module _ (old new : List (List ℕ)) (passed : HasPassed old new) (o : Octant) (
       at (inl e) (inr x) = inr (inr x)
       at (inr x) k = inr (inl x)
 
+  -- a bound of the octant that q has left, with the apex exchanged in it
+  record IsLeftBy (q : ℕ) : Type 0 where
+    pub reading : Reading
+    pub bound : IsBoundedAs o reading
+    pub exchanged : passed.Exchanged reading.part p q
+    pub out : stands_after new reading p q ≡ false
+
+  left_by : (q : ℕ) → passed.Stays p → passed.Stays q → is_in_wedge old o p q ≡ true → is_in_wedge new o p q ≡ false → IsLeftBy q
+  left_by q a b was gone = at (cases_Bool (stands_after new o.first p q))
+    where
+      turned : (r : Reading) → IsBoundedAs o r → stands_after old r p q ≡ true → stands_after new r p q ≡ false → IsLeftBy q
+      turned r bound t f = by (passed.kept r p q a b)
+        where
+          by : (stands_after new r p q ≡ stands_after old r p q) ⊎ passed.Exchanged r.part p q → IsLeftBy q
+          by (inl e) = absurd (both_ways (stands_after new r p q) f (e ∙ t))
+          by (inr x) = record { reading = r; bound = bound; exchanged = x; out = f }
+
+      at : (stands_after new o.first p q ≡ true) ⊎ (stands_after new o.first p q ≡ false) → IsLeftBy q
+      at (inr f) = turned o.first (inl refl) (and_parts _ _ was).0 f
+      at (inl t) = turned o.second (inr refl) (and_parts _ _ was).1 (ap (λ s. s && stands_after new o.second p q) (sym t) ∙ gone)
+
   pub awaited_first : (now : Option ℕ) (offers : List (Option ℕ)) → IsFirstAnswer old o p now → AreOffered old new passed o p now offers → IsAwaited new o p now offers
   awaited_first None offers first given = record {
     good = λ c q e. absurd cc;
@@ -50,7 +72,7 @@ module _ (old new : List (List ℕ)) (passed : HasPassed old new) (o : Octant) (
         where
           within : (is_in_wedge new o p q ≡ is_in_wedge old o p q) ⊎ (passed.Exchanged o.first.part p q ⊎ passed.Exchanged o.second.part p q) → Contains offers (Some q) ⊎ Contains offers None
           within (inl e) = absurd (both_ways (is_in_wedge old o p q) (first q) (sym e ∙ k))
-          within (inr x) = inl (given.bounded q x (inl (k, λ c e. absurd cc)))
+          within (inr x) = inl (given.comes q x k (λ c e. absurd cc))
       of_number q k a (inr (inl b)) = inl (given.entered q b k (λ c e. absurd cc))
       of_number q k a (inr (inr b)) = absurd (passed.gone_second o.first p q b (and_parts _ _ k).0)
 
@@ -81,7 +103,7 @@ module _ (old new : List (List ℕ)) (passed : HasPassed old new) (o : Octant) (
             where
               leads : (stands_after new o.third d q ≡ true) ⊎ (stands_after new o.third d q ≡ false) → ((q ≡ d) ⊎ (stands_after new o.third d q ≡ true)) ⊎ (Contains offers (Some q) ⊎ Contains offers None)
               leads (inl e) = inl (inr e)
-              leads (inr e) = inr (inl (given.bounded q x (inl (k, λ c f. subst (λ (y : ℕ). stands_after new o.third y q ≡ false) (same_Some d c f) e))))
+              leads (inr e) = inr (inl (given.comes q x k (λ c f. subst (λ (y : ℕ). stands_after new o.third y q ≡ false) (same_Some d c f) e)))
 
       of_candidate : (q : ℕ) → is_in_wedge new o p q ≡ true → passed.Stays p → passed.Stays q → passed.Stays d ⊎ (passed.Enters d ⊎ passed.Leaves d) → ((q ≡ d) ⊎ (stands_after new o.third d q ≡ true)) ⊎ (Contains offers (Some q) ⊎ Contains offers None)
       of_candidate q k a b (inl s) = of_both q k a b s
@@ -102,11 +124,10 @@ module _ (old new : List (List ℕ)) (passed : HasPassed old new) (o : Octant) (
       of_apex q k (inr a) = inr (inr (given.apex a))
 
       lost_candidate : is_in_wedge new o p d ≡ false → passed.Stays p → passed.Stays d ⊎ (passed.Enters d ⊎ passed.Leaves d) → (x : Option ℕ) × Contains offers x
-      lost_candidate m a (inl s) = within (kept_within d a s)
+      lost_candidate m a (inl s) = (Some d, out_of (left_by d a s first.member m))
         where
-          within : (is_in_wedge new o p d ≡ is_in_wedge old o p d) ⊎ (passed.Exchanged o.first.part p d ⊎ passed.Exchanged o.second.part p d) → (x : Option ℕ) × Contains offers x
-          within (inl e) = absurd (both_ways (is_in_wedge new o p d) m (e ∙ first.member))
-          within (inr x) = (Some d, given.bounded d x (inr refl))
+          out_of : IsLeftBy d → Contains offers (Some d)
+          out_of l = given.goes d l.reading l.bound l.exchanged l.out refl
       lost_candidate m a (inr (inl s)) = absurd (passed.new_second o.first p d s (and_parts _ _ first.member).0)
       lost_candidate m a (inr (inr s)) = (None, given.left d refl s)
 

@@ -1,16 +1,16 @@
 -- Touches that are added.
-use Rattle.std.proofs.Common.{◌≡◌, ◌≢◌, ◌+◌, ◌*◌, ◌<◌, ◌≤◌, None, refl, sym, ◌∙◌, ◌-◌, Bool, true, false, cond, subst, List, [], ◌∷◌, ◌++◌, ℕ, Some, Option, inl, inr, ◌⊎◌, arith}
+use Rattle.std.proofs.Common.{◌≡◌, ◌≢◌, ◌+◌, ◌*◌, ◌<◌, ◌≤◌, None, refl, sym, ap, ◌∙◌, ◌-◌, Bool, true, false, cond, not, subst, List, [], ◌∷◌, ◌++◌, ℕ, Some, Option, inl, inr, ◌⊎◌, arith}
 use Rattle.std.specs.Prelude.{Contains, slice_get}
 use Rattle.std.proofs.lemmas.Bool.{cases_eq}
 use Rattle.std.proofs.lemmas.List.Elements.{Contains-append_left}
 use Rattle.kin_basics.proofs.Members.{contains_tail, contains_cases}
-use Rattle.kin_motion.specs.Octants.{Octant, octants}
+use Rattle.kin_motion.specs.Octants.{Octant, Reading, forward, back, octants}
 use Rattle.kin_motion.specs.Changes.{stands_before}
 use Rattle.kin_wedge.specs.declared.touch.Touch.{Touch}
-use Rattle.kin_wedge.specs.Rows.{row_of}
-use Rattle.kin_wedge.specs.Touched.{IsOffered, AreKnown, HasTouched, HasOfferedBoth, IsOfferedIn, IsBoundedBy, ComesFirst, ComesOrGoes, HasPassedBy}
-use Rattle.kin_wedge.proofs.Halves.{bounds_low, read_by, third_high}
-use Rattle.kin_wedge.proofs.Slots.{below_eight}
+use Rattle.kin_wedge.specs.Rows.{row_of, stands_after}
+use Rattle.kin_wedge.specs.Sides.{bounded_first, bounded_second}
+use Rattle.kin_wedge.specs.Touched.{IsOffered, AreKnown, HasTouched, HasOfferedBoth, IsOfferedAgain, IsOfferedIn, IsBoundedAs, IsBoundedBy, IsLeftOut, ComesFirst, HasPassedBy}
+use Rattle.kin_wedge.proofs.Halves.{bounded_as, bounds_low, read_by, third_high}
 
 at_end : (xs : List Touch) (y : Touch) → Contains (xs ++ y ∷ []) y
 at_end [] y = (0, omega arith, refl)
@@ -69,43 +69,40 @@ looked_up_more candidates first now next apex w a o t = record {
     at v (inl e) h = subst (λ (n : ℕ). IsOffered next (8 * apex + n) None) (sym e) o
     at v (inr n) h = t.keeps (8 * apex + v) None (a.offered v (omega (arith, h, n)))
 
--- a number is offered to the slots of an apex in the octants below w whose candidate it was
-pub record AreOfferedAgain (candidates : List (Option ℕ)) (first now : List Touch) (apex hit w : ℕ) : Type 0 where
-  pub offered : (v : ℕ) → v < w → slice_get candidates (8 * apex + v) ≡ Some (Some hit) → IsOffered now (8 * apex + v) (Some hit)
-  pub touched : HasTouched candidates first now
-
-pub offered_again_none : (candidates : List (Option ℕ)) (first : List Touch) (apex hit : ℕ) → AreOfferedAgain candidates first first apex hit 0
-offered_again_none candidates first apex hit = record { offered = λ v h. absurd (omega (arith, h)); touched = touched_none candidates first }
-
-pub offered_again_more : (candidates : List (Option ℕ)) (first now next : List Touch) (apex hit w : ℕ) → AreOfferedAgain candidates first now apex hit w
-    → (slice_get candidates (8 * apex + w) ≡ Some (Some hit) → IsOffered next (8 * apex + w) (Some hit)) → HasTouched candidates now next → AreOfferedAgain candidates first next apex hit (w + 1)
-offered_again_more candidates first now next apex hit w a f t = record {
-  offered = λ v h k. at v (cases_eq v w) h k;
-  touched = touched_through candidates first now next a.touched t;
-}
+-- a number is offered again to the two slots of an apex in the octants that an order as it is read bounds
+pub again_in_both : (candidates : List (Option ℕ)) (first both : List Touch) (r : Reading) (apex hit v w : ℕ) → bounded_first r ≡ v → bounded_second r ≡ w → HasTouched candidates first both
+    → (slice_get candidates (8 * apex + v) ≡ Some (Some hit) → IsOffered first (8 * apex + v) (Some hit)) → (slice_get candidates (8 * apex + w) ≡ Some (Some hit) → IsOffered both (8 * apex + w) (Some hit)) → IsOfferedAgain candidates both r apex hit
+again_in_both candidates first both r apex hit v w e f t in_first in_second n o here bound held = at (bounded_as n o r here bound)
   where
-    at : (v : ℕ) → (v ≡ w) ⊎ (v ≢ w) → v < w + 1 → slice_get candidates (8 * apex + v) ≡ Some (Some hit) → IsOffered next (8 * apex + v) (Some hit)
-    at v (inl s) h k = subst (λ (n : ℕ). IsOffered next (8 * apex + n) (Some hit)) (sym s) (f (subst (λ (n : ℕ). slice_get candidates (8 * apex + n) ≡ Some (Some hit)) s k))
-    at v (inr n) h k = t.keeps (8 * apex + v) (Some hit) (a.offered v (omega (arith, h, n)) k)
+    at : (bounded_first r ≡ n) ⊎ (bounded_second r ≡ n) → IsOffered both (8 * apex + n) (Some hit)
+    at (inl k) =
+        let same : v ≡ n = sym e ∙ k in
+        subst (λ (x : ℕ). IsOffered both (8 * apex + x) (Some hit)) same (t.keeps (8 * apex + v) (Some hit) (in_first (subst (λ (x : ℕ). slice_get candidates (8 * apex + x) ≡ Some (Some hit)) (sym same) held)))
+    at (inr k) =
+        let same : w ≡ n = sym f ∙ k in
+        subst (λ (x : ℕ). IsOffered both (8 * apex + x) (Some hit)) same (in_second (subst (λ (x : ℕ). slice_get candidates (8 * apex + x) ≡ Some (Some hit)) (sym same) held))
 
--- a number that comes is offered, and so is one that goes
-pub come_or_gone : (rows : List (List ℕ)) (candidates : List (Option ℕ)) (now next : List Touch) (apex hit : ℕ)
-    → ((w : ℕ) (o : Octant) → slice_get octants w ≡ Some o → ComesFirst rows candidates o apex w hit → IsOffered now (8 * apex + w) (Some hit))
-    → ((w : ℕ) → w < 8 → slice_get candidates (8 * apex + w) ≡ Some (Some hit) → IsOffered next (8 * apex + w) (Some hit)) → HasTouched candidates now next
-    → (w : ℕ) (o : Octant) → slice_get octants w ≡ Some o → ComesOrGoes rows candidates o apex w hit → IsOffered next (8 * apex + w) (Some hit)
-come_or_gone rows candidates now next apex hit come gone t w o e (inl k) = t.keeps (8 * apex + w) (Some hit) (come w o e k)
-come_or_gone rows candidates now next apex hit come gone t w o e (inr k) = gone w (below_eight w o e) k
+-- a number that goes is offered, whichever way its order is read
+pub gone_offered : (rows : List (List ℕ)) (candidates : List (Option ℕ)) (front both : List Touch) (part apex hit : ℕ) (behind before : Bool) → behind ≡ stands_before (row_of rows part) apex hit → before ≡ stands_before (row_of rows part) hit apex → HasTouched candidates front both
+    → (not behind ≡ true → IsOfferedAgain candidates front (forward part) apex hit) → (not before ≡ true → IsOfferedAgain candidates both (back part) apex hit)
+    → (w : ℕ) (o : Octant) → slice_get octants w ≡ Some o → IsLeftOut rows o part apex hit → slice_get candidates (8 * apex + w) ≡ Some (Some hit) → IsOffered both (8 * apex + w) (Some hit)
+gone_offered rows candidates front both part apex hit behind before e f t from_front from_end w o here left held = at left.from_end left.bound left.out
+  where
+    at : (b : Bool) → IsBoundedAs o (record { part = part; from_end = b }) → stands_after rows (record { part = part; from_end = b }) apex hit ≡ false → IsOffered both (8 * apex + w) (Some hit)
+    at true bound out = from_end (ap not (f ∙ out)) w o here bound held
+    at false bound out = t.keeps (8 * apex + w) (Some hit) (from_front (ap not (e ∙ out)) w o here bound held)
 
 -- what is offered of an exchange stays offered
 pub offered_stays : (rows : List (List ℕ)) (candidates : List (Option ℕ)) (now next : List Touch) (part a b : ℕ) → HasTouched candidates now next → HasOfferedBoth rows candidates part a b now → HasOfferedBoth rows candidates part a b next
 offered_stays rows candidates now next part a b t h = (
-  record { bounded = λ w o e k m. t.keeps _ _ (h.0.bounded w o e k m); ranked = λ apex w o e p k m. t.keeps _ _ (h.0.ranked apex w o e p k m) },
-  record { bounded = λ w o e k m. t.keeps _ _ (h.1.bounded w o e k m); ranked = λ apex w o e p k m. t.keeps _ _ (h.1.ranked apex w o e p k m) },
+  record { comes = λ w o e k m. t.keeps _ _ (h.0.comes w o e k m); goes = λ w o e k m. t.keeps _ _ (h.0.goes w o e k m); ranked = λ apex w o e p k m. t.keeps _ _ (h.0.ranked apex w o e p k m) },
+  record { comes = λ w o e k m. t.keeps _ _ (h.1.comes w o e k m); goes = λ w o e k m. t.keeps _ _ (h.1.goes w o e k m); ranked = λ apex w o e p k m. t.keeps _ _ (h.1.ranked apex w o e p k m) },
 )
 
 -- what is offered to the slots of a number
-abbrev pub IsOfferedWithin : List (List ℕ) → List (Option ℕ) → List Touch → ℕ → ℕ → Type 0
-IsOfferedWithin rows candidates ts a b = (w : ℕ) (o : Octant) → slice_get octants w ≡ Some o → ComesOrGoes rows candidates o a w b → IsOffered ts (8 * a + w) (Some b)
+pub record IsOfferedWithin (rows : List (List ℕ)) (candidates : List (Option ℕ)) (ts : List Touch) (part a b : ℕ) : Type 0 where
+  pub comes : (w : ℕ) (o : Octant) → slice_get octants w ≡ Some o → ComesFirst rows candidates o a w b → IsOffered ts (8 * a + w) (Some b)
+  pub goes : (w : ℕ) (o : Octant) → slice_get octants w ≡ Some o → IsLeftOut rows o part a b → slice_get candidates (8 * a + w) ≡ Some (Some b) → IsOffered ts (8 * a + w) (Some b)
 
 -- what is offered to the slots whose candidate a number is in the octants that an order ranks
 abbrev pub IsOfferedBeside : List (List ℕ) → List (Option ℕ) → List Touch → ℕ → ℕ → ℕ → Type 0
@@ -126,19 +123,23 @@ module _ (rows : List (List ℕ)) (candidates : List (Option ℕ)) (s t : List T
       at (inr r) = subst (λ (n : ℕ). IsOfferedIn rows candidates t n a b) (sym (r.0 ∙ p)) (back (read true r.1)) apex o e k m.0
 
   -- the first four orders rank no octant
-  pub both_within : part < 4 → IsOfferedWithin rows candidates s a b → IsOfferedWithin rows candidates t b a → HasOfferedBoth rows candidates part a b t
+  pub both_within : part < 4 → IsOfferedWithin rows candidates s part a b → IsOfferedWithin rows candidates t part b a → HasOfferedBoth rows candidates part a b t
   both_within small p q = (
-    record { bounded = λ w o e k m. h.keeps _ _ (p w o e m); ranked = λ apex w o e r. absurd (let high = third_high w o e in omega (arith, small, high, r)) },
-    record { bounded = λ w o e k m. q w o e m; ranked = λ apex w o e r. absurd (let high = third_high w o e in omega (arith, small, high, r)) },
+    record { comes = λ w o e k m. h.keeps _ _ (p.comes w o e m); goes = λ w o e k m. h.keeps _ _ (p.goes w o e k m); ranked = λ apex w o e r. absurd (let high = third_high w o e in omega (arith, small, high, r)) },
+    record { comes = λ w o e k m. q.comes w o e m; goes = q.goes; ranked = λ apex w o e r. absurd (let high = third_high w o e in omega (arith, small, high, r)) },
   )
 
   -- the last four orders bound no octant
   pub both_beside : 4 ≤ part → IsOfferedBeside rows candidates s part a b → IsOfferedBeside rows candidates t part b a → HasOfferedBoth rows candidates part a b t
   both_beside large p q = (
-    record { bounded = λ w o e k. absurd (bounds_none w o e k); ranked = λ apex w o e r k m. h.keeps _ _ (p apex w o e r k m) },
-    record { bounded = λ w o e k. absurd (bounds_none w o e k); ranked = q },
+    record { comes = λ w o e k. absurd (bounds_none w o e k); goes = λ w o e k. absurd (left_none w o k.from_end e k.bound); ranked = λ apex w o e r k m. h.keeps _ _ (p apex w o e r k m) },
+    record { comes = λ w o e k. absurd (bounds_none w o e k); goes = λ w o e k. absurd (left_none w o k.from_end e k.bound); ranked = q },
   )
     where
       bounds_none : (w : ℕ) (o : Octant) → slice_get octants w ≡ Some o → IsBoundedBy o part → ⊥
       bounds_none w o e (inl k) = let low = (bounds_low w o e).0 in omega (arith, large, low, k)
       bounds_none w o e (inr k) = let low = (bounds_low w o e).1 in omega (arith, large, low, k)
+
+      left_none : (w : ℕ) (o : Octant) (from_end : Bool) → slice_get octants w ≡ Some o → IsBoundedAs o (record { part = part; from_end = from_end }) → ⊥
+      left_none w o b e (inl k) = bounds_none w o e (inl (ap (λ (r : Reading). r.part) k))
+      left_none w o b e (inr k) = bounds_none w o e (inr (ap (λ (r : Reading). r.part) k))

@@ -1,8 +1,8 @@
 -- On which sides of a point another one lies, by the four orders that bound the octants.
-use Rattle.std.specs.Prelude.{◌≡◌, ℕ, ◌+◌, ◌<◌, true, false, cond, List, length, Option, Some, slice_get, slice_index_or, MatchOption}
+use Rattle.std.specs.Prelude.{◌≡◌, ℕ, ◌+◌, ◌%◌, ◌<◌, true, false, cond, nat_eq, List, length, Option, Some, slice_get, slice_index_or, MatchOption}
 use Rattle.kin_motion.specs.Changes.{stands_before}
 use Rattle.kin_motion.specs.Numbers.{is_in}
-use Rattle.kin_motion.specs.Octants.{Octant, octants}
+use Rattle.kin_motion.specs.Octants.{Octant, Reading, octants}
 use Rattle.kin_wedge.specs.declared.sides.Sides.{Sides}
 use Rattle.kin_wedge.specs.declared.sides.Spot.{Spot}
 use Rattle.kin_wedge.specs.Rows.{row_of, is_in_wedge}
@@ -37,3 +37,10 @@ octant_by s = cond s.y (cond s.difference 0 (cond s.x 1 (cond s.sum 2 3))) (cond
 -- who lies in an octant lies in the one that its sides tell
 abbrev pub AreParted : List (List ℕ) → Type 0
 AreParted rows = (w p q : ℕ) (o : Octant) (s : Sides) → slice_get octants w ≡ Some o → AreSides rows p q s → is_in_wedge rows o p q ≡ true → octant_by s ≡ w
+
+-- the octant of which an order as it is read is the first bound, and the one of which it is the second
+abbrev pub bounded_first : Reading → ℕ
+bounded_first r = cond r.from_end (cond (nat_eq r.part 0) 4 r.part) (cond (nat_eq r.part 0) 0 (r.part + 4))
+
+abbrev pub bounded_second : Reading → ℕ
+bounded_second r = (r.part + 3) % 4 + cond r.from_end 4 0

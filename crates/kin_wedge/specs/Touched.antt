@@ -1,6 +1,6 @@
 -- Slots whose candidate may change, and the numbers that are offered to them.
-use Rattle.std.specs.Prelude.{◌≡◌, ℕ, ◌+◌, ◌*◌, ◌/◌, true, false, cond, nat_eq, List, [], ◌∷◌, Option, Some, None, Contains, slice_get, ◌⊎◌}
-use Rattle.kin_motion.specs.Octants.{Octant, octants}
+use Rattle.std.specs.Prelude.{◌≡◌, ℕ, ◌+◌, ◌*◌, ◌/◌, Bool, true, false, cond, nat_eq, List, [], ◌∷◌, Option, Some, None, Contains, slice_get, ◌⊎◌}
+use Rattle.kin_motion.specs.Octants.{Octant, Reading, octants}
 use Rattle.kin_wedge.specs.declared.touch.Touch.{Touch}
 use Rattle.kin_wedge.specs.Rows.{is_in_wedge, stands_after, IsFirstAnswer}
 
@@ -45,9 +45,15 @@ IsBoundedBy o part = (o.first.part ≡ part) ⊎ (o.second.part ≡ part)
 abbrev pub ComesFirst : List (List ℕ) → List (Option ℕ) → Octant → ℕ → ℕ → ℕ → Type 0
 ComesFirst rows candidates o p w b = (is_in_wedge rows o p b ≡ true) × ((c : ℕ) → slice_get candidates (8 * p + w) ≡ Some (Some c) → stands_after rows o.third c b ≡ false)
 
--- the same, or b was the candidate there
-abbrev pub ComesOrGoes : List (List ℕ) → List (Option ℕ) → Octant → ℕ → ℕ → ℕ → Type 0
-ComesOrGoes rows candidates o p w b = ComesFirst rows candidates o p w b ⊎ (slice_get candidates (8 * p + w) ≡ Some (Some b))
+-- an order as it is read is one of the two that bound an octant
+abbrev pub IsBoundedAs : Octant → Reading → Type 0
+IsBoundedAs o r = (o.first ≡ r) ⊎ (o.second ≡ r)
+
+-- by the new order of a part, which bounds the octant of p, b isn't in the octant
+pub record IsLeftOut (rows : List (List ℕ)) (o : Octant) (part p b : ℕ) : Type 0 where
+  pub from_end : Bool
+  pub bound : IsBoundedAs o (record { part = part; from_end = from_end })
+  pub out : stands_after rows (record { part = part; from_end = from_end }) p b ≡ false
 
 -- by the new orders b is in the octant of p, and a doesn't stand before it there
 abbrev pub HasPassedBy : List (List ℕ) → Octant → ℕ → ℕ → ℕ → Type 0
@@ -57,9 +63,14 @@ HasPassedBy rows o p a b = (is_in_wedge rows o p b ≡ true) × (stands_after ro
 abbrev pub IsOfferedIn : List (List ℕ) → List (Option ℕ) → List Touch → ℕ → ℕ → ℕ → Type 0
 IsOfferedIn rows candidates ts w a b = (apex : ℕ) (o : Octant) → slice_get octants w ≡ Some o → slice_get candidates (8 * apex + w) ≡ Some (Some a) → is_in_wedge rows o apex b ≡ true → IsOffered ts (8 * apex + w) (Some b)
 
+-- b is offered to the slots of a whose candidate it was, in the octants that an order as it is read bounds
+abbrev pub IsOfferedAgain : List (Option ℕ) → List Touch → Reading → ℕ → ℕ → Type 0
+IsOfferedAgain candidates ts r a b = (w : ℕ) (o : Octant) → slice_get octants w ≡ Some o → IsBoundedAs o r → slice_get candidates (8 * a + w) ≡ Some (Some b) → IsOffered ts (8 * a + w) (Some b)
+
 -- of the exchange of a and b in an order, b is offered to those slots of a in the octants that the order bounds where it comes or goes, and to the slots whose candidate a is in the octants that it ranks where b has passed by
 pub record HasOffered (rows : List (List ℕ)) (candidates : List (Option ℕ)) (part a b : ℕ) (ts : List Touch) : Type 0 where
-  pub bounded : (w : ℕ) (o : Octant) → slice_get octants w ≡ Some o → IsBoundedBy o part → ComesOrGoes rows candidates o a w b → IsOffered ts (8 * a + w) (Some b)
+  pub comes : (w : ℕ) (o : Octant) → slice_get octants w ≡ Some o → IsBoundedBy o part → ComesFirst rows candidates o a w b → IsOffered ts (8 * a + w) (Some b)
+  pub goes : (w : ℕ) (o : Octant) → slice_get octants w ≡ Some o → IsLeftOut rows o part a b → slice_get candidates (8 * a + w) ≡ Some (Some b) → IsOffered ts (8 * a + w) (Some b)
   pub ranked : (apex w : ℕ) (o : Octant) → slice_get octants w ≡ Some o → o.third.part ≡ part → slice_get candidates (8 * apex + w) ≡ Some (Some a) → HasPassedBy rows o apex a b → IsOffered ts (8 * apex + w) (Some b)
 
 abbrev pub HasOfferedBoth : List (List ℕ) → List (Option ℕ) → ℕ → ℕ → ℕ → List Touch → Type 0

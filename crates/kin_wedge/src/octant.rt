@@ -3,6 +3,7 @@
 ghost use Rattle.std.specs.Prelude.{◌≡◌, ◌+◌, ◌%◌, ◌<◌, Some, slice_get, true, false};
 ghost use Rattle.kin_motion.specs.Octants.{Octant as Bounds, octants, direction_of};
 ghost use Rattle.kin_wedge.specs.Seen.{octant_seen, reading_seen, IsOfEight};
+ghost use Rattle.kin_wedge.specs.Sides.{bounded_first, bounded_second};
 
 /// An order as it is read, from the front or from the end.
 #[derive(Clone, Copy, Debug, PartialEq, Eq)]
@@ -92,6 +93,27 @@ pub fn third_of(w: u32) -> Reading
     Reading {
         part: w % 4 + 4,
         from_end: w >= 4,
+    }
+}
+
+/// The two octants that one of the orders 0 to 3 bounds as it is read: the one of which it is the first bound, and the
+/// one of which it is the second.
+pub fn bounded_by(reading: Reading) -> (u32, u32)
+    requires { reading.part < 4 }
+    ensures first { result.0 ≡ bounded_first (reading_seen reading) }
+    ensures second { result.1 ≡ bounded_second (reading_seen reading) }
+    ensures first_small { result.0 < 8 }
+    ensures second_small { result.1 < 8 }
+{
+    match (reading.from_end, reading.part) {
+        (false, 0) => (0, 3),
+        (false, 1) => (5, 0),
+        (false, 2) => (6, 1),
+        (false, _) => (7, 2),
+        (true, 0) => (4, 7),
+        (true, 1) => (1, 4),
+        (true, 2) => (2, 5),
+        (true, _) => (3, 6),
     }
 }
 

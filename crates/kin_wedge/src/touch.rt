@@ -5,10 +5,11 @@ ghost use Rattle.kin_motion.specs.Changes.{stands_before};
 ghost use Rattle.kin_motion.specs.Octants.{Octant as Bounds, octants};
 ghost use Rattle.kin_motion.specs.Numbers.{is_in};
 ghost use Rattle.kin_wedge.specs.Rows.{row_of, is_in_wedge, AreAlike, AreRows, HaveSlots};
-ghost use Rattle.kin_wedge.specs.Seen.{rows_of};
+ghost use Rattle.kin_wedge.specs.Seen.{reading_seen, rows_of};
 ghost use Rattle.kin_wedge.specs.Sides.{AreParted, IsSpot};
-ghost use Rattle.kin_wedge.specs.Touched.{IsOffered, IsOfferedIn, ComesFirst, ComesOrGoes, HasPassedBy, HasTouched, HasOfferedBoth};
+ghost use Rattle.kin_wedge.specs.Touched.{IsLeftOut, IsOffered, IsOfferedAgain, IsOfferedIn, ComesFirst, HasPassedBy, HasTouched, HasOfferedBoth};
 
+use crate::octant::{Reading, bounded_by};
 use crate::offer::{is_within, leads};
 use crate::orders::Orders;
 use crate::sides::Spot;
@@ -218,33 +219,62 @@ impl Touches {
         Ok(())
     }
 
-    /// Offers a number to the slots of an apex whose candidate it was.
+    /// Offers a number to a slot of an apex, if it was the candidate there.
     #[inline(always)]
-    fn offer_again(&mut self, table: &Table, apex: u32, no: u32) -> Result<(), NoMemory>
-        requires slot { 8 * apex + 7 < length table.now }
+    fn offer_at(&mut self, table: &Table, apex: u32, w: u32, no: u32) -> Result<(), NoMemory>
+        requires slot { 8 * apex + w < length table.now }
         requires small { length table.now < 2 ^ 32 }
-        ensures offered { OnOk result ((w : ℕ) → w < 8 → slice_get table.now (8 * apex + w) ≡ Some (Some no) → IsOffered self.new.all.items (8 * apex + w) (Some no)) }
+        ensures offered { OnOk result (slice_get table.now (8 * apex + w) ≡ Some (Some no) → IsOffered self.new.all.items (8 * apex + w) (Some no)) }
         ensures touched { OnOk result (HasTouched table.now self.old.all.items self.new.all.items) }
     {
-        for w in 0..8 {
-            let wanted = table.holds(8 * apex + w, no);
-            self.add_if(wanted, table, apex, w, no)?;
+        let wanted = table.holds(8 * apex + w, no);
+        self.add_if(wanted, table, apex, w, no)
+    }
+
+    /// Offers a number to the slots of an apex whose candidate it was, in the octants that an order as it
+    /// is read bounds, where that is wanted.
+    #[inline(always)]
+    fn offer_again_if(
+        &mut self,
+        is_wanted: bool,
+        reading: Reading,
+        table: &Table,
+        apex: u32,
+        no: u32,
+    ) -> Result<(), NoMemory>
+        requires part { reading.part < 4 }
+        requires slot { 8 * apex + 7 < length table.now }
+        requires small { length table.now < 2 ^ 32 }
+        ensures offered { OnOk result (is_wanted ≡ true → IsOfferedAgain table.now self.new.all.items (reading_seen reading) apex no) }
+        ensures touched { OnOk result (HasTouched table.now self.old.all.items self.new.all.items) }
+    {
+        if !is_wanted {
+            return Ok(());
         }
+        let (first, second) = bounded_by(reading);
+        self.offer_at(table, apex, first, no)?;
+        self.offer_at(table, apex, second, no)?;
         Ok(())
     }
 
-    /// Offers a member to the slots of another where it comes or goes. Both stand at these
-    /// spots.
+    /// Offers a member to the slots of another where it comes, or goes by an exchange in an order. Both
+    /// stand at these spots, and whether it is behind the other or before it in the order is known.
     #[inline(always)]
     fn offer_within(
         &mut self,
         orders: &Orders,
         table: &Table,
+        part: u32,
         apex: u32,
         at: Spot,
         no: u32,
         spot: Spot,
+        is_behind: bool,
+        is_before: bool,
     ) -> Result<(), NoMemory>
+        requires part { part < 4 }
+        requires behind { is_behind ≡ stands_before (row_of (rows_of orders.now.lists.items) part) apex no }
+        requires before { is_before ≡ stands_before (row_of (rows_of orders.now.lists.items) part) no apex }
         requires rows { AreRows (rows_of orders.now.lists.items) }
         requires parted { AreParted (rows_of orders.now.lists.items) }
         requires alike { AreAlike (rows_of orders.now.lists.items) }
@@ -252,13 +282,24 @@ impl Touches {
         requires spot { IsSpot (rows_of orders.now.lists.items) no spot }
         requires slot { 8 * apex + 7 < length table.now }
         requires small { length table.now < 2 ^ 32 }
-        ensures offered { OnOk result ((w : ℕ) (o : Bounds) → slice_get octants w ≡ Some o → ComesOrGoes (rows_of orders.now.lists.items) table.now o apex w no → IsOffered self.new.all.items (8 * apex + w) (Some no)) }
+        ensures comes { OnOk result ((w : ℕ) (o : Bounds) → slice_get octants w ≡ Some o → ComesFirst (rows_of orders.now.lists.items) table.now o apex w no → IsOffered self.new.all.items (8 * apex + w) (Some no)) }
+        ensures goes { OnOk result ((w : ℕ) (o : Bounds) → slice_get octants w ≡ Some o → IsLeftOut (rows_of orders.now.lists.items) o part apex no → slice_get table.now (8 * apex + w) ≡ Some (Some no) → IsOffered self.new.all.items (8 * apex + w) (Some no)) }
         ensures touched { OnOk result (HasTouched table.now self.old.all.items self.new.all.items) }
     {
         let w = orders.octant_of(at, spot);
         let rank = orders.place_of_member(w % 4 + 4, no);
         self.offer(orders, table, apex, w, no, rank)?;
-        self.offer_again(table, apex, no)?;
+        // An octant that it has left reads the order the other way.
+        let front = Reading {
+            part,
+            from_end: false,
+        };
+        let end = Reading {
+            part,
+            from_end: true,
+        };
+        self.offer_again_if(!is_behind, front, table, apex, no)?;
+        self.offer_again_if(!is_before, end, table, apex, no)?;
         Ok(())
     }
 
@@ -283,17 +324,17 @@ impl Touches {
         ensures offered { OnOk result (HasOfferedBoth (rows_of orders.now.lists.items) table.now part a b self.new.all.items) }
         ensures touched { OnOk result (HasTouched table.now self.old.all.items self.new.all.items) }
     {
-        if part < 4 {
-            let at = orders.spot(a);
-            let spot = orders.spot(b);
-            self.offer_within(orders, table, a, at, b, spot)?;
-            self.offer_within(orders, table, b, spot, a, at)?;
-            return Ok(());
-        }
         let place = orders.place_of_member(part, a);
         let other = orders.place_of_member(part, b);
         let rises = orders.rises(part, place, other);
         let falls = orders.rises(part, other, place);
+        if part < 4 {
+            let at = orders.spot(a);
+            let spot = orders.spot(b);
+            self.offer_within(orders, table, part, a, at, b, spot, rises, falls)?;
+            self.offer_within(orders, table, part, b, spot, a, at, falls, rises)?;
+            return Ok(());
+        }
         self.offer_beside(orders, table, part, a, b, falls, rises)?;
         self.offer_beside(orders, table, part, b, a, rises, falls)?;
         Ok(())
