@@ -5,6 +5,7 @@ pub mod Placements
 pub mod Trees
 pub mod Raising
 pub mod Mending
+pub mod Climbing
 pub mod Marks
 pub mod Entrants
 pub mod Rechecks

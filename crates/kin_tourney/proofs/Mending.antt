@@ -1,5 +1,5 @@
 -- A repair, node by node.
-use Rattle.std.proofs.Common.{◌≡◌, ◌≢◌, ◌⊎◌, inl, inr, refl, sym, ap, ◌∙◌, subst, arith, List, ℕ, ◌+◌, ◌*◌, ◌-◌, ◌/◌, ◌<◌, length, Bool, true, false, cond, nat_lt, set}
+use Rattle.std.proofs.Common.{◌≡◌, ◌≢◌, ◌⊎◌, inl, inr, refl, sym, ap, ◌∙◌, subst, arith, List, ℕ, ◌+◌, ◌*◌, ◌-◌, ◌/◌, ◌≤◌, ◌<◌, length, Bool, true, false, cond, nat_lt, set}
 use Rattle.std.specs.Prelude.{Option, Some}
 use Rattle.std.proofs.lemmas.List.{get_or-set_same, get_or-set_other}
 use Rattle.std.proofs.lemmas.Bool.{cases_eq}
@@ -285,7 +285,7 @@ module _ {Item : Type 0} (all : Bool) (key : Key Item) (sign : Form → Sign) wh
     pub mending : IsMending start 0 next before after
     pub done : IsDone next.doubts node
     pub ended : node / 2 ≡ 0 → doubt_in next.doubts 1 ≡ Clear
-    pub count : doubt_count next.doubts + 1 ≡ doubt_count t.doubts
+    pub count : doubt_count next.doubts + 1 ≤ doubt_count t.doubts
 
   pub stepped : (start t mid next : Standings Item) (before middle after : Change) (node : ℕ) → IsLowest t.doubts node → IsMending start 0 t before middle → IsTree mid → IsRenewed all key sign node t mid middle after
       → IsTree next → IsCleared node mid next → IsStepped start t next node before after
@@ -301,5 +301,5 @@ module _ {Item : Type 0} (all : Bool) (key : Key Item) (sign : Form → Sign) wh
           above = up_in_doubt start mid next before after node at.some here p.doubted p.mending p.own tree c;
         };
         ended = root_cleared start mid next before after node at.some here p.doubted p.mending p.own tree c;
-        count = count_cleared start mid next before after node at.some here p.doubted p.mending p.own tree c ∙ p.same_count;
+        count = let n = count_cleared start mid next before after node at.some here p.doubted p.mending p.own tree c in let m = p.same_count in omega (arith, n, m);
       }

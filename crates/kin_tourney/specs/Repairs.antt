@@ -1,5 +1,5 @@
 -- What the steps of a repair do to a tree of matches.
-use Rattle.std.specs.Prelude.{◌≡◌, ◌≢◌, ◌⊎◌, ℕ, ◌+◌, ◌*◌, ◌/◌, ◌^◌, ◌≤◌, ◌<◌, Bool, true, false, List, ◌++◌, length, Option, Some, None, slice_set, slice_index_or}
+use Rattle.std.specs.Prelude.{◌≡◌, ◌≢◌, ◌⊎◌, ℕ, zero, suc, ◌+◌, ◌*◌, ◌/◌, ◌^◌, ◌≤◌, ◌<◌, Bool, true, false, List, ◌++◌, length, Option, Some, None, slice_set, slice_index_or}
 use Rattle.kin_motion.specs.declared.form.Form.{Form}
 use Rattle.kin_algebra.specs.declared.sign.Sign.{Sign}
 use Rattle.kin_motion.specs.declared.fact.Fact.{Fact}
@@ -77,6 +77,17 @@ pub record IsDone (doubts : List Doubt) (node : ℕ) : Type 0 where
   pub inside : node < length doubts
   pub clear : doubt_in doubts node ≡ Clear
   pub above : doubt_in doubts (node / 2) ≢ Clear
+
+-- only the way leads through the node above one that is clear, and its other half is clear, too
+pub record IsPassage (doubts : List Doubt) (node : ℕ) : Type 0 where
+  pub some : 0 < node / 2
+  pub below : doubt_in doubts (node / 2) ≡ Below
+  pub halves_clear : (v : ℕ) → 0 < v → v / 2 ≡ node / 2 → doubt_in doubts v ≡ Clear
+
+-- so many nodes were cleared on the way up, each above the one before
+abbrev pub HasClimbed : ℕ → List Doubt → ℕ → List Doubt → ℕ → Type 0
+HasClimbed zero old from new to = (new ≡ old) × (to ≡ from)
+HasClimbed (suc k) old from new to = (mid : List Doubt) × (node : ℕ) × HasClimbed k old from mid node × IsPassage mid node × (new ≡ slice_set mid (node / 2) Clear) × (to ≡ node / 2)
 
 -- how many signs a match asks for: none where it is known
 abbrev pub asked_for : Option Sign → ℕ

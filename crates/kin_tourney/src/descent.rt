@@ -1,8 +1,8 @@
 //! The way of a repair: from node to node in doubt, each after its halves.
 
-ghost use Rattle.std.specs.Prelude.{◌≡◌, ◌≢◌, ℕ, ◌*◌, ◌/◌, ◌<◌, length, MatchOption};
-ghost use Rattle.kin_tourney.specs.Standings.{doubt_in};
-ghost use Rattle.kin_tourney.specs.Repairs.{IsPerfect, IsLowest, IsDone};
+ghost use Rattle.std.specs.Prelude.{◌≡◌, ◌≢◌, ℕ, ◌*◌, ◌/◌, ◌<◌, true, length, MatchOption};
+ghost use Rattle.kin_tourney.specs.Standings.{doubt_in, IsClosed};
+ghost use Rattle.kin_tourney.specs.Repairs.{IsPerfect, IsLowest, IsDone, IsPassage, HasClimbed};
 
 use crate::doubt::Doubt;
 
@@ -81,4 +81,36 @@ pub fn next_doubt(doubts: &[Doubt], node: usize) -> usize
     } else {
         lowest_doubt(doubts, other)
     }
+}
+
+/// Whether only the way leads through the node above one that is clear, and its other half is clear, too.
+fn is_passage(doubts: &[Doubt], node: usize) -> bool
+    requires tree { IsPerfect doubts.now }
+    requires done { IsDone doubts.now node }
+    ensures { result ≡ true → IsPassage doubts.now node }
+{
+    let above = node / 2;
+    if above == 0 {
+        return false;
+    }
+    doubts[above].is_below() && doubts[4 * above + 1 - node].is_clear()
+}
+
+/// Clears the nodes above one that is clear as far as only the way leads through them, and answers the
+/// last one.
+#[inline(always)]
+pub fn pass_up(doubts: &mut [Doubt], node: usize) -> usize
+    requires tree { IsPerfect doubts.old }
+    requires closed { IsClosed doubts.old }
+    requires done { IsDone doubts.old node }
+    ensures room { length doubts.new ≡ length doubts.old }
+    ensures climbed { (count : ℕ) × HasClimbed count doubts.old node doubts.new result }
+    ensures done { IsDone doubts.new result }
+{
+    let mut node = node;
+    while is_passage(doubts, node) {
+        node /= 2;
+        doubts[node] = Doubt::Clear;
+    }
+    node
 }

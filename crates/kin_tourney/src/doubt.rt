@@ -2,6 +2,7 @@
 
 ghost use Rattle.std.specs.Prelude.{◌≡◌, ◌≢◌, ◌↔◌, ℕ, ◌<◌, length, replicate, slice_set, slice_index_or, IsTrue, IfOk};
 ghost use Rattle.kin_motion.specs.declared.fact.Placed.{Placed as Put};
+ghost use Rattle.kin_tourney.specs.declared.doubt.Doubt.TheVariants.{Below};
 ghost use Rattle.kin_tourney.specs.Standings.{IsClosed};
 ghost use Rattle.kin_tourney.specs.Repairs.{IsSpread, IsDoubted};
 
@@ -27,6 +28,15 @@ impl Doubt {
         match self {
             Doubt::Clear => true,
             Doubt::Below | Doubt::Here => false,
+        }
+    }
+
+    pub fn is_below(self) -> bool
+        ensures { IsTrue result ↔ (self ≡ Below) }
+    {
+        match self {
+            Doubt::Below => true,
+            Doubt::Clear | Doubt::Here => false,
         }
     }
 

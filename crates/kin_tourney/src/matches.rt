@@ -1,6 +1,6 @@
 //! Matches are played again.
 
-ghost use Rattle.std.specs.Prelude.{◌≡◌, ◌≢◌, ℕ, ◌+◌, ◌*◌, ◌/◌, ◌^◌, ◌<◌, ◌≤◌, false, length, slice_set, IfOk, OnOk, Some, None};
+ghost use Rattle.std.specs.Prelude.{◌≡◌, ◌≢◌, ℕ, ◌+◌, ◌*◌, ◌/◌, ◌^◌, ◌<◌, ◌≤◌, true, false, length, slice_set, IfOk, OnOk, Some, None};
 ghost use Rattle.kin_algebra.specs.declared.sign.Sign.{Sign as Signum};
 ghost use Rattle.kin_motion.specs.declared.fact.Fact.{Fact as Told};
 ghost use Rattle.kin_motion.specs.Forms.{IsAskable};
@@ -9,9 +9,9 @@ ghost use Rattle.kin_motion.specs.Kinetics.{HasChanged};
 ghost use Rattle.kin_tourney.specs.Names.{AreLive, HoldLive};
 ghost use Rattle.kin_tourney.specs.Standings.{IsTree, match_at, match_of, fact_in, doubt_in, doubt_count, placed_facts};
 ghost use Rattle.kin_tourney.specs.Tournament.{mark_in};
-ghost use Rattle.kin_tourney.specs.Repairs.{IsMatchSign, IsRightOnce, asked_for, needs_play, IsReplayed, IsRenewed, IsReported, IsCleared, IsDoubtful};
+ghost use Rattle.kin_tourney.specs.Repairs.{IsMatchSign, IsRightOnce, asked_for, needs_play, IsReplayed, IsRenewed, IsReported, IsCleared, IsDone, IsDoubtful, HasClimbed};
 
-use crate::descent::{first_doubt, next_doubt};
+use crate::descent::{first_doubt, next_doubt, pass_up};
 use crate::doubt::Doubt;
 use crate::entry::Entry;
 use crate::keyed::Keyed;
@@ -199,6 +199,21 @@ impl<I: Copy> Tree<I> {
         self.doubts[node] = Doubt::Clear;
     }
 
+    /// Unless all are asked for, clears the nodes above one that is clear as far as only the way leads
+    /// through them. Answers the last one.
+    #[inline(always)]
+    fn climb(&mut self, all: bool, node: usize) -> usize
+        requires tree { IsTree self.old }
+        requires done { IsDone self.old.doubts node }
+        ensures same { self.new ≡ record self.old { doubts = self.new.doubts } }
+        ensures climbed { (count : ℕ) × (all ≡ true → count ≡ 0) × HasClimbed count self.old.doubts node self.new.doubts result }
+    {
+        if all {
+            return node;
+        }
+        pass_up(&mut self.doubts, node)
+    }
+
     /// Plays the matches again that are in doubt themselves, and with `all` those in doubt whose facts
     /// don't hold, the halves of a node before the node. The doubts lead the way, and only nodes in doubt are visited.
     pub fn repair<K: Keyed<Item = I>, O: Signs, L: Ledger>(
@@ -224,6 +239,7 @@ impl<I: Copy> Tree<I> {
         while node > 0 {
             self.renew(node, all, key, now, out, steps)?;
             self.settle_node(node);
+            node = self.climb(all, node);
             node = next_doubt(&self.doubts, node);
         }
         Ok(())

@@ -4,6 +4,7 @@ use Rattle.kin_tourney.specs.Standings.{Standings, doubt_in}
 use Rattle.kin_tourney.specs.Repairs.{IsPerfect, IsLowest, IsDone}
 use Rattle.kin_tourney.proofs.Trees.{all_clear, some_inner, perfect}
 use Rattle.kin_tourney.proofs.Mending.{mending_starts, passed, stepped}
+use Rattle.kin_tourney.proofs.Climbing.{climbed_on}
 use Rattle.kin_tourney.proofs.tree.Tree.repair.Goals as goal
 
 pub first_doubt-node-requires : goal.first_doubt-node-requires
@@ -28,20 +29,27 @@ pub settle_node-requires-clause-halves : goal.settle_node-requires-clause-halves
 settle_node-requires-clause-halves g c =
     (passed _ _ _ _ _ _ _ _ _ _ (c.loop-node.invariant.place c.loop-node-test.true) c.loop-node.invariant.mending c.renew.ensures.tree c.in_ok-renew.ensures.renewed).halves_clear
 
+pub climb-node-requires-clause-done : goal.climb-node-requires-clause-done
+climb-node-requires-clause-done g c =
+    (stepped _ _ _ _ _ _ _ _ _ _ _ (c.loop-node.invariant.place c.loop-node-test.true) c.loop-node.invariant.mending c.renew.ensures.tree c.in_ok-renew.ensures.renewed c.settle_node.ensures.tree c.settle_node.ensures.cleared).done
+
 pub next_doubt-node-requires : goal.next_doubt-node-requires
 next_doubt-node-requires g c =
-    let q = stepped _ _ _ _ _ _ _ _ _ _ _ (c.loop-node.invariant.place c.loop-node-test.true) c.loop-node.invariant.mending c.renew.ensures.tree c.in_ok-renew.ensures.renewed c.settle_node.ensures.tree c.settle_node.ensures.cleared in
+    let p = stepped _ _ _ _ _ _ _ _ _ _ _ (c.loop-node.invariant.place c.loop-node-test.true) c.loop-node.invariant.mending c.renew.ensures.tree c.in_ok-renew.ensures.renewed c.settle_node.ensures.tree c.settle_node.ensures.cleared in
+    let q = climbed_on _ _ _ _ _ _ c.climb-node.new.self _ _ _ _ p c.climb-node.ensures.same c.climb-node.ensures.climbed in
     let same = c.deref-in-loop-node.ensures.value ∙ ap (λ (t : Standings g.row.I.Denot). t.doubts) c.self-in-loop-node.view_is in
-    record { tree = subst IsPerfect (sym same) (perfect c.settle_node.new.self c.settle_node.ensures.tree); done = subst (λ ds. IsDone ds c.loop-node.node) (sym same) q.done }
+    record { tree = subst IsPerfect (sym same) (perfect c.climb-node.new.self q.mending.doubtful.tree); done = subst (λ ds. IsDone ds c.climb-node.result) (sym same) q.done }
 
 pub loop-node-smaller : goal.loop-node-smaller
 loop-node-smaller g c =
-    let q = stepped _ _ _ _ _ _ _ _ _ _ _ (c.loop-node.invariant.place c.loop-node-test.true) c.loop-node.invariant.mending c.renew.ensures.tree c.in_ok-renew.ensures.renewed c.settle_node.ensures.tree c.settle_node.ensures.cleared in
+    let p = stepped _ _ _ _ _ _ _ _ _ _ _ (c.loop-node.invariant.place c.loop-node-test.true) c.loop-node.invariant.mending c.renew.ensures.tree c.in_ok-renew.ensures.renewed c.settle_node.ensures.tree c.settle_node.ensures.cleared in
+    let q = climbed_on _ _ _ _ _ _ c.climb-node.new.self _ _ _ _ p c.climb-node.ensures.same c.climb-node.ensures.climbed in
     omega (arith, q.count)
 
 pub loop-node-preserved : goal.loop-node-preserved
 loop-node-preserved g c =
-    let q = stepped _ _ _ _ _ _ _ _ _ _ _ (c.loop-node.invariant.place c.loop-node-test.true) c.loop-node.invariant.mending c.renew.ensures.tree c.in_ok-renew.ensures.renewed c.settle_node.ensures.tree c.settle_node.ensures.cleared in
+    let p = stepped _ _ _ _ _ _ _ _ _ _ _ (c.loop-node.invariant.place c.loop-node-test.true) c.loop-node.invariant.mending c.renew.ensures.tree c.in_ok-renew.ensures.renewed c.settle_node.ensures.tree c.settle_node.ensures.cleared in
+    let q = climbed_on _ _ _ _ _ _ c.climb-node.new.self _ _ _ _ p c.climb-node.ensures.same c.climb-node.ensures.climbed in
     let same = c.deref-in-loop-node.ensures.value ∙ ap (λ (t : Standings g.row.I.Denot). t.doubts) c.self-in-loop-node.view_is in
     record {
       mending = q.mending;
