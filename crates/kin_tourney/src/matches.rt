@@ -214,9 +214,9 @@ impl<I: Copy> Tree<I> {
         pass_up(&mut self.doubts, node)
     }
 
-    /// Plays the matches again that are in doubt themselves, and with `all` those in doubt whose facts
-    /// don't hold, the halves of a node before the node. The doubts lead the way, and only nodes in doubt are visited.
-    pub fn repair<K: Keyed<Item = I>, O: Signs, L: Ledger>(
+    /// The same, where nodes are in doubt.
+    #[inline(never)]
+    fn repair_doubts<K: Keyed<Item = I>, O: Signs, L: Ledger>(
         &mut self,
         all: bool,
         key: &K,
@@ -243,6 +243,33 @@ impl<I: Copy> Tree<I> {
             node = next_doubt(&self.doubts, node);
         }
         Ok(())
+    }
+
+    /// Plays the matches again that are in doubt themselves, and with `all` those in doubt whose facts
+    /// don't hold, the halves of a node before the node. The doubts lead the way, and only nodes in doubt are visited.
+    pub fn repair<K: Keyed<Item = I>, O: Signs, L: Ledger>(
+        &mut self,
+        all: bool,
+        key: &K,
+        now: &O,
+        out: &mut Delta,
+        steps: &mut Steps<L>,
+    ) -> Result<(), NoMemory>
+        requires doubtful { IsDoubtful all (K.key key.now) (O.scene now.now).sign self.old }
+        requires some { 1 ≤ self.old.size }
+        requires live { HoldLive K.names (O.scene now.now).live self.old.items }
+        ensures tree { IsTree self.new }
+        ensures same_size { OnOk result (self.new.size ≡ self.old.size) }
+        ensures same_items { OnOk result (self.new.items ≡ self.old.items) }
+        ensures known { OnOk result (IsDoubtful all (K.key key.now) (O.scene now.now).sign self.new) }
+        ensures clear { OnOk result ((v : ℕ) → 0 < v → doubt_in self.new.doubts v ≡ Doubt.Clear) }
+        ensures delta { OnOk result (HasChanged (placed_facts self.old) (placed_facts self.new) out.old out.new) }
+        ensures cost { OnOk result (steps.new + 1 ≤ steps.old + doubt_count self.old.doubts) }
+    {
+        if self.is_untouched() {
+            return Ok(());
+        }
+        self.repair_doubts(all, key, now, out, steps)
     }
 }
 

@@ -3,7 +3,7 @@ use Rattle.kin_tourney.specs.declared.doubt.Doubt.TheVariants.{Clear}
 use Rattle.kin_tourney.specs.Repairs.{IsLowest}
 use Rattle.kin_tourney.specs.Standings.{doubt_in, doubt_count}
 use Rattle.kin_tourney.proofs.Mending.{IsMending}
-use Rattle.kin_tourney.proofs.tree.Tree.repair.Given as goal
+use Rattle.kin_tourney.proofs.tree.Tree.repair_doubts.Given as goal
 
 abbrev pub invariant-loop-node : goal.invariant-loop-node
 invariant-loop-node g l = record {
