@@ -1,6 +1,7 @@
 //! On which sides of a point another one lies, and in which octant.
 
 ghost use Rattle.std.specs.Prelude.{◌≡◌, ◌<◌, ℕ, Some, true, slice_get};
+ghost use Rattle.kin_motion.specs.Changes.{stands_before};
 ghost use Rattle.kin_motion.specs.Octants.{Octant as Bounds, octants};
 ghost use Rattle.kin_motion.specs.Numbers.{is_in};
 ghost use Rattle.kin_wedge.specs.Rows.{row_of, is_in_wedge, AreAlike, AreRows};
@@ -100,6 +101,21 @@ impl Orders {
             difference: self.rises(1, apex.difference, other.difference),
             x: self.rises(2, apex.x, other.x),
             sum: self.rises(3, apex.sum, other.sum),
+        }
+    }
+
+    /// Whether the first of two members stands before the second in one of these orders, by where they stand.
+    #[inline(always)]
+    pub fn spots_rise(&self, part: u32, first: Spot, second: Spot) -> bool
+        requires rows { AreRows (rows_of self.now.lists.items) }
+        requires part { part < 4 }
+        ensures { (p q : ℕ) → IsSpot (rows_of self.now.lists.items) p first → IsSpot (rows_of self.now.lists.items) q second → result ≡ stands_before (row_of (rows_of self.now.lists.items) part) p q }
+    {
+        match part {
+            0 => self.rises(0, first.y, second.y),
+            1 => self.rises(1, first.difference, second.difference),
+            2 => self.rises(2, first.x, second.x),
+            _ => self.rises(3, first.sum, second.sum),
         }
     }
 

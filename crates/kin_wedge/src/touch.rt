@@ -324,17 +324,19 @@ impl Touches {
         ensures offered { OnOk result (HasOfferedBoth (rows_of orders.now.lists.items) table.now part a b self.new.all.items) }
         ensures touched { OnOk result (HasTouched table.now self.old.all.items self.new.all.items) }
     {
-        let place = orders.place_of_member(part, a);
-        let other = orders.place_of_member(part, b);
-        let rises = orders.rises(part, place, other);
-        let falls = orders.rises(part, other, place);
         if part < 4 {
             let at = orders.spot(a);
             let spot = orders.spot(b);
+            let rises = orders.spots_rise(part, at, spot);
+            let falls = orders.spots_rise(part, spot, at);
             self.offer_within(orders, table, part, a, at, b, spot, rises, falls)?;
             self.offer_within(orders, table, part, b, spot, a, at, falls, rises)?;
             return Ok(());
         }
+        let place = orders.place_of_member(part, a);
+        let other = orders.place_of_member(part, b);
+        let rises = orders.rises(part, place, other);
+        let falls = orders.rises(part, other, place);
         self.offer_beside(orders, table, part, a, b, falls, rises)?;
         self.offer_beside(orders, table, part, b, a, rises, falls)?;
         Ok(())
