@@ -16,6 +16,7 @@ use crate::index::have_one_place;
 use crate::table::Table;
 use crate::timing::{time, unqueue};
 use kin_motion::fact::{Delta, Placed};
+use kin_motion::form::Form;
 use kin_motion::motion::Motions;
 use kin_num::{Moment, NoMemory, Steps};
 use std::sync::ledger::Ledger;
@@ -100,8 +101,57 @@ impl Table {
         Ok(rest)
     }
 
-    // Puts a born fact in the stead of a dropped one, if the roll can do so.
+    // Puts a born fact in the stead of a dropped one, if the roll can do so. For lines it is made in line.
+    #[inline(always)]
     fn replace<L: Ledger>(
+        &mut self,
+        structure: u32,
+        dropped: &Placed,
+        born: &Placed,
+        motions: &Motions,
+        now: &Moment,
+        steps: &mut Steps<L>,
+    ) -> Result<bool, NoMemory>
+        requires askable { IsAskable (live_of motions.now) born.now.fact.form }
+        requires holds { Holds (scene_at motions.now now.now) born.now.fact }
+        ensures yes { IfOk result (λ is. IsTrue is → HasReplaced structure (scene_at motions.now) now.now dropped.now born.now self.old.live self.new.live) }
+        ensures no { IfOk result (λ is. ¬ (IsTrue is) → self.new ≡ self.old) }
+        ensures made { self.new.made ≡ self.old.made }
+        ensures cost { IfOk result (λ is. IsTrue is → TakesAtMost (length self.old.live) (λ r. cond (is_ungiven structure self.old.live dropped.now) r 0 + (r + 1)) steps.old steps.new) }
+        ensures idle { IfOk result (λ is. ¬ (IsTrue is) → steps.new ≡ steps.old) }
+    {
+        if is_line(dropped) && is_line(born) {
+            self.put_in_stead(structure, dropped, born, motions, now, steps)
+        } else {
+            self.replace_curve(structure, dropped, born, motions, now, steps)
+        }
+    }
+
+    // The same for forms of any kind, out of the way of lines.
+    #[inline(never)]
+    fn replace_curve<L: Ledger>(
+        &mut self,
+        structure: u32,
+        dropped: &Placed,
+        born: &Placed,
+        motions: &Motions,
+        now: &Moment,
+        steps: &mut Steps<L>,
+    ) -> Result<bool, NoMemory>
+        requires askable { IsAskable (live_of motions.now) born.now.fact.form }
+        requires holds { Holds (scene_at motions.now now.now) born.now.fact }
+        ensures yes { IfOk result (λ is. IsTrue is → HasReplaced structure (scene_at motions.now) now.now dropped.now born.now self.old.live self.new.live) }
+        ensures no { IfOk result (λ is. ¬ (IsTrue is) → self.new ≡ self.old) }
+        ensures made { self.new.made ≡ self.old.made }
+        ensures cost { IfOk result (λ is. IsTrue is → TakesAtMost (length self.old.live) (λ r. cond (is_ungiven structure self.old.live dropped.now) r 0 + (r + 1)) steps.old steps.new) }
+        ensures idle { IfOk result (λ is. ¬ (IsTrue is) → steps.new ≡ steps.old) }
+    {
+        self.put_in_stead(structure, dropped, born, motions, now, steps)
+    }
+
+    // The same. It is made in line, so that who knows the kinds of both forms doesn't ask for them again.
+    #[inline(always)]
+    fn put_in_stead<L: Ledger>(
         &mut self,
         structure: u32,
         dropped: &Placed,
@@ -241,4 +291,8 @@ fn fits_next(dropped: &Placed, born: &[Placed]) -> bool {
         Some(next) => have_one_place(dropped, next),
         None => false,
     }
+}
+
+fn is_line(placed: &Placed) -> bool {
+    matches!(placed.fact.form, Form::Line { .. })
 }

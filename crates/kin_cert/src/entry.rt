@@ -65,7 +65,7 @@ impl Entry {
     {
         self.owned.structure == structure
             && self.owned.part == part
-            && self.owned.fact.form.is(*form)
+            && are_same(&self.owned.fact.form, form)
     }
 
     /// The place of the fact.
@@ -113,6 +113,26 @@ impl Entry {
         ensures { self.new ≡ waiting self.old }
     {
         self.is_waiting = true;
+    }
+}
+
+// Whether it is one form. Lines are compared in line.
+#[inline(always)]
+fn are_same(x: &Form, y: &Form) -> bool
+    ensures { IsTrue result ↔ (x.now ≡ y.now) }
+{
+    match (*x, *y) {
+        (
+            Form::Line { dx, dy, off, i, j },
+            Form::Line {
+                dx: dx2,
+                dy: dy2,
+                off: off2,
+                i: i2,
+                j: j2,
+            },
+        ) => dx == dx2 && dy == dy2 && off == off2 && i == i2 && j == j2,
+        _ => x.is(*y),
     }
 }
 

@@ -1,9 +1,10 @@
 //! The indices of a roll: how the id of an owner's form is found.
 
-ghost use Rattle.std.specs.Prelude.{◌≡◌, ℕ, Some, OnOk, OnErr, IfSome, IfNone, IsTrue, ◌↔◌};
+ghost use Rattle.std.specs.Prelude.{◌≡◌, ◌⊎◌, ℕ, Some, None, OnOk, OnErr, IfSome, IfNone, IsTrue, ◌↔◌};
+ghost use Rattle.indexmap.specs.IndexMap.{get as look_up};
 ghost use Rattle.kin_cert.specs.Entries.{Entry as Kept};
 ghost use Rattle.kin_cert.specs.Rank.{padded_rank};
-ghost use Rattle.kin_cert.specs.Layout.{entry_at, entry_rank, owned_place, owned_rank, held};
+ghost use Rattle.kin_cert.specs.Layout.{entry_at, entry_rank, is_rank, owned_place, owned_rank, held};
 ghost use Rattle.kin_cert.specs.Rolls.{IsIdOf, HasNoId, IsStruck, MayFollow, IsEnrolled, IsSameIndex};
 
 use crate::entry::Entry;
@@ -80,6 +81,7 @@ pub(crate) fn strike(
 }
 
 /// Whether both facts have one place, where they have one structure.
+#[inline(always)]
 pub(crate) fn have_one_place(old: &Placed, new: &Placed) -> bool
     ensures { IsTrue result → (s : ℕ) → owned_place (held s new.now) ≡ owned_place (held s old.now) }
 {
@@ -87,6 +89,7 @@ pub(crate) fn have_one_place(old: &Placed, new: &Placed) -> bool
 }
 
 /// Whether the new fact isn't among the others, where the old one holds its place.
+#[inline(always)]
 pub(crate) fn may_follow(
     others: &IndexMap<Rank, usize>,
     holder: Holder,
@@ -99,6 +102,14 @@ pub(crate) fn may_follow(
     if !holder.is_shared {
         return true;
     }
+    is_none_of(others, structure, old, new)
+}
+
+// Whether the new fact has the form of the old one, or isn't among the others.
+#[inline(never)]
+fn is_none_of(others: &IndexMap<Rank, usize>, structure: u32, old: &Placed, new: &Placed) -> bool
+    ensures { IsTrue result → (new.now.fact.form ≡ old.now.fact.form) ⊎ (look_up is_rank others.now (owned_rank (held structure new.now)) ≡ None) }
+{
     new.fact.form.is(old.fact.form)
         || !others.contains_key(&rank(structure, new.part, new.fact.form))
 }

@@ -150,7 +150,8 @@ impl Roll {
 
     /// Puts a fact of the same place in the stead of a fact, which is there, where that is the one by
     /// which its place is known and no other fact has the owner and the form of the new one. The new
-    /// one never fails as yet. Else nothing changes.
+    /// one never fails as yet. Else nothing changes. It is made in line, for lines by themselves.
+    #[inline(always)]
     pub(crate) fn take_over(&mut self, structure: u32, old: &Placed, new: &Placed) -> Option<Seat>
         ensures taken { IfSome result (λ seat. IsTakenOver self.old (owned_rank (held structure old.now)) (held structure new.now) seat self.new) }
         ensures none { IfNone result (self.new ≡ self.old) }

@@ -13,7 +13,7 @@ use Rattle.kin_cert.proofs.Slots.{live-set-count}
 use Rattle.kin_cert.proofs.Costs.{gone_and_back}
 use Rattle.kin_cert.proofs.QueueSizes.{few-queued, few-queued-of}
 use Rattle.kin_cert.proofs.Ungiven.{cost_if, queued-ungiven}
-use Rattle.kin_cert.proofs.table.Table.replace.Goals as goal
+use Rattle.kin_cert.proofs.table.Table.put_in_stead.Goals as goal
 
 pub time-requires-clause-there : goal.time-requires-clause-there
 time-requires-clause-there g c =
