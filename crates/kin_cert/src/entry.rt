@@ -15,8 +15,10 @@ use std::marker::Model;
 #[derive(Drop)]
 pub(crate) struct Entry {
     owned: Owned,
-    /// The first failure. Where the fact never fails it means nothing.
-    at: Moment,
+    /// The instant of the first failure, and its phase. Where the fact never fails they mean nothing. They stand one by one,
+    /// so that no gap between them is copied.
+    at: Instant,
+    phase: Phase,
     /// Whether the fact ever fails.
     is_mortal: bool,
     /// Whether the fact was given out as failing and waits to be dropped.
@@ -28,7 +30,7 @@ impl Model for Entry {
 
     ghost Value = { Entry };
 
-    ghost view = { λ e. record { owned = e.owned; fails = first_failure e.is_mortal e.at; is_waiting = e.is_waiting } };
+    ghost view = { λ e. record { owned = e.owned; fails = first_failure e.is_mortal (record { at = e.at; phase = e.phase }); is_waiting = e.is_waiting } };
 }
 
 impl Entry {
@@ -42,10 +44,8 @@ impl Entry {
                 part: placed.part,
                 fact: placed.fact,
             },
-            at: Moment {
-                at: Instant::of(Shape::Ratio { n: 0, d: 1 }),
-                phase: Phase::At,
-            },
+            at: Instant::of(Shape::Ratio { n: 0, d: 1 }),
+            phase: Phase::At,
             is_mortal: false,
             is_waiting: false,
         }
@@ -104,7 +104,8 @@ impl Entry {
     pub(crate) fn set_failure(&mut self, at: &Moment)
         ensures { self.new ≡ timed self.old (Some at.now) }
     {
-        self.at = *at;
+        self.at = at.at;
+        self.phase = at.phase;
         self.is_mortal = true;
     }
 
