@@ -48,6 +48,14 @@ pub record StandsAt {S : Type 0} (firsts : IndexMap (List ℕ) Holder S) (place 
 abbrev pub HasHolder : {S T : Type 0} → IndexMap (List ℕ) Holder S → List ℕ → Holder → IndexMap (List ℕ) Holder T → Type 0
 HasHolder firsts place holder firsts' = (q : List ℕ) → look_up is_place firsts' q ≡ cond (is_place place q) (Some holder) (look_up is_place firsts q)
 
+-- all places have the holders that they had
+abbrev pub HasSamePlaces : {S T : Type 0} → IndexMap (List ℕ) Holder S → IndexMap (List ℕ) Holder T → Type 0
+HasSamePlaces firsts firsts' = (q : List ℕ) → look_up is_place firsts' q ≡ look_up is_place firsts q
+
+-- the place had no holder, and has this one
+abbrev pub HasEntered : {S T : Type 0} → IndexMap (List ℕ) Holder S → List ℕ → Holder → IndexMap (List ℕ) Holder T → Type 0
+HasEntered firsts place holder firsts' = (look_up is_place firsts place ≡ None) × HasHolder firsts place holder firsts'
+
 -- the place is known by this id, whose entry is the owner's of this form
 pub record IsFirstAt {S : Type 0} (slots : List (Option Entry)) (firsts : IndexMap (List ℕ) Holder S) (structure part : ℕ) (form : Form) (id : ℕ) : Type 0 where
   pub known : IsKnownBy firsts (place_of structure part form) id

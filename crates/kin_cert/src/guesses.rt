@@ -1,13 +1,14 @@
 //! Guesses of where places stand in their index, which spare most hashes.
 
-ghost use Rattle.std.specs.Prelude.{◌≡◌, Some, IfSome, IfNone, None, slice_get};
+ghost use Rattle.std.specs.Prelude.{◌≡◌, Some, IfSome, IfNone, None, IsSome, IfOk, OnErr, MatchOption, slice_get};
 ghost use Rattle.kin_cert.specs.declared.holder.Holder.{Holder as Kept};
 ghost use Rattle.indexmap.specs.IndexMap.{get as look_up};
-ghost use Rattle.kin_cert.specs.Rolls.{is_place, StandsAt};
+ghost use Rattle.kin_cert.specs.Rolls.{is_place, StandsAt, HasHolder, HasSamePlaces, HasEntered};
 
 use crate::holder::{Holder, Spot};
 use crate::place::Place;
 use indexmap::IndexMap;
+use kin_num::NoMemory;
 use std::alloc::Global;
 
 /// How many guesses are kept.
@@ -90,6 +91,30 @@ impl Guesses {
         }
     }
 
+    /// Where a place stands, or `None` where it didn't stand there, and has this holder now. Either is guessed the next time.
+    /// The place is looked for and put in by one hash.
+    pub(crate) fn spot_or_enter(
+        &mut self,
+        firsts: &mut IndexMap<Place, Holder>,
+        place: &Place,
+        newcomer: Holder,
+    ) -> Result<Option<Spot>, NoMemory>
+        ensures ok { IfOk result (λ known. MatchOption known (HasEntered firsts.old place.now newcomer firsts.new) (λ spot. StandsAt firsts.new place.now spot × HasSamePlaces firsts.old firsts.new)) }
+        ensures err { OnErr result (HasSamePlaces firsts.old firsts.new) }
+    {
+        if let Some(spot) = self.guessed(firsts, place) {
+            return Ok(Some(spot));
+        }
+        let Ok((position, known)) = firsts.insert_full(*place, newcomer) else {
+            return Err(NoMemory);
+        };
+        self.note(place, position);
+        match known {
+            Some(holder) => Ok(Some(restored(firsts, place, holder))),
+            None => Ok(None),
+        }
+    }
+
     /// Notes where a place stands. Without memory there are no guesses.
     pub(crate) fn note(&mut self, place: &Place, position: usize) {
         if self.positions.is_empty() && self.positions.resize(COUNT, 0).is_err() {
@@ -114,6 +139,22 @@ fn asked(firsts: &IndexMap<Place, Holder>, place: &Place) -> Option<Spot>
         position,
         holder: *holder,
     })
+}
+
+// Gives a place that stands there the holder back that it had before. Answers where it stands.
+#[inline(never)]
+fn restored(firsts: &mut IndexMap<Place, Holder>, place: &Place, holder: Holder) -> Spot
+    requires there { IsSome (look_up is_place firsts.old place.now) }
+    ensures back { HasHolder firsts.old place.now holder firsts.new }
+    ensures stands { StandsAt firsts.new place.now result }
+{
+    let Ok(_) = firsts.insert(*place, holder) else {
+        unreachable!()
+    };
+    let Some(spot) = asked(firsts, place) else {
+        unreachable!()
+    };
+    spot
 }
 
 // Where the guess of a place stands. The lists of one structure of each kind, of up to 1,024 points, share none.

@@ -128,24 +128,20 @@ pub(crate) fn enrol(
     ensures err { OnErr result (IsSameIndex firsts.old others.old firsts.new others.new) }
 {
     let place = place(structure, placed.part, placed.fact.form);
-    let Some(spot) = guesses.spot_of(firsts, &place) else {
-        let newcomer = Holder {
-            id,
-            is_shared: false,
-        };
-        let Ok((position, _)) = firsts.insert_full(place, newcomer) else {
-            return Err(NoMemory);
-        };
-        guesses.note(&place, position);
+    let newcomer = Holder {
+        id,
+        is_shared: false,
+    };
+    let Some(spot) = guesses.spot_or_enter(firsts, &place, newcomer)? else {
         return Ok(());
     };
     let holder = spot.holder;
     if !is_held(entries, holder.id, &place) {
-        let newcomer = Holder {
+        let successor = Holder {
             id,
             is_shared: holder.is_shared,
         };
-        hand_over(firsts, &place, spot, newcomer);
+        hand_over(firsts, &place, spot, successor);
         return Ok(());
     }
     let rank = rank(structure, placed.part, placed.fact.form);

@@ -1,4 +1,4 @@
-use Rattle.std.proofs.Common.{◌≡◌, ℕ, ℤ, true, false, List, Option, cond, Some, None, is_some, refl, sym, ap, subst, ◌∙◌, inl, inr}
+use Rattle.std.proofs.Common.{◌≡◌, ℕ, ℤ, true, false, List, Option, cond, Some, None, MatchOption, is_some, refl, sym, ap, subst, ◌∙◌, inl, inr}
 use Rattle.std.proofs.lemmas.Option.{same_Some}
 use Rattle.indexmap.specs.IndexMap.{get as look_up}
 use Rattle.kin_cert.specs.Entries.{Entry}
@@ -8,17 +8,25 @@ use Rattle.kin_cert.specs.Rolls.{is_place}
 use Rattle.kin_cert.proofs.Places.{some_none}
 use Rattle.kin_cert.proofs.index.enrol.Goals as goal
 
+-- what was told of a place that had no holder, or of one that had
+none_told : {A : Type 0} (o : Option A) (P : Type 0) (Q : A → Type 0) → o ≡ None → MatchOption o P Q → P
+none_told {A = A} o P Q e h = subst (λ (x : Option A). MatchOption x P Q) e h
+
+some_told : {A : Type 0} (o : Option A) (a : A) (P : Type 0) (Q : A → Type 0) → o ≡ Some a → MatchOption o P Q → Q a
+some_told {A = A} o a P Q e h = subst (λ (x : Option A). MatchOption x P Q) e h
+
 pub returns-in_default-clause-ok : goal.returns-in_default-clause-ok
 returns-in_default-clause-ok c =
-    let unknown : look_up is_place c.args.firsts.now (owned_place (held c.args.structure c.args.placed.now)) ≡ None = ap (look_up is_place c.args.firsts.now) (sym c.place-place.ensures) ∙ c.in_default.ensures.none in
     let newcomer : Holder = record { id = c.args.id; is_shared = false } in
+    let told = none_told _ _ _ c.in_default.is c.in_ok-spot.ensures.ok in
+    let unknown : look_up is_place c.args.firsts.now (owned_place (held c.args.structure c.args.placed.now)) ≡ None = ap (look_up is_place c.args.firsts.now) (sym c.place-place.ensures) ∙ told.0 in
     inl (
       record {
         holder = newcomer;
         id_is = refl;
         free = λ h e known. absurd (some_none h (sym known ∙ unknown));
         stays = λ h known. absurd (some_none h (sym known ∙ unknown));
-        has = λ q. c.in-Ok.ensures.updates.0 q ∙ ap (λ (p : List ℕ). cond (is_place p q) (Some newcomer) (look_up is_place c.args.firsts.now q)) c.place-place.ensures;
+        has = λ q. told.1 q ∙ ap (λ (p : List ℕ). cond (is_place p q) (Some newcomer) (look_up is_place c.args.firsts.now q)) c.place-place.ensures;
       },
       λ q. refl,
     )
@@ -26,7 +34,8 @@ returns-in_default-clause-ok c =
 pub returns-then-not-is_held-clause-ok : goal.returns-then-not-is_held-clause-ok
 returns-then-not-is_held-clause-ok c =
     let spot = c.in-Some.spot in
-    let known : look_up is_place c.args.firsts.now (owned_place (held c.args.structure c.args.placed.now)) ≡ Some spot.holder = ap (look_up is_place c.args.firsts.now) (sym c.place-place.ensures) ∙ c.in-Some.ensures.some.known in
+    let told = some_told _ _ _ _ c.in-Some.is c.in_ok-spot.ensures.ok in
+    let known : look_up is_place c.args.firsts.now (owned_place (held c.args.structure c.args.placed.now)) ≡ Some spot.holder = ap (look_up is_place c.args.firsts.now) (sym c.place-place.ensures) ∙ sym (told.1 c.place-place.result) ∙ told.0.known in
     let newcomer : Holder = record { id = c.args.id; is_shared = spot.holder.is_shared } in
     inl (
       record {
@@ -37,7 +46,7 @@ returns-then-not-is_held-clause-ok c =
             let both : false ≡ true = c.if-not-is_held.ensures.1 (e, ap (λ (x : Holder). entry_at c.args.entries.now.slots x.id) (sym same) ∙ there, placed ∙ sym c.place-place.ensures) in
             cc;
         stays = λ h was shared. ap (λ (x : Holder). x.is_shared) (sym (same_Some h spot.holder (sym was ∙ known))) ∙ shared;
-        has = λ q. c.hand_over.ensures q ∙ ap (λ (p : List ℕ). cond (is_place p q) (Some newcomer) (look_up is_place c.args.firsts.now q)) c.place-place.ensures;
+        has = λ q. c.hand_over.ensures q ∙ ap (cond (is_place c.place-place.result q) (Some newcomer)) (told.1 q) ∙ ap (λ (p : List ℕ). cond (is_place p q) (Some newcomer) (look_up is_place c.args.firsts.now q)) c.place-place.ensures;
       },
       λ q. refl,
     )
@@ -45,14 +54,15 @@ returns-then-not-is_held-clause-ok c =
 pub returns-clause-ok : goal.returns-clause-ok
 returns-clause-ok c =
     let spot = c.in-Some.spot in
+    let told = some_told _ _ _ _ c.in-Some.is c.in_ok-spot.ensures.ok in
     let at = c.if-not-is_held.ensures.0 refl in
     let shared : Holder = record { id = spot.holder.id; is_shared = true } in
     inr (
       record {
         holder = spot.holder;
-        known = ap (look_up is_place c.args.firsts.now) (sym c.place-place.ensures) ∙ c.in-Some.ensures.some.known;
+        known = ap (look_up is_place c.args.firsts.now) (sym c.place-place.ensures) ∙ sym (told.1 c.place-place.result) ∙ told.0.known;
         there = ap (λ (e : Option Entry). is_some e) at.1;
-        has = λ q. c.hand_over-2.ensures q ∙ ap (λ (p : List ℕ). cond (is_place p q) (Some shared) (look_up is_place c.args.firsts.now q)) c.place-place.ensures;
+        has = λ q. c.hand_over-2.ensures q ∙ ap (cond (is_place c.place-place.result q) (Some shared)) (told.1 q) ∙ ap (λ (p : List ℕ). cond (is_place p q) (Some shared) (look_up is_place c.args.firsts.now q)) c.place-place.ensures;
       },
-      λ q. c.in-Ok-insert.ensures.updates.0 q ∙ ap (λ (r : List ℤ). cond (is_rank r q) (Some c.args.id) (look_up is_rank c.args.others.now q)) c.rank-rank.ensures,
+      λ q. c.in-Ok.ensures.updates.0 q ∙ ap (λ (r : List ℤ). cond (is_rank r q) (Some c.args.id) (look_up is_rank c.args.others.now q)) c.rank-rank.ensures,
     )
