@@ -3,6 +3,7 @@ use Rattle.std.proofs.Common.{◌≡◌, ◌≢◌, inl, inr, Some, None, refl, 
 use Rattle.kin_algebra.specs.declared.sign.Sign.{Sign}
 use Rattle.kin_algebra.specs.declared.sign.Sign.TheVariants.{Zero}
 use Rattle.kin_algebra.specs.Signs.{first_of}
+use Rattle.kin_algebra.proofs.IntegerSigns.{zero_of}
 use Rattle.kin_num.specs.declared.instant.Shape.{Shape}
 use Rattle.kin_num.specs.declared.instant.Phase.{Phase}
 use Rattle.kin_num.specs.declared.instant.Phase.TheVariants.{At, After}
@@ -17,7 +18,7 @@ use Rattle.kin_instant.specs.Places.{IsZeroPolynomial, IsNextRoot, KeepsSign}
 use Rattle.kin_instant.specs.Roots.{quadratic}
 use Rattle.kin_instant.proofs.RootsOf.{constant_sign}
 use Rattle.kin_instant.proofs.SignTable.{at_at, at_after}
-use Rattle.kin_instant.proofs.Kept.{zero_after}
+use Rattle.kin_instant.proofs.Kept.{zero_after, constant_at}
 use Rattle.kin_motion.specs.declared.fact.Fact.{Fact}
 use Rattle.kin_cert.specs.Failures.{seen_by, IsFirstFailure}
 
@@ -30,6 +31,14 @@ pub zero_everywhere : (p : Quadratic) → IsZeroPolynomial p → (m : Moment) �
 zero_everywhere p z m i =
     ap (λ (x : ℤ). sign_at (quadratic x p.b p.c) m) z.a_zero ∙ ap (λ (x : ℤ). sign_at (quadratic (pos 0) x p.c) m) z.b_zero ∙ ap (λ (x : ℤ). sign_at (quadratic (pos 0) (pos 0) x) m) z.c_zero
     ∙ zero_at m.at m.phase i
+
+-- a constant that has the sign 0 at a moment is 0
+pub constant_zero : (p : Quadratic) (m : Moment) → IsCanonical m.at → sign_at p m ≡ Zero → p.a ≡ pos 0 → p.b ≡ pos 0 → IsZeroPolynomial p
+constant_zero p m i zero a b = record {
+  a_zero = a;
+  b_zero = b;
+  c_zero = zero_of p.c (sym (constant_at m.at i.form m.phase p.c) ∙ ap₂ (λ (x y : ℤ). sign_at (quadratic x y p.c) m) (sym a) (sym b) ∙ zero);
+}
 
 module _ (p : Quadratic) (now : Moment) (here : IsCanonical now.at) (f : Fact) (holds : sign_at p now ≡ f.sign) where
   -- a sign that stays after now stays from now on

@@ -1,9 +1,8 @@
 //! The first failure of a fact.
 
-ghost use Rattle.std.specs.Prelude.{◌≡◌, ◌+◌, ◌↔◌, IsTrue};
+ghost use Rattle.std.specs.Prelude.{◌≡◌, ◌+◌, ◌↔◌, IsTrue, pos};
 ghost use Rattle.kin_num.specs.Instants.{sign_at};
 ghost use Rattle.kin_motion.specs.declared.fact.Fact.{Fact as Known};
-ghost use Rattle.kin_instant.specs.Places.{IsZeroPolynomial};
 ghost use Rattle.kin_cert.specs.Failures.{IsFirstFailure, seen_by};
 
 use kin_instant::next::next_root_from;
@@ -41,14 +40,14 @@ pub fn first_fail<L: Ledger>(
     })
 }
 
-// When a polynomial leaves the sign 0.
+// When a polynomial leaves the sign 0. Only a constant never does: it is 0, which isn't asked.
 #[inline(always)]
 fn left_zero(p: &Poly, now: &Moment) -> Option<Moment>
     requires { sign_at p.now now.now ≡ Sign.Zero }
     ensures { (f : Known) → f.sign ≡ Sign.Zero → IsFirstFailure (seen_by p.now) now.now f result }
 {
     now.at.recall_canonical();
-    if is_zero(p) {
+    if is_constant(p) {
         return None;
     }
     Some(Moment {
@@ -57,8 +56,8 @@ fn left_zero(p: &Poly, now: &Moment) -> Option<Moment>
     })
 }
 
-fn is_zero(p: &Poly) -> bool
-    ensures { IsTrue result ↔ IsZeroPolynomial p.now }
+fn is_constant(p: &Poly) -> bool
+    ensures { IsTrue result ↔ ((p.now.a ≡ pos 0) × (p.now.b ≡ pos 0)) }
 {
-    p.a() == 0 && p.b() == 0 && p.c() == 0
+    p.a() == 0 && p.b() == 0
 }
