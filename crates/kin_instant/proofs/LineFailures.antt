@@ -1,14 +1,14 @@
 -- When a line comes to 0, by its sign and by its slope.
-use Rattle.std.proofs.Common.{◌≡◌, ◌≢◌, ◌⊎◌, true, false, Bool, ℤ, pos, Some, None, refl, sym, ap, ap₂, subst, ◌∙◌}
+use Rattle.std.proofs.Common.{◌≡◌, ◌≢◌, ◌⊎◌, inl, inr, true, false, Bool, ℤ, pos, Some, None, refl, sym, ap, ap₂, subst, ◌∙◌}
 use Rattle.std.specs.Prelude.{◌<ℤ◌}
 use Rattle.std.specs.Ordering.{int_eq}
 use Rattle.std.proofs.lemmas.Bool.Decides.{Decides-int_eq}
 use lib.IntN.{neg_ℤ}
 use Rattle.kin_algebra.specs.declared.sign.Sign.{Sign}
 use Rattle.kin_algebra.specs.declared.sign.Sign.TheVariants.{Minus, Zero, Plus}
-use Rattle.kin_algebra.specs.Signs.{product_of}
+use Rattle.kin_algebra.specs.Signs.{product_of, sign_of}
 use Rattle.kin_algebra.proofs.Signs.{code}
-use Rattle.kin_algebra.proofs.IntegerSigns.{sign_in}
+use Rattle.kin_algebra.proofs.IntegerSigns.{sign_in, sign_out, zero_of}
 use Rattle.kin_num.specs.declared.instant.Shape.{Shape}
 use Rattle.kin_num.specs.declared.instant.Moment.{Moment}
 use Rattle.kin_num.specs.Quadratic.{Quadratic, IsSmall}
@@ -65,3 +65,17 @@ module _ (p : Quadratic) (m : Moment) (form : IsCanonicalForm m.at) (flat : p.a 
       at : (t : Bool) → int_eq p.c (pos 0) ≡ t → Never
       at true e = no_root p m form flat All (subst (λ (q : Quadratic). AreRootsOf q All) as_line (zero_everywhere p.b p.c level ((Decides-int_eq p.c (pos 0)).0 e))) (λ r h. absurd cc)
       at false e = no_root p m form flat Nowhere (subst (λ (q : Quadratic). AreRootsOf q Nowhere) as_line (zero_nowhere p.b p.c level (λ h. let both : true ≡ false = sym ((Decides-int_eq p.c (pos 0)).1 h) ∙ e in cc))) (λ r h. absurd cc)
+
+  -- a line of this sign that comes to 0, and one that never does
+  module _ (s : Sign) (is : sign_at p m ≡ s) where
+    pub turns : ((pos 0 <ℤ p.b) × (s ≡ Minus)) ⊎ ((p.b <ℤ pos 0) × (s ≡ Plus)) → (r : Shape) → (pos 0 <ℤ p.b → IsFraction (neg_ℤ p.c) p.b r) → (p.b <ℤ pos 0 → IsFraction p.c (neg_ℤ p.b) r) → IsCanonical r → Comes r
+    turns (inl up) r rising falling canonical = rises up.0 r (rising up.0) canonical (is ∙ up.1)
+    turns (inr down) r rising falling canonical = falls down.0 r (falling down.0) canonical (is ∙ down.1)
+
+    pub turns_not : s ≢ Zero → (pos 0 <ℤ p.b → s ≢ Minus) → (p.b <ℤ pos 0 → s ≢ Plus) → Never
+    turns_not some not_below not_above = by_slope (sign_of p.b) refl
+      where
+        by_slope : (t : Sign) → sign_of p.b ≡ t → Never
+        by_slope Minus e = falls_on (sign_out Minus p.b e) (λ z. some (sym is ∙ z)) (λ z. not_above (sign_out Minus p.b e) (sym is ∙ z))
+        by_slope Zero e = stands (zero_of p.b e)
+        by_slope Plus e = rises_on (sign_out Plus p.b e) (λ z. some (sym is ∙ z)) (λ z. not_below (sign_out Plus p.b e) (sym is ∙ z))

@@ -1,13 +1,15 @@
 //! The next root of a quadratic, after an instant or after a moment at which its sign is known.
 
-ghost use Rattle.std.specs.Prelude.{◌≡◌, ◌≢◌, ◌⊎◌, ◌↔◌, ◌<ℤ◌, MatchOption, None, IfSome, IfNone, IsNone, pos};
-ghost use Rattle.kin_algebra.specs.declared.sign.Sign.TheVariants.{Zero};
+ghost use Rattle.std.specs.Prelude.{◌≡◌, ◌≢◌, ◌⊎◌, ◌↔◌, ◌<ℤ◌, MatchOption, None, IfSome, IfNone, IsNone, IsTrue, IsFalse, pos};
+ghost use lib.IntN.{neg_ℤ};
+ghost use Rattle.kin_algebra.specs.declared.sign.Sign.TheVariants.{Minus, Zero, Plus};
 ghost use Rattle.kin_algebra.specs.Signs.{opposite_of};
 ghost use Rattle.kin_num.specs.Quadratic.{negated};
 ghost use Rattle.kin_num.specs.Instants.{sign_at};
+ghost use Rattle.kin_num.specs.Canonical.{IsCanonical};
 ghost use Rattle.kin_num.specs.Order.{IsLess};
 ghost use Rattle.kin_instant.specs.declared.roots.Roots.{Roots as Answer};
-ghost use Rattle.kin_instant.specs.Roots.{AreRootsOf};
+ghost use Rattle.kin_instant.specs.Roots.{AreRootsOf, IsFraction};
 ghost use Rattle.kin_instant.specs.Sides.{root_on};
 ghost use Rattle.kin_instant.specs.Places.{IsZeroPolynomial, IsNextRoot, HasNoRootAfter, KeepsSign};
 ghost use Rattle.kin_instant.specs.Laws.{IsNext};
@@ -135,7 +137,7 @@ fn next_side(p: &Poly, m: &Moment, sign: Sign) -> Option<bool>
 }
 
 /// The root of a line later than the moment `m`, at which the line has this sign, which isn't 0. It comes to 0 exactly where
-/// its slope has the other sign.
+/// its slope has the other sign. What it is at the instant 0 is asked only then.
 #[inline(always)]
 fn line_root_from(p: &Poly, m: &Moment, sign: Sign) -> Option<Instant>
     requires flat { p.now.a ≡ pos 0 }
@@ -147,18 +149,35 @@ fn line_root_from(p: &Poly, m: &Moment, sign: Sign) -> Option<Instant>
 {
     p.recall_small();
     m.at.recall_canonical();
+    if !comes_to_zero(p, sign) {
+        return None;
+    }
+    Some(root_of_line(p))
+}
+
+/// Whether a line with this sign, which isn't 0, comes to 0.
+fn comes_to_zero(p: &Poly, sign: Sign) -> bool
+    ensures comes { IsTrue result → ((pos 0 <ℤ p.now.b) × (sign ≡ Minus)) ⊎ ((p.now.b <ℤ pos 0) × (sign ≡ Plus)) }
+    ensures rises { IsFalse result → pos 0 <ℤ p.now.b → sign ≢ Minus }
+    ensures falls { IsFalse result → p.now.b <ℤ pos 0 → sign ≢ Plus }
+{
+    match sign {
+        Sign::Minus => p.b() > 0,
+        Sign::Plus => p.b() < 0,
+        Sign::Zero => false,
+    }
+}
+
+/// Where a line with a slope is 0.
+#[inline(always)]
+fn root_of_line(p: &Poly) -> Instant
+    requires sloped { p.now.b ≢ pos 0 }
+    ensures rising { pos 0 <ℤ p.now.b → IsFraction (neg_ℤ p.now.c) p.now.b result }
+    ensures falling { p.now.b <ℤ pos 0 → IsFraction p.now.c (neg_ℤ p.now.b) result }
+    ensures canonical { IsCanonical result }
+{
+    p.recall_small();
     let (b, c) = (p.b(), p.c());
-    if b > 0 {
-        return match sign {
-            Sign::Minus => Some(ratio(-c, b)),
-            _ => None,
-        };
-    }
-    if b < 0 {
-        return match sign {
-            Sign::Plus => Some(ratio(c, -b)),
-            _ => None,
-        };
-    }
-    None
+    let (n, d) = if b > 0 { (-c, b) } else { (c, -b) };
+    ratio(n, d)
 }
