@@ -1,6 +1,6 @@
 //! Guesses of where places stand in their index, which spare most hashes.
 
-ghost use Rattle.std.specs.Prelude.{◌≡◌, Some, IfSome, IfNone, None, IsSome, IfOk, OnErr, MatchOption, slice_get};
+ghost use Rattle.std.specs.Prelude.{◌≡◌, [], ◌∷◌, Some, IfSome, IfNone, None, IsSome, IfOk, OnErr, MatchOption, slice_get};
 ghost use Rattle.kin_cert.specs.declared.holder.Holder.{Holder as Kept};
 ghost use Rattle.indexmap.specs.IndexMap.{get as look_up};
 ghost use Rattle.kin_cert.specs.Rolls.{is_place, StandsAt, HasHolder, HasSamePlaces, HasEntered};
@@ -42,7 +42,8 @@ impl Guesses {
         if let Some(spot) = self.guessed(firsts, place) {
             return Some(spot);
         }
-        let position = self.learn(firsts, place)?;
+        let [structure, part, number] = *place;
+        let position = self.learn(firsts, structure, part, number)?;
         let Some((_, holder)) = firsts.get_index(position) else {
             unreachable!()
         };
@@ -52,14 +53,21 @@ impl Guesses {
         })
     }
 
-    // The position by hash, out of the way of right guesses.
+    // The position by hash, out of the way of right guesses, for which the place is no array then.
     #[inline(never)]
-    fn learn(&mut self, firsts: &IndexMap<Place, Holder>, place: &Place) -> Option<usize>
-        ensures some { IfSome result (λ position. (holder : Kept) × StandsAt firsts.now place.now (record { position = position; holder = holder })) }
-        ensures none { IfNone result (look_up is_place firsts.now place.now ≡ None) }
+    fn learn(
+        &mut self,
+        firsts: &IndexMap<Place, Holder>,
+        structure: u32,
+        part: u32,
+        number: u32,
+    ) -> Option<usize>
+        ensures some { IfSome result (λ position. (holder : Kept) × StandsAt firsts.now (structure ∷ part ∷ number ∷ []) (record { position = position; holder = holder })) }
+        ensures none { IfNone result (look_up is_place firsts.now (structure ∷ part ∷ number ∷ []) ≡ None) }
     {
-        let spot = asked(firsts, place)?;
-        self.note(place, spot.position);
+        let place = [structure, part, number];
+        let spot = asked(firsts, &place)?;
+        self.note(&place, spot.position);
         Some(spot.position)
     }
 
