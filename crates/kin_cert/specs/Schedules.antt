@@ -4,6 +4,8 @@ use Rattle.std.specs.Ordering.{nat_cmp}
 use Rattle.std.specs.Coded.{Coded, coded_ℕ}
 use Rattle.std.specs.FinMap as map
 use Rattle.std.specs.FinMap.{FinMap}
+use Rattle.kin_num.specs.declared.instant.Shape.{Shape}
+use Rattle.kin_num.specs.declared.instant.Phase.TheVariants.{After}
 use Rattle.kin_num.specs.declared.instant.Moment.{Moment}
 use Rattle.kin_num.specs.contracts.instant.Moment as moment
 use Rattle.kin_num.specs.Canonical.{IsCanonical}
@@ -11,6 +13,10 @@ use Rattle.kin_motion.specs.Kinetics.{AreDistinct}
 
 abbrev pub schedule_code : Coded (FinMap nat_cmp Moment)
 schedule_code = map.code coded_ℕ moment.the_row.coded
+
+-- the moment just after an instant
+abbrev pub just_after : Shape → Moment
+just_after at = record { at = at; phase = After }
 
 -- the map with each of these ids at the moment
 abbrev pub with_each : FinMap nat_cmp Moment → Moment → List ℕ → FinMap nat_cmp Moment

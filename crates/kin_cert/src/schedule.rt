@@ -6,6 +6,7 @@ ghost use Rattle.kin_num.specs.declared.instant.Moment.{Moment as Time};
 ghost use Rattle.kin_num.specs.Order.{IsEarlier};
 ghost use Rattle.kin_queue.specs.Agenda.{IsLeast};
 ghost use Rattle.kin_queue.specs.Cost.{TakesSteps};
+ghost use Rattle.kin_cert.specs.Schedules.{just_after};
 
 use kin_instant::order::compare;
 use kin_instant::ratio::ratio;
@@ -26,21 +27,21 @@ pub(crate) struct Schedule {
     queue: Queue,
     /// The ids beside the queue.
     soon: Vec<usize>,
-    /// The moment of the ids beside the queue. Where there are none it means nothing.
-    soon_at: Moment,
+    /// The ids beside the queue have the moment just after this instant. Where there are none it means nothing.
+    soon_from: Instant,
 }
 
 impl Model for Schedule {
     ghost use Rattle.std.specs.FinMap.{FinMap};
     ghost use Rattle.std.specs.Ordering.{nat_cmp};
     ghost use Rattle.kin_num.specs.declared.instant.Moment.{Moment};
-    ghost use Rattle.kin_cert.specs.Schedules.{schedule_code, with_each, AreBeside};
+    ghost use Rattle.kin_cert.specs.Schedules.{schedule_code, with_each, just_after, AreBeside};
 
     ghost Value = { FinMap nat_cmp Moment };
 
     ghost coded = { schedule_code };
 
-    ghost view = { λ s. with_each s.queue.moments s.soon_at s.soon.items };
+    ghost view = { λ s. with_each s.queue.moments (just_after s.soon_from) s.soon.items };
 
     ghost invariant = { λ s. AreBeside s.queue.moments s.soon.items };
 }
@@ -53,10 +54,7 @@ impl Schedule {
         Schedule {
             queue: Queue::new(alloc),
             soon: Vec::new(alloc),
-            soon_at: Moment {
-                at: ratio(0, 1),
-                phase: Phase::At,
-            },
+            soon_from: ratio(0, 1),
         }
     }
 
@@ -67,10 +65,7 @@ impl Schedule {
         Ok(Schedule {
             queue: Queue::with_room(alloc, count)?,
             soon: Vec::new(alloc),
-            soon_at: Moment {
-                at: ratio(0, 1),
-                phase: Phase::At,
-            },
+            soon_from: ratio(0, 1),
         })
     }
 
@@ -89,12 +84,12 @@ impl Schedule {
         ensures cost { TakesSteps (len self.old) steps.old steps.new }
     {
         at.at.recall_canonical();
-        if !may_join(&self.soon, &self.soon_at, at) {
+        if !may_join(&self.soon, &self.soon_from, at) {
             return self.queue.insert(id, *at, steps);
         }
         self.soon.reserve(1)?;
         self.soon.push_reserved(id);
-        self.soon_at = *at;
+        self.soon_from = at.at;
         Ok(())
     }
 
@@ -120,18 +115,18 @@ impl Schedule {
     pub(crate) fn least(&self) -> Option<Moment>
         ensures { MatchOption result (self.now ≡ empty) (λ m. (id : ℕ) × IsLeast self.now (id, m)) }
     {
-        self.soon_at.at.recall_canonical();
+        self.soon_from.recall_canonical();
         let Some(next) = self.queue.first() else {
             return if is_vacant(&self.soon) {
                 None
             } else {
-                Some(self.soon_at)
+                Some(moment_after(self.soon_from))
             };
         };
-        if comes_first(&next.1, &self.soon, &self.soon_at) {
+        if comes_first(&next.1, &self.soon, &self.soon_from) {
             Some(next.1)
         } else {
-            Some(self.soon_at)
+            Some(moment_after(self.soon_from))
         }
     }
 
@@ -150,7 +145,7 @@ impl Schedule {
         ensures idle { IfNone result (steps.new ≡ steps.old) }
     {
         moment.at.recall_canonical();
-        if have_moment(&self.soon, &self.soon_at, moment) {
+        if have_moment(&self.soon, &self.soon_from, moment) {
             let Some(id) = self.soon.pop() else {
                 unreachable!()
             };
@@ -168,12 +163,22 @@ impl Schedule {
 }
 
 // Whether an id with this moment may come beside the queue.
-fn may_join(soon: &[usize], soon_at: &Moment, at: &Moment) -> bool
-    ensures { IsTrue result → (soon.now ≡ []) ⊎ (soon_at.now ≡ at.now) }
+fn may_join(soon: &[usize], soon_from: &Instant, at: &Moment) -> bool
+    ensures after { IsTrue result → at.now ≡ just_after at.now.at }
+    ensures same { IsTrue result → (soon.now ≡ []) ⊎ (soon_from.now ≡ at.now.at) }
 {
     match at.phase {
         Phase::At => false,
-        Phase::After => soon.is_empty() || is_same(soon_at, at),
+        Phase::After => soon.is_empty() || is_same_instant(soon_from, &at.at),
+    }
+}
+
+fn moment_after(at: Instant) -> Moment
+    ensures { result ≡ just_after at }
+{
+    Moment {
+        at,
+        phase: Phase::After,
     }
 }
 
@@ -185,19 +190,22 @@ fn is_vacant(ids: &[usize]) -> bool
 }
 
 // Whether there are ids beside the queue, and this is their moment.
-fn have_moment(soon: &[usize], soon_at: &Moment, moment: &Moment) -> bool
-    ensures yes { IsTrue result → (soon.now ≢ []) × (soon_at.now ≡ moment.now) }
-    ensures other { IsFalse result → (soon.now ≡ []) ⊎ (soon_at.now ≢ moment.now) }
+fn have_moment(soon: &[usize], soon_from: &Instant, moment: &Moment) -> bool
+    ensures yes { IsTrue result → (soon.now ≢ []) × (just_after soon_from.now ≡ moment.now) }
+    ensures other { IsFalse result → (soon.now ≡ []) ⊎ (just_after soon_from.now ≢ moment.now) }
 {
-    !soon.is_empty() && is_same(soon_at, moment)
+    match moment.phase {
+        Phase::At => false,
+        Phase::After => !soon.is_empty() && is_same_instant(soon_from, &moment.at),
+    }
 }
 
 // Whether a moment is earlier than that of the ids beside the queue, or there are none.
-fn comes_first(at: &Moment, soon: &[usize], soon_at: &Moment) -> bool
-    ensures yes { IsTrue result → (soon.now ≡ []) ⊎ IsEarlier at.now soon_at.now }
-    ensures other { IsFalse result → (soon.now ≢ []) × ¬ (IsEarlier at.now soon_at.now) }
+fn comes_first(at: &Moment, soon: &[usize], soon_from: &Instant) -> bool
+    ensures yes { IsTrue result → (soon.now ≡ []) ⊎ IsEarlier at.now (just_after soon_from.now) }
+    ensures other { IsFalse result → (soon.now ≢ []) × ¬ (IsEarlier at.now (just_after soon_from.now)) }
 {
-    soon.is_empty() || is_earlier(at, soon_at)
+    soon.is_empty() || comes_before(at, soon_from)
 }
 
 // Where an id stands in a list.
@@ -248,12 +256,13 @@ fn is_same_phase(x: Phase, y: Phase) -> bool
     }
 }
 
-fn is_earlier(x: &Moment, y: &Moment) -> bool
-    ensures { IsTrue result ↔ IsEarlier x.now y.now }
+// Whether a moment is earlier than the one just after an instant.
+fn comes_before(x: &Moment, at: &Instant) -> bool
+    ensures { IsTrue result ↔ IsEarlier x.now (just_after at.now) }
 {
-    match compare(&x.at, &y.at) {
+    match compare(&x.at, at) {
         Ordering::Less => true,
-        Ordering::Equal => matches!((x.phase, y.phase), (Phase::At, Phase::After)),
+        Ordering::Equal => matches!(x.phase, Phase::At),
         Ordering::Greater => false,
     }
 }

@@ -4,6 +4,7 @@ use Rattle.kin_basics.proofs.Members.{contains_none}
 use Rattle.kin_num.specs.declared.instant.Moment.{Moment}
 use Rattle.kin_num.specs.Order.{IsEarlier}
 use Rattle.kin_queue.specs.Agenda.{IsLeast, IsNext}
+use Rattle.kin_cert.specs.Schedules.{just_after}
 use Rattle.kin_cert.proofs.Schedules.{Moments, some_listed, only_listed, mapped_least, listed_least}
 use Rattle.kin_cert.proofs.schedule.Schedule.least.Goals as goal
 
@@ -13,7 +14,7 @@ returns-else-is_vacant c =
     let ids = c.self.inside.soon.items in
     let empty : IsNext c.self.inside.queue.moments None = subst (λ (o : Option (ℕ × Moment)). IsNext c.self.inside.queue.moments o) (sym c.first.ensures.value ∙ c.in_default.is) c.first.ensures.least in
     let some = some_listed ids (λ e. (c.if-is_vacant.ensures.other refl) (c.deref.ensures.value ∙ e)) in
-    (some.0, subst (λ (x : Moments). IsLeast x (some.0, c.self.inside.soon_at)) c.self.view_is (only_listed m c.self.inside.soon_at ids c.self.invariant c.recall_canonical.ensures empty some.0 some.1))
+    (some.0, subst (λ (w : Moment). IsLeast c.args.self.now (some.0, w)) (sym c.moment_after.ensures) (subst (λ (x : Moments). IsLeast x (some.0, just_after c.self.inside.soon_from)) c.self.view_is (only_listed m (just_after c.self.inside.soon_from) ids c.self.invariant c.recall_canonical.ensures empty some.0 some.1)))
 
 pub returns-then-comes_first : goal.returns-then-comes_first
 returns-then-comes_first c =
@@ -21,11 +22,11 @@ returns-then-comes_first c =
     let ids = c.self.inside.soon.items in
     let next = c.in-Some.next in
     let first : IsNext c.self.inside.queue.moments (Some c.in-Some.next) = subst (λ (o : Option (ℕ × Moment)). IsNext c.self.inside.queue.moments o) (sym c.first.ensures.value ∙ c.in-Some.is) c.first.ensures.least in
-    let earlier : (q : ℕ) → Contains c.self.inside.soon.items q → IsEarlier c.in-Some.next.1 c.self.inside.soon_at = λ q there. elim (c.if-comes_first.ensures.yes refl) [
+    let earlier : (q : ℕ) → Contains c.self.inside.soon.items q → IsEarlier c.in-Some.next.1 (just_after c.self.inside.soon_from) = λ q there. elim (c.if-comes_first.ensures.yes refl) [
       | inl e ↦ absurd (contains_none q (subst (λ (xs : List ℕ). Contains xs q) (sym c.deref-2.ensures.value ∙ e) there))
       | inr h ↦ h
     ] in
-    (next.0, subst (λ (x : Moments). IsLeast x c.in-Some.next) c.self.view_is (mapped_least m c.self.inside.soon_at ids c.self.invariant c.recall_canonical.ensures next first earlier))
+    (next.0, subst (λ (x : Moments). IsLeast x c.in-Some.next) c.self.view_is (mapped_least m (just_after c.self.inside.soon_from) ids c.self.invariant c.recall_canonical.ensures next first earlier))
 
 pub returns-else-comes_first : goal.returns-else-comes_first
 returns-else-comes_first c =
@@ -34,4 +35,4 @@ returns-else-comes_first c =
     let first : IsNext c.self.inside.queue.moments (Some c.in-Some.next) = subst (λ (o : Option (ℕ × Moment)). IsNext c.self.inside.queue.moments o) (sym c.first.ensures.value ∙ c.in-Some.is) c.first.ensures.least in
     let other = c.if-comes_first.ensures.other refl in
     let some = some_listed ids (λ e. other.0 (c.deref-2.ensures.value ∙ e)) in
-    (some.0, subst (λ (x : Moments). IsLeast x (some.0, c.self.inside.soon_at)) c.self.view_is (listed_least m c.self.inside.soon_at ids c.self.invariant c.recall_canonical.ensures c.in-Some.next first other.1 some.0 some.1))
+    (some.0, subst (λ (w : Moment). IsLeast c.args.self.now (some.0, w)) (sym c.moment_after-else-comes_first.ensures) (subst (λ (x : Moments). IsLeast x (some.0, just_after c.self.inside.soon_from)) c.self.view_is (listed_least m (just_after c.self.inside.soon_from) ids c.self.invariant c.recall_canonical.ensures c.in-Some.next first other.1 some.0 some.1)))
