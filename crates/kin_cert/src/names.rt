@@ -76,6 +76,14 @@ impl Names {
         if self.pointers.is_none() {
             return Ok(());
         }
+        self.note_form(id, form)
+    }
+
+    // The same, where somebody may have asked. The form is copied only here.
+    #[inline(never)]
+    fn note_form(&mut self, id: usize, form: &Form) -> Result<(), NoMemory>
+        ensures { AreKept self.old self.new id (numbers_in (Some form.now)) }
+    {
         self.note_asked(id, Some(*form))
     }
 
