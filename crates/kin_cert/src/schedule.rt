@@ -85,7 +85,12 @@ impl Schedule {
     {
         at.at.recall_canonical();
         if !may_join(&self.soon, &self.soon_from, at) {
-            return self.queue.insert(id, *at, steps);
+            // Made of its parts, so that no gap between them is copied.
+            let at = Moment {
+                at: at.at,
+                phase: at.phase,
+            };
+            return self.queue.insert(id, at, steps);
         }
         self.soon.reserve(1)?;
         self.soon.push_reserved(id);
