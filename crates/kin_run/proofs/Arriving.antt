@@ -1,8 +1,6 @@
 -- Leaps lead to the limit.
 use Rattle.std.proofs.Common.{◌≡◌, Bool, true, false, ap, sym, ◌∙◌, IsTrue}
-use Rattle.kin_num.specs.declared.instant.Moment.{Moment}
-use Rattle.kin_num.specs.Order.{IsEarlier}
-use Rattle.kin_world.specs.Worlds.{World, IsWhole, HasLeapt, with_facts_of}
+use Rattle.kin_run.proofs.Vocabulary.{IsEarlier, Moment, HasLeapt, IsWhole, World, with_facts_of}
 use Rattle.kin_run.specs.Arrived.{HasArrived}
 
 -- on the way to the limit nothing but the moment and the facts has changed

@@ -1,22 +1,8 @@
 -- An `at` line in its range asks for an instant, unless its quadratic has no real root.
 use Rattle.std.proofs.Common.{◌≡◌, ◌≢◌, ◌⊎◌, inl, inr, zero, ◌<◌, Bool, true, false, Some, None, refl, sym, subst, ℤ, pos, unsigned_abs, arith, ◌<ℤ◌}
-use Rattle.std.proofs.lemmas.Int.{ints}
-use Rattle.kin_algebra.specs.declared.sign.Sign.{Sign}
-use Rattle.kin_algebra.specs.declared.sign.Sign.TheVariants.{Minus, Zero, Plus}
-use Rattle.kin_algebra.specs.Signs.{sign_of}
-use Rattle.kin_algebra.proofs.IntegerSigns.{sign_out}
-use Rattle.kin_num.specs.declared.instant.Shape.{Shape}
-use Rattle.kin_num.specs.Quadratic.{Quadratic}
-use Rattle.kin_num.specs.Canonical.{discriminant}
-use Rattle.kin_num.specs.Instants.{line}
-use Rattle.kin_num.specs.Order.{IsLess}
-use Rattle.kin_num.proofs.LowerFractions.{not_less_itself}
-use Rattle.kin_instant.specs.declared.roots.Roots.{Roots}
-use Rattle.kin_instant.specs.declared.roots.Roots.TheVariants.{Nowhere, One, Two, All}
-use Rattle.kin_instant.specs.Roots.{quadratic, AreRootsOf, count_by_signs}
+use Rattle.kin_run.proofs.Vocabulary.{ints, sign_of, Sign, Minus, Plus, Zero, sign_out, discriminant, line, IsLess, Quadratic, Shape, not_less_itself, AreRootsOf, count_by_signs, quadratic, Roots, All, Nowhere, One, Two, IsAskedFor}
+use Rattle.kin_run.proofs.Vocabulary.{IsRatioInRange, IsRootInRange, HasNoRoot, IsNamedRoot, IsRootOf}
 use Rattle.kin_instant.proofs.Existence.{ratio_exists, roots_exist}
-use Rattle.kin_script.specs.Ranges.{IsRatioInRange, IsRootInRange, IsAskedFor}
-use Rattle.kin_script.specs.Replay.{IsRootOf, IsNamedRoot, HasNoRoot}
 use Rattle.kin_run.proofs.NamedRoots.{ratio_in_range, two_named}
 
 ratio_asked : (n d : ℤ) → IsRatioInRange n d → (w : Shape) × IsNamedRoot true (line n d) w

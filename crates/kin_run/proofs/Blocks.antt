@@ -1,16 +1,9 @@
 -- What `at` and `next` print is one, and so is what is told of the next block.
 use Rattle.std.proofs.Common.{◌≡◌, ◌≢◌, ◌⊎◌, inl, inr, ℕ, List, [], ◌∷◌, ◌++◌, Bool, true, false, refl, sym, ap, ◌∙◌, Contains, if◌then◌else◌}
-use Rattle.kin_num.specs.declared.instant.Moment.{Moment}
-use Rattle.kin_num.specs.declared.instant.Shape.{Shape}
-use Rattle.kin_num.specs.Canonical.{IsCanonical}
-use Rattle.kin_num.specs.Order.{IsEarlier}
+use Rattle.kin_run.proofs.Vocabulary.{IsCanonical, IsEarlier, Moment, Shape, Block, Failure, IsJournal, IsNextBlock, NothingFails, Setting, journal_is_one, next_block_is_one, block_lines, journal_lines, none_line, now_line, State, at}
+use Rattle.kin_run.proofs.Vocabulary.{state_setting, IsNextText, IsPassedText}
 use Rattle.kin_num.proofs.MomentOrder.{not_earlier_itself, earlier_trans}
-use Rattle.kin_motion.specs.Journal.{Setting, Failure, Block, IsNextBlock, NothingFails, IsJournal}
-use Rattle.kin_motion.proofs.JournalLaws.{next_block_is_one, journal_is_one}
 use Rattle.kin_basics.proofs.Members.{contains_head}
-use Rattle.kin_script.specs.PrintedJournal.{block_lines, journal_lines, none_line, now_line}
-use Rattle.kin_script.specs.States.{State, at, state_setting}
-use Rattle.kin_script.specs.Text.{IsPassedText, IsNextText}
 
 pub one_passed : (on : Bool) (s : State) (w : Shape) (x y : List ℕ) → IsCanonical s.moment.at → IsCanonical w → IsPassedText on s w x → IsPassedText on s w y → x ≡ y
 one_passed false s w x y now asked p q = p ∙ sym q

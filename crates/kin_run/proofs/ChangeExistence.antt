@@ -1,18 +1,11 @@
 -- Every change in its range is refused, or has an outcome.
 use Rattle.std.proofs.Common.{◌≡◌, ◌⊎◌, inl, inr, ◌<◌, ◌≤◌, true, false, ℤ, unsigned_abs, Option, Some, None, refl, sym, ap, ◌∙◌, subst, arith, is_some}
-use Rattle.std.proofs.lemmas.Bool.{cases_lt}
-use Rattle.std.proofs.lemmas.Option.{same_Some}
+use Rattle.kin_run.proofs.Vocabulary.{cases_lt, same_Some, IsCanonical, Moment, After, At, Course, IsSlow, Change, ChangesTo, IsChangeInRange, IsRefusedChange, IsRefusedTurn, enters, leaves, restarts, turns, Refusal, Absent, NotWhole}
+use Rattle.kin_run.proofs.Vocabulary.{OutOfBounds, Taken}
 use Rattle.kin_num.specs.declared.instant.Phase.{Phase}
-use Rattle.kin_num.specs.declared.instant.Phase.TheVariants.{At, After}
-use Rattle.kin_num.specs.declared.instant.Moment.{Moment}
-use Rattle.kin_num.specs.Canonical.{IsCanonical}
-use Rattle.kin_motion.specs.Course.{Course, IsSlow}
 use Rattle.kin_motion.specs.Turning.{TurnsTo}
 use Rattle.kin_motion.proofs.TurningLaws.{one_turn}
 use Rattle.kin_turn.proofs.Existence.{turn_or_none}
-use Rattle.kin_script.specs.declared.refusal.Refusal.{Refusal}
-use Rattle.kin_script.specs.declared.refusal.Refusal.TheVariants.{Taken, Absent, NotWhole, OutOfBounds}
-use Rattle.kin_script.specs.Changes.{Change, enters, leaves, restarts, turns, IsChangeInRange, IsRefusedTurn, IsRefusedChange, ChangesTo}
 
 -- a motion, if there is one, is slow
 abbrev pub IsSlowIfSome : Option Course → Type 0

@@ -1,16 +1,6 @@
 -- What came of a change of the points, from what the world did.
 use Rattle.std.proofs.Common.{◌≡◌, ℕ, Bool, List, [], Option, Some, None, refl, ap, ◌∙◌, set-set, slice_set}
-use Rattle.kin_motion.specs.Course.{Course, motion_of}
-use Rattle.kin_world.specs.Worlds.{World, HasReplaced}
-use Rattle.kin_script.specs.Changes.{Change, ChangesTo}
-use Rattle.kin_script.specs.Deeds.{changes}
-use Rattle.kin_script.specs.Replay.{IsAllowed}
-use Rattle.kin_script.specs.States.{State}
-use Rattle.kin_script.specs.Text.{Step, Prints}
-use Rattle.kin_run.specs.declared.write.Stop.TheVariants.{NoMemory}
-use Rattle.kin_run.specs.Performed.{IsFrontOfEach, BreaksOff}
-use Rattle.kin_run.specs.States.{state_of}
-use Rattle.kin_run.specs.Written.{Printer, GainsSome}
+use Rattle.kin_run.proofs.Vocabulary.{Course, motion_of, Change, ChangesTo, changes, IsAllowed, State, Prints, Step, HasReplaced, World, BreaksOff, IsFrontOfEach, state_of, GainsSome, Printer, NoMemory}
 use Rattle.kin_run.proofs.Fronts.{front_nil}
 use Rattle.kin_run.proofs.Gathering.{gains_nothing}
 

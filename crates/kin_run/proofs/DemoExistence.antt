@@ -1,12 +1,7 @@
 -- Every seed has a text with each count.
 use Rattle.std.proofs.Common.{◌≡◌, ◌≢◌, ◌⊎◌, inl, inr, ℕ, zero, suc, ◌+◌, ◌≤◌, ◌<◌, ◌^◌, ◌++◌, false, refl, sym, subst, arith}
-use Rattle.std.proofs.lemmas.Bool.{cases_lt}
-use Rattle.kin_script.specs.declared.script.Script.{Script}
-use Rattle.kin_script.specs.Generated.{insertions, questions, one_of_each, IsGenerated, IsLeastSize}
-use Rattle.kin_script.specs.Ranges.{IsWithin}
-use Rattle.kin_script.specs.Text.{Text, Ending}
+use Rattle.kin_run.proofs.Vocabulary.{cases_lt, IsGenerated, IsLeastSize, insertions, one_of_each, questions, IsWithin, Ending, Text, Script, DemoTextsExist, demo_line, start_of}
 use Rattle.kin_script.proofs.GeneratedRanges.{generated_in_range}
-use Rattle.kin_run.specs.Demo.{DemoTextsExist, demo_line, start_of}
 use Rattle.kin_run.proofs.Generated.{never_refused}
 use Rattle.kin_run.proofs.TextExistence.{text_exists, start_sound}
 

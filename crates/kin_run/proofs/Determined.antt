@@ -1,19 +1,9 @@
 -- What comes of a deed: it is refused for one cause; or it is allowed, prints one text, and leads to one state, of the same size and at a canonical instant.
 use Rattle.std.proofs.Common.{◌≡◌, inl, inr, Bool, List, ℕ, Option, ◌∙◌, sym, ap, subst, slice_set}
-use Rattle.kin_num.specs.declared.instant.Shape.{Shape}
-use Rattle.kin_num.specs.Canonical.{IsCanonical}
-use Rattle.kin_num.specs.Order.{IsEarlier}
-use Rattle.kin_num.specs.Quadratic.{Quadratic}
-use Rattle.kin_motion.specs.Course.{Course, motion_of}
-use Rattle.kin_motion.specs.Journal.{Block}
-use Rattle.kin_script.specs.declared.refusal.Refusal.{Refusal}
-use Rattle.kin_script.specs.Deeds.{Deed, changes, goes_to, goes_on, asks}
-use Rattle.kin_script.specs.Replay.{IsNamedRoot, IsRefused, IsAllowed, LeadsTo}
-use Rattle.kin_script.specs.States.{State, at}
-use Rattle.kin_script.specs.Text.{Step, IsPassedText, Prints}
+use Rattle.kin_run.proofs.Vocabulary.{IsCanonical, IsEarlier, Quadratic, Shape, Course, motion_of, Block, Deed, asks, changes, goes_on, goes_to, IsAllowed, IsNamedRoot, IsRefused, LeadsTo, State, at, IsPassedText, Prints, Step, Refusal}
+use Rattle.kin_run.proofs.Vocabulary.{one_reply_line}
 use Rattle.kin_run.proofs.NamedRoots.{one_named_root, named_canonical, named_root_of, has_root}
 use Rattle.kin_script.proofs.Changes.{one_refused_change, one_change}
-use Rattle.kin_script.proofs.Questions.{one_reply_line}
 use Rattle.kin_run.proofs.Blocks.{one_passed, one_next, one_told}
 
 -- it goes to an instant which isn't before now

@@ -1,6 +1,6 @@
 -- Fronts of a text.
 use Rattle.std.proofs.Common.{ℕ, List, [], ◌++◌, take, drop, refl, sym, ap, ◌∙◌, append_assoc, take-append-drop}
-use Rattle.kin_run.specs.Written.{IsFront}
+use Rattle.kin_run.proofs.Vocabulary.{IsFront}
 
 pub front_nil : (text : List ℕ) → IsFront [] text
 front_nil text = record { more = text; joined = refl }

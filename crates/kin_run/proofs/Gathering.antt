@@ -1,13 +1,7 @@
 -- What a printer has gained.
 use Rattle.std.proofs.Common.{◌≡◌, ℕ, ◌+◌, List, [], ◌++◌, length, take, Option, refl, sym, ap, ◌∙◌, subst, append_assoc, append-nil}
 use Rattle.std.proofs.Math.Seq.{take-append-add}
-use Rattle.std.proofs.KnownBytes.{Appends-trans, Appends-nil}
-use Rattle.std.specs.Io.KnownBytes.{Appends}
-use Rattle.kin_io.specs.Ends.{AppendsFront}
-use Rattle.kin_run.specs.declared.write.Stop.{Stop}
-use Rattle.kin_run.specs.declared.write.Stop.TheVariants.{Fault, NoMemory}
-use Rattle.kin_run.specs.Performed.{BreaksOff}
-use Rattle.kin_run.specs.Written.{Printer, printer, IsFront, Wrote, Gains, GainsSome, LosesSome}
+use Rattle.kin_run.proofs.Vocabulary.{Appends, Appends-nil, Appends-trans, AppendsFront, BreaksOff, Gains, GainsSome, IsFront, LosesSome, Printer, Wrote, printer, Stop, Fault, NoMemory}
 use Rattle.kin_run.proofs.Fronts.{front_take}
 
 abbrev pub Bytes : Type 0

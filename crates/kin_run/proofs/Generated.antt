@@ -1,47 +1,16 @@
 -- The commands of a generated script are never refused, and a seed and a count have one text.
-use Rattle.std.proofs.lemmas.Option.{same_Some}
-use Rattle.std.proofs.KnownBytes.{Appends-trans}
-use Rattle.std.specs.Io.KnownBytes.{Appends}
-use Rattle.kin_io.specs.Ends.{AppendsFront}
 use Rattle.std.proofs.Common.{◌≡◌, inl, inr, ℕ, zero, suc, ◌+◌, ◌-◌, ◌*◌, ◌≤◌, ◌^◌, Bool, true, false, List, [], ◌∷◌, ◌++◌, Option, Some, None, refl, sym, ap, ◌∙◌, subst, append_assoc, arith, pos, take, slice_get, slice_set, is_some, get_or-set_other, append-nil}
-use Rattle.std.proofs.lemmas.Int.{ints}
 use lib.IntN.{neg_ℤ}
 use Rattle.std.proofs.lemmas.Nat.Gcd.{IsGcd-from_zero, IsGcd-from_mod}
-use Rattle.kin_algebra.specs.declared.sign.Sign.TheVariants.{Plus}
-use Rattle.kin_num.specs.declared.instant.Shape.{Shape}
+use Rattle.kin_run.proofs.Vocabulary.{Appends, Appends-trans, ints, same_Some, Plus, IsLowest, line, sign_at_instant, IsEarlier, After, At, Shape, above_fraction, less_asym, start_canonical, Course, is_live, Block, none_live, AppendsFront}
+use Rattle.kin_run.proofs.Vocabulary.{Deed, asks, deed_of, IsGenerated, IsLeastSize, course_behind, insertion, insertions, one_of_each, questions, state_after, IsProvided, IsNamedRoot, IsRefused, LeadsTo, State, at, start, Ending, Text}
+use Rattle.kin_run.proofs.Vocabulary.{Command, Script, IsDemoText, OneDemoText, WritesDemo, demo_line, start_of, status_of_stop, PassesInTurn, IsCutOfText, IsFrontOfEach, HasTallied, tally_line, IsFront, Wrote, Tally, Stop, Fault, NoMemory}
 use Rattle.kin_num.specs.declared.instant.Shape.TheVariants.{Ratio}
-use Rattle.kin_num.specs.declared.instant.Phase.TheVariants.{At, After}
-use Rattle.kin_num.specs.Canonical.{IsLowest}
-use Rattle.kin_num.specs.Instants.{line, sign_at_instant}
-use Rattle.kin_num.specs.Order.{IsEarlier}
 use Rattle.kin_num.proofs.FractionOrder.{fraction_itself, line_at_fraction}
-use Rattle.kin_num.proofs.InstantOrder.{above_fraction}
-use Rattle.kin_num.proofs.LowerFractions.{less_asym}
-use Rattle.kin_num.proofs.Values.{start_canonical}
-use Rattle.kin_motion.specs.Course.{Course, is_live}
-use Rattle.kin_motion.proofs.SlotLaws.{none_live}
 use Rattle.kin_motion.specs.declared.keep.Keep.{Keep}
 use Rattle.kin_motion.specs.declared.keep.Keep.TheVariants as keep
 use Rattle.kin_motion.specs.declared.keep.Rect.{Rect}
-use Rattle.kin_motion.specs.Journal.{Block}
-use Rattle.kin_script.specs.declared.command.Command.{Command}
 use Rattle.kin_script.specs.declared.command.Command.TheVariants.{Extreme, Hull, Closest, Inside, Live}
-use Rattle.kin_script.specs.declared.script.Script.{Script}
-use Rattle.kin_script.specs.Deeds.{Deed, asks, deed_of}
-use Rattle.kin_script.specs.Generated.{insertion, insertions, questions, one_of_each, course_behind, state_after, IsGenerated, IsLeastSize}
-use Rattle.kin_script.specs.Questions.{IsProvided}
-use Rattle.kin_script.specs.Replay.{IsNamedRoot, IsRefused, LeadsTo}
-use Rattle.kin_script.specs.States.{State, at, start}
-use Rattle.kin_script.specs.Text.{Text, Ending}
-use Rattle.kin_run.specs.declared.tally.Tally.{Tally}
-use Rattle.kin_run.specs.declared.write.Stop.{Stop}
-use Rattle.kin_run.specs.declared.write.Stop.TheVariants.{Fault, NoMemory}
-use Rattle.kin_run.specs.Demo.{IsDemoText, OneDemoText, WritesDemo, start_of, demo_line}
-use Rattle.kin_run.specs.Headline.{status_of_stop}
-use Rattle.kin_run.specs.Performed.{IsFrontOfEach, IsCutOfText}
-use Rattle.kin_run.specs.Passed.{PassesInTurn}
-use Rattle.kin_run.specs.Tallies.{HasTallied, tally_line}
-use Rattle.kin_run.specs.Written.{IsFront, Wrote}
 use Rattle.kin_run.proofs.Fronts.{front_through, front_take, front_after}
 use Rattle.kin_run.proofs.Gathering.{Bytes}
 use Rattle.kin_run.proofs.InTurn.{one_in_turn}

@@ -1,16 +1,6 @@
 -- The blocks that commands pass in turn: those so far, and those of what is left.
 use Rattle.std.proofs.Common.{◌≡◌, ℕ, Option, List, [], ◌∷◌, ◌++◌, ◌+◌, ◌<◌, ◌≤◌, length, get_or, drop, refl, sym, ap, ◌∙◌, subst, append_assoc, append-nil}
-use Rattle.std.proofs.lemmas.List.{drop_all}
-use Rattle.kin_num.specs.declared.instant.Shape.{Shape}
-use Rattle.kin_num.specs.Canonical.{IsCanonical}
-use Rattle.kin_motion.specs.Journal.{Block, IsJournal}
-use Rattle.kin_motion.proofs.JournalLaws.{journal_is_one}
-use Rattle.kin_script.specs.Deeds.{Deed, changes, goes_to, goes_on, asks, deed_of}
-use Rattle.kin_script.specs.Replay.{IsAllowed, LeadsTo}
-use Rattle.kin_script.specs.States.{State, at, state_setting}
-use Rattle.kin_run.specs.declared.tally.Tally.{Tally}
-use Rattle.kin_run.specs.Passed.{Passes, PassesInTurn}
-use Rattle.kin_run.specs.Tallies.{HasTallied}
+use Rattle.kin_run.proofs.Vocabulary.{drop_all, IsCanonical, Shape, Block, IsJournal, journal_is_one, Deed, asks, changes, deed_of, goes_on, goes_to, IsAllowed, LeadsTo, State, at, state_setting, Passes, PassesInTurn, HasTallied, Tally}
 use Rattle.kin_run.proofs.Blocks.{one_told}
 use Rattle.kin_run.proofs.Determined.{stays_canonical, one_at_root, one_state}
 use Rattle.kin_run.proofs.Playing.{Line, at_item}

@@ -1,3 +1,4 @@
+pub mod Vocabulary
 pub mod Fronts
 pub mod Gathering
 pub mod NamedRoots

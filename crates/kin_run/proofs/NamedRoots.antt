@@ -1,28 +1,13 @@
 -- The root that a line names: there is one where the discriminant is not negative, and no more than one.
 use Rattle.std.proofs.Common.{arith, to_z, of_z, w64, ◌≡◌, zero, suc, Bool, true, false, [], ◌∷◌, inl, inr, refl, sym, ap, ◌∙◌, subst, ℤ, pos, negsuc, ◌<ℤ◌, ◌*ℤ◌, ◌↔◌, if◌then◌else◌}
-use Rattle.std.proofs.lemmas.Int.{ints, to_z-of_z}
+use Rattle.kin_run.proofs.Vocabulary.{ints, to_z-of_z, opposite_of, product_of, sign_of, Sign, Minus, Plus, Zero, sign_in, sign_of-times, sign_out, IsCanonical, IsCanonicalForm, discriminant, line, sign_at_instant, IsLess, Quadratic}
+use Rattle.kin_run.proofs.Vocabulary.{negated, Shape, level_same, less_asym, not_less_itself, HasRoot, IsFraction, Roots, Two, IsRatioInRange, IsNamedRoot, IsRootOf, at}
 use lib.IntN.{neg_ℤ}
-use Rattle.kin_algebra.specs.declared.sign.Sign.{Sign}
-use Rattle.kin_algebra.specs.declared.sign.Sign.TheVariants.{Minus, Zero, Plus}
-use Rattle.kin_algebra.specs.Signs.{sign_of, opposite_of, product_of}
-use Rattle.kin_algebra.proofs.IntegerSigns.{sign_in, sign_out, sign_of-times}
 use Rattle.kin_algebra.proofs.Ring.{by_ring, quotes}
-use Rattle.kin_num.specs.declared.instant.Shape.{Shape}
-use Rattle.kin_num.specs.Quadratic.{Quadratic, negated}
-use Rattle.kin_num.specs.Canonical.{IsCanonical, IsCanonicalForm, discriminant}
-use Rattle.kin_num.specs.Instants.{sign_at_instant, sign_at, line}
-use Rattle.kin_num.specs.Order.{IsLess}
-use Rattle.kin_num.proofs.InstantOrder.{level_same}
-use Rattle.kin_num.proofs.LowerFractions.{not_less_itself, less_asym}
+use Rattle.kin_num.specs.Instants.{sign_at}
 use Rattle.kin_num.proofs.SignLaws.{sign_at-neg}
 use Rattle.kin_instant.proofs.RootsOf.{fraction_zeros, discriminant-negated}
 use Rattle.kin_instant.proofs.Zeros.{instant-negative}
-use Rattle.kin_instant.specs.declared.roots.Roots.{Roots}
-use Rattle.kin_instant.specs.declared.roots.Roots.TheVariants.{Two}
-use Rattle.kin_instant.specs.Roots.{IsFraction, HasRoot}
-use Rattle.kin_script.specs.Ranges.{IsRatioInRange}
-use Rattle.kin_script.specs.Replay.{IsRootOf, IsNamedRoot}
-use Rattle.kin_script.specs.States.{at}
 
 -- two named roots are one
 pub one_named_root : (upper : Bool) (p : Quadratic) (v w : Shape) → IsNamedRoot upper p v → IsNamedRoot upper p w → v ≡ w

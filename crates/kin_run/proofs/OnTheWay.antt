@@ -1,21 +1,7 @@
 -- One turn of the loop that passes the failures up to an instant.
 use Rattle.std.proofs.Common.{◌≡◌, ℕ, Bool, List, [], ◌∷◌, ◌++◌, length, Option, Some, None, refl, sym, ap, ◌∙◌, subst, true, false, append-nil}
-use Rattle.kin_io.specs.Ends.{AppendsFront}
-use Rattle.kin_num.specs.declared.instant.Moment.{Moment}
-use Rattle.kin_num.specs.declared.instant.Shape.{Shape}
-use Rattle.kin_num.specs.Canonical.{IsCanonical}
-use Rattle.kin_num.specs.Order.{IsEarlier}
-use Rattle.kin_motion.specs.Journal.{Setting, Block, IsNextBlock, IsJournal}
-use Rattle.kin_script.specs.Printed.{PutsFront}
-use Rattle.kin_script.specs.States.{State, at, state_setting}
-use Rattle.kin_script.specs.Text.{IsPassedText}
-use Rattle.kin_world.specs.Worlds.{World, IsWhole, HasPassed, HasMoved, HasStepped, failure_count}
-use Rattle.kin_run.specs.declared.tally.Tally.{Tally}
-use Rattle.kin_run.specs.declared.write.Stop.TheVariants.{Fault, NoMemory}
-use Rattle.kin_run.specs.Performed.{IsFrontOfEach, BreaksOff}
-use Rattle.kin_run.specs.States.{state_of, printed_if}
-use Rattle.kin_run.specs.Tallies.{HasTallied, counted_on}
-use Rattle.kin_run.specs.Written.{Printer, printer, Gains, GainsSome}
+use Rattle.kin_run.proofs.Vocabulary.{IsCanonical, IsEarlier, Moment, Shape, Block, IsJournal, IsNextBlock, Setting, AppendsFront, PutsFront, State, at, state_setting, IsPassedText, HasMoved, HasPassed, HasStepped, IsWhole, World}
+use Rattle.kin_run.proofs.Vocabulary.{failure_count, BreaksOff, IsFrontOfEach, printed_if, state_of, HasTallied, counted_on, Gains, GainsSome, Printer, printer, Tally, Fault, NoMemory}
 use Rattle.kin_run.proofs.Fronts.{front_through, front_after}
 use Rattle.kin_run.proofs.Gathering.{gains_nothing, gains_put, some_then, some_lost, some_flushed, some_is}
 use Rattle.kin_run.proofs.Passing.{ArePassed, one_more_passed, none_passed, lines_if, lines_behind, is_text, cut_on_the_way}

@@ -1,20 +1,8 @@
 -- An input has one text, and one status with it.
 use Rattle.std.proofs.Common.{◌≡◌, ℕ, ◌+◌, ◌≤◌, ◌<◌, ◌^◌, Bool, List, [], ◌∷◌, ◌++◌, length, Option, Some, None, Ok, Err, refl, sym, ap, ◌∙◌, subst, arith, ◌⊎◌, inl, inr, length-append, append-nil}
-use Rattle.std.specs.Io.KnownBytes.{Consumes, IsAtEnd}
-use Rattle.kin_num.specs.Canonical.{IsCanonical}
-use Rattle.kin_script.specs.declared.script.Script.{Script}
-use Rattle.kin_script.specs.Grammar.{script_of}
-use Rattle.kin_script.specs.Deeds.{deed_of}
-use Rattle.kin_script.specs.States.{State, start}
-use Rattle.kin_script.specs.Text.{Text, Ending, bad_line}
-use Rattle.kin_run.specs.declared.write.Stop.{Stop}
-use Rattle.kin_run.specs.declared.write.Stop.TheVariants.{Fault, NoMemory}
-use Rattle.kin_run.specs.Performed.{IsCutOfText}
-use Rattle.kin_run.specs.Written.{IsFront}
-use Rattle.kin_run.specs.declared.status.Status.{Status}
+use Rattle.kin_run.proofs.Vocabulary.{Consumes, IsAtEnd, IsCanonical, start_canonical, deed_of, script_of, State, start, Ending, Text, bad_line, Script, Answers, IsAnswer, IsBrokenOff, IsCut, IsTextOf, OneAnswer, Outcome, TakesWhole}
+use Rattle.kin_run.proofs.Vocabulary.{Writes, status_of_stop, IsCutOfText, IsFront, Status, Stop, Fault, NoMemory}
 use Rattle.kin_run.specs.declared.status.Status.TheVariants as status
-use Rattle.kin_run.specs.Headline.{IsAnswer, IsCut, IsTextOf, Writes, Answers, Outcome, status_of_stop, IsBrokenOff, TakesWhole, OneAnswer}
-use Rattle.kin_num.proofs.Values.{start_canonical}
 use Rattle.kin_run.proofs.Determined.{stays_canonical, one_step}
 use Rattle.kin_run.proofs.Playing.{Line, allowed_goes_on, text_refused}
 

@@ -2,19 +2,9 @@
 use Rattle.std.proofs.Common.{◌≡◌, ℕ, Bool, true, false, List, [], ◌∷◌, ◌++◌, refl, sym, ap, ◌∙◌, subst, append_assoc, map, flat_map, append-nil}
 use Rattle.std.proofs.lemmas.List.Concat.{flat_map-append}
 use Rattle.std.proofs.lemmas.List.Folds.{flat_map-map}
-use Rattle.kin_num.specs.declared.instant.Moment.{Moment}
-use Rattle.kin_num.specs.declared.instant.Shape.{Shape}
-use Rattle.kin_num.specs.Canonical.{IsCanonical}
-use Rattle.kin_num.specs.Order.{IsEarlier}
-use Rattle.kin_motion.specs.Journal.{Setting, Block, IsNextBlock, IsJournal}
-use Rattle.kin_motion.proofs.JournalLaws.{next_block_is_one, block_is_listed}
+use Rattle.kin_run.proofs.Vocabulary.{IsCanonical, IsEarlier, Moment, Shape, Block, IsJournal, IsNextBlock, Setting, block_is_listed, next_block_is_one, failure_of, block_lines, failure_line, journal_lines, State, at, state_setting}
+use Rattle.kin_run.proofs.Vocabulary.{IsPassedText, IsFrontOfEach, printed_if}
 use Rattle.kin_cert.specs.declared.owned.Failure.{Failure as Failed}
-use Rattle.kin_cert.specs.Blocks.{failure_of}
-use Rattle.kin_script.specs.PrintedJournal.{failure_line, block_lines, journal_lines}
-use Rattle.kin_script.specs.States.{State, at, state_setting}
-use Rattle.kin_script.specs.Text.{IsPassedText}
-use Rattle.kin_run.specs.Performed.{IsFrontOfEach}
-use Rattle.kin_run.specs.States.{printed_if}
 
 -- From start, the journal up to the last moment is these blocks, and then the journal from now.
 pub record ArePassed (t : Setting) (start now last : Moment) (bs : List Block) : Type 0 where

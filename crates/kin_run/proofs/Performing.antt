@@ -1,23 +1,7 @@
 -- What came of a deed, from what came of its parts.
 use Rattle.std.proofs.Common.{◌≡◌, ℕ, Bool, List, ◌++◌, ◌∙◌, refl, subst, Result, Ok, Err, OnOk, OnErr}
-use Rattle.kin_num.specs.declared.instant.Shape.{Shape}
-use Rattle.kin_num.specs.Canonical.{IsCanonical}
-use Rattle.kin_num.specs.Order.{IsEarlier}
-use Rattle.kin_num.specs.Quadratic.{Quadratic}
-use Rattle.kin_script.specs.declared.command.Command.{Command}
-use Rattle.kin_script.specs.Deeds.{goes_to, goes_on, asks}
-use Rattle.kin_script.specs.Printed.{PutsFront}
-use Rattle.kin_script.specs.Questions.{IsReplyLine}
-use Rattle.kin_script.specs.Replay.{IsNamedRoot, IsAllowed, LeadsToNext}
-use Rattle.kin_script.specs.States.{State, at}
-use Rattle.kin_script.specs.Text.{Step, Prints, IsPassedText, IsNextText}
-use Rattle.kin_script.proofs.Questions.{one_reply_line}
-use Rattle.kin_run.specs.declared.perform.Halt.{Halt}
-use Rattle.kin_run.specs.declared.perform.Halt.TheVariants.{Refused, Broken}
-use Rattle.kin_run.specs.declared.write.Stop.{Stop}
-use Rattle.kin_run.specs.declared.write.Stop.TheVariants.{Fault, NoMemory}
-use Rattle.kin_run.specs.Performed.{IsFrontOfEach, PutsLine, BreaksOff, Replies, Performs}
-use Rattle.kin_run.specs.Written.{Printer, printer, GainsSome}
+use Rattle.kin_run.proofs.Vocabulary.{IsCanonical, IsEarlier, Quadratic, Shape, asks, goes_on, goes_to, PutsFront, IsReplyLine, IsAllowed, IsNamedRoot, LeadsToNext, State, at, IsNextText, IsPassedText, Prints, Step, Command, one_reply_line}
+use Rattle.kin_run.proofs.Vocabulary.{BreaksOff, IsFrontOfEach, Performs, PutsLine, Replies, GainsSome, Printer, printer, Halt, Broken, Refused, Stop, Fault, NoMemory}
 use Rattle.kin_run.proofs.Determined.{goes_allowed}
 use Rattle.kin_run.proofs.Blocks.{one_next}
 use Rattle.kin_run.proofs.Gathering.{Bytes, gains_put, some_is}

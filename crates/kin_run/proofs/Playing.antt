@@ -1,17 +1,7 @@
 -- A run of commands: the text so far, and the text of what is left.
 use Rattle.std.proofs.Common.{◌≡◌, ℕ, List, [], ◌∷◌, ◌++◌, drop, suc, ◌+◌, ◌<◌, ◌≤◌, length, get_or, drop-cons, add-one, Some, None, refl, sym, ap, ◌∙◌, subst, append_assoc, inl, inr, append-nil}
-use Rattle.std.proofs.lemmas.List.{drop_all}
-use Rattle.kin_num.specs.Canonical.{IsCanonical}
-use Rattle.kin_script.specs.declared.command.Command.{Command}
-use Rattle.kin_script.specs.declared.refusal.Refusal.{Refusal}
-use Rattle.kin_script.specs.Deeds.{deed_of}
-use Rattle.kin_script.specs.Replay.{IsRefused, IsAllowed}
-use Rattle.kin_script.specs.States.{State}
-use Rattle.kin_script.specs.Text.{Step, Text, Ending, Prints, refused_line}
-use Rattle.kin_io.specs.Ends.{AppendsFront}
-use Rattle.kin_run.specs.declared.write.Stop.{Stop}
-use Rattle.kin_run.specs.Performed.{IsFrontOfEach, IsCutOfText, BreaksOff}
-use Rattle.kin_run.specs.Written.{Printer, IsFront, Gains, GainsSome, LosesSome}
+use Rattle.kin_run.proofs.Vocabulary.{drop_all, IsCanonical, AppendsFront, deed_of, IsAllowed, IsRefused, State, Ending, Prints, Step, Text, refused_line, Command, Refusal, BreaksOff, IsCutOfText, IsFrontOfEach, Gains, GainsSome, IsFront}
+use Rattle.kin_run.proofs.Vocabulary.{LosesSome, Printer, Stop}
 use Rattle.kin_run.proofs.Determined.{one_cause, one_step}
 use Rattle.kin_run.proofs.Fronts.{front_through, front_after}
 use Rattle.kin_run.proofs.Gathering.{some_then, some_is, some_broke, some_lost_here}

@@ -1,16 +1,8 @@
 -- What came of a question, from its reply.
 use Rattle.std.proofs.Common.{◌≡◌, ℕ, List, [], ◌++◌, sym, ◌∙◌, subst, Result, Ok, Err, ◌≢◌, append-nil}
-use Rattle.kin_num.specs.Canonical.{IsCanonical}
+use Rattle.kin_run.proofs.Vocabulary.{IsCanonical, PutsFront, State, Command, World, IsReply, Replies, RepliesTo, Halt, Broken, Refused, Fault, NoMemory}
 use Rattle.kin_print.specs.declared.reply.Reply.{Reply}
 use Rattle.kin_print.specs.Replies.{reply_line}
-use Rattle.kin_script.specs.declared.command.Command.{Command}
-use Rattle.kin_script.specs.Printed.{PutsFront}
-use Rattle.kin_script.specs.States.{State}
-use Rattle.kin_run.specs.declared.perform.Halt.{Halt}
-use Rattle.kin_run.specs.declared.perform.Halt.TheVariants.{Refused, Broken}
-use Rattle.kin_run.specs.declared.write.Stop.TheVariants.{Fault, NoMemory}
-use Rattle.kin_run.specs.Performed.{IsReply, RepliesTo, Replies}
-use Rattle.kin_world.specs.Worlds.{World}
 use Rattle.kin_run.proofs.Fronts.{front_nil}
 use Rattle.kin_run.proofs.Performing.{reply_cut}
 

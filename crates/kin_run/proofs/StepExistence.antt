@@ -1,26 +1,11 @@
 -- Every deed in its range is refused, or prints a text, passes blocks and leads to a state that is as sound.
 use Rattle.std.proofs.Common.{◌≡◌, ◌⊎◌, inl, inr, ℕ, Bool, List, [], ◌∷◌, Option, Some, None, refl, ◌∙◌, length-set, slice_set}
-use Rattle.kin_num.specs.declared.instant.Moment.{Moment}
-use Rattle.kin_num.specs.declared.instant.Shape.{Shape}
-use Rattle.kin_num.specs.Canonical.{IsCanonical}
-use Rattle.kin_motion.specs.Course.{Course, AreSlow, motion_of}
-use Rattle.kin_motion.specs.Journal.{Block, IsNextBlock, NothingFails}
+use Rattle.kin_run.proofs.Vocabulary.{IsCanonical, Quadratic, Moment, Shape, AreSlow, Course, motion_of, Block, IsNextBlock, NothingFails, Change, Deed, asks, changes, goes_on, goes_to, IsDeedInRange, HasNoRoot, IsAllowed, IsNamedRoot}
+use Rattle.kin_run.proofs.Vocabulary.{IsRefused, LeadsTo, State, at, state_setting, Prints, Command, Refusal, NoRoot, NotKept, Past, HasLine, has_line, Passes}
 use Rattle.kin_motion.proofs.MotionLaws.{slow-set, slow-clear}
 use Rattle.kin_motion.proofs.MotionScenes.{live_fits}
 use Rattle.kin_cert.specs.Laws.{IsProper}
 use Rattle.kin_cert.proofs.JournalExistence.{earlier_or_not, next_blocks_exist, journals_exist}
-use Rattle.kin_script.specs.declared.refusal.Refusal.{Refusal}
-use Rattle.kin_script.specs.declared.refusal.Refusal.TheVariants.{NotKept, NoRoot, Past}
-use Rattle.kin_script.specs.Ranges.{IsDeedInRange}
-use Rattle.kin_num.specs.Quadratic.{Quadratic}
-use Rattle.kin_script.specs.declared.command.Command.{Command}
-use Rattle.kin_script.specs.Changes.{Change}
-use Rattle.kin_script.specs.Deeds.{Deed, changes, goes_to, goes_on, asks}
-use Rattle.kin_script.specs.Replay.{IsNamedRoot, HasNoRoot, IsRefused, IsAllowed, LeadsTo}
-use Rattle.kin_script.specs.States.{State, at, state_setting}
-use Rattle.kin_script.specs.Text.{Prints}
-use Rattle.kin_script.proofs.Questions.{HasLine, has_line}
-use Rattle.kin_run.specs.Passed.{Passes}
 use Rattle.kin_run.proofs.AskedInstants.{root_asked}
 use Rattle.kin_run.proofs.ChangeExistence.{IsSlowIfSome, IsDecided, change_decided}
 use Rattle.kin_run.proofs.Determined.{goes_allowed}

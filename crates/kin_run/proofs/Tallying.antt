@@ -1,10 +1,7 @@
 -- How passed blocks are counted.
 use Rattle.std.proofs.Common.{zero-add, ◌≡◌, ℕ, ◌+◌, ◌-◌, ◌≤◌, ◌^◌, List, [], ◌∷◌, ◌++◌, length, Option, Some, None, is_some, false, refl, sym, ap, ◌∙◌, subst, arith, min}
 use Rattle.std.proofs.lemmas.List.Sums.{fold-append, sum_by-cons}
-use Rattle.kin_motion.specs.Journal.{Block}
-use Rattle.kin_run.specs.declared.tally.Tally.{Tally}
-use Rattle.kin_run.specs.Demo.{failures_in}
-use Rattle.kin_run.specs.Tallies.{one_more, counted_on, tallied, tallied_on, HasTallied}
+use Rattle.kin_run.proofs.Vocabulary.{Block, failures_in, HasTallied, counted_on, one_more, tallied, tallied_on, Tally}
 
 -- no block changes nothing
 pub none_tallied : (IsPassed : List Block → Type 0) (t : Option Tally) → IsPassed [] → HasTallied IsPassed t t

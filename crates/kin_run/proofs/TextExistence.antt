@@ -1,24 +1,11 @@
 -- Every input has a text.
 use Rattle.std.proofs.Common.{◌≡◌, inl, inr, ℕ, ◌^◌, List, [], ◌∷◌, ◌++◌, Some, None, Result, Ok, Err, refl, All}
-use Rattle.std.proofs.lemmas.List.{length-replicate}
 use Rattle.std.proofs.lemmas.List.Elements.{All-head, All-tail, All-weaker}
-use Rattle.kin_motion.specs.Journal.{Block}
+use Rattle.kin_run.proofs.Vocabulary.{length-replicate, start_canonical, Block, none_live, deed_of, script_of, IsKeepInRange, IsCommandInRange, IsWithin, State, start, Ending, Text, bad_line, refused_line, Script, deed_in_range, small_keep}
+use Rattle.kin_run.proofs.Vocabulary.{IsAnswer, IsTextOf, TextsExist, PassesInTurn, Status}
 use Rattle.kin_motion.specs.Live.{IsSmallKeep}
-use Rattle.kin_motion.proofs.SlotLaws.{none_live}
-use Rattle.kin_script.specs.declared.script.Script.{Script}
-use Rattle.kin_script.specs.Grammar.{script_of}
-use Rattle.kin_script.specs.Questions.{IsKeepInRange}
-use Rattle.kin_script.specs.Ranges.{IsCommandInRange, IsWithin}
-use Rattle.kin_script.specs.Deeds.{deed_of}
-use Rattle.kin_script.specs.States.{State, start}
-use Rattle.kin_script.specs.Text.{Text, Ending, bad_line, refused_line}
-use Rattle.kin_script.proofs.Questions.{deed_in_range, small_keep}
 use Rattle.kin_script.proofs.ScriptRanges.{script_within}
-use Rattle.kin_run.specs.declared.status.Status.{Status}
 use Rattle.kin_run.specs.declared.status.Status.TheVariants as status
-use Rattle.kin_run.specs.Headline.{IsAnswer, IsTextOf, TextsExist}
-use Rattle.kin_run.specs.Passed.{PassesInTurn}
-use Rattle.kin_num.proofs.Values.{start_canonical}
 use Rattle.kin_run.proofs.Playing.{Line}
 use Rattle.kin_run.proofs.StepExistence.{IsSound, Ends, deed_ends}
 

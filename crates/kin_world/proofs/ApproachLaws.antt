@@ -1,12 +1,8 @@
 -- When two points come within a distance, by the first failure of their being apart.
 use Rattle.std.proofs.Common.{◌≡◌, ℕ, Option, Some, None, IfSome, sym, ◌∙◌}
+use Rattle.kin_world.proofs.Vocabulary.{IsCanonical, Moment, Course, Fact, IsFirstFailure, seen_by}
 use Rattle.kin_algebra.specs.declared.sign.Sign.TheVariants.{Plus}
-use Rattle.kin_num.specs.declared.instant.Moment.{Moment}
-use Rattle.kin_num.specs.Canonical.{IsCanonical}
 use Rattle.kin_num.proofs.MomentOrder.{not_earlier_itself, earlier_trans}
-use Rattle.kin_motion.specs.declared.fact.Fact.{Fact}
-use Rattle.kin_motion.specs.Course.{Course}
-use Rattle.kin_cert.specs.Failures.{IsFirstFailure, seen_by}
 use Rattle.kin_world.specs.Approach.{clearance, AreApart, IsFirstWithin}
 
 module _ (d : ℕ) (p q : Course) (now : Moment) (here : IsCanonical now.at) where

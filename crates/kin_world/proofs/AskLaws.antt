@@ -1,12 +1,7 @@
 -- What a table tells of an owner and a form, told of certificates.
 use Rattle.std.proofs.Common.{◌≡◌, ◌↔◌, refl, sym, subst, ℕ, List, Option, Some, None, Contains, IsNone}
+use Rattle.kin_world.proofs.Vocabulary.{Certificate, Form, contains_map, contains_mapped, IsAt, LiveFact, certificates_of, certificate}
 use Rattle.kin_algebra.specs.declared.sign.Sign.{Sign}
-use Rattle.kin_motion.specs.declared.form.Form.{Form}
-use Rattle.kin_motion.specs.Live.{Certificate}
-use Rattle.kin_motion.proofs.SetLaws.{contains_map, contains_mapped}
-use Rattle.kin_cert.specs.Facts.{LiveFact, IsAt}
-use Rattle.kin_cert.specs.Told.{certificates_of}
-use Rattle.kin_world.specs.Worlds.{certificate}
 use Rattle.kin_world.proofs.Certificates.{at_its}
 
 -- where there is no answer exactly in a case, the answer is none exactly in that case

@@ -1,10 +1,6 @@
 -- The certificates of live facts.
 use Rattle.std.proofs.Common.{◌≡◌, ◌↔◌, refl, ap, sym, ◌∙◌, subst, ℕ, List, Contains}
-use Rattle.kin_motion.specs.declared.fact.Placed.{Placed}
-use Rattle.kin_motion.specs.Live.{Certificate}
-use Rattle.kin_motion.proofs.SetLaws.{contains_map, contains_mapped}
-use Rattle.kin_cert.specs.Facts.{LiveFact, IsAt}
-use Rattle.kin_cert.specs.Told.{HasFactsOf, certificates_of}
+use Rattle.kin_world.proofs.Vocabulary.{Certificate, Placed, contains_map, contains_mapped, IsAt, LiveFact, HasFactsOf, certificates_of}
 
 -- a fact is at the owner and of the form that its certificate tells
 pub at_its : (l : LiveFact) (c : Certificate) → l.certificate ≡ c → IsAt c.structure c.placed.part c.placed.fact.form l

@@ -1,18 +1,9 @@
 -- Failed facts are gathered structure by structure, from the least one on.
 use Rattle.std.proofs.Common.{not, append_assoc, append-nil, ◌≡◌, ◌≢◌, ◌⊎◌, inl, inr, refl, sym, ap, ap₂, ◌∙◌, subst, arith, ℕ, ◌+◌, ◌<◌, ◌≤◌, Bool, true, false, List, [], ◌∷◌, ◌++◌, length, Option, Some, None, Contains, IsTrue, filter}
-use Rattle.std.proofs.lemmas.Bool.{cases_Bool, cases_lt}
-use Rattle.std.proofs.lemmas.Bool.Decides.{nat_tests}
-use Rattle.std.proofs.lemmas.List.{length-map}
 use Rattle.std.proofs.lemmas.List.Filters.{length-filter_both}
-use Rattle.std.proofs.lemmas.List.Elements.{Contains-append_left, Contains-append_right, Contains-append_cases}
-use Rattle.kin_motion.specs.declared.fact.Placed.{Placed}
-use Rattle.kin_motion.specs.Live.{Certificate, owned_by}
-use Rattle.kin_basics.proofs.Members.{contains_head, contains_none, contains_cases}
-use Rattle.kin_motion.proofs.SetLaws.{contains_map, contains_mapped, distinct_mapped_on, distinct_filter, filter-sound, filter-complete}
-use Rattle.kin_cert.specs.declared.owned.Owned.{Owned}
-use Rattle.kin_cert.specs.Facts.{LiveFact, certificate_of}
-use Rattle.kin_cert.specs.Taken.{NoneWaits}
-use Rattle.kin_world.specs.Upkeep.{Stage, HasSameFrame, HasSettled, HasRepaired, ListsWaiting, AreWaiting, IsAtTurn, NoneFrom, IsNextFrom, IsTurn, IsSooner, gathered, is_of, placed_of, turns_left}
+use Rattle.kin_world.proofs.Vocabulary.{cases_Bool, cases_lt, nat_tests, length-map, Contains-append_cases, Contains-append_left, Contains-append_right, contains_cases, contains_head, contains_none, Certificate, owned_by, Placed}
+use Rattle.kin_world.proofs.Vocabulary.{contains_map, contains_mapped, distinct_filter, distinct_mapped_on, filter-complete, filter-sound, LiveFact, certificate_of, NoneWaits, Owned, AreWaiting, HasRepaired, HasSameFrame, HasSettled}
+use Rattle.kin_world.proofs.Vocabulary.{IsAtTurn, IsNextFrom, IsSooner, IsTurn, ListsWaiting, NoneFrom, Stage, gathered, is_of, placed_of, turns_left}
 use Rattle.kin_world.proofs.MadeLaws.{come_on}
 use Rattle.kin_world.proofs.RepairLaws.{sound_when_none_waits}
 

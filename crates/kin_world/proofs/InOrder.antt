@@ -1,27 +1,9 @@
 -- What stands at a place, who owns a live fact, and one structure put in the place of another.
 use Rattle.std.proofs.Common.{◌≡◌, ◌≢◌, ◌⊎◌, inl, inr, refl, sym, ap, ◌∙◌, subst, arith, ℕ, ◌+◌, ◌-◌, ◌^◌, ◌<◌, ◌≤◌, List, Option, length, get_or, slice_set, map, slice_get, Some, Contains, min, false, true, length-set}
-use Rattle.std.proofs.lemmas.Bool.{cases_eq}
-use Rattle.std.proofs.lemmas.List.{length-map}
-use Rattle.std.proofs.lemmas.List.Elements.{Contains-get_or}
-use Rattle.std.proofs.lemmas.Option.{same_Some, slice_get_read, slice_get_within}
-use Rattle.kin_basics.proofs.Places.{get_within, get-set_same, get-set_other}
-use Rattle.kin_num.specs.declared.instant.Moment.{Moment}
-use Rattle.kin_motion.specs.declared.fact.Placed.{Placed}
-use Rattle.kin_motion.specs.declared.keep.Keep.{Keep}
-use Rattle.kin_num.specs.Canonical.{IsCanonical}
-use Rattle.kin_motion.specs.Course.{Course, AreSlow}
+use Rattle.kin_world.proofs.Vocabulary.{cases_eq, length-map, Contains-get_or, same_Some, slice_get_read, slice_get_within, get-set_other, get-set_same, get_within, IsCanonical, Moment, AreSlow, Course, AllHold, HasChanged, Certificate}
+use Rattle.kin_world.proofs.Vocabulary.{owned_by, Holds, Scene, scene_at, Placed, Keep, Facts, LiveFact, NoneAlike, NoneWaits, HasFactsOf, IsTimed, MayTell, nothing, timed_holds, placed_facts, IsSettledFor, HasTimedNew, HasUpdated}
+use Rattle.kin_world.proofs.Vocabulary.{IsInOrder, IsInPlace, IsTimedOrFailed, Stage, sight, Structure}
 use Rattle.kin_motion.specs.Deltas.{Change}
-use Rattle.kin_motion.specs.Kinetics.{AllHold, HasChanged}
-use Rattle.kin_motion.specs.Live.{Certificate, owned_by}
-use Rattle.kin_motion.specs.Scene.{Scene, Holds, scene_at}
-use Rattle.kin_cert.specs.Facts.{LiveFact, Facts, NoneAlike}
-use Rattle.kin_cert.specs.Taken.{NoneWaits}
-use Rattle.kin_cert.specs.Told.{HasFactsOf, IsTimed, MayTell, nothing}
-use Rattle.kin_cert.proofs.NextLaws.{timed_holds}
-use Rattle.kin_world.specs.declared.structure.Structure.{Structure}
-use Rattle.kin_world.specs.Kinds.{placed_facts}
-use Rattle.kin_world.specs.Structures.{IsSettledFor}
-use Rattle.kin_world.specs.Upkeep.{Stage, sight, IsInPlace, IsInOrder, IsTimedOrFailed, HasTimedNew, HasUpdated}
 use Rattle.kin_world.proofs.Certificates.{HaveSameCertificates, same_itself, same_tabled}
 use Rattle.kin_world.proofs.StructureLaws.{settled_holds, settled_askable}
 

@@ -1,14 +1,8 @@
 -- What is inside a world that is seen as whole, and what the calls that move it do to what is seen.
 use Rattle.std.proofs.Common.{◌≡◌, ap, sym, ◌∙◌, subst, ◌<◌, true, IsTrue}
-use Rattle.kin_num.specs.declared.instant.Moment.{Moment}
-use Rattle.kin_num.specs.Canonical.{IsCanonical}
-use Rattle.kin_num.specs.Grains.{moments_left}
-use Rattle.kin_num.specs.Order.{IsEarlier}
-use Rattle.kin_motion.specs.Journal.{Block, IsNextBlock}
-use Rattle.kin_cert.specs.Taken.{NoneFailsUntil}
+use Rattle.kin_world.proofs.Vocabulary.{IsCanonical, moments_left, IsEarlier, Moment, Block, IsNextBlock, NoneFailsUntil, HasLanded, HasSameFrame, HasSettled, IsDueWithin, IsSound, Stage, meaning, setting, stage_of, FailsWithin}
+use Rattle.kin_world.proofs.Vocabulary.{HasLeftBehind, HasMoved, HasPassed, IsWhole, World}
 use Rattle.kin_world.specs.declared.world.World.TheInside.{Inside}
-use Rattle.kin_world.specs.Upkeep.{Stage, IsSound, IsDueWithin, HasSameFrame, HasSettled, HasLanded, meaning, setting, stage_of}
-use Rattle.kin_world.specs.Worlds.{World, IsWhole, FailsWithin, HasMoved, HasPassed, HasLeftBehind}
 use Rattle.kin_world.proofs.SoundLaws.{whole, sound_later, has_moved, fails_within, least_fewer, has_passed, has_left_behind, landed_fewer}
 
 module _ (w : Inside) {v : World} (is : meaning (stage_of w.upkeep) w.whole ≡ v) (sound : IsTrue w.whole → IsSound (stage_of w.upkeep)) (there : IsTrue v.whole) where

@@ -1,23 +1,10 @@
 -- Where a leap lands, all is as a repair needs it.
 use Rattle.std.proofs.Common.{ap, ◌≡◌, inl, inr, refl, sym, ◌∙◌, subst, true, false, pos, List, Option, Contains, ◌↔◌}
-use Rattle.std.proofs.lemmas.Bool.{cases_Bool}
-use Rattle.std.proofs.lemmas.List.Elements.{All-contains}
-use Rattle.kin_num.specs.declared.instant.Moment.{Moment}
-use Rattle.kin_num.specs.Canonical.{IsCanonical}
-use Rattle.kin_num.specs.Order.{IsEarlier}
-use Rattle.kin_num.proofs.MomentLaws.{never, through}
+use Rattle.kin_world.proofs.Vocabulary.{cases_Bool, All-contains, IsCanonical, IsEarlier, Moment, never, through, Course, FailsFirst, HoldsAt, scene_at, Form, Dist, Line, Slope, Turn, Facts, NoneAlike, HasTaken, IsLeastFailure, Owned}
+use Rattle.kin_world.proofs.Vocabulary.{HasLanded, HasSameFrame, HasSettled, IsBeyond, IsLanding, IsSound, IsUnderRepair, Stage, is_line}
 use Rattle.kin_instant.proofs.Crossing.{at_it}
-use Rattle.kin_motion.specs.declared.form.Form.{Form}
-use Rattle.kin_motion.specs.declared.form.Form.TheVariants.{Line, Turn, Slope, Dist}
-use Rattle.kin_motion.specs.Course.{Course}
 use Rattle.kin_motion.specs.Forms.{polynomial_of}
-use Rattle.kin_motion.specs.Moments.{HoldsAt, FailsFirst}
-use Rattle.kin_motion.specs.Scene.{scene_at}
-use Rattle.kin_cert.specs.declared.owned.Owned.{Owned}
-use Rattle.kin_cert.specs.Facts.{Facts, NoneAlike}
-use Rattle.kin_cert.specs.Taken.{IsLeastFailure, HasTaken}
 use Rattle.kin_cert.proofs.JustAfter.{follows, next_or_later, fails_not_just_after, line_fails_on}
-use Rattle.kin_world.specs.Upkeep.{Stage, IsSound, IsUnderRepair, IsBeyond, IsLanding, HasSameFrame, HasSettled, HasLanded, is_line}
 use Rattle.kin_world.proofs.SoundLaws.{failure_at, least_fails}
 use Rattle.kin_world.proofs.TakeLaws.{IsReached, at_once, at_moment, reached_under_repair, taken_under_repair}
 

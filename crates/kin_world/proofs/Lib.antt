@@ -1,3 +1,4 @@
+pub mod Vocabulary
 pub mod ApproachLaws
 pub mod StructureLaws
 pub mod Certificates

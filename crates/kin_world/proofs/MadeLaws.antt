@@ -1,11 +1,6 @@
 -- What was made adds up, if the structures are changed in turn.
 use Rattle.std.proofs.Common.{refl, ◌≡◌, ℕ, ◌+◌, ◌-◌, ◌^◌, ◌≤◌, ◌⊎◌, inl, inr, sym, ap, ◌∙◌, arith, List, [], ◌++◌, length-append, ◌≢◌, ◌↔◌, Contains}
-use Rattle.std.proofs.lemmas.Bool.{cases_eq}
-use Rattle.kin_motion.specs.Live.{Certificate}
-use Rattle.kin_motion.proofs.SetLaws.{exactly_none, exactly_both, exactly_in_words}
-use Rattle.kin_cert.specs.Facts.{LiveFact, Facts}
-use Rattle.kin_cert.specs.Told.{certificates_of}
-use Rattle.kin_world.specs.Upkeep.{HasTimedNew, HasComeTo, AreLeft}
+use Rattle.kin_world.proofs.Vocabulary.{cases_eq, Certificate, exactly_both, exactly_in_words, exactly_none, Facts, LiveFact, certificates_of, AreLeft, HasComeTo, HasTimedNew}
 use Rattle.kin_world.proofs.Certificates.{listed_through}
 
 -- the certificate is in the second list and not in the first

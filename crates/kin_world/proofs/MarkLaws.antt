@@ -1,24 +1,10 @@
 -- A number comes or goes, and one structure after another carries the mark out. Going is coming turned round: the motions that have the number are then those before.
 use Rattle.std.proofs.Common.{◌≡◌, inl, inr, refl, sym, ap, ◌∙◌, subst, arith, ℕ, zero, suc, ◌+◌, ◌<◌, ◌≤◌, ◌^◌, true, false, List, [], ◌∷◌, length, slice_set, Option, Some, None, is_some, slice_get, Contains, get_or-set_same, set-set, length-set}
-use Rattle.std.proofs.lemmas.List.{set-get_or}
-use Rattle.std.proofs.lemmas.List.Elements.{All-contains}
-use Rattle.std.proofs.lemmas.Option.{slice_get_within}
-use Rattle.kin_motion.specs.declared.fact.Placed.{Placed}
-use Rattle.kin_motion.specs.declared.keep.Keep.{Keep}
-use Rattle.kin_motion.specs.Course.{Course, AreSlow, motion_of, is_live, live_of}
-use Rattle.kin_motion.specs.Forms.{IsAskable}
-use Rattle.kin_motion.specs.Live.{owned_by}
-use Rattle.kin_motion.specs.Scene.{Scene, Holds, scene_at}
+use Rattle.kin_world.proofs.Vocabulary.{set-get_or, All-contains, slice_get_within, AreSlow, Course, is_live, live_of, motion_of, IsAskable, owned_by, Holds, Scene, scene_at, Placed, Keep, Facts, LiveFact, NoneWaits, placed_facts}
+use Rattle.kin_world.proofs.Vocabulary.{AreLiveAfter, HoldFor, IsSettledFor, HasGoneOn, HasGoneOver, HasOneMore, HasUpdated, IsCarriedOut, IsInOrder, IsInPlace, IsMarked, IsSound, Stage, sight, with_marked, HasRemoved, World, Structure}
 use Rattle.kin_motion.proofs.MotionLaws.{slow-clear}
-use Rattle.kin_cert.specs.Facts.{LiveFact, Facts}
-use Rattle.kin_cert.specs.Taken.{NoneWaits}
-use Rattle.kin_world.specs.declared.structure.Structure.{Structure}
 use Rattle.kin_world.specs.declared.structure.Mark.{Mark}
 use Rattle.kin_world.specs.declared.structure.Mark.TheVariants.{Enters, Leaves}
-use Rattle.kin_world.specs.Kinds.{placed_facts}
-use Rattle.kin_world.specs.Structures.{IsSettledFor, AreLiveAfter, HoldFor}
-use Rattle.kin_world.specs.Upkeep.{Stage, sight, IsSound, HasOneMore, IsMarked, IsCarriedOut, with_marked, IsInOrder, IsInPlace, HasGoneOver, HasUpdated, HasGoneOn}
-use Rattle.kin_world.specs.Worlds.{World, HasRemoved}
 use Rattle.kin_world.proofs.InOrder.{all_hold, by_age, owner, replaced, restated, seen_anew, timed, timed_new, timely_from_timed}
 use Rattle.kin_world.proofs.OneMore.{askable_without, one_more, same_room, sign_alike, timed_with, timed_without}
 use Rattle.kin_world.proofs.SoundLaws.{live_askable}

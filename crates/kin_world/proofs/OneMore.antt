@@ -1,18 +1,7 @@
 -- Two lists of motions, of which the second has one number's motion more.
 use Rattle.std.proofs.Common.{◌≡◌, ◌≢◌, ◌⊎◌, inl, inr, refl, sym, ap, ◌∙◌, subst, arith, ℕ, ◌<◌, true, false, ◌||◌, nat_eq, List, length, slice_set, Option, Some, None, is_some, get_or-set_same, get_or-set_other, length-set}
-use Rattle.std.proofs.lemmas.Bool.{cases_eq, or_parts}
-use Rattle.std.proofs.lemmas.Bool.Decides.{nat_tests}
-use Rattle.kin_num.specs.declared.instant.Moment.{Moment}
-use Rattle.kin_motion.specs.declared.form.Form.{Form}
-use Rattle.kin_motion.specs.declared.form.Form.TheVariants.{Line, Turn, Slope, Dist}
-use Rattle.kin_motion.specs.Course.{Course, is_live, live_of}
-use Rattle.kin_motion.specs.Forms.{IsAskable, names, sign_of_form}
-use Rattle.kin_motion.specs.Numbers.{is_in, IsIn, HasEntered}
-use Rattle.kin_motion.specs.Scene.{scene_at}
+use Rattle.kin_world.proofs.Vocabulary.{cases_eq, or_parts, nat_tests, Moment, Course, is_live, live_of, IsAskable, names, sign_of_form, HasEntered, IsIn, is_in, scene_at, Form, Dist, Line, Slope, Turn, LiveFact, IsTimed, HasOneMore}
 use Rattle.kin_motion.proofs.LiveLaws.{filled-once, live-members}
-use Rattle.kin_cert.specs.Facts.{LiveFact}
-use Rattle.kin_cert.specs.Told.{IsTimed}
-use Rattle.kin_world.specs.Upkeep.{HasOneMore}
 use Rattle.kin_world.proofs.Unnamed as unnamed
 
 -- a form that may be asked for without the number doesn't name it

@@ -1,21 +1,7 @@
 -- One structure is repaired, and the others stand as they were.
 use Rattle.std.proofs.Common.{◌≡◌, inl, inr, ap, ℕ, List, slice_set, Contains, IsTrue}
-use Rattle.std.proofs.lemmas.Bool.{cases_Bool}
-use Rattle.std.proofs.lemmas.List.Elements.{All-contains}
-use Rattle.kin_motion.specs.declared.fact.Placed.{Placed}
-use Rattle.kin_motion.specs.declared.keep.Keep.{Keep}
-use Rattle.kin_motion.specs.Live.{owned_by}
-use Rattle.kin_motion.specs.Moments.{HoldsAt}
-use Rattle.kin_motion.specs.Scene.{Holds, scene_at}
-use Rattle.kin_motion.specs.Sets.{ListsExactly}
-use Rattle.kin_motion.proofs.SetLaws.{exactly_in_words}
-use Rattle.kin_cert.specs.Facts.{LiveFact, Facts}
-use Rattle.kin_cert.specs.Taken.{NoneWaits}
-use Rattle.kin_cert.specs.Told.{HasFactsOf}
-use Rattle.kin_cert.proofs.NextLaws.{timed_holds}
-use Rattle.kin_world.specs.declared.structure.Structure.{Structure}
-use Rattle.kin_world.specs.Kinds.{placed_facts}
-use Rattle.kin_world.specs.Upkeep.{Stage, sight, IsSound, IsUnderRepair, ListsWaiting, HasUpdated, HasRepaired}
+use Rattle.kin_world.proofs.Vocabulary.{cases_Bool, All-contains, owned_by, HoldsAt, Holds, scene_at, ListsExactly, Placed, Keep, exactly_in_words, Facts, LiveFact, NoneWaits, HasFactsOf, timed_holds, placed_facts, HasRepaired, HasUpdated}
+use Rattle.kin_world.proofs.Vocabulary.{IsSound, IsUnderRepair, ListsWaiting, Stage, sight, Structure}
 use Rattle.kin_world.proofs.InOrder.{by_certificate, all_hold, restated, replaced, tabled_here, timed_new}
 use Rattle.kin_world.proofs.StructureLaws.{settled_holds, settled_from_hold}
 

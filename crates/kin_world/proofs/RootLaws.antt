@@ -1,11 +1,10 @@
 -- What holds of the motions, keeps and moment of every whole world: the laws of failures apply to it.
 use Rattle.std.proofs.Common.{get_or}
-use Rattle.std.proofs.lemmas.Option.{slice_get-get_or}
+use Rattle.kin_world.proofs.Vocabulary.{slice_get-get_or, IsWhole, World}
 use Rattle.kin_cert.specs.Laws.{IsProper}
 use Rattle.kin_cert.proofs.FailureRoots as cert
 use Rattle.kin_cert.proofs.JournalExistence as cert_journal
 use Rattle.kin_world.specs.Laws.{BlocksAreAtRoots, JournalsExist}
-use Rattle.kin_world.specs.Worlds.{World, IsWhole}
 
 pub proper : (w : World) → IsWhole w → IsProper w.motions w.size w.keeps
 proper w whole = record {

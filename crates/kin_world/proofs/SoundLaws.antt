@@ -1,37 +1,14 @@
 -- What a sound world has: its live facts are those of the definition, and the table tells what comes next.
 use Rattle.std.proofs.Common.{◌≡◌, ◌⊎◌, inl, inr, refl, sym, ap, ◌∙◌, subst, arith, ℕ, suc, ◌<◌, true, List, [], ◌∷◌, Option, Some, None, slice_set, get_or, slice_get, Contains, ◌↔◌}
-use Rattle.std.proofs.lemmas.List.Elements.{All-contains}
-use Rattle.std.proofs.lemmas.Option.{slice_get_within, slice_get_read}
-use Rattle.kin_num.specs.declared.instant.Moment.{Moment}
-use Rattle.kin_num.specs.Canonical.{IsCanonical}
-use Rattle.kin_num.specs.Grains.{moments_left}
-use Rattle.kin_num.specs.Order.{IsEarlier}
+use Rattle.kin_world.proofs.Vocabulary.{All-contains, slice_get_read, slice_get_within, IsCanonical, moments_left, IsEarlier, Moment, never, through, total, Course, IsAskable, Block, IsNextBlock, NothingFails, failures_at, Certificate}
+use Rattle.kin_world.proofs.Vocabulary.{IsLiveFact, ListsLive, FailsFirst, IsReal, scene_at, AreDistinct, Placed, Keep, live_fits, real_at, contains_map, contains_mapped, distinct_cons, distinct_none, AreAlike, LiveFact, NoneAlike}
+use Rattle.kin_world.proofs.Vocabulary.{IsFirstFailure, IsLeastFailure, NoneFails, NoneFailsUntil, certificates_of, IsInTime, earlier_still, fails_first, hold_before_least, holds_until_failure, later_start, nothing_fails, nothing_until}
+use Rattle.kin_world.proofs.Vocabulary.{placed_facts, IsSettledFor, HasLanded, HasSameFrame, HasSettled, IsSound, Stage, meaning, setting, sight, FailsWithin, HasInserted, HasLeftBehind, HasMoved, HasPassed, HasRemoved, IsNextMoment}
+use Rattle.kin_world.proofs.Vocabulary.{IsWhole, with_facts_of, Structure}
 use Rattle.kin_num.proofs.Grains.{moments_run_out}
-use Rattle.kin_num.proofs.MomentLaws.{never, through, total}
-use Rattle.kin_motion.specs.declared.fact.Placed.{Placed}
-use Rattle.kin_motion.specs.declared.keep.Keep.{Keep}
 use Rattle.kin_motion.specs.Agreements.{FitsSize}
-use Rattle.kin_motion.specs.Course.{Course}
-use Rattle.kin_motion.specs.Forms.{IsAskable}
-use Rattle.kin_motion.specs.Journal.{Block, IsNextBlock, NothingFails, failures_at}
-use Rattle.kin_motion.specs.Live.{Certificate, IsLiveFact, ListsLive}
-use Rattle.kin_motion.specs.Moments.{FailsFirst}
-use Rattle.kin_motion.specs.Scene.{IsReal, scene_at}
-use Rattle.kin_motion.specs.Sets.{AreDistinct}
 use Rattle.kin_motion.proofs.LiveFactLaws.{live_facts_agree}
-use Rattle.kin_motion.proofs.MotionScenes.{real_at, live_fits}
-use Rattle.kin_motion.proofs.SetLaws.{contains_map, contains_mapped, distinct_none, distinct_cons}
-use Rattle.kin_cert.specs.Facts.{LiveFact, NoneAlike, AreAlike}
-use Rattle.kin_cert.specs.Failures.{IsFirstFailure}
-use Rattle.kin_cert.specs.Taken.{NoneFails, NoneFailsUntil, IsLeastFailure}
-use Rattle.kin_cert.specs.Told.{certificates_of}
 use Rattle.kin_cert.proofs.JournalExistence.{least_block}
-use Rattle.kin_cert.proofs.NextLaws.{IsInTime, nothing_fails, nothing_until, hold_before_least, fails_first, holds_until_failure, earlier_still, later_start}
-use Rattle.kin_world.specs.declared.structure.Structure.{Structure}
-use Rattle.kin_world.specs.Kinds.{placed_facts}
-use Rattle.kin_world.specs.Structures.{IsSettledFor}
-use Rattle.kin_world.specs.Upkeep.{Stage, IsSound, HasSameFrame, HasSettled, HasLanded, meaning, setting, sight}
-use Rattle.kin_world.specs.Worlds.{IsWhole, IsNextMoment, HasInserted, HasRemoved, HasMoved, HasPassed, HasLeftBehind, FailsWithin, with_facts_of}
 use Rattle.kin_world.proofs.Certificates.{at_its}
 use Rattle.kin_world.proofs.InOrder.{facts_hold, owner, seen_anew, standing, timed, timely_from_timed}
 use Rattle.kin_world.proofs.StructureLaws.{settled_askable, settled_facts, settled_later}

@@ -1,22 +1,8 @@
 -- The start: no number is live, at the instant 0, and the structures have no members.
 use Rattle.std.proofs.Common.{ext_get_or, ◌≡◌, ◌⊎◌, inl, inr, refl, sym, ap, ◌∙◌, subst, arith, ℕ, zero, suc, ◌+◌, List, [], ◌∷◌, ◌++◌, length, Option, Some, None, replicate, slice_get}
-use Rattle.std.proofs.lemmas.List.{length-replicate}
-use Rattle.std.proofs.lemmas.Option.{same_Some}
-use Rattle.kin_basics.proofs.Members.{contains_none}
-use Rattle.kin_basics.proofs.Places.{get-push_cases}
-use Rattle.kin_num.specs.declared.instant.Moment.{Moment}
-use Rattle.kin_num.specs.Canonical.{IsCanonical}
-use Rattle.kin_motion.specs.declared.fact.Placed.{Placed}
-use Rattle.kin_motion.specs.declared.keep.Keep.{Keep}
-use Rattle.kin_motion.specs.Course.{Course, motion_of, live_of}
-use Rattle.kin_motion.specs.Numbers.{filled_from}
-use Rattle.kin_motion.specs.Scene.{scene_at}
+use Rattle.kin_world.proofs.Vocabulary.{length-replicate, same_Some, contains_none, get-push_cases, IsCanonical, Moment, Course, live_of, motion_of, filled_from, scene_at, Placed, Keep, HasFactsOf, placed_facts, AreVacant, IsVacant, IsFit}
+use Rattle.kin_world.proofs.Vocabulary.{IsSound, Structure}
 use Rattle.kin_motion.proofs.SlotLaws.{none_live as none_live_at}
-use Rattle.kin_cert.specs.Told.{HasFactsOf}
-use Rattle.kin_world.specs.declared.structure.Structure.{Structure}
-use Rattle.kin_world.specs.Kinds.{placed_facts}
-use Rattle.kin_world.specs.Structures.{IsVacant, AreVacant}
-use Rattle.kin_world.specs.Upkeep.{IsFit, IsSound}
 use Rattle.kin_world.proofs.StructureLaws.{settled_vacant}
 
 -- a list of so many empty slots

@@ -1,18 +1,9 @@
 -- Laws of a kept structure, whatever its kind.
 use Rattle.std.proofs.Common.{◌≡◌, sym, subst, List, [], ℕ, Contains, All}
-use Rattle.std.proofs.lemmas.List.Elements.{Contains-get_or}
-use Rattle.kin_motion.specs.declared.fact.Placed.{Placed}
-use Rattle.kin_motion.specs.declared.keep.Keep.{Keep}
-use Rattle.kin_motion.specs.Forms.{IsAskable}
-use Rattle.kin_motion.specs.Kinetics.{HaveSameLive, AllHold}
-use Rattle.kin_motion.specs.Live.{IsKeepFact, IsSmallKeep}
-use Rattle.kin_motion.specs.Scene.{Scene, IsReal}
-use Rattle.kin_motion.specs.Sets.{ListsExactly}
+use Rattle.kin_world.proofs.Vocabulary.{Contains-get_or, IsAskable, AllHold, HaveSameLive, IsKeepFact, IsSmallKeep, IsReal, Scene, ListsExactly, Placed, Keep, HasMembers, IsAtRest, IsFor, IsSettledIn, kinetic, placed_facts, IsSettledFor}
+use Rattle.kin_world.proofs.Vocabulary.{IsSettledWhereAllHold, IsVacant, Structure}
 use Rattle.kin_motion.proofs.AskableLaws.{keep_fact_askable}
 use Rattle.kin_motion.proofs.LiveFactsHold.{keep_fact_holds}
-use Rattle.kin_world.specs.declared.structure.Structure.{Structure}
-use Rattle.kin_world.specs.Kinds.{kinetic, placed_facts, IsFor, IsAtRest, HasMembers, IsSettledIn}
-use Rattle.kin_world.specs.Structures.{IsVacant, IsSettledFor, IsSettledWhereAllHold}
 
 -- what every fact of a list has all of them have
 all_from_each : {P : Placed → Type 0} (ps : List Placed) → ((p : Placed) → Contains ps p → P p) → All P ps

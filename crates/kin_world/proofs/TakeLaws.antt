@@ -1,29 +1,10 @@
 -- What fails at the least failure moment is taken out, and all else is seen from there.
 use Rattle.std.proofs.Common.{Option, ◌≡◌, ◌≢◌, inl, inr, refl, sym, ap, ◌∙◌, subst, arith, false, ◌≤◌, ◌+◌, ◌-◌, ◌^◌, List, length, get_or, map, Some, Contains, ◌↔◌, IsTrue, min, true, All}
-use Rattle.std.proofs.lemmas.List.Elements.{Contains-get_or}
-use Rattle.std.proofs.lemmas.List.Sorted.{Contains-permutation, IsPermutation-sym}
-use Rattle.kin_num.specs.declared.instant.Moment.{Moment}
-use Rattle.kin_num.specs.Canonical.{IsCanonical}
-use Rattle.kin_num.specs.Order.{IsEarlier}
-use Rattle.kin_num.proofs.MomentLaws.{total}
-use Rattle.kin_motion.specs.Course.{live_of}
-use Rattle.kin_motion.specs.Forms.{IsAskable}
-use Rattle.kin_motion.specs.Journal.{Block, IsNextBlock, seen_in}
-use Rattle.kin_motion.specs.Live.{Certificate}
-use Rattle.kin_motion.specs.Moments.{HoldsAt, FailsFirst}
-use Rattle.kin_motion.specs.Scene.{scene_at}
-use Rattle.kin_motion.specs.Sets.{AreDistinct}
+use Rattle.kin_world.proofs.Vocabulary.{Contains-get_or, Contains-permutation, IsPermutation-sym, IsCanonical, IsEarlier, Moment, total, live_of, IsAskable, Block, IsNextBlock, seen_in, Certificate, FailsFirst, HoldsAt, scene_at}
+use Rattle.kin_world.proofs.Vocabulary.{AreDistinct, real_at, exactly_in_words, Facts, LiveFact, NoneAlike, certificate_of, IsFirstFailure, HasGivenOut, HasTaken, IsLeastFailure, certificate_rank, is_taken_before, IsTimed, Owned, fails_now}
+use Rattle.kin_world.proofs.Vocabulary.{later_start, next_block, AreWaiting, HasSettled, IsSound, IsUnderRepair, Stage, setting, sight}
 use Rattle.kin_motion.proofs.JournalLaws.{never_less_rank, less_rank_through}
 use Rattle.kin_motion.proofs.ListChains.{chain_distinct}
-use Rattle.kin_motion.proofs.MotionScenes.{real_at}
-use Rattle.kin_motion.proofs.SetLaws.{exactly_in_words}
-use Rattle.kin_cert.specs.declared.owned.Owned.{Owned}
-use Rattle.kin_cert.specs.Facts.{LiveFact, Facts, NoneAlike, certificate_of}
-use Rattle.kin_cert.specs.Failures.{IsFirstFailure}
-use Rattle.kin_cert.specs.Taken.{IsLeastFailure, HasTaken, HasGivenOut, is_taken_before, certificate_rank}
-use Rattle.kin_cert.specs.Told.{IsTimed}
-use Rattle.kin_cert.proofs.NextLaws.{fails_now, later_start, next_block}
-use Rattle.kin_world.specs.Upkeep.{Stage, IsSound, IsUnderRepair, AreWaiting, HasSettled, setting, sight}
 use Rattle.kin_world.proofs.Certificates.{HaveSameCertificates, same_listed}
 use Rattle.kin_world.proofs.InOrder.{retimed, timed}
 use Rattle.kin_world.proofs.SoundLaws.{failure_at, in_time, least_fails, live_askable, one_least, real}

@@ -1,26 +1,11 @@
 -- A number turns: what is seen now is as before, so every structure stays settled, and the facts that don't name it fail as before.
 use Rattle.std.proofs.Common.{◌≡◌, inl, inr, refl, sym, ap, ◌∙◌, subst, arith, ℕ, ◌+◌, ◌-◌, ◌^◌, true, cond, List, [], ◌∷◌, length, slice_set, Result, Ok, Err, IfOk, Option, Some, ℤ, min, count_by, Contains, ◌↔◌, IsTrue, length-set}
-use Rattle.std.proofs.lemmas.Bool.{cases_Bool}
 use Rattle.std.proofs.lemmas.List.Sums.{sum_by-cons}
-use Rattle.std.proofs.lemmas.Option.{same_Some}
-use Rattle.kin_num.specs.declared.instant.Moment.{Moment}
-use Rattle.kin_num.specs.declared.instant.Phase.TheVariants.{At, After}
-use Rattle.kin_num.specs.Canonical.{IsCanonical}
-use Rattle.kin_motion.specs.Course.{Course, IsSlow, AreSlow, is_live, live_of, motion_of}
-use Rattle.kin_motion.specs.Forms.{IsAskable}
-use Rattle.kin_motion.specs.Live.{Certificate}
-use Rattle.kin_motion.specs.Scene.{Scene, Holds, scene_at}
-use Rattle.kin_motion.specs.Turning.{TurnsTo, IsNotWhole, IsOutOfBounds, just_at}
+use Rattle.kin_world.proofs.Vocabulary.{cases_Bool, same_Some, IsCanonical, Moment, After, At, AreSlow, Course, IsSlow, is_live, live_of, motion_of, IsAskable, Certificate, Holds, Scene, scene_at, IsNotWhole, IsOutOfBounds, TurnsTo}
+use Rattle.kin_world.proofs.Vocabulary.{just_at, NotWhole, OutOfBounds, Facts, LiveFact, NoneAlike, IsTimed, certificates_of, timed_holds, IsSettledFor, IsSound, Stage, meaning, sight, CanTurn, HasTurned, World, is_about, with_facts_of}
 use Rattle.kin_motion.proofs.TurningLaws.{turn_keeps_scene, one_turn}
-use Rattle.kin_cert.specs.Facts.{LiveFact, Facts, NoneAlike}
 use Rattle.kin_cert.specs.Remade.{HasRemade, names_number}
-use Rattle.kin_cert.specs.Told.{IsTimed, certificates_of}
-use Rattle.kin_cert.proofs.NextLaws.{timed_holds}
 use Rattle.kin_turn.specs.declared.turned.TurnError.{TurnError}
-use Rattle.kin_turn.specs.declared.turned.TurnError.TheVariants.{NotWhole, OutOfBounds}
-use Rattle.kin_world.specs.Structures.{IsSettledFor}
-use Rattle.kin_world.specs.Upkeep.{Stage, IsSound, meaning, sight}
-use Rattle.kin_world.specs.Worlds.{World, CanTurn, HasTurned, is_about, with_facts_of}
 use Rattle.kin_world.proofs.Certificates.{HaveSameCertificates, same_listed}
 use Rattle.kin_world.proofs.InOrder.{retimed, timed, timely_from_timed}
 use Rattle.kin_world.proofs.MarkLaws.{motion_there}

@@ -1,17 +1,7 @@
 -- A motion is written at one number: a form that doesn't name it has the same sign at each moment, and a fact of such a form the same first failure.
 use Rattle.std.proofs.Common.{◌≡◌, refl, sym, ◌∙◌, arith, ℕ, true, false, nat_eq, List, slice_set, Option, None, Some, get_or-set_other}
-use Rattle.std.proofs.lemmas.Bool.{or_parts}
-use Rattle.std.proofs.lemmas.Bool.Decides.{nat_tests}
-use Rattle.kin_num.specs.declared.instant.Moment.{Moment}
-use Rattle.kin_motion.specs.declared.fact.Fact.{Fact}
-use Rattle.kin_motion.specs.declared.form.Form.{Form}
-use Rattle.kin_motion.specs.declared.form.Form.TheVariants.{Line, Turn, Slope, Dist}
-use Rattle.kin_motion.specs.Course.{Course, motion_of}
-use Rattle.kin_motion.specs.Forms.{names, polynomial_of, sign_of_form}
-use Rattle.kin_motion.specs.Scene.{Scene, scene_at}
-use Rattle.kin_cert.specs.Facts.{LiveFact}
-use Rattle.kin_cert.specs.Failures.{IsFirstFailure}
-use Rattle.kin_cert.specs.Told.{IsTimed}
+use Rattle.kin_world.proofs.Vocabulary.{or_parts, nat_tests, Moment, Course, motion_of, names, Scene, scene_at, Fact, Form, Dist, Line, Slope, Turn, LiveFact, IsFirstFailure, IsTimed}
+use Rattle.kin_motion.specs.Forms.{polynomial_of, sign_of_form}
 
 -- a fact that is seen alike at each moment fails alike
 same_failure : (v w : Moment → Scene) (now : Moment) (f : Fact) (later : Option Moment) → ((m : Moment) → (w m).sign f.form ≡ (v m).sign f.form) → IsFirstFailure v now f later → IsFirstFailure w now f later

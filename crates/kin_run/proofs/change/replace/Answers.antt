@@ -1,7 +1,5 @@
 use Rattle.std.proofs.Common.{◌≡◌, true, false, Some, refl, sym, ap, ◌∙◌, is_some}
-use Rattle.kin_motion.specs.Course.{motion_of}
-use Rattle.kin_script.specs.Changes.{restarts}
-use Rattle.kin_run.specs.States.{state_of}
+use Rattle.kin_run.proofs.Vocabulary.{motion_of, restarts, state_of}
 use Rattle.kin_run.proofs.Changing.{changed, replaced}
 use Rattle.kin_run.proofs.change.replace.Goals as goal
 

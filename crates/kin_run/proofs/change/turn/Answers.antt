@@ -1,9 +1,6 @@
 use Rattle.std.proofs.Common.{ap, ◌≡◌, inl, inr, Some, refl, sym, ◌∙◌, w32}
-use Rattle.std.proofs.lemmas.Result.{err_from_is_err_and}
+use Rattle.kin_run.proofs.Vocabulary.{err_from_is_err_and, motion_of, turns, state_of}
 use Rattle.kin_instant.proofs.Widths.{clean}
-use Rattle.kin_motion.specs.Course.{motion_of}
-use Rattle.kin_script.specs.Changes.{turns}
-use Rattle.kin_run.specs.States.{state_of}
 use Rattle.kin_run.proofs.ChangeExistence.{allowed_turn}
 use Rattle.kin_run.proofs.Changing.{changed, changing_broke}
 use Rattle.kin_run.proofs.change.turn.Goals as goal

@@ -1,10 +1,5 @@
 use Rattle.std.proofs.Common.{[], ◌++◌, inl, inr, refl, sym, ap, append-nil}
-use Rattle.std.proofs.lemmas.Result.{err_from_is_err_and, on_err_weaker}
-use Rattle.kin_basics.proofs.Results.{on_ok}
-use Rattle.kin_script.specs.PrintedJournal.{none_line, now_line}
-use Rattle.kin_print.proofs.Fronts.{nothing}
-use Rattle.kin_world.specs.Worlds.{HasMoved, HasPassed}
-use Rattle.kin_run.specs.States.{state_of, printed_if}
+use Rattle.kin_run.proofs.Vocabulary.{err_from_is_err_and, on_err_weaker, on_ok, nothing, none_line, now_line, HasMoved, HasPassed, printed_if, state_of}
 use Rattle.kin_run.proofs.Tallying.{none_tallied, one_tallied}
 use Rattle.kin_run.proofs.Blocks.{not_back, not_reached}
 use Rattle.kin_run.proofs.Fronts.{front_nil}

@@ -1,11 +1,5 @@
 use Rattle.std.proofs.Common.{◌++◌, subst, OnErr}
-use Rattle.kin_motion.specs.Journal.{Block}
-use Rattle.kin_script.specs.Printed.{PutsFront}
-use Rattle.std.proofs.lemmas.Result.{on_err_weaker}
-use Rattle.kin_script.specs.PrintedJournal.{now_line}
-use Rattle.kin_basics.proofs.Results.{on_err}
-use Rattle.kin_print.proofs.Fronts.{front_first, front_behind}
-use Rattle.kin_run.specs.States.{printed_if}
+use Rattle.kin_run.proofs.Vocabulary.{on_err_weaker, on_err, Block, front_behind, front_first, PutsFront, now_line, printed_if}
 use Rattle.kin_run.proofs.next.put_passed.Goals as goal
 
 pub returns-in_err-put_if_on-clause-err : goal.returns-in_err-put_if_on-clause-err

@@ -1,4 +1,4 @@
-use Rattle.kin_num.specs.Grains.{moments_left}
+use Rattle.kin_run.proofs.Vocabulary.{moments_left}
 use Rattle.kin_run.proofs.Arriving.{IsUnderWay}
 use Rattle.kin_run.proofs.pass.leap_to.Given as goal
 

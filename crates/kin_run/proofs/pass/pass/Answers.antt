@@ -1,10 +1,6 @@
 use Rattle.std.proofs.Common.{[], ap, arith, not, refl, ◌∙◌}
-use Rattle.std.proofs.lemmas.Result.{err_from_is_err_and}
-use Rattle.kin_script.specs.States.{at}
-use Rattle.kin_world.specs.Worlds.{HasPassed, HasMoved}
+use Rattle.kin_run.proofs.Vocabulary.{err_from_is_err_and, at, HasMoved, HasPassed, state_of, printer}
 use Rattle.kin_world.proofs.RootLaws.{journals_exist}
-use Rattle.kin_run.specs.Written.{printer}
-use Rattle.kin_run.specs.States.{state_of}
 use Rattle.kin_run.proofs.Tallying.{untallied}
 use Rattle.kin_run.proofs.Gathering.{gains_nothing}
 use Rattle.kin_run.proofs.OnTheWay.{sets_out, breaks_here, breaks_within, faults_behind, goes_on, goes_on_quietly, arrives, counted_all, told_some, told_none}

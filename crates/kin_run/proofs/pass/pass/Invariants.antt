@@ -1,6 +1,5 @@
 use Rattle.std.proofs.Common.{◌≤◌}
-use Rattle.kin_num.specs.Grains.{moments_left}
-use Rattle.kin_run.specs.Written.{printer}
+use Rattle.kin_run.proofs.Vocabulary.{moments_left, printer}
 use Rattle.kin_run.proofs.OnTheWay.{IsOnTheWay}
 use Rattle.kin_run.proofs.pass.pass.Given as goal
 

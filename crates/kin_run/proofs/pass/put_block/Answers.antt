@@ -1,10 +1,6 @@
 use Rattle.std.proofs.Common.{◌≡◌, ◌++◌, ◌∙◌, ap, subst, List, ℕ, map, flat_map, take_all}
+use Rattle.kin_run.proofs.Vocabulary.{on_err, failure_of, front_at, PutsFront, block_lines, failure_line}
 use Rattle.kin_cert.specs.declared.owned.Failure.{Failure}
-use Rattle.kin_cert.specs.Blocks.{failure_of}
-use Rattle.kin_script.specs.Printed.{PutsFront}
-use Rattle.kin_script.specs.PrintedJournal.{failure_line, block_lines}
-use Rattle.kin_basics.proofs.Results.{on_err}
-use Rattle.kin_print.proofs.Fronts.{front_at}
 use Rattle.kin_run.proofs.Passing.{line_in, lines_in}
 use Rattle.kin_run.proofs.pass.put_block.Goals as goal
 

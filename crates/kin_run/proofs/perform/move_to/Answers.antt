@@ -1,9 +1,5 @@
 use Rattle.std.proofs.Common.{refl, sym, subst, inr}
-use Rattle.std.proofs.lemmas.Result.{err_from_is_err_and}
-use Rattle.kin_num.specs.Order.{IsEarlier}
-use Rattle.kin_script.specs.States.{at}
-use Rattle.kin_run.specs.States.{state_of}
-use Rattle.kin_run.specs.Written.{printer}
+use Rattle.kin_run.proofs.Vocabulary.{err_from_is_err_and, IsEarlier, at, state_of, printer}
 use Rattle.kin_run.proofs.Performing.{moved, moving_broke}
 use Rattle.kin_run.proofs.Tallying.{tallied_is}
 use Rattle.kin_run.proofs.perform.move_to.Goals as goal

@@ -1,13 +1,5 @@
 use Rattle.std.proofs.Common.{◌≡◌, refl, [], true, arith, to_z, of_z, w32, w64}
-use Rattle.std.proofs.lemmas.Int.{to_z-of_z}
-use Rattle.std.proofs.lemmas.Result.{err_from_is_err_and}
-use Rattle.kin_num.specs.Instants.{line}
-use Rattle.kin_script.specs.Changes.{IsSlowVelocity}
-use Rattle.kin_script.specs.Ranges.{IsRootInRange}
-use Rattle.kin_script.proofs.Questions.{asks_otherwise}
-use Rattle.kin_run.specs.States.{state_of}
-use Rattle.kin_run.specs.Written.{printer}
-use Rattle.kin_basics.proofs.Results.{on_ok}
+use Rattle.kin_run.proofs.Vocabulary.{to_z-of_z, err_from_is_err_and, on_ok, line, IsSlowVelocity, IsRootInRange, asks_otherwise, state_of, printer}
 use Rattle.kin_run.proofs.Tallying.{none_tallied}
 use Rattle.kin_run.proofs.Performing.{went_on, going_broke, replied}
 use Rattle.kin_run.proofs.NamedRoots.{handed_ratio}

@@ -1,9 +1,5 @@
 use Rattle.std.proofs.Common.{[], ◌∙◌, refl, arith}
-use Rattle.std.proofs.lemmas.Result.{err_from_is_err_and}
-use Rattle.kin_script.specs.Deeds.{deed_of}
-use Rattle.kin_script.specs.Text.{refused_line}
-use Rattle.kin_run.specs.States.{state_of}
-use Rattle.kin_run.specs.Written.{printer}
+use Rattle.kin_run.proofs.Vocabulary.{err_from_is_err_and, deed_of, refused_line, state_of, printer}
 use Rattle.kin_run.proofs.Determined.{same_size}
 use Rattle.kin_run.proofs.Gathering.{gains_nothing, gains_put, some_flushed}
 use Rattle.kin_run.proofs.InTurn.{begins_counting, counts_command, counts_all}

@@ -1,8 +1,5 @@
 use Rattle.std.proofs.Common.{◌≡◌, ◌≤◌, drop}
-use Rattle.kin_world.specs.Worlds.{IsWhole}
-use Rattle.kin_run.specs.States.{state_of}
-use Rattle.kin_run.specs.Written.{GainsSome, printer}
-use Rattle.kin_run.specs.Tallies.{HasTallied}
+use Rattle.kin_run.proofs.Vocabulary.{IsWhole, state_of, HasTallied, GainsSome, printer}
 use Rattle.kin_run.proofs.InTurn.{ArePassedSoFar}
 use Rattle.kin_run.proofs.Playing.{IsSoFar}
 use Rattle.kin_run.proofs.play.perform_each.Given as goal

@@ -1,8 +1,5 @@
 use Rattle.std.proofs.Common.{[], ap}
-use Rattle.kin_basics.proofs.Results.{on_err}
-use Rattle.kin_run.specs.Performed.{IsCutOfText}
-use Rattle.kin_run.specs.States.{state_of}
-use Rattle.kin_run.specs.Written.{printer}
+use Rattle.kin_run.proofs.Vocabulary.{on_err, IsCutOfText, state_of, printer}
 use Rattle.kin_run.proofs.Gathering.{some_lost_here, wrote_front, wrote_broken}
 use Rattle.kin_run.proofs.OneText.{cut_of_text}
 use Rattle.kin_run.proofs.Playing.{cut_of_cut}

@@ -1,6 +1,5 @@
 use Rattle.std.proofs.Common.{false, refl}
-use Rattle.std.proofs.lemmas.Result.{err_from_is_err_and}
-use Rattle.kin_run.specs.States.{state_of}
+use Rattle.kin_run.proofs.Vocabulary.{err_from_is_err_and, state_of}
 use Rattle.kin_run.proofs.Replying.{no_reply, no_fault, reply_broke, reply_put}
 use Rattle.kin_run.proofs.reply.put_reply_to.Goals as goal
 

@@ -1,8 +1,6 @@
 use Rattle.std.proofs.Common.{◌≡◌, map, take}
-use Rattle.kin_motion.specs.Journal.{seen_in}
-use Rattle.kin_motion.specs.Scene.{scene_at}
+use Rattle.kin_world.proofs.Vocabulary.{seen_in, scene_at, certificate_of}
 use Rattle.kin_cert.specs.Blocks.{failure_of}
-use Rattle.kin_cert.specs.Facts.{certificate_of}
 use Rattle.kin_world.proofs.failures.block_of.Given as goal
 
 abbrev pub invariant-loop-owned : goal.invariant-loop-owned

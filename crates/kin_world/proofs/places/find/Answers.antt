@@ -1,5 +1,5 @@
 use Rattle.std.proofs.Common.{arith}
-use Rattle.std.proofs.lemmas.Option.{slice_get_within}
+use Rattle.kin_world.proofs.Vocabulary.{slice_get_within}
 use Rattle.kin_world.proofs.places.find.Goals as goal
 
 pub returns-clause-none : goal.returns-clause-none

@@ -1,7 +1,5 @@
 use Rattle.std.proofs.Common.{◌≡◌, refl, sym, ◌∙◌, subst, arith, ℕ, Some, slice_get, IsTrue, below_more}
-use Rattle.std.proofs.lemmas.Option.{same_Some, slice_get-get_or, slice_get_within}
-use Rattle.kin_motion.specs.declared.keep.Keep.{Keep}
-use Rattle.kin_motion.specs.Live.{IsSmallKeep}
+use Rattle.kin_world.proofs.Vocabulary.{same_Some, slice_get-get_or, slice_get_within, IsSmallKeep, Keep}
 use Rattle.kin_world.proofs.tests.are_keepable.Goals as goal
 
 pub loop-keep-preserved : goal.loop-keep-preserved

@@ -1,6 +1,5 @@
 use Rattle.std.proofs.Common.{◌≡◌, ◌<◌, ℕ, Some, slice_get}
-use Rattle.kin_motion.specs.declared.keep.Keep.{Keep}
-use Rattle.kin_motion.specs.Live.{IsSmallKeep}
+use Rattle.kin_world.proofs.Vocabulary.{IsSmallKeep, Keep}
 use Rattle.kin_world.proofs.tests.are_keepable.Given as goal
 
 abbrev pub invariant-loop-keep : goal.invariant-loop-keep

@@ -1,5 +1,5 @@
 use Rattle.std.proofs.Common.{refl, ap, arith, length}
-use Rattle.kin_world.specs.Upkeep.{gathered}
+use Rattle.kin_world.proofs.Vocabulary.{gathered}
 use Rattle.kin_world.proofs.GatherLaws.{gathers_less, gathers_all}
 use Rattle.kin_world.proofs.upkeep.gather.Goals as goal
 

@@ -1,5 +1,5 @@
 use Rattle.std.proofs.Common.{◌≡◌, ◌+◌, ◌≤◌, ◌++◌, length, vec_len, vec_capacity}
-use Rattle.kin_world.specs.Upkeep.{gathered}
+use Rattle.kin_world.proofs.Vocabulary.{gathered}
 use Rattle.kin_world.proofs.upkeep.gather.Given as goal
 
 abbrev pub invariant-loop-owned : goal.invariant-loop-owned

@@ -1,5 +1,5 @@
 use Rattle.std.proofs.Common.{◌≡◌, length}
-use Rattle.kin_world.specs.Structures.{AreVacant}
+use Rattle.kin_world.proofs.Vocabulary.{AreVacant}
 use Rattle.kin_world.proofs.upkeep.vacant_structures.Given as goal
 
 abbrev pub invariant-loop-keep : goal.invariant-loop-keep

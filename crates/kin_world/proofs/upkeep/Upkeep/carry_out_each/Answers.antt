@@ -1,6 +1,5 @@
 use Rattle.std.proofs.Common.{rules, refl, sym, ap, ◌∙◌, arith, length}
-use Rattle.kin_motion.proofs.KeepLaws.{few_at_most}
-use Rattle.kin_world.specs.Upkeep.{Stage, stage_of}
+use Rattle.kin_world.proofs.Vocabulary.{few_at_most, Stage, stage_of}
 use Rattle.kin_world.proofs.MarkLaws.{carried_out_all}
 use Rattle.kin_world.proofs.GatherLaws.{frame_through}
 use Rattle.kin_world.proofs.MadeLaws.{come_first, come_on}

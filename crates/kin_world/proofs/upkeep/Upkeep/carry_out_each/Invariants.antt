@@ -1,5 +1,5 @@
 use Rattle.std.proofs.Common.{◌≡◌, length}
-use Rattle.kin_world.specs.Upkeep.{IsCarriedOut, HasComeTo, HasSameFrame, stage_of}
+use Rattle.kin_world.proofs.Vocabulary.{HasComeTo, HasSameFrame, IsCarriedOut, stage_of}
 use Rattle.kin_world.proofs.upkeep.Upkeep.carry_out_each.Given as goal
 
 abbrev pub invariant-loop-k : goal.invariant-loop-k

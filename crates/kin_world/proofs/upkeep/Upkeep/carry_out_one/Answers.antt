@@ -1,8 +1,5 @@
 use Rattle.std.proofs.Common.{arith}
-use Rattle.kin_basics.proofs.Results.{from_two}
-use Rattle.kin_motion.specs.Scene.{scene_at}
-use Rattle.kin_motion.proofs.MotionScenes.{real_at}
-use Rattle.kin_world.specs.Upkeep.{stage_of, sight}
+use Rattle.kin_world.proofs.Vocabulary.{from_two, scene_at, real_at, sight, stage_of}
 use Rattle.kin_world.proofs.MarkLaws.{live_after, hold_for, carried_on}
 use Rattle.kin_world.proofs.InOrder.{standing_read, may_tell}
 use Rattle.kin_world.proofs.StructureLaws.{settled_now}

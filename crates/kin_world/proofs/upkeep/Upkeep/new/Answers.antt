@@ -1,10 +1,6 @@
 use Rattle.std.proofs.Common.{◌≡◌, sym, ap, subst, [], true, ◌^◌}
-use Rattle.kin_num.specs.declared.instant.Moment.{Moment}
-use Rattle.kin_num.specs.declared.instant.Phase.TheVariants.{At}
-use Rattle.kin_num.specs.Canonical.{IsCanonical}
+use Rattle.kin_world.proofs.Vocabulary.{IsCanonical, Moment, At, certificates_of, IsSound, Stage}
 use Rattle.kin_num.proofs.Values.{start_canonical}
-use Rattle.kin_cert.specs.Told.{certificates_of}
-use Rattle.kin_world.specs.Upkeep.{Stage, IsSound}
 use Rattle.kin_world.proofs.StartLaws.{empty_slots, none_live, sound_start}
 use Rattle.kin_world.proofs.upkeep.Upkeep.new.Goals as goal
 

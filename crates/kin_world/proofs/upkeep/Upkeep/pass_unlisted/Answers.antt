@@ -1,10 +1,5 @@
 use Rattle.std.proofs.Common.{length, map, refl, sym, ap, ◌∙◌}
-use Rattle.std.proofs.lemmas.List.{length-map}
-use Rattle.std.proofs.lemmas.List.Sorted.{length_permutation}
-use Rattle.kin_motion.specs.Journal.{Block, Failure, seen_in}
-use Rattle.kin_motion.specs.Scene.{scene_at}
-use Rattle.kin_cert.specs.declared.owned.Owned.{Owned}
-use Rattle.kin_cert.specs.Facts.{certificate_of}
+use Rattle.kin_world.proofs.Vocabulary.{length-map, length_permutation, Block, Failure, seen_in, scene_at, certificate_of, Owned}
 use Rattle.kin_world.proofs.TakeLaws.{given_same, given_waiting, taken_under_repair, taken_block, settled_since}
 use Rattle.kin_world.proofs.upkeep.Upkeep.pass_unlisted.Goals as goal
 

@@ -1,7 +1,4 @@
-use Rattle.kin_basics.proofs.Results.{from_two}
-use Rattle.kin_motion.proofs.MotionScenes.{real_at}
-use Rattle.kin_world.specs.Kinds.{placed_facts}
-use Rattle.kin_world.specs.Upkeep.{stage_of, sight}
+use Rattle.kin_world.proofs.Vocabulary.{from_two, real_at, placed_facts, sight, stage_of}
 use Rattle.kin_world.proofs.InOrder.{standing_read, may_tell}
 use Rattle.kin_world.proofs.RepairLaws.{waiting_fail, repaired}
 use Rattle.kin_world.proofs.StructureLaws.{settled_now}

@@ -1,6 +1,5 @@
 use Rattle.std.proofs.Common.{◌≡◌, false, take, All}
-use Rattle.kin_motion.specs.Scene.{scene_at, Holds}
-use Rattle.kin_world.specs.Upkeep.{is_line}
+use Rattle.kin_world.proofs.Vocabulary.{Holds, scene_at, is_line}
 use Rattle.kin_world.proofs.upkeep.leap.none_holds.Given as goal
 
 abbrev pub invariant-loop-owned : goal.invariant-loop-owned

@@ -1,6 +1,5 @@
 use Rattle.std.proofs.Common.{◌<◌, ◌^◌, true}
-use Rattle.kin_world.specs.Upkeep.{meaning, stage_of}
-use Rattle.kin_world.specs.Worlds.{HasInserted}
+use Rattle.kin_world.proofs.Vocabulary.{meaning, stage_of, HasInserted}
 use Rattle.kin_world.proofs.Inside.{sound_inside, as_seen, as_inside}
 use Rattle.kin_world.proofs.MarkLaws.{may_insert}
 use Rattle.kin_world.proofs.SoundLaws.{has_inserted}

@@ -1,5 +1,5 @@
 use Rattle.std.proofs.Common.{ap, sym, ◌∙◌}
-use Rattle.kin_world.specs.Worlds.{World}
+use Rattle.kin_world.proofs.Vocabulary.{World}
 use Rattle.kin_world.proofs.Inside.{whole_inside}
 use Rattle.kin_world.proofs.world.World.is_whole.Goals as goal
 

@@ -1,4 +1,4 @@
-use Rattle.kin_basics.proofs.Results.{on_err}
+use Rattle.kin_world.proofs.Vocabulary.{on_err}
 use Rattle.kin_world.proofs.Inside.{sound_inside, rests_sound, has_rested, fails_seen, leaves_behind, lands_fewer}
 use Rattle.kin_world.proofs.world.World.leap.Goals as goal
 

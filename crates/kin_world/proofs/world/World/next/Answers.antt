@@ -1,5 +1,4 @@
-use Rattle.std.proofs.lemmas.Option.{IfSome_then}
-use Rattle.kin_world.specs.Worlds.{IsNextMoment, world_setting}
+use Rattle.kin_world.proofs.Vocabulary.{IfSome_then, IsNextMoment, world_setting}
 use Rattle.kin_world.proofs.AskLaws.{none_when}
 use Rattle.kin_world.proofs.Inside.{sound_inside, as_seen}
 use Rattle.kin_world.proofs.SoundLaws.{never_fails, next_moment}

@@ -1,4 +1,4 @@
-use Rattle.kin_motion.proofs.KeepLaws.{few_at_most}
+use Rattle.kin_world.proofs.Vocabulary.{few_at_most}
 use Rattle.kin_world.proofs.Inside.{sound_inside}
 use Rattle.kin_world.proofs.world.World.place_of.Goals as goal
 

@@ -1,6 +1,5 @@
 use Rattle.std.proofs.Common.{subst, ◌<◌, true}
-use Rattle.kin_world.specs.Upkeep.{meaning, stage_of}
-use Rattle.kin_world.specs.Worlds.{HasRemoved}
+use Rattle.kin_world.proofs.Vocabulary.{meaning, stage_of, HasRemoved}
 use Rattle.kin_world.proofs.Inside.{sound_inside, as_seen}
 use Rattle.kin_world.proofs.MarkLaws.{live_within, may_remove}
 use Rattle.kin_world.proofs.SoundLaws.{has_removed}

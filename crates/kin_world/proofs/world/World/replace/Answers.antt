@@ -1,4 +1,4 @@
-use Rattle.kin_basics.proofs.Results.{from_two}
+use Rattle.kin_world.proofs.Vocabulary.{from_two}
 use Rattle.kin_world.proofs.MarkLaws.{may_return}
 use Rattle.kin_world.proofs.world.World.replace.Goals as goal
 

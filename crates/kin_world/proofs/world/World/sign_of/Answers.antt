@@ -1,4 +1,4 @@
-use Rattle.std.proofs.lemmas.Option.{IfSome_then}
+use Rattle.kin_world.proofs.Vocabulary.{IfSome_then}
 use Rattle.kin_world.proofs.AskLaws.{none_when, has_certificate, no_certificate}
 use Rattle.kin_world.proofs.world.World.sign_of.Goals as goal
 

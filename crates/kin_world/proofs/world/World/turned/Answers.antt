@@ -1,10 +1,5 @@
 use Rattle.std.proofs.Common.{◌≡◌, ◌↔◌, sym, ◌∙◌, w32, Err, IfOk}
-use Rattle.kin_num.specs.declared.instant.Phase.TheVariants.{At}
-use Rattle.kin_instant.proofs.Widths.{clean}
-use Rattle.kin_motion.specs.Course.{IsSlow}
-use Rattle.kin_motion.specs.Turning.{TurnsTo, IsNotWhole, IsOutOfBounds}
-use Rattle.kin_turn.specs.declared.turned.TurnError.TheVariants.{NotWhole, OutOfBounds}
-use Rattle.kin_world.specs.Upkeep.{meaning, stage_of}
+use Rattle.kin_world.proofs.Vocabulary.{At, clean, IsSlow, IsNotWhole, IsOutOfBounds, TurnsTo, NotWhole, OutOfBounds, meaning, stage_of}
 use Rattle.kin_world.proofs.TurnLaws.{can_turn, seen_so}
 use Rattle.kin_world.proofs.world.World.turned.Goals as goal
 

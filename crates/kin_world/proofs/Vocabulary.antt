@@ -1,0 +1,47 @@
+-- The words and lemmas of the crates below that several proofs of this crate speak in, brought in at one place.
+pub use Rattle.std.proofs.lemmas.Bool.{cases_Bool, cases_eq, cases_lt, or_parts}
+pub use Rattle.std.proofs.lemmas.Bool.Decides.{nat_tests}
+pub use Rattle.std.proofs.lemmas.List.{length-map, length-replicate, length_push, set-get_or}
+pub use Rattle.std.proofs.lemmas.List.Elements.{All-contains, Contains-append_cases, Contains-append_left, Contains-append_right, Contains-get_or}
+pub use Rattle.std.proofs.lemmas.List.Sorted.{Contains-permutation, IsPermutation-sym, length_permutation}
+pub use Rattle.std.proofs.lemmas.Option.{IfSome_then, same_Some, slice_get-get_or, slice_get_read, slice_get_within}
+pub use Rattle.kin_basics.proofs.Members.{contains_cases, contains_head, contains_none}
+pub use Rattle.kin_basics.proofs.Places.{get-push_cases, get-set_other, get-set_same, get_within}
+pub use Rattle.kin_basics.proofs.Results.{from_two, on_err}
+pub use Rattle.kin_num.specs.Canonical.{IsCanonical}
+pub use Rattle.kin_num.specs.Grains.{moments_left}
+pub use Rattle.kin_num.specs.Order.{IsEarlier}
+pub use Rattle.kin_num.specs.declared.instant.Moment.{Moment}
+pub use Rattle.kin_num.specs.declared.instant.Phase.TheVariants.{After, At}
+pub use Rattle.kin_num.proofs.MomentLaws.{never, through, total}
+pub use Rattle.kin_instant.proofs.Widths.{clean}
+pub use Rattle.kin_motion.specs.Course.{AreSlow, Course, IsSlow, is_live, live_of, motion_of}
+pub use Rattle.kin_motion.specs.Forms.{IsAskable, names, sign_of_form}
+pub use Rattle.kin_motion.specs.Journal.{Block, Failure, IsNextBlock, NothingFails, failures_at, seen_in}
+pub use Rattle.kin_motion.specs.Kinetics.{AllHold, HasChanged, HaveSameLive}
+pub use Rattle.kin_motion.specs.Live.{Certificate, IsKeepFact, IsLiveFact, IsSmallKeep, ListsLive, owned_by}
+pub use Rattle.kin_motion.specs.Moments.{FailsFirst, HoldsAt}
+pub use Rattle.kin_motion.specs.Numbers.{HasEntered, IsIn, filled_from, is_in}
+pub use Rattle.kin_motion.specs.Scene.{Holds, IsReal, Scene, scene_at}
+pub use Rattle.kin_motion.specs.Sets.{AreDistinct, ListsExactly}
+pub use Rattle.kin_motion.specs.Turning.{IsNotWhole, IsOutOfBounds, TurnsTo, just_at}
+pub use Rattle.kin_motion.specs.declared.fact.Fact.{Fact}
+pub use Rattle.kin_motion.specs.declared.fact.Placed.{Placed}
+pub use Rattle.kin_motion.specs.declared.form.Form.{Form}
+pub use Rattle.kin_motion.specs.declared.form.Form.TheVariants.{Dist, Line, Slope, Turn}
+pub use Rattle.kin_motion.specs.declared.keep.Keep.{Keep}
+pub use Rattle.kin_motion.proofs.KeepLaws.{few_at_most}
+pub use Rattle.kin_motion.proofs.MotionScenes.{live_fits, real_at}
+pub use Rattle.kin_motion.proofs.SetLaws.{contains_map, contains_mapped, distinct_cons, distinct_filter, distinct_mapped_on, distinct_none, exactly_both, exactly_in_words, exactly_none, filter-complete, filter-sound}
+pub use Rattle.kin_turn.specs.declared.turned.TurnError.TheVariants.{NotWhole, OutOfBounds}
+pub use Rattle.kin_cert.specs.Facts.{AreAlike, Facts, IsAt, LiveFact, NoneAlike, certificate_of}
+pub use Rattle.kin_cert.specs.Failures.{IsFirstFailure, seen_by}
+pub use Rattle.kin_cert.specs.Taken.{HasGivenOut, HasTaken, IsLeastFailure, NoneFails, NoneFailsUntil, NoneWaits, certificate_rank, is_taken_before}
+pub use Rattle.kin_cert.specs.Told.{HasFactsOf, IsTimed, MayTell, certificates_of, nothing}
+pub use Rattle.kin_cert.specs.declared.owned.Owned.{Owned}
+pub use Rattle.kin_cert.proofs.NextLaws.{IsInTime, earlier_still, fails_first, fails_now, hold_before_least, holds_until_failure, later_start, next_block, nothing_fails, nothing_until, timed_holds}
+pub use Rattle.kin_world.specs.Kinds.{HasMembers, IsAtRest, IsFor, IsSettledIn, kinetic, placed_facts}
+pub use Rattle.kin_world.specs.Structures.{AreLiveAfter, AreVacant, HoldFor, IsSettledFor, IsSettledWhereAllHold, IsVacant}
+pub use Rattle.kin_world.specs.Upkeep.{AreLeft, AreWaiting, HasComeTo, HasGoneOn, HasGoneOver, HasLanded, HasOneMore, HasRepaired, HasSameFrame, HasSettled, HasTimedNew, HasUpdated, IsAtTurn, IsBeyond, IsCarriedOut, IsDueWithin, IsFit, IsInOrder, IsInPlace, IsLanding, IsMarked, IsNextFrom, IsSooner, IsSound, IsTimedOrFailed, IsTurn, IsUnderRepair, ListsWaiting, NoneFrom, Stage, gathered, is_line, is_of, meaning, placed_of, setting, sight, stage_of, turns_left, with_marked}
+pub use Rattle.kin_world.specs.Worlds.{CanTurn, FailsWithin, HasInserted, HasLeftBehind, HasMoved, HasPassed, HasRemoved, HasTurned, IsNextMoment, IsWhole, World, certificate, is_about, with_facts_of, world_setting}
+pub use Rattle.kin_world.specs.declared.structure.Structure.{Structure}
