@@ -4,7 +4,7 @@ use Rattle.kin_world.proofs.Vocabulary.{cases_eq, length-map, Contains-get_or, s
 use Rattle.kin_world.proofs.Vocabulary.{owned_by, Holds, Scene, scene_at, Placed, Keep, Facts, LiveFact, NoneAlike, NoneWaits, HasFactsOf, IsTimed, MayTell, nothing, timed_holds, placed_facts, IsSettledFor, HasTimedNew, HasUpdated}
 use Rattle.kin_world.proofs.Vocabulary.{IsInOrder, IsInPlace, IsTimedOrFailed, Stage, sight, Structure}
 use Rattle.kin_motion.specs.Deltas.{Change}
-use Rattle.kin_world.proofs.Certificates.{HaveSameCertificates, same_itself, same_tabled}
+use Rattle.kin_world.proofs.Certificates.{HaveSameCertificates, same_tabled}
 use Rattle.kin_world.proofs.StructureLaws.{settled_holds, settled_askable}
 
 -- what is so of the certificate's fact is so of the fact
@@ -67,7 +67,7 @@ module _ {is_fine : ℕ → Keep → Structure → Type 0} {s : Stage} (o : IsIn
     count = o.count;
     each = λ j keep st kept there. let was = o.each j keep st kept there in record { fine = finer j keep st there was; tabled = same_tabled same j (placed_facts st) was.tabled };
     once = once;
-    owned = λ l there. let k = same.only.each l there in subst (λ (c : Certificate). c.structure < length s.structures) k.2 (o.owned k.0 k.1);
+    owned = λ l there. let k = same.only l there in subst (λ (c : Certificate). c.structure < length s.structures) k.2 (o.owned k.0 k.1);
     timely = timely;
   }
 
@@ -75,7 +75,7 @@ module _ {is_fine : ℕ → Keep → Structure → Type 0} {s : Stage} (o : IsIn
   pub seen_anew : {is_fine' : ℕ → Keep → Structure → Type 0} (motions : List (Option Course)) (m : Moment) → length motions ≡ length s.motions → AreSlow motions → IsCanonical m.at
       → ((j : ℕ) (keep : Keep) (st : Structure) → slice_get s.structures j ≡ Some st → IsInPlace is_fine s.table.live j keep st → is_fine' j keep st)
       → ((l : LiveFact) → Contains s.table.live l → IsTimedOrFailed (scene_at motions) m l) → IsInOrder is_fine' (record s { motions = motions; moment = m })
-  seen_anew motions m room slow canonical finer timely = retimed motions m s.table room slow canonical o.once o.counted (same_itself s.table.live) finer timely
+  seen_anew motions m room slow canonical finer timely = retimed motions m s.table room slow canonical o.once o.counted (record { stay = λ l there. (l, there, refl); only = λ l there. (l, there, refl) }) finer timely
 
   -- what is fine in one sense is fine in another
   pub restated : {is_fine' : ℕ → Keep → Structure → Type 0} → ((j : ℕ) (keep : Keep) (st : Structure) → slice_get s.structures j ≡ Some st → IsInPlace is_fine s.table.live j keep st → is_fine' j keep st) → IsInOrder is_fine' s

@@ -9,7 +9,6 @@ pub mod LeapLaws
 pub mod RepairLaws
 pub mod MadeLaws
 pub mod GatherLaws
-pub mod Unnamed
 pub mod OneMore
 pub mod MarkLaws
 pub mod Inside

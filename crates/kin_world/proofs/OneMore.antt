@@ -1,93 +1,67 @@
--- Two lists of motions, of which the second has one number's motion more.
-use Rattle.std.proofs.Common.{◌≡◌, ◌≢◌, ◌⊎◌, inl, inr, refl, sym, ap, ◌∙◌, subst, arith, ℕ, ◌<◌, true, false, ◌||◌, nat_eq, List, length, slice_set, Option, Some, None, is_some, get_or-set_same, get_or-set_other, length-set}
-use Rattle.kin_world.proofs.Vocabulary.{cases_eq, or_parts, nat_tests, Moment, Course, is_live, live_of, IsAskable, names, sign_of_form, HasEntered, IsIn, is_in, scene_at, Form, Dist, Line, Slope, Turn, LiveFact, IsTimed, HasOneMore}
+-- What is seen of the others, where one number's motion is another, or one number more has a motion.
+use Rattle.std.proofs.Common.{◌≡◌, ◌≢◌, ◌↔◌, inl, inr, refl, sym, ap, ap₂, ◌∙◌, arith, ℕ, ◌<◌, true, false, ◌||◌, nat_eq, List, [], ◌∷◌, map, length, slice_set, Option, Some, None, is_some, get_or-set_same, get_or-set_other, length-set}
+use Rattle.kin_motion.specs.declared.form.Form.{Form}
+use Rattle.kin_motion.specs.declared.form.Form.TheVariants.{Line, Turn, Slope, Dist}
+use Rattle.kin_motion.specs.Forms.{polynomial_of, sign_of_form}
+use Rattle.kin_motion.specs.Numbers.{is_in, HasEntered}
 use Rattle.kin_motion.proofs.LiveLaws.{filled-once, live-members}
-use Rattle.kin_world.proofs.Unnamed as unnamed
+use Rattle.kin_closest.proofs.Readiness.{names_live}
+use Rattle.kin_world.proofs.Vocabulary.{cases_eq, or_parts, nat_tests, Moment, Course, live_of, motion_of, IsAskable, names, Scene, scene_at, LiveFact, IsFirstFailure, IsTimed, HasOneMore}
 
--- a form that may be asked for without the number doesn't name it
-pub not_named : (i : ℕ) (live : List ℕ) (f : Form) → is_in i live ≡ false → IsAskable live f → names f i ≡ false
-not_named i live f absent asked = at f asked
+-- a fact whose form is seen alike has its first failure where it had it
+timed_alike : (v w : Moment → Scene) (now : Moment) (l : LiveFact) → ((m : Moment) → (w m).sign l.certificate.placed.fact.form ≡ (v m).sign l.certificate.placed.fact.form) → IsTimed v now l → IsTimed w now l
+timed_alike v w now l alike timed = record { waits_not = timed.waits_not; fails = at l.fails timed.fails }
   where
-    apart : (a : ℕ) → IsIn a live → nat_eq i a ≡ false
-    apart a there = by_cases (cases_eq i a)
-      where
-        by_cases : (i ≡ a) ⊎ (i ≢ a) → nat_eq i a ≡ false
-        by_cases (inl e) = let clash : true ≡ false = sym there ∙ ap (λ k. is_in k live) (sym e) ∙ absent in absurd cc
-        by_cases (inr not) = grind (arith, nat_tests, not)
+    at : (o : Option Moment) → IsFirstFailure v now l.certificate.placed.fact o → IsFirstFailure w now l.certificate.placed.fact o
+    at None never = λ m canonical from. alike m ∙ never m canonical from
+    at (Some later) first = record {
+      canonical = first.canonical;
+      later_is_later = first.later_is_later;
+      holds_until = λ m until. alike m ∙ first.holds_until m until;
+      fails = λ holds. first.fails (sym (alike later) ∙ holds);
+    }
 
-    at : (f : Form) → IsAskable live f → names f i ≡ false
-    at (Line dx dy off a b) asked = rw (apart a asked.i_live, apart b asked.j_live) refl
-    at (Turn a b c) asked = rw (apart a asked.0, apart b asked.1, apart c asked.2) refl
-    at (Slope a b c d) asked = rw (apart a asked.0, apart b asked.1, apart c asked.2, apart d asked.3) refl
-    at (Dist a b c d) asked = rw (apart a asked.0, apart b asked.1, apart c asked.2, apart d asked.3) refl
+module _ (ms : List (Option Course)) (n : ℕ) (o : Option Course) where
+  -- the other numbers have the motions that they had
+  moves_alike : (is : List ℕ) → is_in n is ≡ false → map (motion_of (slice_set ms n o)) is ≡ map (motion_of ms) is
+  moves_alike [] away = refl
+  moves_alike (a ∷ is) away =
+      let parts = or_parts (nat_eq n a) (is_in n is) away in
+      let apart : a ≢ n = grind (arith, nat_tests, parts.0) in
+      ap₂ (λ (p : Option Course) (ps : List (Option Course)). p ∷ ps) (get_or-set_other ms n a o None apart) (moves_alike is parts.1)
 
--- a form that may be asked for with a number more, and doesn't name it, may be asked for without
-pub askable_without : (i : ℕ) (small large : List ℕ) (f : Form) → HasEntered i small large → IsAskable large f → names f i ≡ false → IsAskable small f
-askable_without i small large f entered asked unnamed = at f asked unnamed
-  where
-    there : (a : ℕ) → IsIn a large → nat_eq i a ≡ false → IsIn a small
-    there a live other =
-        let away : nat_eq a i ≡ false = grind (arith, nat_tests, other) in
-        sym (ap (λ t. t || is_in a small) away) ∙ entered.lists.same a ∙ live
+  -- so a form that doesn't name n has the sign that it had
+  unnamed_sign : (m : Moment) (f : Form) → names f n ≡ false → sign_of_form (slice_set ms n o) f m ≡ sign_of_form ms f m
+  unfolding sign_of_form polynomial_of
+  unnamed_sign m (Line dx dy off a b) away = let same = moves_alike (a ∷ b ∷ []) away in cc
+  unnamed_sign m (Turn a b c) away = let same = moves_alike (a ∷ b ∷ c ∷ []) away in cc
+  unnamed_sign m (Slope a b c d) away = let same = moves_alike (a ∷ b ∷ c ∷ d ∷ []) away in cc
+  unnamed_sign m (Dist a b c d) away = let same = moves_alike (a ∷ b ∷ c ∷ d ∷ []) away in cc
 
-    at : (f : Form) → IsAskable large f → names f i ≡ false → IsAskable small f
-    at (Line dx dy off a b) asked unnamed =
-        let first = or_parts _ _ unnamed in
-        record { i_live = there a asked.i_live first.0; j_live = there b asked.j_live (or_parts _ _ first.1).0; dx_small = asked.dx_small; dy_small = asked.dy_small; off_small = asked.off_small }
-    at (Turn a b c) asked unnamed =
-        let first = or_parts _ _ unnamed in
-        let second = or_parts _ _ first.1 in
-        (there a asked.0 first.0, there b asked.1 second.0, there c asked.2 (or_parts _ _ second.1).0)
-    at (Slope a b c d) asked unnamed =
-        let first = or_parts _ _ unnamed in
-        let second = or_parts _ _ first.1 in
-        let third = or_parts _ _ second.1 in
-        (there a asked.0 first.0, there b asked.1 second.0, there c asked.2 third.0, there d asked.3 (or_parts _ _ third.1).0)
-    at (Dist a b c d) asked unnamed =
-        let first = or_parts _ _ unnamed in
-        let second = or_parts _ _ first.1 in
-        let third = or_parts _ _ second.1 in
-        (there a asked.0 first.0, there b asked.1 second.0, there c asked.2 third.0, there d asked.3 (or_parts _ _ third.1).0)
+  -- and a fact about it its first failure
+  pub timed_other : (now : Moment) (l : LiveFact) → names l.certificate.placed.fact.form n ≡ false → IsTimed (scene_at ms) now l ↔ IsTimed (scene_at (slice_set ms n o)) now l
+  timed_other now l away = (timed_alike _ _ now l (λ m. unnamed_sign m _ away), timed_alike _ _ now l (λ m. sym (unnamed_sign m _ away)))
 
 module _ {n : ℕ} {less more : List (Option Course)} (one : HasOneMore n less more) where
   absent : is_in n (live_of less) ≡ false
   absent = live-members less n ∙ one.free
 
-  named_not : (f : Form) → IsAskable (live_of less) f → names f n ≡ false
-  named_not f = not_named n (live_of less) f absent
+  pub sign_alike : (m : Moment) (f : Form) → names f n ≡ false → sign_of_form more f m ≡ sign_of_form less f m
+  sign_alike m f away = rw one.is (unnamed_sign less n (Some one.motion) m f away)
 
-  -- a form of the others has the same sign at each moment
-  pub sign_alike : (m : Moment) (f : Form) → IsAskable (live_of less) f → sign_of_form more f m ≡ sign_of_form less f m
-  sign_alike m f asked = subst (λ ms. sign_of_form ms f m ≡ sign_of_form less f m) (sym one.is) (unnamed.unnamed_sign less n (Some one.motion) m f (named_not f asked))
-
-  -- so a fact of the others has the same first failure
-  pub timed_with : (now : Moment) (l : LiveFact) → IsAskable (live_of less) l.certificate.placed.fact.form → IsTimed (scene_at less) now l → IsTimed (scene_at more) now l
-  timed_with now l asked timed = subst (λ ms. IsTimed (scene_at ms) now l) (sym one.is) (unnamed.timed_with less n (Some one.motion) now l (named_not l.certificate.placed.fact.form asked) timed)
-
-  pub timed_without : (now : Moment) (l : LiveFact) → IsAskable (live_of less) l.certificate.placed.fact.form → IsTimed (scene_at more) now l → IsTimed (scene_at less) now l
-  timed_without now l asked timed = unnamed.timed_without less n (Some one.motion) now l (named_not l.certificate.placed.fact.form asked) (subst (λ ms. IsTimed (scene_at ms) now l) one.is timed)
+  pub timed_same : (now : Moment) (l : LiveFact) → IsAskable (live_of less) l.certificate.placed.fact.form → IsTimed (scene_at less) now l ↔ IsTimed (scene_at more) now l
+  timed_same now l asked =
+      rw one.is (timed_other less n (Some one.motion) now l (names_live (live_of less) n (λ there. let in_ : is_in n (live_of less) ≡ true = there in let out = absent in cc) l.certificate.placed.fact.form asked))
 
   pub same_room : length more ≡ length less
   same_room = ap length one.is ∙ length-set less n (Some one.motion)
 
   -- the number is live with it, and of the others those that are without
   pub one_more : n < length less → HasEntered n (live_of less) (live_of more)
-  one_more low = record {
-    absent = absent;
-    lists = record {
-      once = (absent, filled-once 0 less);
-      same = λ i. at i (cases_eq i n) ∙ sym (live-members more i);
-    };
-  }
+  one_more low = record { absent = absent; lists = record { once = (absent, filled-once 0 less); same = λ i. live i ∙ sym (live-members more i ∙ ap (λ ms. is_some (motion_of ms i)) one.is) } }
     where
-      live_at : (i : ℕ) → is_live (slice_set less n (Some one.motion)) i ≡ is_live more i
-      live_at i = ap (λ ms. is_live ms i) (sym one.is)
-
-      at : (i : ℕ) → (i ≡ n) ⊎ (i ≢ n) → nat_eq i n || is_in i (live_of less) ≡ is_live more i
-      at i (inl e) =
-          let here : nat_eq i n ≡ true = grind (arith, nat_tests, e) in
-          let live : is_live more i ≡ true = sym (live_at i) ∙ ap (λ k. is_live (slice_set less n (Some one.motion)) k) e ∙ ap is_some (get_or-set_same less n (Some one.motion) None low) in
-          ap (λ t. t || is_in i (live_of less)) here ∙ sym live
-      at i (inr apart) =
-          let there : nat_eq i n ≡ false = grind (arith, nat_tests, apart) in
-          ap (λ t. t || is_in i (live_of less)) there ∙ live-members less i ∙ sym (ap is_some (get_or-set_other less n i (Some one.motion) None apart)) ∙ live_at i
+      live : (i : ℕ) → nat_eq i n || is_in i (live_of less) ≡ is_some (motion_of (slice_set less n (Some one.motion)) i)
+      live i = elim (cases_eq i n) [
+        | inl e ↦ let here : nat_eq n n ≡ true = grind (arith, nat_tests) in rw (e, here, get_or-set_same less n (Some one.motion) None low) refl
+        | inr apart ↦ let there : nat_eq i n ≡ false = grind (arith, nat_tests, apart) in rw (there, get_or-set_other less n i (Some one.motion) None apart) (live-members less i)
+      ]

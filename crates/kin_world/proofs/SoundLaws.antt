@@ -11,7 +11,7 @@ use Rattle.kin_motion.proofs.LiveFactLaws.{live_facts_agree}
 use Rattle.kin_cert.proofs.JournalExistence.{least_block}
 use Rattle.kin_world.proofs.Certificates.{at_its}
 use Rattle.kin_world.proofs.InOrder.{facts_hold, owner, seen_anew, standing, timed, timely_from_timed}
-use Rattle.kin_world.proofs.StructureLaws.{settled_askable, settled_facts, settled_later}
+use Rattle.kin_world.proofs.StructureLaws.{settled_askable, settled_facts, settled_from_hold, settled_where_hold}
 
 -- no owner has a form twice, so no certificate stands twice
 certificates_distinct : (live : List LiveFact) → NoneAlike live → AreDistinct (certificates_of live)
@@ -155,7 +155,7 @@ module _ {s : Stage} (sound : IsSound s) where
     pub sound_later : IsSound (record s { moment = limit })
     sound_later = record {
       in_order = seen_anew sound.in_order s.motions limit refl sound.in_order.fit.slow canonical
-          (λ j keep st there was. settled_later s.size keep (sight s) (scene_at s.motions limit) st real (real_at s.motions limit canonical) was.fine refl
+          (λ j keep st there was. settled_from_hold s.size keep (scene_at s.motions limit) st (settled_where_hold s.size keep (sight s) (scene_at s.motions limit) st real (real_at s.motions limit canonical) was.fine refl)
           (facts_hold (scene_at s.motions limit) s.table.live j (placed_facts st) was.tabled
           (λ l live. holds_until_failure (scene_at s.motions) s.moment sound.in_order.canonical l (timed sound.in_order sound.none_waits l live) limit canonical from (λ n e c. later l live n e))))
           (λ l there. timely_from_timed (scene_at s.motions) limit l (record { waits_not = sound.none_waits l there; fails = fails_later l there (total s.moment limit sound.in_order.canonical canonical) }));

@@ -1,21 +1,13 @@
 -- Laws of a kept structure, whatever its kind.
-use Rattle.std.proofs.Common.{◌≡◌, sym, subst, List, [], ℕ, Contains, All}
-use Rattle.kin_world.proofs.Vocabulary.{Contains-get_or, IsAskable, AllHold, HaveSameLive, IsKeepFact, IsSmallKeep, IsReal, Scene, ListsExactly, Placed, Keep, HasMembers, IsAtRest, IsFor, IsSettledIn, kinetic, placed_facts, IsSettledFor}
-use Rattle.kin_world.proofs.Vocabulary.{IsSettledWhereAllHold, IsVacant, Structure}
+use Rattle.std.proofs.Common.{subst, List, ℕ, Contains, All}
+use Rattle.kin_world.proofs.Vocabulary.{Contains-get_or, IsAskable, AllHold, HaveSameLive, IsKeepFact, IsSmallKeep, IsReal, Scene, ListsExactly, Placed, Keep, HasMembers, kinetic, placed_facts, IsSettledFor, IsSettledWhereAllHold}
+use Rattle.kin_world.proofs.Vocabulary.{Structure}
 use Rattle.kin_motion.proofs.AskableLaws.{keep_fact_askable}
 use Rattle.kin_motion.proofs.LiveFactsHold.{keep_fact_holds}
 
 -- what every fact of a list has all of them have
 all_from_each : {P : Placed → Type 0} (ps : List Placed) → ((p : Placed) → Contains ps p → P p) → All P ps
 all_from_each {P} ps each k d low = each _ (Contains-get_or ps k d low)
-
--- what a call has left settled is the structure of its keep
-pub settled_now : (size : ℕ) (kept : Keep) (s : Scene) (st : Structure) → IsFor size kept st → IsAtRest st → HasMembers s.live st → IsSettledIn s st → IsSettledFor size kept s st
-settled_now size kept s st kind rest members settled = record { kind = kind; rest = rest; members = members; settled = settled }
-
--- without members it is settled where no number is live
-pub settled_vacant : (size : ℕ) (kept : Keep) (s : Scene) (st : Structure) → IsVacant size kept st → s.live ≡ [] → IsSettledFor size kept s st
-settled_vacant size kept s st v none = record { kind = v.kind; rest = v.rest; members = subst (λ live. HasMembers live st) (sym none) v.members; settled = v.settled s none }
 
 -- its facts are those of its keep
 pub settled_facts : (size : ℕ) (kept : Keep) (s : Scene) (st : Structure) → IsSettledFor size kept s st → ListsExactly (placed_facts st) (IsKeepFact size s kept)
@@ -32,15 +24,8 @@ settled_askable size kept s st small k =
 
 -- it is settled in each scene with the same live numbers in which they hold
 pub settled_where_hold : (size : ℕ) (kept : Keep) (v w : Scene) (st : Structure) → IsReal v → IsReal w → IsSettledFor size kept v st → HaveSameLive v w → IsSettledWhereAllHold size kept w st
-settled_where_hold size kept v w st real real' k same = record {
-  kind = k.kind;
-  rest = k.rest;
-  members = subst (λ live. HasMembers live st) same k.members;
-  settled = (kinetic st).determined v w k.rest real k.settled same real';
-}
+settled_where_hold size kept v w st real real' k same =
+    record { kind = k.kind; rest = k.rest; members = subst (λ live. HasMembers live st) same k.members; settled = (kinetic st).determined v w k.rest real k.settled same real' }
 
 pub settled_from_hold : (size : ℕ) (kept : Keep) (s : Scene) (st : Structure) → IsSettledWhereAllHold size kept s st → AllHold s (placed_facts st) → IsSettledFor size kept s st
 settled_from_hold size kept s st k hold = record { kind = k.kind; rest = k.rest; members = k.members; settled = k.settled hold }
-
-pub settled_later : (size : ℕ) (kept : Keep) (v w : Scene) (st : Structure) → IsReal v → IsReal w → IsSettledFor size kept v st → HaveSameLive v w → AllHold w (placed_facts st) → IsSettledFor size kept w st
-settled_later size kept v w st real real' k same hold = settled_from_hold size kept w st (settled_where_hold size kept v w st real real' k same) hold

@@ -30,8 +30,8 @@ module _ {s : Stage} (sound : IsSound s) (table : Facts) {taken : List Owned} (h
 
   same_facts : HaveSameCertificates s.table.live table.live
   same_facts = record {
-    stay = record { each = λ l there. let k = has.stays l there in (k.0, k.1, k.2.certificate) };
-    only = record { each = λ k there. let l = has.only k there in (l.0, l.1, sym l.2.certificate) };
+    stay = λ l there. let k = has.stays l there in (k.0, k.1, k.2.certificate);
+    only = λ k there. let l = has.only k there in (l.0, l.1, sym l.2.certificate);
   }
 
   -- Seen from such a moment: what was taken out doesn't hold, and all else has yet to fail.

@@ -10,7 +10,7 @@ use Rattle.kin_world.proofs.Certificates.{HaveSameCertificates, same_listed}
 use Rattle.kin_world.proofs.InOrder.{retimed, timed, timely_from_timed}
 use Rattle.kin_world.proofs.MarkLaws.{motion_there}
 use Rattle.kin_world.proofs.SoundLaws.{live_askable, whole}
-use Rattle.kin_world.proofs.Unnamed.{timed_with}
+use Rattle.kin_world.proofs.OneMore.{timed_other}
 
 -- what is so at the moment and of the motion inside is so as they are seen
 pub seen_so : (P : Moment → Course → Type 0) (inner seen : World) (n : ℕ) (motion : Course) → inner ≡ seen → motion_of inner.motions n ≡ Some motion → P inner.moment motion
@@ -89,12 +89,12 @@ module _ {s : Stage} (sound : IsSound s) (n : ℕ) (u v : ℤ) (motion : Course)
     -- each has its first failure
     timed_now : (l : LiveFact) → Contains table.live l → IsTimed (scene_at motions) s.moment l
     timed_now l there = elim (remade.only l there) [
-      | inl old ↦ rw written (timed_with s.motions n (Some motion) s.moment l old.1 (timed sound.in_order sound.none_waits l old.0))
+      | inl old ↦ rw written ((timed_other s.motions n (Some motion) s.moment l old.1).0 (timed sound.in_order sound.none_waits l old.0))
       | inr anew ↦ record { waits_not = anew.3.waits_not; fails = anew.3.fails }
     ]
 
     same : HaveSameCertificates s.table.live table.live
-    same = record { stay = record { each = stays }; only = record { each = was } }
+    same = record { stay = stays; only = was }
 
     pub sound_turned : IsSound (record s { motions = motions; table = table })
     sound_turned = record {

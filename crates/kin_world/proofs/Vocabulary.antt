@@ -16,12 +16,12 @@ pub use Rattle.kin_num.specs.declared.instant.Phase.TheVariants.{After, At}
 pub use Rattle.kin_num.proofs.MomentLaws.{never, through, total}
 pub use Rattle.kin_instant.proofs.Widths.{clean}
 pub use Rattle.kin_motion.specs.Course.{AreSlow, Course, IsSlow, is_live, live_of, motion_of}
-pub use Rattle.kin_motion.specs.Forms.{IsAskable, names, sign_of_form}
+pub use Rattle.kin_motion.specs.Forms.{IsAskable, names}
 pub use Rattle.kin_motion.specs.Journal.{Block, Failure, IsNextBlock, NothingFails, failures_at, seen_in}
 pub use Rattle.kin_motion.specs.Kinetics.{AllHold, HasChanged, HaveSameLive}
 pub use Rattle.kin_motion.specs.Live.{Certificate, IsKeepFact, IsLiveFact, IsSmallKeep, ListsLive, owned_by}
 pub use Rattle.kin_motion.specs.Moments.{FailsFirst, HoldsAt}
-pub use Rattle.kin_motion.specs.Numbers.{HasEntered, IsIn, filled_from, is_in}
+pub use Rattle.kin_motion.specs.Numbers.{filled_from}
 pub use Rattle.kin_motion.specs.Scene.{Holds, IsReal, Scene, scene_at}
 pub use Rattle.kin_motion.specs.Sets.{AreDistinct, ListsExactly}
 pub use Rattle.kin_motion.specs.Turning.{IsNotWhole, IsOutOfBounds, TurnsTo, just_at}
@@ -40,7 +40,7 @@ pub use Rattle.kin_cert.specs.Taken.{HasGivenOut, HasTaken, IsLeastFailure, None
 pub use Rattle.kin_cert.specs.Told.{HasFactsOf, IsTimed, MayTell, certificates_of, nothing}
 pub use Rattle.kin_cert.specs.declared.owned.Owned.{Owned}
 pub use Rattle.kin_cert.proofs.NextLaws.{IsInTime, earlier_still, fails_first, fails_now, hold_before_least, holds_until_failure, later_start, next_block, nothing_fails, nothing_until, timed_holds}
-pub use Rattle.kin_world.specs.Kinds.{HasMembers, IsAtRest, IsFor, IsSettledIn, kinetic, placed_facts}
+pub use Rattle.kin_world.specs.Kinds.{HasMembers, kinetic, placed_facts}
 pub use Rattle.kin_world.specs.Structures.{AreLiveAfter, AreVacant, HoldFor, IsSettledFor, IsSettledWhereAllHold, IsVacant}
 pub use Rattle.kin_world.specs.Upkeep.{AreLeft, AreWaiting, HasComeTo, HasGoneOn, HasGoneOver, HasLanded, HasOneMore, HasRepaired, HasSameFrame, HasSettled, HasTimedNew, HasUpdated, IsAtTurn, IsBeyond, IsCarriedOut, IsDueWithin, IsFit, IsInOrder, IsInPlace, IsLanding, IsMarked, IsNextFrom, IsSooner, IsSound, IsTimedOrFailed, IsTurn, IsUnderRepair, ListsWaiting, NoneFrom, Stage, gathered, is_line, is_of, meaning, placed_of, setting, sight, stage_of, turns_left, with_marked}
 pub use Rattle.kin_world.specs.Worlds.{CanTurn, FailsWithin, HasInserted, HasLeftBehind, HasMoved, HasPassed, HasRemoved, HasTurned, IsNextMoment, IsWhole, World, certificate, is_about, with_facts_of, world_setting}

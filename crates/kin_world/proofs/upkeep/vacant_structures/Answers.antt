@@ -1,11 +1,11 @@
-use Rattle.std.proofs.Common.{◌≡◌, sym, ap, ◌∙◌, subst, ◌+◌, ◌++◌, ◌∷◌, [], rules, length, Some, pos, slice_get, slice_index_or}
+use Rattle.std.proofs.Common.{◌≡◌, sym, ap, ◌∙◌, subst, ◌+◌, ◌++◌, ◌∷◌, [], rules, length, Some, pos, slice_get, slice_index_or, true}
 use Rattle.kin_world.proofs.Vocabulary.{length_push, slice_get-get_or}
 use Rattle.kin_motion.specs.declared.keep.Keep.TheVariants.{Order}
-use Rattle.kin_world.proofs.StartLaws.{vacant_none, vacant_more}
+use Rattle.kin_world.proofs.StartLaws.{vacant_more}
 use Rattle.kin_world.proofs.upkeep.vacant_structures.Goals as goal
 
 pub loop-keep-init : goal.loop-keep-init
-loop-keep-init c = record { count = ap length c.new-structures.ensures.items; vacant = vacant_none c.args.size c.args.keeps.now _ c.new-structures.ensures.items }
+loop-keep-init c = record { count = ap length c.new-structures.ensures.items; vacant = λ j keep st kept there. let none = rw c.new-structures.ensures.items at there in absurd cc }
 
 pub new-requires-clause-small : goal.new-requires-clause-small
 new-requires-clause-small c = c.requires.keepable.small c.loop-keep.keep-index _ (slice_get-get_or c.args.keeps.now c.loop-keep.keep-index _ c.loop-keep-test.true)
@@ -21,5 +21,5 @@ loop-keep-preserved c =
     let e = c.in_ok-structure.ensures in
     record {
       count = ap length pushed ∙ length_push old _ ∙ ap (λ n. n + 1) h.count;
-      vacant = vacant_more c.args.size keeps old c.push.new.self.items keep c.in_ok-structure.structure h.vacant here (record { kind = e.kind; rest = e.rest; members = e.members; settled = e.settled; facts = e.facts }) pushed;
+      vacant = vacant_more c.args.size keeps old c.push.new.self.items keep c.in_ok-structure.structure h.vacant here (assumption e) pushed;
     }

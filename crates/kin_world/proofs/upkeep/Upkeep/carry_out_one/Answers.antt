@@ -1,8 +1,7 @@
 use Rattle.std.proofs.Common.{arith}
-use Rattle.kin_world.proofs.Vocabulary.{from_two, scene_at, real_at, sight, stage_of}
+use Rattle.kin_world.proofs.Vocabulary.{from_two, scene_at, real_at, IsSettledFor, sight, stage_of}
 use Rattle.kin_world.proofs.MarkLaws.{live_after, hold_for, carried_on}
 use Rattle.kin_world.proofs.InOrder.{standing_read, may_tell}
-use Rattle.kin_world.proofs.StructureLaws.{settled_now}
 use Rattle.kin_world.proofs.upkeep.Upkeep.carry_out_one.Goals as goal
 
 pub carry_out-requires : goal.carry_out-requires
@@ -22,14 +21,14 @@ pub tell-requires : goal.tell-requires
 tell-requires g c =
     let s = standing_read c.requires.marked.1.in_order c.args.k c.index_mut.result.now c.requires.within c.index_mut.ensures.value in
     let e = c.in_ok-carry_out.ensures in
-    let settled = settled_now c.args.self.now.size s.0 (sight (stage_of c.args.self.now)) c.carry_out.new.self (e.kind c.args.self.now.size s.0 (s.3.fine.ahead (omega arith)).kind) e.rest e.members e.settled in
+    let settled : IsSettledFor c.args.self.now.size s.0 (sight (stage_of c.args.self.now)) c.carry_out.new.self = record { kind = (e.kind c.args.self.now.size s.0 (s.3.fine.ahead (omega arith)).kind); rest = e.rest; members = e.members; settled = e.settled } in
     may_tell c.requires.marked.1.in_order (sight (stage_of c.args.self.now)) c.args.k s.0 c.index_mut.result.now c.carry_out.new.self c.carry_out.new.out s.1 s.3 settled (rw c.clear.ensures at e.delta)
 
 pub returns-clause-goes_on : goal.returns-clause-goes_on
 returns-clause-goes_on g c =
     let s = standing_read c.requires.marked.1.in_order c.args.k c.index_mut.result.now c.requires.within c.index_mut.ensures.value in
     let e = c.in_ok-carry_out.ensures in
-    let settled = settled_now c.args.self.now.size s.0 (sight (stage_of c.args.self.now)) c.carry_out.new.self (e.kind c.args.self.now.size s.0 (s.3.fine.ahead (omega arith)).kind) e.rest e.members e.settled in
+    let settled : IsSettledFor c.args.self.now.size s.0 (sight (stage_of c.args.self.now)) c.carry_out.new.self = record { kind = (e.kind c.args.self.now.size s.0 (s.3.fine.ahead (omega arith)).kind); rest = e.rest; members = e.members; settled = e.settled } in
     from_two c.tell.result
     (λ told made. carried_on c.args.mark c.requires.marked c.index_mut.result.now (record { kept = s.1; here = s.2; settled = settled; change = c.carry_out.new.out; changed = rw c.clear.ensures at e.delta; told = told; made = made }))
     c.tell.ensures.told c.tell.ensures.made

@@ -1,7 +1,7 @@
 use Rattle.std.proofs.Common.{◌≡◌, sym, ap, subst, [], true, ◌^◌}
 use Rattle.kin_world.proofs.Vocabulary.{IsCanonical, Moment, At, certificates_of, IsSound, Stage}
 use Rattle.kin_num.proofs.Values.{start_canonical}
-use Rattle.kin_world.proofs.StartLaws.{empty_slots, none_live, sound_start}
+use Rattle.kin_world.proofs.StartLaws.{empty_slots, sound_start}
 use Rattle.kin_world.proofs.upkeep.Upkeep.new.Goals as goal
 
 pub of-requires : goal.of-requires
@@ -15,9 +15,9 @@ returns-clause-sound c =
     let start : Stage = record { size = c.args.size; keeps = c.args.keeps.now; structures = c.in_ok-structures.structures.items; table = record { live = []; made = 0 }; motions = c.in_ok-motions.motions; moment = m } in
     let same : start ≡ record start { keeps = c.in-Ok.keeps.items; table = c.in_ok-with_room.field-0 } = λ t. record start { keeps = sym c.in-Ok.ensures.items t; table = record { live = sym c.in_ok-with_room.ensures.live t; made = sym c.in_ok-with_room.ensures.made t } } in
     subst (λ (s : Stage). IsSound s) same
-    (sound_start c.args.size c.args.keeps.now c.in_ok-structures.structures.items c.in_ok-motions.motions m
+    (sound_start c.args.size (2 ^ c.args.size) c.args.keeps.now c.in_ok-structures.structures.items c.in_ok-motions.motions m
     (record { low = c.requires.low; high = c.requires.high; keepable = c.requires.keepable; room = motions.room; slow = motions.slow }) (subst IsCanonical (sym c.of.ensures) start_canonical)
-    (none_live (2 ^ c.args.size) c.in_ok-motions.motions (empty_slots (2 ^ c.args.size) c.in_ok-motions.motions motions.room motions.none)) kept.count kept.vacant)
+    (empty_slots (2 ^ c.args.size) c.in_ok-motions.motions motions.room motions.none) kept.count kept.vacant)
 
 pub returns-clause-empty : goal.returns-clause-empty
 returns-clause-empty c =

@@ -1,7 +1,6 @@
-use Rattle.kin_world.proofs.Vocabulary.{from_two, real_at, placed_facts, sight, stage_of}
+use Rattle.kin_world.proofs.Vocabulary.{from_two, real_at, placed_facts, IsSettledFor, sight, stage_of}
 use Rattle.kin_world.proofs.InOrder.{standing_read, may_tell}
 use Rattle.kin_world.proofs.RepairLaws.{waiting_fail, repaired}
-use Rattle.kin_world.proofs.StructureLaws.{settled_now}
 use Rattle.kin_world.proofs.upkeep.Upkeep.repair.Goals as goal
 
 pub settle-requires : goal.settle-requires
@@ -19,14 +18,14 @@ pub tell-requires : goal.tell-requires
 tell-requires g c =
     let s = standing_read c.requires.repair c.args.k c.index_mut.result.now c.requires.within c.index_mut.ensures.value in
     let e = c.in_ok-settle.ensures in
-    let settled = settled_now c.args.self.now.size s.0 (sight (stage_of c.args.self.now)) c.settle.new.self (e.kind c.args.self.now.size s.0 s.3.fine.kind) e.rest e.members e.settled in
+    let settled : IsSettledFor c.args.self.now.size s.0 (sight (stage_of c.args.self.now)) c.settle.new.self = record { kind = (e.kind c.args.self.now.size s.0 s.3.fine.kind); rest = e.rest; members = e.members; settled = e.settled } in
     may_tell c.requires.repair (sight (stage_of c.args.self.now)) c.args.k s.0 c.index_mut.result.now c.settle.new.self c.settle.new.out s.1 s.3 settled (rw c.clear.ensures at e.delta)
 
 pub returns-clause-repaired : goal.returns-clause-repaired
 returns-clause-repaired g c =
     let s = standing_read c.requires.repair c.args.k c.index_mut.result.now c.requires.within c.index_mut.ensures.value in
     let e = c.in_ok-settle.ensures in
-    let settled = settled_now c.args.self.now.size s.0 (sight (stage_of c.args.self.now)) c.settle.new.self (e.kind c.args.self.now.size s.0 s.3.fine.kind) e.rest e.members e.settled in
+    let settled : IsSettledFor c.args.self.now.size s.0 (sight (stage_of c.args.self.now)) c.settle.new.self = record { kind = (e.kind c.args.self.now.size s.0 s.3.fine.kind); rest = e.rest; members = e.members; settled = e.settled } in
     from_two c.tell.result
     (λ told made. repaired c.requires.repair c.args.k s.0 c.index_mut.result.now c.settle.new.self c.tell.new.self (record { kept = s.1; here = s.2; settled = settled; change = c.settle.new.out; changed = rw c.clear.ensures at e.delta; told = told; made = made }))
     c.tell.ensures.told c.tell.ensures.made
