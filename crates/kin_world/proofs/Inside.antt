@@ -1,9 +1,10 @@
 -- What is inside a world that is seen as whole, and what the calls that move it do to what is seen.
-use Rattle.std.proofs.Common.{◌≡◌, ap, sym, ◌∙◌, subst, ◌<◌, true, IsTrue}
-use Rattle.kin_world.proofs.Vocabulary.{IsCanonical, moments_left, IsEarlier, Moment, Block, IsNextBlock, NoneFailsUntil, HasLanded, HasSameFrame, HasSettled, IsDueWithin, IsSound, Stage, meaning, setting, stage_of, FailsWithin}
-use Rattle.kin_world.proofs.Vocabulary.{HasLeftBehind, HasMoved, HasPassed, IsWhole, World}
+use Rattle.std.proofs.Common.{◌≡◌, refl, ap, sym, ◌∙◌, subst, ◌<◌, true, IsTrue, refl}
+use Rattle.kin_world.proofs.Vocabulary.{IsCanonical, moments_left, IsEarlier, Moment, Block, IsNextBlock, NoneFailsUntil, nothing_until, HasLanded, HasSameFrame, HasSettled, IsDueWithin, IsSound, Stage, meaning, setting, stage_of}
+use Rattle.kin_world.proofs.Vocabulary.{FailsWithin, HasLeftBehind, HasMoved, HasPassed, IsWhole, World, with_facts_of}
 use Rattle.kin_world.specs.declared.world.World.TheInside.{Inside}
-use Rattle.kin_world.proofs.SoundLaws.{whole, sound_later, has_moved, fails_within, least_fewer, has_passed, has_left_behind, landed_fewer}
+use Rattle.kin_world.proofs.SoundLaws.{whole, sound_later, in_time, fails_within, least_fewer, same_but_facts, has_made}
+use Rattle.kin_num.proofs.Grains.{moments_run_out}
 
 module _ (w : Inside) {v : World} (is : meaning (stage_of w.upkeep) w.whole ≡ v) (sound : IsTrue w.whole → IsSound (stage_of w.upkeep)) (there : IsTrue v.whole) where
   here : w.whole ≡ true
@@ -27,13 +28,14 @@ module _ (w : Inside) {v : World} (is : meaning (stage_of w.upkeep) w.whole ≡ 
 
   -- where nothing fails up to the limit, it is sound there, too, and has moved
   module _ (limit : Moment) (canonical : IsCanonical limit.at) (later : ¬ (IsEarlier limit v.moment)) (none : NoneFailsUntil w.upkeep.table.live limit) where
+    from : ¬ (IsEarlier limit w.upkeep.moment)
+    from = as_inside (λ x. ¬ (IsEarlier limit x.moment)) later
+
     pub rests_sound : IsSound (record (stage_of w.upkeep) { moment = limit })
-    rests_sound = sound_later sound_inside limit canonical (as_inside (λ x. ¬ (IsEarlier limit x.moment)) later) none
+    rests_sound = sound_later sound_inside limit canonical from none
 
     pub has_rested : HasMoved limit v (meaning (record (stage_of w.upkeep) { moment = limit }) w.whole)
-    has_rested =
-        let moved = has_moved sound_inside limit canonical (as_inside (λ x. ¬ (IsEarlier limit x.moment)) later) none in
-        subst (λ b. HasMoved limit v (meaning (record (stage_of w.upkeep) { moment = limit }) b)) (sym here) (as_seen (λ x. HasMoved limit x (meaning (record (stage_of w.upkeep) { moment = limit }) true)) moved)
+    has_rested = rw (here, ← seen) (record { nothing = nothing_until (setting (stage_of w.upkeep)) w.upkeep.moment w.upkeep.table.live (in_time sound_inside) limit canonical from none; state = refl; whole = whole rests_sound })
 
   -- where something fails at a moment, the block there is passed, or the world lands there or behind it
   module _ (limit m : Moment) (due : IsDueWithin limit w.upkeep.table.live m) where
@@ -45,11 +47,23 @@ module _ (w : Inside) {v : World} (is : meaning (stage_of w.upkeep) w.whole ≡ 
       passed_fewer = as_seen (λ x. moments_left t.moment < moments_left x.moment) (subst (λ (s : Stage). moments_left s.moment < moments_left w.upkeep.moment) (sym frame) (least_fewer sound_inside m due.least))
 
       pub passes : HasSettled w.upkeep.table t → (b : Block) → b.moment ≡ m → IsNextBlock (setting (stage_of w.upkeep)) w.upkeep.moment b → HasPassed limit b v (meaning t true)
-      passes did b at next = as_seen (λ x. HasPassed limit b x (meaning t true)) (has_passed (record (stage_of w.upkeep) { moment = m }) did frame w.upkeep.moment limit b at due.within next)
+      passes did b at next = as_seen (λ x. HasPassed limit b x (meaning t true)) (record {
+        next = next;
+        within = rw at due.within;
+        state = same_but_facts (record (stage_of w.upkeep) { moment = m }) did frame ∙ ap (λ (x : Moment). with_facts_of (record (meaning (stage_of w.upkeep) true) { moment = x }) (meaning t true)) (sym at);
+        whole = whole did.sound;
+        made = has_made (record (stage_of w.upkeep) { moment = m }) did frame (stage_of w.upkeep) refl;
+      })
 
     module _ {t : Stage} (landed : HasLanded m limit (stage_of w.upkeep) t) where
       pub lands_fewer : moments_left t.moment < moments_left v.moment
-      lands_fewer = as_seen (λ x. moments_left t.moment < moments_left x.moment) (landed_fewer sound_inside m limit landed)
+      lands_fewer = as_seen (λ x. moments_left t.moment < moments_left x.moment) (moments_run_out w.upkeep.moment t.moment sound_inside.in_order.canonical landed.settled.sound.in_order.canonical landed.later)
 
       pub leaves_behind : HasSameFrame (record (stage_of w.upkeep) { moment = t.moment }) t → HasLeftBehind limit v (meaning t true)
-      leaves_behind frame = as_seen (λ x. HasLeftBehind limit x (meaning t true)) (has_left_behind sound_inside m limit due.least landed frame)
+      leaves_behind frame = as_seen (λ x. HasLeftBehind limit x (meaning t true)) (record {
+        due = fails_within sound_inside m due.least t.moment landed.past;
+        within = landed.within;
+        state = same_but_facts (record (stage_of w.upkeep) { moment = t.moment }) landed.settled frame;
+        whole = whole landed.settled.sound;
+        made = has_made (record (stage_of w.upkeep) { moment = t.moment }) landed.settled frame (stage_of w.upkeep) refl;
+      })

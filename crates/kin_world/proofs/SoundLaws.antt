@@ -1,10 +1,9 @@
 -- What a sound world has: its live facts are those of the definition, and the table tells what comes next.
-use Rattle.std.proofs.Common.{◌≡◌, ◌⊎◌, inl, inr, refl, sym, ap, ◌∙◌, subst, arith, ℕ, suc, ◌<◌, true, List, [], ◌∷◌, Option, Some, None, slice_set, get_or, slice_get, Contains, ◌↔◌}
-use Rattle.kin_world.proofs.Vocabulary.{All-contains, slice_get_read, slice_get_within, IsCanonical, moments_left, IsEarlier, Moment, never, through, total, Course, IsAskable, Block, IsNextBlock, NothingFails, failures_at, Certificate}
-use Rattle.kin_world.proofs.Vocabulary.{IsLiveFact, ListsLive, FailsFirst, IsReal, scene_at, AreDistinct, Placed, Keep, live_fits, real_at, contains_map, contains_mapped, distinct_cons, distinct_none, AreAlike, LiveFact, NoneAlike}
-use Rattle.kin_world.proofs.Vocabulary.{IsFirstFailure, IsLeastFailure, NoneFails, NoneFailsUntil, certificates_of, IsInTime, earlier_still, fails_first, hold_before_least, holds_until_failure, later_start, nothing_fails, nothing_until}
-use Rattle.kin_world.proofs.Vocabulary.{placed_facts, IsSettledFor, HasLanded, HasSameFrame, HasSettled, IsSound, Stage, meaning, setting, sight, FailsWithin, HasInserted, HasLeftBehind, HasMoved, HasPassed, HasRemoved, IsNextMoment}
-use Rattle.kin_world.proofs.Vocabulary.{IsWhole, with_facts_of, Structure}
+use Rattle.std.proofs.Common.{◌≡◌, inl, inr, refl, sym, ap, ◌∙◌, subst, arith, ℕ, suc, ◌<◌, true, List, [], ◌∷◌, Option, Some, None, slice_set, get_or, slice_get, Contains, ◌↔◌}
+use Rattle.kin_world.proofs.Vocabulary.{All-contains, slice_get_read, slice_get_within, IsCanonical, moments_left, IsEarlier, Moment, never, through, total, Course, IsAskable, NothingFails, failures_at, Certificate, IsLiveFact, ListsLive}
+use Rattle.kin_world.proofs.Vocabulary.{FailsFirst, IsReal, scene_at, AreDistinct, Placed, Keep, live_fits, real_at, contains_map, contains_mapped, distinct_cons, distinct_none, AreAlike, LiveFact, NoneAlike, IsLeastFailure, NoneFails}
+use Rattle.kin_world.proofs.Vocabulary.{NoneFailsUntil, IsTimed, certificates_of, IsInTime, earlier_still, fails_first, hold_before_least, later_start, nothing_fails, timed_holds, placed_facts, IsSettledFor, HasSameFrame, HasSettled}
+use Rattle.kin_world.proofs.Vocabulary.{IsSound, Stage, meaning, setting, sight, HasMade, FailsWithin, HasInserted, HasRemoved, IsNextMoment, IsWhole, with_facts_of, Structure}
 use Rattle.kin_num.proofs.Grains.{moments_run_out}
 use Rattle.kin_motion.specs.Agreements.{FitsSize}
 use Rattle.kin_motion.proofs.LiveFactLaws.{live_facts_agree}
@@ -26,11 +25,11 @@ certificates_distinct (l ∷ ls) once =
 
 module _ {s : Stage} (sound : IsSound s) where
   -- each live fact has its first failure
-  pub first_failure : (l : LiveFact) → Contains s.table.live l → IsFirstFailure (scene_at s.motions) s.moment l.certificate.placed.fact l.fails
-  first_failure l there = (timed sound.in_order sound.none_waits l there).fails
+  timed_here : (l : LiveFact) → Contains s.table.live l → IsTimed (scene_at s.motions) s.moment l
+  timed_here = timed sound.in_order sound.none_waits
 
   pub failure_at : (l : LiveFact) → Contains s.table.live l → (n : Moment) → l.fails ≡ Some n → FailsFirst (scene_at s.motions) s.moment n l.certificate.placed.fact
-  failure_at l there = fails_first (scene_at s.motions) s.moment sound.in_order.canonical l (timed sound.in_order sound.none_waits l there)
+  failure_at l there = fails_first (scene_at s.motions) s.moment sound.in_order.canonical l (timed_here l there)
 
   -- its form may be asked for
   pub live_askable : (l : LiveFact) → Contains s.table.live l → IsAskable (sight s).live l.certificate.placed.fact.form
@@ -47,30 +46,20 @@ module _ {s : Stage} (sound : IsSound s) where
       to c h =
           let l = contains_mapped (λ (k : LiveFact). k.certificate) s.table.live c h in
           let o = owner sound.in_order l.0 l.1 in
-          subst (IsLiveFact s.size s.keeps (sight s)) (sym l.2) (record { keep = o.0; kept = o.2; fact = ((settled_facts s.size o.0 (sight s) o.1 o.3).each l.0.certificate.placed).0 o.4 })
+          rw l.2 (record { keep = o.0; kept = o.2; fact = ((settled_facts s.size o.0 (sight s) o.1 o.3).each l.0.certificate.placed).0 o.4 })
 
       from : (c : Certificate) → IsLiveFact s.size s.keeps (sight s) c → Contains (certificates_of s.table.live) c
       from c f =
-          let low = subst (λ n. c.structure < n) (sym sound.in_order.count) (slice_get_within s.keeps c.structure f.keep f.kept) in
-          let at = standing sound.in_order c.structure low in
+          let at = standing sound.in_order c.structure (rw sound.in_order.count (slice_get_within s.keeps c.structure f.keep f.kept)) in
           let place = sound.in_order.each c.structure f.keep at.1 f.kept at.3 in
           let l = (place.tabled c.placed).0 (((settled_facts s.size f.keep (sight s) at.1 place.fine).each c.placed).1 f.fact) in
           subst (λ (x : Certificate). Contains (certificates_of s.table.live) x) l.2 (contains_map (λ (k : LiveFact). k.certificate) s.table.live l.0 l.1)
 
-  pub is_live : (l : LiveFact) → Contains s.table.live l → IsLiveFact s.size s.keeps (sight s) l.certificate
+  is_live : (l : LiveFact) → Contains s.table.live l → IsLiveFact s.size s.keeps (sight s) l.certificate
   is_live l there = (lists_live.each l.certificate).0 (contains_map (λ (x : LiveFact). x.certificate) s.table.live l there)
 
   pub whole : IsWhole (meaning s true)
-  whole = record {
-    whole = refl;
-    low = sound.in_order.fit.low;
-    high = sound.in_order.fit.high;
-    keepable = sound.in_order.fit.keepable;
-    room = sound.in_order.fit.room;
-    slow = sound.in_order.fit.slow;
-    canonical = sound.in_order.canonical;
-    live = lists_live;
-  }
+  whole = assumption (lists_live, sound)
 
   pub real : IsReal (sight s)
   real = real_at s.motions s.moment sound.in_order.canonical
@@ -81,11 +70,10 @@ module _ {s : Stage} (sound : IsSound s) where
   -- the structure of a keep is settled
   pub settled_read : (k : ℕ) (keep : Keep) (st : Structure) → slice_get s.keeps k ≡ Some keep → st ≡ get_or s.structures k st → IsSettledFor s.size keep (sight s) st
   settled_read k keep st kept read =
-      let low = subst (λ n. k < n) (sym sound.in_order.count) (slice_get_within s.keeps k keep kept) in
-      (sound.in_order.each k keep st kept (slice_get_read s.structures _ k st refl low read)).fine
+      (sound.in_order.each k keep st kept (slice_get_read s.structures _ k st refl (rw sound.in_order.count (slice_get_within s.keeps k keep kept)) read)).fine
 
   pub in_time : IsInTime (setting s) s.moment s.table.live
-  in_time = record { canonical = sound.in_order.canonical; lists = lists_live; timed = timed sound.in_order sound.none_waits }
+  in_time = record { canonical = sound.in_order.canonical; lists = lists_live; timed = timed_here }
 
   -- where no live fact ever fails nothing does
   pub never_fails : NoneFails s.table.live ↔ NothingFails (setting s) s.moment
@@ -103,12 +91,11 @@ module _ {s : Stage} (sound : IsSound s) where
 
   -- there is one least failure moment
   pub one_least : (m n : Moment) → IsLeastFailure s.table.live m → IsLeastFailure s.table.live n → m ≡ n
-  one_least m n first second = at (total m n (least_fails m first).canonical (least_fails n second).canonical)
-    where
-      at : IsEarlier m n ⊎ (IsEarlier n m ⊎ (m ≡ n)) → m ≡ n
-      at (inl less) = absurd (second.least first.some.0 m first.some.1 first.some.2 less)
-      at (inr (inl more)) = absurd (first.least second.some.0 n second.some.1 second.some.2 more)
-      at (inr (inr same)) = same
+  one_least m n first second = elim (total m n (least_fails m first).canonical (least_fails n second).canonical) [
+    | inl less ↦ absurd (second.least first.some.0 m first.some.1 first.some.2 less)
+    | inr (inl more) ↦ absurd (first.least second.some.0 n second.some.1 second.some.2 more)
+    | inr (inr same) ↦ same
+  ]
 
   module _ (m : Moment) (least : IsLeastFailure s.table.live m) where
     -- fewer moments are left from the least failure on
@@ -131,13 +118,7 @@ module _ {s : Stage} (sound : IsSound s) where
 
     -- where it isn't after the limit, a live fact fails until then
     pub fails_within : (limit : Moment) → ¬ (IsEarlier limit m) → FailsWithin limit (meaning s true)
-    fails_within limit within = record {
-      certificate = least.some.0.certificate;
-      live = is_live least.some.0 least.some.1;
-      moment = m;
-      fails = least_fails m least;
-      within = within;
-    }
+    fails_within limit within = record { certificate = least.some.0.certificate; live = is_live least.some.0 least.some.1; moment = m; fails = least_fails m least; within = within }
 
   module _ (limit : Moment) (canonical : IsCanonical limit.at) (from : ¬ (IsEarlier limit s.moment)) (none : NoneFailsUntil s.table.live limit) where
     later : (l : LiveFact) → Contains s.table.live l → (n : Moment) → l.fails ≡ Some n → IsEarlier limit n
@@ -146,77 +127,38 @@ module _ {s : Stage} (sound : IsSound s) where
       | inr due ↦ earlier_still limit due.0 n canonical (least_fails due.0 due.1).canonical (failure_at l there n e).canonical due.2 (due.1.least l n there e)
     ]
 
-    fails_later : (l : LiveFact) → Contains s.table.live l → IsEarlier s.moment limit ⊎ (IsEarlier limit s.moment ⊎ (s.moment ≡ limit)) → IsFirstFailure (scene_at s.motions) limit l.certificate.placed.fact l.fails
-    fails_later l there (inl more) = later_start (scene_at s.motions) s.moment sound.in_order.canonical l (timed sound.in_order sound.none_waits l there) limit canonical more (later l there)
-    fails_later l there (inr (inl before)) = absurd (from before)
-    fails_later l there (inr (inr same)) = subst (λ (x : Moment). IsFirstFailure (scene_at s.motions) x l.certificate.placed.fact l.fails) same (first_failure l there)
+    timed_later : (l : LiveFact) → Contains s.table.live l → IsTimed (scene_at s.motions) limit l
+    timed_later l there = elim (total s.moment limit sound.in_order.canonical canonical) [
+      | inl more ↦ record { waits_not = sound.none_waits l there; fails = later_start (scene_at s.motions) s.moment sound.in_order.canonical l (timed_here l there) limit canonical more (later l there) }
+      | inr (inl before) ↦ absurd (from before)
+      | inr (inr same) ↦ subst (λ (x : Moment). IsTimed (scene_at s.motions) x l) same (timed_here l there)
+    ]
 
     -- until something fails all structures stay settled, and all failure moments stay the first
     pub sound_later : IsSound (record s { moment = limit })
     sound_later = record {
       in_order = seen_anew sound.in_order s.motions limit refl sound.in_order.fit.slow canonical
           (λ j keep st there was. settled_from_hold s.size keep (scene_at s.motions limit) st (settled_where_hold s.size keep (sight s) (scene_at s.motions limit) st real (real_at s.motions limit canonical) was.fine refl)
-          (facts_hold (scene_at s.motions limit) s.table.live j (placed_facts st) was.tabled
-          (λ l live. holds_until_failure (scene_at s.motions) s.moment sound.in_order.canonical l (timed sound.in_order sound.none_waits l live) limit canonical from (λ n e c. later l live n e))))
-          (λ l there. timely_from_timed (scene_at s.motions) limit l (record { waits_not = sound.none_waits l there; fails = fails_later l there (total s.moment limit sound.in_order.canonical canonical) }));
+          (facts_hold (scene_at s.motions limit) s.table.live j (placed_facts st) was.tabled (λ l live. timed_holds (scene_at s.motions) limit canonical l (timed_later l live))))
+          (λ l there. timely_from_timed (scene_at s.motions) limit l (timed_later l there));
       none_waits = sound.none_waits;
     }
 
--- fewer moments are left where it has landed
-pub landed_fewer : {s t : Stage} → IsSound s → (due limit : Moment) → HasLanded due limit s t → moments_left t.moment < moments_left s.moment
-landed_fewer {s} {t} sound due limit landed = moments_run_out s.moment t.moment sound.in_order.canonical landed.settled.sound.in_order.canonical landed.later
-
--- a sound world is whole, so it has moved to the limit
-pub has_moved : {s : Stage} (sound : IsSound s) (limit : Moment) → IsCanonical limit.at → ¬ (IsEarlier limit s.moment) → NoneFailsUntil s.table.live limit → HasMoved limit (meaning s true) (meaning (record s { moment = limit }) true)
-has_moved {s} sound limit canonical from none = record {
-  nothing = nothing_until (setting s) s.moment s.table.live (in_time sound) limit canonical from none;
-  state = refl;
-  whole = whole (sound_later sound limit canonical from none);
-}
-
--- where a call has changed nothing but the facts
+-- where a call has changed nothing but the facts, of a stage that was another's moment or motions before
 module _ (s : Stage) {t : Stage} (did : HasSettled s.table t) (frame : HasSameFrame s t) where
-  same_but_facts : meaning t true ≡ with_facts_of (meaning s true) (meaning t true)
+  pub same_but_facts : meaning t true ≡ with_facts_of (meaning s true) (meaning t true)
   same_but_facts = ap (λ (x : Stage). meaning x true) frame
 
-  -- the block is passed
-  pub has_passed : (before limit : Moment) (b : Block) → b.moment ≡ s.moment → ¬ (IsEarlier limit s.moment) → IsNextBlock (setting s) before b → HasPassed limit b (meaning (record s { moment = before }) true) (meaning t true)
-  has_passed before limit b at within next = record {
-    next = next;
-    within = subst (λ (x : Moment). ¬ (IsEarlier limit x)) (sym at) within;
-    state = same_but_facts ∙ ap (λ (x : Moment). with_facts_of (record (meaning s true) { moment = x }) (meaning t true)) (sym at);
-    whole = whole did.sound;
-    made = record { born = did.made.born; exactly = did.made.exactly; count = did.made.count };
-  }
+  pub has_made : (before : Stage) → before.table ≡ s.table → HasMade (meaning before true) (meaning t true)
+  has_made before same = record { born = did.made.born; exactly = rw same did.made.exactly; count = rw same did.made.count }
 
+  -- a number has another motion, or none
   module _ (before : List (Option Course)) (i : ℕ) where
     state_with : (o : Option Course) → s.motions ≡ slice_set before i o → meaning t true ≡ with_facts_of (record (meaning s true) { motions = slice_set before i o }) (meaning t true)
     state_with o written = same_but_facts ∙ ap (λ (ms : List (Option Course)). with_facts_of (record (meaning s true) { motions = ms }) (meaning t true)) written
 
-    -- a number has its motion
     pub has_inserted : (motion : Course) → s.motions ≡ slice_set before i (Some motion) → HasInserted i motion (meaning (record s { motions = before }) true) (meaning t true)
-    has_inserted motion written = record {
-      state = state_with (Some motion) written;
-      whole = whole did.sound;
-      made = record { born = did.made.born; exactly = did.made.exactly; count = did.made.count };
-    }
+    has_inserted motion written = record { state = state_with (Some motion) written; whole = whole did.sound; made = has_made (record s { motions = before }) refl }
 
-    -- a number has none any more
     pub has_removed : s.motions ≡ slice_set before i None → HasRemoved i (meaning (record s { motions = before }) true) (meaning t true)
-    has_removed written = record {
-      state = state_with None written;
-      whole = whole did.sound;
-      made = record { born = did.made.born; exactly = did.made.exactly; count = did.made.count };
-    }
-
--- a world that has landed at a moment has left failures up to it behind
-pub has_left_behind : {s t : Stage} → IsSound s → (due limit : Moment) → IsLeastFailure s.table.live due → HasLanded due limit s t → HasSameFrame (record s { moment = t.moment }) t → HasLeftBehind limit (meaning s true) (meaning t true)
-has_left_behind {s} {t} sound due limit least landed frame =
-    let did = landed.settled in
-    record {
-      due = fails_within sound due least t.moment landed.past;
-      within = landed.within;
-      state = same_but_facts (record s { moment = t.moment }) did frame;
-      whole = whole did.sound;
-      made = record { born = did.made.born; exactly = did.made.exactly; count = did.made.count };
-    }
+    has_removed written = record { state = state_with None written; whole = whole did.sound; made = has_made (record s { motions = before }) refl }

@@ -1,5 +1,5 @@
 -- The words and lemmas of the crates below that several proofs of this crate speak in, brought in at one place.
-pub use Rattle.std.proofs.lemmas.Bool.{cases_Bool, cases_eq, cases_lt, or_parts}
+pub use Rattle.std.proofs.lemmas.Bool.{cases_Bool, cases_eq, or_parts}
 pub use Rattle.std.proofs.lemmas.Bool.Decides.{nat_tests}
 pub use Rattle.std.proofs.lemmas.List.{length-map, length-replicate, length_push, set-get_or}
 pub use Rattle.std.proofs.lemmas.List.Elements.{All-contains, Contains-append_cases, Contains-append_left, Contains-append_right, Contains-get_or}
@@ -39,9 +39,9 @@ pub use Rattle.kin_cert.specs.Failures.{IsFirstFailure, seen_by}
 pub use Rattle.kin_cert.specs.Taken.{HasGivenOut, HasTaken, IsLeastFailure, NoneFails, NoneFailsUntil, NoneWaits, certificate_rank, is_taken_before}
 pub use Rattle.kin_cert.specs.Told.{HasFactsOf, IsTimed, MayTell, certificates_of, nothing}
 pub use Rattle.kin_cert.specs.declared.owned.Owned.{Owned}
-pub use Rattle.kin_cert.proofs.NextLaws.{IsInTime, earlier_still, fails_first, fails_now, hold_before_least, holds_until_failure, later_start, next_block, nothing_fails, nothing_until, timed_holds}
+pub use Rattle.kin_cert.proofs.NextLaws.{IsInTime, earlier_still, fails_first, hold_before_least, later_start, next_block, nothing_fails, nothing_until, timed_holds}
 pub use Rattle.kin_world.specs.Kinds.{HasMembers, kinetic, placed_facts}
 pub use Rattle.kin_world.specs.Structures.{AreLiveAfter, AreVacant, HoldFor, IsSettledFor, IsSettledWhereAllHold, IsVacant}
-pub use Rattle.kin_world.specs.Upkeep.{AreLeft, AreWaiting, HasComeTo, HasGoneOn, HasGoneOver, HasLanded, HasOneMore, HasRepaired, HasSameFrame, HasSettled, HasTimedNew, HasUpdated, IsAtTurn, IsBeyond, IsCarriedOut, IsDueWithin, IsFit, IsInOrder, IsInPlace, IsLanding, IsMarked, IsNextFrom, IsSooner, IsSound, IsTimedOrFailed, IsTurn, IsUnderRepair, ListsWaiting, NoneFrom, Stage, gathered, is_line, is_of, meaning, placed_of, setting, sight, stage_of, turns_left, with_marked}
-pub use Rattle.kin_world.specs.Worlds.{CanTurn, FailsWithin, HasInserted, HasLeftBehind, HasMoved, HasPassed, HasRemoved, HasTurned, IsNextMoment, IsWhole, World, certificate, is_about, with_facts_of, world_setting}
+pub use Rattle.kin_world.specs.Upkeep.{IsTurnBy, AreLeft, AreWaiting, HasComeTo, HasGoneOn, HasGoneOver, HasLanded, HasOneMore, HasRepaired, HasSameFrame, HasSettled, HasTimedNew, HasUpdated, IsAtTurn, IsBeyond, IsCarriedOut, IsDueWithin, IsFit, IsInOrder, IsInPlace, IsLanding, IsMarked, IsSooner, IsSound, IsTimedOrFailed, IsTurn, IsUnderRepair, ListsWaiting, Stage, gathered, is_line, is_of, meaning, placed_of, setting, sight, stage_of, turns_left, with_marked}
+pub use Rattle.kin_world.specs.Worlds.{HasMade, CanTurn, FailsWithin, HasInserted, HasLeftBehind, HasMoved, HasPassed, HasRemoved, HasTurned, IsNextMoment, IsWhole, World, certificate, is_about, with_facts_of, world_setting}
 pub use Rattle.kin_world.specs.declared.structure.Structure.{Structure}

@@ -149,26 +149,21 @@ is_of k o = nat_eq o.structure k
 abbrev pub gathered : ℕ → List Owned → List Placed
 gathered k taken = map placed_of (filter (is_of k) taken)
 
--- none is of a structure from k on
-abbrev pub NoneFrom : ℕ → List Owned → Type 0
-NoneFrom k taken = (o : Owned) → Contains taken o → ¬ (k ≤ o.structure)
+-- it is someone's turn, and his number is n at most
+abbrev pub IsTurnBy : Option ℕ → ℕ → Type 0
+IsTurnBy None n = ⊥
+IsTurnBy (Some j) n = j ≤ n
 
--- the least structure from k on that one of these is of
-pub record IsNextFrom (k : ℕ) (taken : List Owned) (j : ℕ) : Type 0 where
-  pub some : (o : Owned) × Contains taken o × (o.structure ≡ j)
-  pub from : k ≤ j
-  pub least : (o : Owned) → Contains taken o → k ≤ o.structure → j ≤ o.structure
-
--- whose turn it is, from the structure k on
-abbrev pub IsTurn : ℕ → List Owned → Option ℕ → Type 0
-IsTurn k taken turn = MatchOption turn (NoneFrom k taken) (IsNextFrom k taken)
+-- whose turn it is: the least structure from k on that one of these is of, if there is any
+pub record IsTurn (k : ℕ) (taken : List Owned) (turn : Option ℕ) : Type 0 where
+  pub some : (j : ℕ) → turn ≡ Some j → (k ≤ j) × (o : Owned) × Contains taken o × (o.structure ≡ j)
+  pub least : (o : Owned) → Contains taken o → k ≤ o.structure → IsTurnBy turn o.structure
 
 -- whose turn it is once the structure s is looked at, too
 pub record IsSooner (k s : ℕ) (turn turn' : Option ℕ) : Type 0 where
-  pub below : s < k → turn' ≡ turn
-  pub first : k ≤ s → turn ≡ None → turn' ≡ Some s
-  pub later : (j : ℕ) → turn ≡ Some j → j ≤ s → turn' ≡ turn
-  pub sooner : (j : ℕ) → k ≤ s → turn ≡ Some j → s < j → turn' ≡ Some s
+  pub from : (turn' ≡ turn) ⊎ ((k ≤ s) × (turn' ≡ Some s))
+  pub no_later : (n : ℕ) → IsTurnBy turn n → IsTurnBy turn' n
+  pub not_behind : k ≤ s → IsTurnBy turn' s
 
 -- some certificates are new, and as many failure moments were made
 pub record HasTimedNew (old new : Facts) : Type 0 where

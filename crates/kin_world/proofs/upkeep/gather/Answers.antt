@@ -1,24 +1,21 @@
-use Rattle.std.proofs.Common.{refl, ap, arith, length}
-use Rattle.kin_world.proofs.Vocabulary.{gathered}
-use Rattle.kin_world.proofs.GatherLaws.{gathers_less, gathers_all}
+use Rattle.std.proofs.Common.{false, refl, ap, arith, length, ◌≡◌}
+use Rattle.kin_world.proofs.GatherLaws.{gathers_all}
+use Rattle.kin_world.proofs.Vocabulary.{nat_tests, gathered, is_of}
 use Rattle.kin_world.proofs.upkeep.gather.Goals as goal
 
 pub loop-owned-init : goal.loop-owned-init
 loop-owned-init c = record {
   gathers = rw (c.in_ok-reserve.ensures.items, c.clear.ensures.items) refl;
-  room =
-      let ok = c.in_ok-reserve.ensures.ok in
-      omega (arith, ok);
+  room = let ok = c.in_ok-reserve.ensures.ok in omega (arith, ok);
 }
 
 pub loop-owned-preserved : goal.loop-owned-preserved
-loop-owned-preserved c = record {
-  gathers = gathers_less c.args.k c.loop-owned.failed.items (gathered c.args.k c.args.taken.now) c.loop-owned.rest.now c.in-Some.tail.now c.in-Some.owned.now c.loop-owned.invariant.gathers c.in-Some.ensures.cases.0 c.if-owned-k.false;
-  room =
-      let room = c.loop-owned.invariant.room in
-      let less = ap length c.in-Some.ensures.cases.0 in
-      omega (arith, room, less);
-}
+loop-owned-preserved c =
+    let h = c.loop-owned.invariant in
+    let here = c.in-Some.ensures.cases.0 in
+    let less = ap length here in
+    let other : is_of c.args.k c.in-Some.owned.now ≡ false = grind (arith, nat_tests, c.if-owned-k.false) in
+    record { gathers = rw (here, other) at h.gathers; room = omega (arith, h.room, less) }
 
 pub returns : goal.returns
-returns c = gathers_all c.args.k c.loop-owned.failed.items (gathered c.args.k c.args.taken.now) c.loop-owned.rest.now c.loop-owned.invariant.gathers c.in_default.ensures.cases
+returns c = gathers_all c.args.k (gathered c.args.k c.args.taken.now) c.loop-owned.rest.now c.loop-owned.invariant.gathers c.in_default.ensures.cases

@@ -1,5 +1,5 @@
 use Rattle.kin_world.proofs.LeapLaws.{landing_under_repair, has_landed}
-use Rattle.kin_world.proofs.TakeLaws.{given_same, given_waiting, given_askable, settled_since}
+use Rattle.kin_world.proofs.TakeLaws.{given_waiting, given_askable, settled_since}
 use Rattle.kin_world.proofs.upkeep.Upkeep.leap.Goals as goal
 
 pub give_failing-requires-clause-none_waits : goal.give_failing-requires-clause-none_waits
@@ -9,8 +9,7 @@ pub landing-self-requires : goal.landing-self-requires
 landing-self-requires g c =
     let out = c.in_ok-give_failing.ensures.given in
     record {
-      askable = rw c.deref.ensures.value
-          (given_askable c.requires.sound c.give_failing.new.self out.has_taken c.give_failing.new.given.items (given_same out));
+      askable = rw c.deref.ensures.value (given_askable c.requires.sound c.give_failing.new.self out);
     }
 
 pub repair_each-requires : goal.repair_each-requires
@@ -18,14 +17,13 @@ repair_each-requires g c =
     let out = c.in_ok-give_failing.ensures.given in
     let landing = rw c.deref.ensures.value at c.landing-self.ensures in
     record {
-      repair = landing_under_repair c.requires.sound c.give_failing.new.self out.has_taken c.args.due.now c.args.limit.now c.requires.failing c.give_failing.new.given.items (given_same out) c.landing-self.result landing c.in_ok-give_failing.ensures.once c.give_failing.ensures.made;
-      waiting = rw c.deref-2.ensures.value
-          (given_waiting c.requires.sound c.give_failing.new.self out.has_taken c.give_failing.new.given.items out.once (given_same out));
+      repair = landing_under_repair c.requires.sound c.give_failing.new.self out c.args.due.now c.args.limit.now c.requires.failing c.landing-self.result landing c.in_ok-give_failing.ensures.once c.give_failing.ensures.made;
+      waiting = rw c.deref-2.ensures.value (given_waiting c.requires.sound c.give_failing.new.self out);
     }
 
 pub returns-clause-landed : goal.returns-clause-landed
 returns-clause-landed g c =
     let out = c.in_ok-give_failing.ensures.given in
     let landing = rw c.deref.ensures.value at c.landing-self.ensures in
-    has_landed c.requires.sound c.give_failing.new.self out.has_taken c.args.due.now c.args.limit.now c.requires.failing c.give_failing.new.given.items (given_same out) c.landing-self.result landing c.requires.within c.repair_each.ensures.frame
-    (settled_since c.requires.sound c.give_failing.new.self out.has_taken c.give_failing.ensures.made c.in_ok-repair_each.ensures.settled)
+    has_landed c.requires.sound c.give_failing.new.self out c.args.due.now c.args.limit.now c.requires.failing c.landing-self.result landing c.requires.within c.repair_each.ensures.frame
+    (settled_since c.requires.sound c.give_failing.new.self out c.give_failing.ensures.made c.in_ok-repair_each.ensures.settled)
