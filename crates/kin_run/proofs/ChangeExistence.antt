@@ -1,5 +1,5 @@
 -- Every change in its range is refused, or has an outcome.
-use Rattle.std.proofs.Common.{◌≡◌, ◌⊎◌, inl, inr, ◌<◌, ◌≤◌, true, false, ℤ, unsigned_abs, Option, Some, None, refl, sym, ap, ◌∙◌, subst, arith, is_some}
+use Rattle.std.proofs.Common.{◌≡◌, ◌⊎◌, inl, inr, ◌≤◌, true, false, ℤ, unsigned_abs, Option, Some, None, refl, sym, ap, ◌∙◌, subst, arith, is_some}
 use Rattle.kin_run.proofs.Vocabulary.{cases_lt, same_Some, IsCanonical, Moment, After, At, Course, IsSlow, Change, ChangesTo, IsChangeInRange, IsRefusedChange, IsRefusedTurn, enters, leaves, restarts, turns, Refusal, Absent, NotWhole}
 use Rattle.kin_run.proofs.Vocabulary.{OutOfBounds, Taken}
 use Rattle.kin_num.specs.declared.instant.Phase.{Phase}
@@ -27,12 +27,13 @@ slow_some c slow d e = subst IsSlow (same_Some c d e) slow
 -- ---- whether a motion is slow
 -- a motion with a slow velocity is slow or not
 slow_or_not : (c : Course) → unsigned_abs c.u ≤ 4096 → unsigned_abs c.v ≤ 4096 → IsSlow c ⊎ ¬ (IsSlow c)
-slow_or_not c u v = both (cases_lt 4096 (unsigned_abs c.x)) (cases_lt 4096 (unsigned_abs c.y))
-  where
-    both : (4096 < unsigned_abs c.x) ⊎ (unsigned_abs c.x ≤ 4096) → (4096 < unsigned_abs c.y) ⊎ (unsigned_abs c.y ≤ 4096) → IsSlow c ⊎ ¬ (IsSlow c)
-    both (inr x) (inr y) = inl (record { x_small = x; y_small = y; u_small = u; v_small = v })
-    both (inl far) y = inr (λ slow. let near = slow.x_small in omega (arith, far, near))
-    both x (inl far) = inr (λ slow. let near = slow.y_small in omega (arith, far, near))
+slow_or_not c u v = elim (cases_lt 4096 (unsigned_abs c.x)) [
+  | inl far ↦ inr (λ slow. let near = slow.x_small in omega (arith, far, near))
+  | inr x ↦ elim (cases_lt 4096 (unsigned_abs c.y)) [
+    | inl far ↦ inr (λ slow. let near = slow.y_small in omega (arith, far, near))
+    | inr y ↦ inl (record { x_small = x; y_small = y; u_small = u; v_small = v })
+  ]
+]
 
 -- ---- turns
 module _ (m : Moment) (canonical : IsCanonical m.at) (u v : ℤ) (old : Course) where
@@ -55,16 +56,15 @@ module _ (m : Moment) (canonical : IsCanonical m.at) (u v : ℤ) (old : Course) 
   })
   by_size at new goes (inr far) = inl (OutOfBounds, inr (old, refl, inr (refl, (at, (new, goes, far)))))
 
-  by_turn : unsigned_abs u ≤ 4096 → unsigned_abs v ≤ 4096 → m.phase ≡ At → ((new : Course) × TurnsTo m.at u v old new) ⊎ ((new : Course) → ¬ (TurnsTo m.at u v old new)) → IsDecided m (Some old) (turns u v)
-  by_turn u_small v_small at (inl (new, goes)) = by_size at new goes (slow_or_not new (subst (λ z. unsigned_abs z ≤ 4096) (sym goes.u_is) u_small) (subst (λ z. unsigned_abs z ≤ 4096) (sym goes.v_is) v_small))
-  by_turn u_small v_small at (inr none) = inl (NotWhole, inr (old, refl, inl (refl, inr none)))
-
   turn_decided : unsigned_abs u ≤ 4096 → unsigned_abs v ≤ 4096 → IsDecided m (Some old) (turns u v)
   turn_decided u_small v_small = by_phase m.phase refl
     where
       by_phase : (p : Phase) → m.phase ≡ p → IsDecided m (Some old) (turns u v)
-      by_phase At at = by_turn u_small v_small at (turn_or_none m.at u v old canonical.form)
       by_phase After after = inl (NotWhole, inr (old, refl, inl (refl, inl after)))
+      by_phase At at = elim (turn_or_none m.at u v old canonical.form) [
+        | inl (new, goes) ↦ by_size at new goes (slow_or_not new (rw goes.u_is u_small) (rw goes.v_is v_small))
+        | inr none ↦ inl (NotWhole, inr (old, refl, inl (refl, inr none)))
+      ]
 
 -- ---- one row for each change
 pub change_decided : (m : Moment) → IsCanonical m.at → (now : Option Course) (c : Change) → IsChangeInRange c → IsDecided m now c

@@ -1,8 +1,8 @@
 -- What comes of a deed: it is refused for one cause; or it is allowed, prints one text, and leads to one state, of the same size and at a canonical instant.
-use Rattle.std.proofs.Common.{◌≡◌, inl, inr, Bool, List, ℕ, Option, ◌∙◌, sym, ap, subst, slice_set}
+use Rattle.std.proofs.Common.{◌≡◌, inl, inr, Bool, List, ℕ, Option, ◌∙◌, sym, ap, subst, slice_set, refl}
 use Rattle.kin_run.proofs.Vocabulary.{IsCanonical, IsEarlier, Quadratic, Shape, Course, motion_of, Block, Deed, asks, changes, goes_on, goes_to, IsAllowed, IsNamedRoot, IsRefused, LeadsTo, State, at, IsPassedText, Prints, Step, Refusal}
 use Rattle.kin_run.proofs.Vocabulary.{one_reply_line}
-use Rattle.kin_run.proofs.NamedRoots.{one_named_root, named_canonical, named_root_of, has_root}
+use Rattle.kin_run.proofs.NamedRoots.{one_named_root, named_root_of, has_root}
 use Rattle.kin_script.proofs.Changes.{one_refused_change, one_change}
 use Rattle.kin_run.proofs.Blocks.{one_passed, one_next, one_told}
 
@@ -11,21 +11,13 @@ pub goes_allowed : (s : State) (upper : Bool) (p : Quadratic) (w : Shape) → Is
 goes_allowed s upper p w named later r (inl h) = has_root p.a p.b p.c w (named_root_of upper p w named) h.1
 goes_allowed s upper p w named later r (inr h) = later (subst (λ (v : Shape). IsEarlier (at v) s.moment) (one_named_root upper p h.1.0 w h.1.1 named) h.1.2)
 
--- the size stays
-pub same_size : (s : State) (d : Deed) (t : State) → LeadsTo s d t → t.size ≡ s.size
-same_size s (changes n c) t e = ap (λ (u : State). u.size) e.2
-same_size s (goes_to upper p) t e = ap (λ (u : State). u.size) e.2
-same_size s goes_on t (inl e) = ap (λ (u : State). u.size) e.2
-same_size s goes_on t (inr e) = ap (λ (u : State). u.size) e.1
-same_size s (asks q) t e = ap (λ (u : State). u.size) e
-
--- every state of a run stands at a canonical instant
-pub stays_canonical : (s : State) (d : Deed) (t : State) → IsCanonical s.moment.at → LeadsTo s d t → IsCanonical t.moment.at
-stays_canonical s (changes n c) t canonical e = subst (λ (u : State). IsCanonical u.moment.at) (sym e.2) canonical
-stays_canonical s (goes_to upper p) t canonical e = subst (λ (u : State). IsCanonical u.moment.at) (sym e.2) (named_canonical upper p e.0 e.1)
-stays_canonical s goes_on t canonical (inl e) = subst (λ (u : State). IsCanonical u.moment.at) (sym e.2) e.1.canonical
-stays_canonical s goes_on t canonical (inr e) = subst (λ (u : State). IsCanonical u.moment.at) (sym e.1) canonical
-stays_canonical s (asks q) t canonical e = subst (λ (u : State). IsCanonical u.moment.at) (sym e) canonical
+-- the size stays, and every state of a run stands at a canonical instant
+pub stays : (s : State) (d : Deed) (t : State) → IsCanonical s.moment.at → LeadsTo s d t → (t.size ≡ s.size) × IsCanonical t.moment.at
+stays s (changes n c) t canonical e = rw e.2 (refl, canonical)
+stays s (goes_to upper p) t canonical e = rw e.2 (refl, (named_root_of upper p e.0 e.1).canonical)
+stays s goes_on t canonical (inl e) = rw e.2 (refl, e.1.canonical)
+stays s goes_on t canonical (inr e) = rw e.1 (refl, canonical)
+stays s (asks q) t canonical e = rw e (refl, canonical)
 
 -- at most one cause
 pub one_cause : (s : State) (d : Deed) (r q : Refusal) → IsRefused s d r → IsRefused s d q → r ≡ q
@@ -40,7 +32,7 @@ one_cause s (asks k) r q x y = x.0 ∙ sym y.0
 -- what is so at the named root is so of one thing, where it is so of one at each instant
 pub one_at_root : {A : Type 0} (upper : Bool) (p : Quadratic) (IsAt : Shape → A → Type 0) (x y : A) → ((w : Shape) → IsCanonical w → IsAt w x → IsAt w y → x ≡ y)
     → (w : Shape) × IsNamedRoot upper p w × IsAt w x → (w : Shape) × IsNamedRoot upper p w × IsAt w y → x ≡ y
-one_at_root upper p IsAt x y only a b = only b.0 (named_canonical upper p b.0 b.1) (subst (λ (w : Shape). IsAt w x) (one_named_root upper p a.0 b.0 a.1 b.1) a.2) b.2
+one_at_root upper p IsAt x y only a b = only b.0 (named_root_of upper p b.0 b.1).canonical (subst (λ (w : Shape). IsAt w x) (one_named_root upper p a.0 b.0 a.1 b.1) a.2) b.2
 
 -- one text
 one_print : (s : State) (d : Deed) (x y : List ℕ) → IsCanonical s.moment.at → Prints s d x → Prints s d y → x ≡ y

@@ -1,80 +1,53 @@
 -- The commands of a generated script are never refused, and a seed and a count have one text.
-use Rattle.std.proofs.Common.{◌≡◌, inl, inr, ℕ, zero, suc, ◌+◌, ◌-◌, ◌*◌, ◌≤◌, ◌^◌, Bool, true, false, List, [], ◌∷◌, ◌++◌, Option, Some, None, refl, sym, ap, ◌∙◌, subst, append_assoc, arith, pos, take, slice_get, slice_set, is_some, get_or-set_other, append-nil}
+use Rattle.std.proofs.Common.{◌≡◌, inl, inr, ℕ, zero, suc, ◌+◌, ◌-◌, ◌*◌, ◌≤◌, ◌^◌, true, false, List, [], ◌∷◌, ◌++◌, Some, None, refl, sym, ap, ◌∙◌, subst, append_assoc, arith, pos, take, is_some, get_or-set_other}
 use lib.IntN.{neg_ℤ}
 use Rattle.std.proofs.lemmas.Nat.Gcd.{IsGcd-from_zero, IsGcd-from_mod}
-use Rattle.kin_run.proofs.Vocabulary.{Appends, Appends-trans, ints, same_Some, Plus, IsLowest, line, sign_at_instant, IsEarlier, After, At, Shape, above_fraction, less_asym, start_canonical, Course, is_live, Block, none_live, AppendsFront}
-use Rattle.kin_run.proofs.Vocabulary.{Deed, asks, deed_of, IsGenerated, IsLeastSize, course_behind, insertion, insertions, one_of_each, questions, state_after, IsProvided, IsNamedRoot, IsRefused, LeadsTo, State, at, start, Ending, Text}
-use Rattle.kin_run.proofs.Vocabulary.{Command, Script, IsDemoText, OneDemoText, WritesDemo, demo_line, start_of, status_of_stop, PassesInTurn, IsCutOfText, IsFrontOfEach, HasTallied, tally_line, IsFront, Wrote, Tally, Stop, Fault, NoMemory}
+use Rattle.kin_run.proofs.Vocabulary.{Appends, Appends-trans, ints, same_Some, Plus, line, sign_at_instant, IsEarlier, After, At, Shape, above_fraction, less_asym, start_canonical, is_live, Block, none_live, AppendsFront, Deed, asks}
+use Rattle.kin_run.proofs.Vocabulary.{deed_of, IsGenerated, IsLeastSize, course_behind, insertion, insertions, one_of_each, questions, state_after, IsProvided, IsNamedRoot, IsRefused, LeadsTo, State, at, Ending, Text, Command, Script}
+use Rattle.kin_run.proofs.Vocabulary.{IsDemoText, OneDemoText, WritesDemo, demo_line, start_of, status_of_stop, PassesInTurn, IsCutOfText, IsFrontOfEach, HasTallied, tally_line, IsFront, Wrote, Tally, Stop, Fault, NoMemory}
 use Rattle.kin_num.specs.declared.instant.Shape.TheVariants.{Ratio}
 use Rattle.kin_num.proofs.FractionOrder.{fraction_itself, line_at_fraction}
-use Rattle.kin_motion.specs.declared.keep.Keep.{Keep}
 use Rattle.kin_motion.specs.declared.keep.Keep.TheVariants as keep
 use Rattle.kin_motion.specs.declared.keep.Rect.{Rect}
 use Rattle.kin_script.specs.declared.command.Command.TheVariants.{Extreme, Hull, Closest, Inside, Live}
-use Rattle.kin_run.proofs.Fronts.{front_through, front_take, front_after}
-use Rattle.kin_run.proofs.Gathering.{Bytes}
+use Rattle.kin_run.proofs.Gathering.{Bytes, front_through, front_take, front_after}
 use Rattle.kin_run.proofs.InTurn.{one_in_turn}
 use Rattle.kin_run.proofs.OneText.{one_text}
 use Rattle.kin_run.proofs.Playing.{Line}
 use Rattle.kin_run.proofs.Tallying.{tallied_from_nothing}
 
 -- ---- the points enter
--- the insertions from one number on
-abbrev insertions_from : ℕ → ℕ → ℕ → List Line
-insertions_from seed first zero = []
-insertions_from seed first (suc n) = insertion seed first ∷ insertions_from seed (suc first) n
-
-from_first : (seed first n : ℕ) → insertions seed (first + n) ≡ insertions seed first ++ insertions_from seed first n
-from_first seed first zero = let none : first + 0 ≡ first = omega arith in ap (insertions seed) none ∙ sym (append-nil (insertions seed first))
-from_first seed first (suc n) =
-    let one : first + suc n ≡ suc first + n = omega arith in
-    ap (insertions seed) one ∙ from_first seed (suc first) n ∙ append_assoc (insertions seed first) (insertion seed first ∷ []) (insertions_from seed (suc first) n)
-
 -- no number from the first on is live, one of each kind is kept, and it is the instant 0
 record IsAwaiting (first : ℕ) (s : State) : Type 0 where
   free : (number : ℕ) → first ≤ number → is_live s.motions number ≡ false
   keeps : s.keeps ≡ one_of_each
   moment : s.moment ≡ at (Ratio (pos 0) (pos 1))
 
-awaits : (size : ℕ) (journal : Bool) → IsAwaiting 0 (start size one_of_each journal)
-awaits size journal = record { free = λ number low. ap is_some (none_live (2 ^ size) number); keeps = refl; moment = refl }
-
 -- what the commands of a suffix end in, from such a state
 abbrev EndWell : ℕ → List Line → Type 0
 EndWell first cs = (s : State) (text : List ℕ) (ending : Ending) → IsAwaiting first s → Text s cs text ending → ending ≡ None
 
 insertion_ends_well : (seed first : ℕ) (cs : List Line) → EndWell (suc first) cs → EndWell first (insertion seed first ∷ cs)
-insertion_ends_well seed first cs more s text ending awaiting (inl e) = absurd (let clash : true ≡ false = sym e.1.1 ∙ awaiting.free first (omega arith) in cc)
+insertion_ends_well seed first cs more s text ending awaiting (inl e) = absurd (let free = awaiting.free first (omega arith) in let live = e.1.1 in cc)
 insertion_ends_well seed first cs more s text ending awaiting (inr g) = more g.2 g.1 ending after g.4
   where
-    m : Course
-    m = course_behind (state_after (4 * first) seed)
-
-    entered : IsAwaiting (suc first) (record s { motions = slice_set s.motions first (Some m) })
-    entered = record {
-      free = λ number low. ap is_some (get_or-set_other s.motions first number (Some m) None (λ e. absurd (omega (arith, e, low)))) ∙ awaiting.free number (omega (arith, low));
+    after : IsAwaiting (suc first) g.2
+    after = rw (g.3.leads.2, g.3.leads.1) (record {
+      free = λ number low. ap is_some (get_or-set_other s.motions first number (Some (course_behind (state_after (4 * first) seed))) None (λ e. absurd (omega (arith, e, low)))) ∙ awaiting.free number (omega (arith, low));
       keeps = awaiting.keeps;
       moment = awaiting.moment;
-    }
+    })
 
-    after : IsAwaiting (suc first) g.2
-    after = subst (IsAwaiting (suc first)) (sym (g.3.leads.2 ∙ ap (λ (next : Option Course). record s { motions = slice_set s.motions first next }) g.3.leads.1)) entered
-
-insertions_end_well : (seed first n : ℕ) (cs : List Line) → EndWell (first + n) cs → EndWell first (insertions_from seed first n ++ cs)
-insertions_end_well seed first zero cs more = let none : first + 0 ≡ first = omega arith in subst (λ k. EndWell k cs) none more
-insertions_end_well seed first (suc n) cs more =
-    let one : first + suc n ≡ suc first + n = omega arith in
-    insertion_ends_well seed first (insertions_from seed (suc first) n ++ cs) (insertions_end_well seed (suc first) n cs (subst (λ k. EndWell k cs) one more))
+insertions_end_well : (seed count : ℕ) (cs : List Line) → EndWell count cs → EndWell 0 (insertions seed count ++ cs)
+insertions_end_well seed zero cs more = more
+insertions_end_well seed (suc n) cs more = rw (append_assoc (insertions seed n) (insertion seed n ∷ []) cs) (insertions_end_well seed n (insertion seed n ∷ cs) (insertion_ends_well seed n cs more))
 
 -- ---- time goes to 20
-lowest_twenty : IsLowest (pos 20) (pos 1)
-lowest_twenty = record { positive = omega arith; lowest = IsGcd-from_mod 20 1 1 (IsGcd-from_zero 1 0 refl) }
-
 twenty_later : (w : Shape) → IsNamedRoot true (line (pos 20) (pos 1)) w → ¬ (IsEarlier (at w) (at (Ratio (pos 0) (pos 1))))
 twenty_later w named = later
   where
     is : w ≡ Ratio (pos 20) (pos 1)
-    is = fraction_itself (pos 20) (pos 1) lowest_twenty w named.0.canonical.form named.0.zero
+    is = fraction_itself (pos 20) (pos 1) (record { positive = omega arith; lowest = IsGcd-from_mod 20 1 1 (IsGcd-from_zero 1 0 refl) }) w named.0.canonical.form named.0.zero
 
     positive : sign_at_instant (line (pos 0) (pos 1)) w ≡ Plus
     positive = ap (sign_at_instant (line (pos 0) (pos 1))) is ∙ line_at_fraction (pos 20) (pos 1) (pos 0) (pos 1) refl
@@ -85,77 +58,50 @@ twenty_later w named = later
 
 -- ---- the questions
 -- what commands end in, where one of each kind is kept
-abbrev EndWithKeeps : List Line → Type 0
-EndWithKeeps cs = (s : State) (text : List ℕ) (ending : Ending) → s.keeps ≡ one_of_each → Text s cs text ending → ending ≡ None
+record EndWithKeeps (cs : List Line) : Type 0 where
+  ends : (s : State) (text : List ℕ) (ending : Ending) → s.keeps ≡ one_of_each → Text s cs text ending → ending ≡ None
 
 asked_ends_well : (number : ℕ) (q : Command) (cs : List Line) → deed_of q ≡ asks q → ((s : State) → s.keeps ≡ one_of_each → IsProvided s q) → EndWithKeeps cs → EndWithKeeps ((number, q) ∷ cs)
-asked_ends_well number q cs is provided more s text ending keeps (inl e) =
-    let refused = subst (λ (d : Deed). IsRefused s d e.0) is e.1 in
-    absurd (refused.1 (provided s keeps))
-asked_ends_well number q cs is provided more s text ending keeps (inr g) =
-    let same : g.2 ≡ s = subst (λ (d : Deed). LeadsTo s d g.2) is g.3.leads in
-    more g.2 g.1 ending (ap (λ (t : State). t.keeps) same ∙ keeps) g.4
-
-kept_at : (s : State) (k : ℕ) (kind : Keep) → s.keeps ≡ one_of_each → slice_get one_of_each k ≡ Some kind → slice_get s.keeps k ≡ Some kind
-kept_at s k kind keeps there = ap (λ (ks : List Keep). slice_get ks k) keeps ∙ there
+asked_ends_well number q cs is provided more = record { ends = ends }
+  where
+    ends : (s : State) (text : List ℕ) (ending : Ending) → s.keeps ≡ one_of_each → Text s ((number, q) ∷ cs) text ending → ending ≡ None
+    ends s text ending keeps (inl e) = absurd ((subst (λ (d : Deed). IsRefused s d e.0) is e.1).1 (provided s keeps))
+    ends s text ending keeps (inr g) = let same : g.2 ≡ s = subst (λ (d : Deed). LeadsTo s d g.2) is g.3.leads in more.ends g.2 g.1 ending (ap (λ (t : State). t.keeps) same ∙ keeps) g.4
 
 abbrev around : Rect
 around = record { x1 = neg_ℤ (pos 100); x2 = pos 100; y1 = neg_ℤ (pos 100); y2 = pos 100 }
 
--- the questions behind the line of the asked time
-abbrev fourth : ℕ → List Line
-fourth number = (number + 5, Live) ∷ []
-
-abbrev third : ℕ → List Line
-third number = (number + 4, Inside around) ∷ fourth number
-
-abbrev second : ℕ → List Line
-second number = (number + 3, Closest) ∷ third number
-
-abbrev first : ℕ → List Line
-first number = (number + 2, Hull) ∷ second number
-
-replies_end_well : (number : ℕ) → EndWithKeeps ((number + 1, Extreme 1) ∷ first number)
+replies_end_well : (number : ℕ) → EndWithKeeps ((number + 1, Extreme 1) ∷ (number + 2, Hull) ∷ (number + 3, Closest) ∷ (number + 4, Inside around) ∷ (number + 5, Live) ∷ [])
 replies_end_well number =
-    asked_ends_well (number + 1) (Extreme 1) (first number) refl (λ s keeps. (pos 1, pos 1, kept_at s 1 (keep.Extreme (pos 1) (pos 1)) keeps refl))
-    (asked_ends_well (number + 2) Hull (second number) refl (λ s keeps. (2, kept_at s 2 keep.Hull keeps refl))
-    (asked_ends_well (number + 3) Closest (third number) refl (λ s keeps. (3, kept_at s 3 keep.Closest keeps refl))
-    (asked_ends_well (number + 4) (Inside around) (fourth number) refl (λ s keeps. (4, kept_at s 4 keep.Range keeps refl))
-    (asked_ends_well (number + 5) Live [] refl (λ s keeps. tt) (λ s text ending keeps t. t.1)))))
+    asked_ends_well (number + 1) (Extreme 1) _ refl (λ s keeps. (pos 1, pos 1, rw keeps refl))
+    (asked_ends_well (number + 2) Hull _ refl (λ s keeps. (2, rw keeps refl))
+    (asked_ends_well (number + 3) Closest _ refl (λ s keeps. (3, rw keeps refl))
+    (asked_ends_well (number + 4) (Inside around) _ refl (λ s keeps. (4, rw keeps refl))
+    (asked_ends_well (number + 5) Live [] refl (λ s keeps. tt) (record { ends = λ s text ending keeps t. t.1 })))))
 
 questions_end_well : (count number : ℕ) → EndWell count (questions number)
 questions_end_well count number s text ending awaiting (inl (r, inl none, text_is, ending_is)) = absurd (omega (arith, ints, none.1))
 questions_end_well count number s text ending awaiting (inl (r, inr (is, past), text_is, ending_is)) = absurd (twenty_later past.0 past.1 (subst (IsEarlier (at past.0)) awaiting.moment past.2))
-questions_end_well count number s text ending awaiting (inr g) =
-    replies_end_well number g.2 g.1 ending (ap (λ (t : State). t.keeps) g.3.leads.2 ∙ awaiting.keeps) g.4
+questions_end_well count number s text ending awaiting (inr g) = (replies_end_well number).ends g.2 g.1 ending (ap (λ (t : State). t.keeps) g.3.leads.2 ∙ awaiting.keeps) g.4
 
 -- no command of a generated script is refused
 pub never_refused : (seed count : ℕ) (s : Script) (text : List ℕ) (ending : Ending) → IsGenerated seed count s → Text (start_of s) s.lines text ending → ending ≡ None
 never_refused seed count s text ending is t =
-    insertions_end_well seed 0 count (questions (8 + count)) (questions_end_well (0 + count) (8 + count)) (start_of s) text ending
-    (subst (λ (ks : List Keep). IsAwaiting 0 (start s.size ks s.journal)) (sym is.keeps) (awaits s.size s.journal))
-    (subst (λ (cs : List Line). Text (start_of s) cs text ending) (is.lines ∙ ap (λ (cs : List Line). cs ++ questions (8 + count)) (ap (insertions seed) from_none ∙ from_first seed 0 count)) t)
-  where
-    from_none : count ≡ 0 + count
-    from_none = omega arith
+    insertions_end_well seed count (questions (8 + count)) (questions_end_well count (8 + count)) (start_of s) text ending
+    (record { free = λ number low. ap is_some (none_live (2 ^ s.size) number); keeps = is.keeps; moment = refl }) (rw is.lines at t)
 
 -- ---- a seed and a count have one script, and so one text
 one_size : (count m n : ℕ) → IsLeastSize count m → IsLeastSize count n → m ≡ n
 one_size count m n p q = omega (arith, p.least n q.low q.room, q.least m p.low p.room)
 
 one_script : (seed count : ℕ) (s t : Script) → IsGenerated seed count s → IsGenerated seed count t → s ≡ t
-one_script seed count s t p q = λ i. record {
-  size = one_size count s.size t.size p.size q.size i;
-  keeps = (p.keeps ∙ sym q.keeps) i;
-  journal = (p.journal ∙ sym q.journal) i;
-  lines = (p.lines ∙ sym q.lines) i;
-}
+one_script seed count s t p q = λ i. record { size = one_size count s.size t.size p.size q.size i; keeps = (p.keeps ∙ sym q.keeps) i; journal = (p.journal ∙ sym q.journal) i; lines = (p.lines ∙ sym q.lines) i }
 
 pub one_demo_text : OneDemoText
 one_demo_text seed count x y p q =
     let same = one_script seed count p.script q.script p.generated q.generated in
-    let body = one_text (start_of q.script) q.script.lines p.body q.body None None start_canonical (subst (λ (s : Script). Text (start_of s) s.lines p.body None) same p.replays) q.replays in
-    let blocks = one_in_turn (start_of q.script) q.script.lines p.blocks q.blocks start_canonical (subst (λ (s : Script). PassesInTurn (start_of s) s.lines p.blocks) same p.passed) q.passed in
+    let body = one_text (start_of q.script) q.script.lines p.body q.body None None start_canonical (rw same at p.replays) q.replays in
+    let blocks = one_in_turn (start_of q.script) q.script.lines p.blocks q.blocks start_canonical (rw same at p.passed) q.passed in
     p.joined ∙ ap (λ (w : List ℕ). w ++ demo_line p.blocks) body.0 ∙ ap (λ (bs : List Block). q.body ++ demo_line bs) blocks ∙ sym q.joined
 
 -- ---- fronts of that text

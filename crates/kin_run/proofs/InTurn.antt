@@ -2,7 +2,7 @@
 use Rattle.std.proofs.Common.{◌≡◌, ℕ, Option, List, [], ◌∷◌, ◌++◌, ◌+◌, ◌<◌, ◌≤◌, length, get_or, drop, refl, sym, ap, ◌∙◌, subst, append_assoc, append-nil}
 use Rattle.kin_run.proofs.Vocabulary.{drop_all, IsCanonical, Shape, Block, IsJournal, journal_is_one, Deed, asks, changes, deed_of, goes_on, goes_to, IsAllowed, LeadsTo, State, at, state_setting, Passes, PassesInTurn, HasTallied, Tally}
 use Rattle.kin_run.proofs.Blocks.{one_told}
-use Rattle.kin_run.proofs.Determined.{stays_canonical, one_at_root, one_state}
+use Rattle.kin_run.proofs.Determined.{stays, one_at_root, one_state}
 use Rattle.kin_run.proofs.Playing.{Line, at_item}
 use Rattle.kin_run.proofs.Tallying.{none_tallied, tallied_then, tallied_is}
 
@@ -36,5 +36,5 @@ one_in_turn s [] x y canonical p q = p ∙ sym q
 one_in_turn s (c ∷ cs) x y canonical p q =
     let d = deed_of c.1 in
     let same = one_state s d p.2 q.2 canonical p.5 q.5 in
-    let tails = one_in_turn q.2 cs p.1 q.1 (stays_canonical s d q.2 canonical q.5) (subst (λ (t : State). PassesInTurn t cs p.1) same p.6) q.6 in
+    let tails = one_in_turn q.2 cs p.1 q.1 (stays s d q.2 canonical q.5).1 (subst (λ (t : State). PassesInTurn t cs p.1) same p.6) q.6 in
     p.7 ∙ ap (λ (v : List Block). v ++ p.1) (one_passed s d p.0 q.0 canonical p.4 q.4) ∙ ap (λ (w : List Block). q.0 ++ w) tails ∙ sym q.7

@@ -1,5 +1,4 @@
 pub mod Vocabulary
-pub mod Fronts
 pub mod Gathering
 pub mod NamedRoots
 pub mod Blocks
@@ -10,13 +9,10 @@ pub mod Performing
 pub mod Replying
 pub mod Playing
 pub mod OneText
-pub mod AskedInstants
 pub mod ChangeExistence
-pub mod Changing
 pub mod StepExistence
 pub mod TextExistence
 pub mod Tallying
 pub mod Arriving
 pub mod InTurn
 pub mod Generated
-pub mod DemoExistence

@@ -2,8 +2,7 @@
 use Rattle.std.proofs.Common.{◌≡◌, ℕ, Bool, List, [], ◌∷◌, ◌++◌, length, Option, Some, None, refl, sym, ap, ◌∙◌, subst, true, false, append-nil}
 use Rattle.kin_run.proofs.Vocabulary.{IsCanonical, IsEarlier, Moment, Shape, Block, IsJournal, IsNextBlock, Setting, AppendsFront, PutsFront, State, at, state_setting, IsPassedText, HasMoved, HasPassed, HasStepped, IsWhole, World}
 use Rattle.kin_run.proofs.Vocabulary.{failure_count, BreaksOff, IsFrontOfEach, printed_if, state_of, HasTallied, counted_on, Gains, GainsSome, Printer, printer, Tally, Fault, NoMemory}
-use Rattle.kin_run.proofs.Fronts.{front_through, front_after}
-use Rattle.kin_run.proofs.Gathering.{gains_nothing, gains_put, some_then, some_lost, some_flushed, some_is}
+use Rattle.kin_run.proofs.Gathering.{gains_nothing, gains_put, some_then, some_lost, some_flushed, some_is, front_through, front_after}
 use Rattle.kin_run.proofs.Passing.{ArePassed, one_more_passed, none_passed, lines_if, lines_behind, is_text, cut_on_the_way}
 use Rattle.kin_run.proofs.Tallying.{none_tallied, one_tallied, tallied_then, tallied_is}
 

@@ -1,9 +1,9 @@
 -- An input has one text, and one status with it.
-use Rattle.std.proofs.Common.{◌≡◌, ℕ, ◌+◌, ◌≤◌, ◌<◌, ◌^◌, Bool, List, [], ◌∷◌, ◌++◌, length, Option, Some, None, Ok, Err, refl, sym, ap, ◌∙◌, subst, arith, ◌⊎◌, inl, inr, length-append, append-nil}
-use Rattle.kin_run.proofs.Vocabulary.{Consumes, IsAtEnd, IsCanonical, start_canonical, deed_of, script_of, State, start, Ending, Text, bad_line, Script, Answers, IsAnswer, IsBrokenOff, IsCut, IsTextOf, OneAnswer, Outcome, TakesWhole}
-use Rattle.kin_run.proofs.Vocabulary.{Writes, status_of_stop, IsCutOfText, IsFront, Status, Stop, Fault, NoMemory}
+use Rattle.std.proofs.Common.{◌≡◌, ℕ, ◌+◌, ◌≤◌, ◌<◌, ◌^◌, Bool, List, [], ◌∷◌, ◌++◌, length, Option, Some, None, Ok, Err, refl, sym, ap, ◌∙◌, subst, arith, ◌⊎◌, inl, inr, length-append, append-nil, Result}
+use Rattle.kin_run.proofs.Vocabulary.{Consumes, IsCanonical, start_canonical, deed_of, script_of, State, start, Ending, Text, bad_line, Script, Answers, IsAnswer, IsBrokenOff, IsCut, OneAnswer, Outcome, TakesWhole, Writes, status_of_stop}
+use Rattle.kin_run.proofs.Vocabulary.{IsCutOfText, IsFront, Status, Stop, Fault, NoMemory}
 use Rattle.kin_run.specs.declared.status.Status.TheVariants as status
-use Rattle.kin_run.proofs.Determined.{stays_canonical, one_step}
+use Rattle.kin_run.proofs.Determined.{stays, one_step}
 use Rattle.kin_run.proofs.Playing.{Line, allowed_goes_on, text_refused}
 
 pub one_text : (s : State) (cs : List Line) (x y : List ℕ) (e f : Ending) → IsCanonical s.moment.at → Text s cs x e → Text s cs y f → (x ≡ y) × (e ≡ f)
@@ -14,70 +14,46 @@ one_text s (c ∷ cs) x y e f canonical (inl p) q =
 one_text s (c ∷ cs) x y e f canonical (inr a) q =
     let b = allowed_goes_on s c cs y f a.3.allowed q in
     let same = one_step s (deed_of c.1) a.0 b.0 a.2 b.2 canonical a.3 b.3 in
-    let tails = one_text b.2 cs a.1 b.1 e f (stays_canonical s (deed_of c.1) b.2 canonical b.3.leads) (subst (λ (t : State). Text t cs a.1 e) same.1 a.4) b.4 in
+    let tails = one_text b.2 cs a.1 b.1 e f (stays s (deed_of c.1) b.2 canonical b.3.leads).1 (subst (λ (t : State). Text t cs a.1 e) same.1 a.4) b.4 in
     (a.5 ∙ ap (λ (v : List ℕ). v ++ a.1) same.0 ∙ ap (λ (w : List ℕ). b.0 ++ w) tails.0 ∙ sym b.5, tails.1)
 
 -- so a front of it is a front of each
 pub cut_of_text : (s : State) (cs : List Line) (x front : List ℕ) (e : Ending) → IsCanonical s.moment.at → Text s cs x e → IsFront front x → IsCutOfText s cs front
 cut_of_text s cs x front e canonical is f = λ text ending q. subst (IsFront front) (one_text s cs x text e ending canonical is q).0 f
 
--- the script, and then the text, of two answers to one input
-same_script : (input : List ℕ) (v w : Script) → script_of input ≡ Ok v → script_of input ≡ Ok w → v ≡ w
-same_script input v w p q = cc
-
-both_texts : (input x y : List ℕ) (e f : Ending) → IsTextOf input x e → IsTextOf input y f → (x ≡ y) × (e ≡ f)
-both_texts input x y e f p q =
-    let same = same_script input p.script q.script p.reads q.reads in
-    one_text (start q.script.size q.script.keeps q.script.journal) q.script.lines x y e f start_canonical (subst (λ (s : Script). Text (start s.size s.keeps s.journal) s.lines x e) same p.replays) q.replays
-
-no_script : (input : List ℕ) (s : Script) (n : ℕ) → script_of input ≡ Ok s → script_of input ≡ Err n → ⊥
-no_script input s n p q = cc
-
 -- the status of a script whose run ends so
 abbrev ended : Ending → Status
 ended None = status.Done
 ended (Some (n, r)) = status.Command n r
 
--- an answer is that of a script or that of a line outside the grammar
-record IsOfScript (input text : List ℕ) (a : Status) : Type 0 where
-  ending : Ending
-  is_text : IsTextOf input text ending
-  status_is : a ≡ ended ending
+-- an answer is that of a script, or that of a line outside the grammar
+abbrev IsOf : Result Script ℕ → Status → List ℕ → Type 0
+IsOf (Ok s) a text = (ending : Ending) × Text (start s.size s.keeps s.journal) s.lines text ending × (a ≡ ended ending)
+IsOf (Err line) a text = (a ≡ status.Script line) × (text ≡ bad_line line)
 
-record IsOfLine (input text : List ℕ) (a : Status) : Type 0 where
-  line : ℕ
-  outside : script_of input ≡ Err line
-  text_is : text ≡ bad_line line
-  status_is : a ≡ status.Script line
+answer_of : (input : List ℕ) (r : Result Script ℕ) → script_of input ≡ r → (a : Status) (text : List ℕ) → IsAnswer input a text → IsOf r a text
+answer_of input r e status.Done text p = rw (← e, p.reads) (None, p.replays, refl)
+answer_of input r e (status.Command n c) text p = rw (← e, p.reads) (Some (n, c), p.replays, refl)
+answer_of input r e (status.Script n) text p = rw (← e, p.0) (refl, p.1)
+answer_of input r e (status.Fault side) text p = absurd p
+answer_of input r e status.TooLong text p = absurd p
+answer_of input r e status.Words text p = absurd p
+answer_of input r e status.NoMemory text p = absurd p
 
-cases : (input : List ℕ) (a : Status) (text : List ℕ) → IsAnswer input a text → IsOfScript input text a ⊎ IsOfLine input text a
-cases input status.Done text p = inl (record { ending = None; is_text = p; status_is = refl })
-cases input (status.Command n r) text p = inl (record { ending = Some (n, r); is_text = p; status_is = refl })
-cases input (status.Script n) text p = inr (record { line = n; outside = p.0; text_is = p.1; status_is = refl })
-cases input (status.Fault side) text p = absurd p
-cases input status.TooLong text p = absurd p
-cases input status.Words text p = absurd p
-cases input status.NoMemory text p = absurd p
+one_of : (r : Result Script ℕ) (x y : List ℕ) (a b : Status) → IsOf r a x → IsOf r b y → (a ≡ b) × (x ≡ y)
+one_of (Ok s) x y a b p q = let same = one_text (start s.size s.keeps s.journal) s.lines x y p.0 q.0 start_canonical p.1 q.1 in (p.2 ∙ ap ended same.1 ∙ sym q.2, same.0)
+one_of (Err line) x y a b p q = (p.0 ∙ sym q.0, p.1 ∙ sym q.1)
 
 pub one_answer : OneAnswer
-one_answer input x y a b p q = at (cases input a x p) (cases input b y q)
-  where
-    at : IsOfScript input x a ⊎ IsOfLine input x a → IsOfScript input y b ⊎ IsOfLine input y b → (a ≡ b) × (x ≡ y)
-    at (inl v) (inl w) = let same = both_texts input x y v.ending w.ending v.is_text w.is_text in (v.status_is ∙ ap ended same.1 ∙ sym w.status_is, same.0)
-    at (inl v) (inr w) = absurd (no_script input v.is_text.script w.line v.is_text.reads w.outside)
-    at (inr v) (inl w) = absurd (no_script input w.is_text.script v.line w.is_text.reads v.outside)
-    at (inr v) (inr w) = let o = v.outside in let u = w.outside in let same : v.line ≡ w.line = cc in (v.status_is ∙ ap (λ n. status.Script n) same ∙ sym w.status_is, v.text_is ∙ ap bad_line same ∙ sym w.text_is)
+one_answer input x y a b p q = one_of (script_of input) x y a b (answer_of input _ refl a x p) (answer_of input _ refl b y q)
 
 -- a front of the line of an input outside the grammar is a front of its text
 pub cut_of_bad : (input front : List ℕ) (line : ℕ) → script_of input ≡ Err line → IsFront front (bad_line line) → IsCut input front
-cut_of_bad input front line e f = λ answer text p. subst (IsFront front) (one_answer input (bad_line line) text (status.Script line) answer (e, refl) p).1 f
+cut_of_bad input front line e f = λ answer text p. subst (IsFront front) (sym (answer_of input (Err line) e answer text p).1) f
 
 -- a front of the text of a script is a front of the text of its input
 pub cut_of_script : (input front : List ℕ) (script : Script) → script_of input ≡ Ok script → IsCutOfText (start script.size script.keeps script.journal) script.lines front → IsCut input front
-cut_of_script input front script e cut = λ answer text p. elim (cases input answer text p) [
-  | inl v ↦ cut text v.ending (subst (λ (s : Script). Text (start s.size s.keeps s.journal) s.lines text v.ending) (same_script input v.is_text.script script v.is_text.reads e) v.is_text.replays)
-  | inr v ↦ absurd (no_script input script v.line e v.outside)
-]
+cut_of_script input front script e cut = λ answer text p. let own = answer_of input (Ok script) e answer text p in cut text own.0 own.1
 
 -- a run that was broken off writes a front
 pub broken_off : (input front : List ℕ) (stop : Stop) → IsCut input front → Writes input (status_of_stop stop) front
@@ -86,20 +62,11 @@ broken_off input front NoMemory cut = cut
 
 -- ---- which status a known input has
 
--- what was taken up to the end of known bytes is all of them
-whole_is : (left now : Option (List ℕ)) (input taken : List ℕ) → left ≡ Some input → Consumes left now taken → IsAtEnd now → taken ≡ input
-whole_is None now input taken e c d = absurd cc
-whole_is (Some xs) None input taken e c d = absurd c
-whole_is (Some xs) (Some ys) input taken e c d =
-    let same : xs ≡ input = cc in
-    sym (append-nil taken) ∙ ap (λ (w : List ℕ). taken ++ w) (sym d) ∙ sym c ∙ same
-
-no_more : (left now : Option (List ℕ)) (input taken : List ℕ) → left ≡ Some input → Consumes left now taken → length taken ≤ length input
-no_more None now input taken e c = absurd cc
-no_more (Some xs) None input taken e c = absurd c
-no_more (Some xs) (Some ys) input taken e c =
-    let same : xs ≡ input = cc in
-    omega (arith, ap length same, ap length c, length-append taken ys)
+-- what is left of known bytes, behind what was taken
+left_of : (left now : Option (List ℕ)) (input taken : List ℕ) → left ≡ Some input → Consumes left now taken → (rest : List ℕ) × (now ≡ Some rest) × (input ≡ taken ++ rest)
+left_of None now input taken e c = absurd cc
+left_of (Some xs) None input taken e c = absurd c
+left_of (Some xs) (Some ys) input taken e c = let same : xs ≡ input = cc in (ys, refl, sym same ∙ c)
 
 -- a run answers its input, unless it was broken off or the input is too long
 ends : (left : Option (List ℕ)) (ended : Bool) (input : List ℕ) (st : Status) (written : List ℕ) → Outcome left ended input st written
@@ -113,22 +80,24 @@ ends left ended input status.Words written o = absurd o
 ends left ended input status.NoMemory written o = inl tt
 
 module _ {left now : Option (List ℕ)} {ended : Bool} {before after : Option (List ℕ)} {st : Status} (input : List ℕ) (p : Answers left now ended before after st) (known : left ≡ Some input) where
+  rest : (rest : List ℕ) × (now ≡ Some rest) × (input ≡ p.input ++ rest)
+  rest = left_of left now input p.input known p.taken
+
+  all_of : TakesWhole now ended p.input → p.input ≡ input
+  all_of whole = let none : rest.0 ≡ [] = rw rest.1 at whole.nothing_left in sym (rest.2 ∙ ap (λ (w : List ℕ). p.input ++ w) none ∙ append-nil p.input)
+
   -- a known input has its own status, unless the run was broken off
   pub exact : (a : Status) (text : List ℕ) → length input ≤ 2 ^ 20 → IsAnswer input a text → (st ≡ a) ⊎ IsBrokenOff st
-  exact a text small q = at (ends now ended p.input st p.written p.outcome)
-    where
-      at : IsBrokenOff st ⊎ ((TakesWhole now ended p.input × IsAnswer p.input st p.written) ⊎ ((st ≡ status.TooLong) × (length p.input ≡ 2 ^ 20 + 1))) → (st ≡ a) ⊎ IsBrokenOff st
-      at (inl broke) = inr broke
-      at (inr (inl (whole, is))) =
-          let same = whole_is left now input p.input known p.taken whole.nothing_left in
-          inl (one_answer input p.written text st a (subst (λ (i : List ℕ). IsAnswer i st p.written) same is) q).0
-      at (inr (inr (too_long, much))) = absurd (omega (arith, small, no_more left now input p.input known p.taken, much))
+  exact a text small q = elim (ends now ended p.input st p.written p.outcome) [
+    | inl broke ↦ inr broke
+    | inr (inl (whole, is)) ↦ inl (one_answer input p.written text st a (subst (λ (i : List ℕ). IsAnswer i st p.written) (all_of whole) is) q).0
+    | inr (inr (too_long, much)) ↦ absurd (omega (arith, small, ap length rest.2, length-append p.input rest.0, much))
+  ]
 
   -- a known input that is longer is too long, unless the run was broken off
   pub long : 2 ^ 20 < length input → (st ≡ status.TooLong) ⊎ IsBrokenOff st
-  long much = at (ends now ended p.input st p.written p.outcome)
-    where
-      at : IsBrokenOff st ⊎ ((TakesWhole now ended p.input × IsAnswer p.input st p.written) ⊎ ((st ≡ status.TooLong) × (length p.input ≡ 2 ^ 20 + 1))) → (st ≡ status.TooLong) ⊎ IsBrokenOff st
-      at (inl broke) = inr broke
-      at (inr (inl (whole, is))) = absurd (omega (arith, ap length (whole_is left now input p.input known p.taken whole.nothing_left), whole.within, much))
-      at (inr (inr (too_long, more))) = inl too_long
+  long much = elim (ends now ended p.input st p.written p.outcome) [
+    | inl broke ↦ inr broke
+    | inr (inl (whole, is)) ↦ absurd (omega (arith, ap length (all_of whole), whole.within, much))
+    | inr (inr (too_long, more)) ↦ inl too_long
+  ]

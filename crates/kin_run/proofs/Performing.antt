@@ -1,10 +1,11 @@
 -- What came of a deed, from what came of its parts.
-use Rattle.std.proofs.Common.{◌≡◌, ℕ, Bool, List, ◌++◌, ◌∙◌, refl, subst, Result, Ok, Err, OnOk, OnErr}
-use Rattle.kin_run.proofs.Vocabulary.{IsCanonical, IsEarlier, Quadratic, Shape, asks, goes_on, goes_to, PutsFront, IsReplyLine, IsAllowed, IsNamedRoot, LeadsToNext, State, at, IsNextText, IsPassedText, Prints, Step, Command, one_reply_line}
-use Rattle.kin_run.proofs.Vocabulary.{BreaksOff, IsFrontOfEach, Performs, PutsLine, Replies, GainsSome, Printer, printer, Halt, Broken, Refused, Stop, Fault, NoMemory}
+use Rattle.std.proofs.Common.{◌≡◌, ℕ, Bool, List, ◌++◌, ◌∙◌, refl, subst, Result, Ok, Err, OnOk, OnErr, [], Option, Some, None, ap, set-set, slice_set}
+use Rattle.kin_run.proofs.Vocabulary.{IsCanonical, IsEarlier, Quadratic, Shape, Course, motion_of, Change, ChangesTo, asks, changes, goes_on, goes_to, PutsFront, IsReplyLine, IsAllowed, IsNamedRoot, LeadsToNext, State, at, IsNextText}
+use Rattle.kin_run.proofs.Vocabulary.{IsPassedText, Prints, Step, Command, one_reply_line, HasReplaced, World, BreaksOff, IsFrontOfEach, Performs, PutsLine, Replies, state_of, GainsSome, Printer, printer, Halt, Broken, Refused, Stop, Fault}
+use Rattle.kin_run.proofs.Vocabulary.{NoMemory}
 use Rattle.kin_run.proofs.Determined.{goes_allowed}
 use Rattle.kin_run.proofs.Blocks.{one_next}
-use Rattle.kin_run.proofs.Gathering.{Bytes, gains_put, some_is}
+use Rattle.kin_run.proofs.Gathering.{Bytes, gains_put, some_is, gains_nothing, front_nil}
 use Rattle.kin_run.proofs.NamedRoots.{one_named_root}
 
 -- ---- to an instant
@@ -49,3 +50,17 @@ puts_next s canonical line own result before now = puts_known (IsNextText s) lin
 -- a front of the line of a question
 pub reply_cut : (s : State) → IsCanonical s.moment.at → (q : Command) (line before now : List ℕ) → IsReplyLine s q line → PutsFront before now line → (front : List ℕ) × (now ≡ before ++ front) × IsFrontOfEach (IsReplyLine s q) front
 reply_cut s canonical q line before now own put = (put.front, put.put, λ text is. record { more = put.rest; joined = one_reply_line s canonical q text line is own ∙ put.cut })
+
+module _ (s : State) (number : ℕ) (c : Change) (p : Printer) (allowed : IsAllowed s (changes number c)) where
+  pub changed : (next : Option Course) (t : State) → ChangesTo s.moment (motion_of s.motions number) c next → t ≡ record s { motions = slice_set s.motions number next } → GainsSome (λ text. Step s (changes number c) text t) p p
+  changed next t to e = record { text = []; gained = gains_nothing p; is = record { allowed = allowed; prints = refl; leads = (next, to, e) } }
+
+  pub changing_broke : IsAllowed s (changes number c) × BreaksOff (IsFrontOfEach (Prints s (changes number c))) NoMemory p p
+  changing_broke = (allowed, record { text = []; gained = gains_nothing p; is = λ text is. front_nil text })
+
+-- what the replay sees of a replacement
+pub replaced : (journal : Bool) (n : ℕ) (m : Course) (old new : World) → HasReplaced n m old new → state_of journal new ≡ record (state_of journal old) { motions = slice_set old.motions n (Some m) }
+replaced journal n m old new e =
+    ap (state_of journal) e.inserted.state
+    ∙ ap (λ (w : World). record (state_of journal w) { motions = slice_set w.motions n (Some m) }) e.removed.state
+    ∙ ap (λ (ms : List (Option Course)). record (state_of journal old) { motions = ms }) (set-set old.motions n None (Some m))

@@ -3,8 +3,7 @@ use Rattle.std.proofs.Common.{◌≡◌, ℕ, List, [], ◌∷◌, ◌++◌, dro
 use Rattle.kin_run.proofs.Vocabulary.{drop_all, IsCanonical, AppendsFront, deed_of, IsAllowed, IsRefused, State, Ending, Prints, Step, Text, refused_line, Command, Refusal, BreaksOff, IsCutOfText, IsFrontOfEach, Gains, GainsSome, IsFront}
 use Rattle.kin_run.proofs.Vocabulary.{LosesSome, Printer, Stop}
 use Rattle.kin_run.proofs.Determined.{one_cause, one_step}
-use Rattle.kin_run.proofs.Fronts.{front_through, front_after}
-use Rattle.kin_run.proofs.Gathering.{some_then, some_is, some_broke, some_lost_here}
+use Rattle.kin_run.proofs.Gathering.{some_then, some_is, some_broke, some_lost_here, front_through, front_after}
 
 abbrev pub Line : Type 0
 Line = ℕ × Command

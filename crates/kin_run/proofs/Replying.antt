@@ -3,7 +3,7 @@ use Rattle.std.proofs.Common.{◌≡◌, ℕ, List, [], ◌++◌, sym, ◌∙◌
 use Rattle.kin_run.proofs.Vocabulary.{IsCanonical, PutsFront, State, Command, World, IsReply, Replies, RepliesTo, Halt, Broken, Refused, Fault, NoMemory}
 use Rattle.kin_print.specs.declared.reply.Reply.{Reply}
 use Rattle.kin_print.specs.Replies.{reply_line}
-use Rattle.kin_run.proofs.Fronts.{front_nil}
+use Rattle.kin_run.proofs.Gathering.{front_nil}
 use Rattle.kin_run.proofs.Performing.{reply_cut}
 
 -- a reply to the same question

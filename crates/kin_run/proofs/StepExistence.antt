@@ -6,10 +6,9 @@ use Rattle.kin_motion.proofs.MotionLaws.{slow-set, slow-clear}
 use Rattle.kin_motion.proofs.MotionScenes.{live_fits}
 use Rattle.kin_cert.specs.Laws.{IsProper}
 use Rattle.kin_cert.proofs.JournalExistence.{earlier_or_not, next_blocks_exist, journals_exist}
-use Rattle.kin_run.proofs.AskedInstants.{root_asked}
 use Rattle.kin_run.proofs.ChangeExistence.{IsSlowIfSome, IsDecided, change_decided}
 use Rattle.kin_run.proofs.Determined.{goes_allowed}
-use Rattle.kin_run.proofs.NamedRoots.{named_canonical}
+use Rattle.kin_run.proofs.NamedRoots.{named_root_of, root_asked}
 use Rattle.kin_run.proofs.Passing.{lines_if, is_text}
 
 -- what holds of every state of a run
@@ -77,7 +76,7 @@ module _ (s : State) (sound : IsSound s) where
   goes_ends : (upper : Bool) (p : Quadratic) → HasNoRoot p ⊎ ((w : Shape) × IsNamedRoot upper p w) → Ends s (goes_to upper p)
   goes_ends upper p (inl none) = inl (NoRoot, inl (refl, none))
   goes_ends upper p (inr (w, named)) =
-      let canonical = named_canonical upper p w named in
+      let canonical = (named_root_of upper p w named).canonical in
       elim (earlier_or_not (at w) s.moment canonical sound.canonical) [
         | inl past ↦ inl (Past, inr (refl, (w, named, past)))
         | inr not_past ↦ let j = journals_exist s.motions s.size s.keeps s.moment (at w) sound.proper sound.canonical canonical not_past in

@@ -1,5 +1,5 @@
 -- The words and lemmas of the crates below that several proofs of this crate speak in, brought in at one place.
-pub use Rattle.std.specs.Io.KnownBytes.{Appends, Consumes, IsAtEnd}
+pub use Rattle.std.specs.Io.KnownBytes.{Appends, Consumes}
 pub use Rattle.std.proofs.KnownBytes.{Appends-nil, Appends-trans}
 pub use Rattle.std.proofs.lemmas.Bool.{cases_lt}
 pub use Rattle.std.proofs.lemmas.Int.{ints, to_z-of_z}
@@ -11,7 +11,7 @@ pub use Rattle.kin_algebra.specs.Signs.{opposite_of, product_of, sign_of}
 pub use Rattle.kin_algebra.specs.declared.sign.Sign.{Sign}
 pub use Rattle.kin_algebra.specs.declared.sign.Sign.TheVariants.{Minus, Plus, Zero}
 pub use Rattle.kin_algebra.proofs.IntegerSigns.{sign_in, sign_of-times, sign_out}
-pub use Rattle.kin_num.specs.Canonical.{IsCanonical, IsCanonicalForm, IsLowest, discriminant}
+pub use Rattle.kin_num.specs.Canonical.{IsCanonical, IsCanonicalForm, discriminant}
 pub use Rattle.kin_num.specs.Grains.{moments_left}
 pub use Rattle.kin_num.specs.Instants.{line, sign_at_instant}
 pub use Rattle.kin_num.specs.Order.{IsEarlier, IsLess}

@@ -1,6 +1,6 @@
 use Rattle.std.proofs.Common.{◌≡◌, true, false, Some, refl, sym, ap, ◌∙◌, is_some}
 use Rattle.kin_run.proofs.Vocabulary.{motion_of, restarts, state_of}
-use Rattle.kin_run.proofs.Changing.{changed, replaced}
+use Rattle.kin_run.proofs.Performing.{changed, replaced}
 use Rattle.kin_run.proofs.change.replace.Goals as goal
 
 pub returns-clause-performs : goal.returns-clause-performs

@@ -2,7 +2,7 @@ use Rattle.std.proofs.Common.{ap, ◌≡◌, inl, inr, Some, refl, sym, ◌∙�
 use Rattle.kin_run.proofs.Vocabulary.{err_from_is_err_and, motion_of, turns, state_of}
 use Rattle.kin_instant.proofs.Widths.{clean}
 use Rattle.kin_run.proofs.ChangeExistence.{allowed_turn}
-use Rattle.kin_run.proofs.Changing.{changed, changing_broke}
+use Rattle.kin_run.proofs.Performing.{changed, changing_broke}
 use Rattle.kin_run.proofs.change.turn.Goals as goal
 
 pub returns-in_err-turn-in-Ok-clause-performs : goal.returns-in_err-turn-in-Ok-clause-performs

@@ -1,4 +1,4 @@
-use Rattle.kin_run.proofs.DemoExistence.{demo_texts_exist}
+use Rattle.kin_run.proofs.TextExistence.{demo_texts_exist}
 use Rattle.kin_run.proofs.laws.demo_texts_exist.Goals as goal
 
 pub returns : goal.returns

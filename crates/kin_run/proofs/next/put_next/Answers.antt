@@ -2,7 +2,7 @@ use Rattle.std.proofs.Common.{[], ◌++◌, inl, inr, refl, sym, ap, append-nil}
 use Rattle.kin_run.proofs.Vocabulary.{err_from_is_err_and, on_err_weaker, on_ok, nothing, none_line, now_line, HasMoved, HasPassed, printed_if, state_of}
 use Rattle.kin_run.proofs.Tallying.{none_tallied, one_tallied}
 use Rattle.kin_run.proofs.Blocks.{not_back, not_reached}
-use Rattle.kin_run.proofs.Fronts.{front_nil}
+use Rattle.kin_run.proofs.Gathering.{front_nil}
 use Rattle.kin_run.proofs.Performing.{puts_next}
 use Rattle.kin_run.proofs.next.put_next.Goals as goal
 

@@ -1,6 +1,6 @@
 use Rattle.std.proofs.Common.{[], ◌∙◌, refl, arith}
 use Rattle.kin_run.proofs.Vocabulary.{err_from_is_err_and, deed_of, refused_line, state_of, printer}
-use Rattle.kin_run.proofs.Determined.{same_size}
+use Rattle.kin_run.proofs.Determined.{stays}
 use Rattle.kin_run.proofs.Gathering.{gains_nothing, gains_put, some_flushed}
 use Rattle.kin_run.proofs.InTurn.{begins_counting, counts_command, counts_all}
 use Rattle.kin_run.proofs.Playing.{begins, all_done, carried_out, lost_behind, broke_off, refused_here, broke_refusing}
@@ -55,7 +55,7 @@ loop-line-preserved g c =
       so_far = some_flushed (carried_out c.loop-line.line-index c.loop-line.invariant.so_far c.loop-line-item.result c.loop-line-test.true c.loop-line-item.is u c.loop-line.invariant.whole.canonical done) c.in_ok-flush_if_due-in-Ok.ensures.gained;
       passed = counts_command c.loop-line.line-index item c.loop-line.invariant.passed c.loop-line-test.true c.loop-line-item.is u c.perform.new.tally done.is.allowed done.is.leads c.in-Ok.ensures.tallied;
       whole = c.in-Ok.ensures.whole;
-      size = same_size t (deed_of item.1) u done.is.leads ∙ c.loop-line.invariant.size;
+      size = (stays t (deed_of item.1) u c.loop-line.invariant.whole.canonical done.is.leads).0 ∙ c.loop-line.invariant.size;
       later = omega (arith, c.perform.ensures.later, c.flush_if_due.ensures.cause.later, c.loop-line.invariant.later);
     }
 

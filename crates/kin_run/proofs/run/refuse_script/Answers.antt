@@ -1,6 +1,6 @@
 use Rattle.std.proofs.Common.{take, subst}
 use Rattle.kin_run.proofs.Vocabulary.{IsFront}
-use Rattle.kin_run.proofs.Fronts.{front_take}
+use Rattle.kin_run.proofs.Gathering.{front_take}
 use Rattle.kin_run.proofs.OneText.{cut_of_bad}
 use Rattle.kin_run.proofs.run.refuse_script.Goals as goal
 
