@@ -1,13 +1,12 @@
 pub mod Vocabulary
 pub mod ApproachLaws
 pub mod StructureLaws
-pub mod Certificates
 pub mod InOrder
 pub mod SoundLaws
 pub mod TakeLaws
 pub mod LeapLaws
 pub mod RepairLaws
-pub mod MadeLaws
+pub mod Certificates
 pub mod GatherLaws
 pub mod OneMore
 pub mod MarkLaws

@@ -2,7 +2,7 @@
 use Rattle.std.proofs.Common.{◌≡◌, inl, inr, refl, sym, ap, ◌∙◌, subst, arith, ℕ, ◌+◌, ◌-◌, ◌^◌, true, cond, List, [], ◌∷◌, length, slice_set, Result, Ok, Err, IfOk, Option, Some, ℤ, min, count_by, Contains, ◌↔◌, IsTrue, length-set}
 use Rattle.std.proofs.lemmas.List.Sums.{sum_by-cons}
 use Rattle.kin_world.proofs.Vocabulary.{cases_Bool, same_Some, IsCanonical, Moment, After, At, AreSlow, Course, IsSlow, is_live, live_of, motion_of, IsAskable, Certificate, Holds, Scene, scene_at, IsNotWhole, IsOutOfBounds, TurnsTo}
-use Rattle.kin_world.proofs.Vocabulary.{just_at, NotWhole, OutOfBounds, Facts, LiveFact, NoneAlike, IsTimed, certificates_of, timed_holds, IsSettledFor, IsSound, Stage, meaning, sight, CanTurn, HasTurned, World, is_about, with_facts_of}
+use Rattle.kin_world.proofs.Vocabulary.{NotWhole, OutOfBounds, Facts, LiveFact, NoneAlike, IsTimed, certificates_of, timed_holds, IsSettledFor, IsSound, Stage, meaning, sight, CanTurn, HasTurned, World, is_about, with_facts_of}
 use Rattle.kin_motion.proofs.TurningLaws.{turn_keeps_scene, one_turn}
 use Rattle.kin_cert.specs.Remade.{HasRemade, names_number}
 use Rattle.kin_turn.specs.declared.turned.TurnError.{TurnError}
@@ -42,10 +42,6 @@ no_cause w n u v motion can canonical r not_whole outside OutOfBounds is =
     let far = (outside can.before can.had).0 is in
     far.1.2 (subst IsSlow (one_turn w.moment.at u v can.before motion far.1.0 canonical can.turns far.1.1) can.slow)
 
--- the phase is `At`, so it is the instant itself
-at_instant : (m : Moment) → m.phase ≡ At → just_at m.at ≡ m
-at_instant m at = ap (λ p. record { at = m.at; phase = p }) (sym at)
-
 -- as many certificates are about a number as live facts name it
 same_count : (n : ℕ) (live : List LiveFact) → count_by (names_number n) live ≡ count_by (is_about n) (certificates_of live)
 same_count n [] = refl
@@ -59,7 +55,7 @@ module _ {s : Stage} (sound : IsSound s) (n : ℕ) (u v : ℤ) (motion : Course)
   pub same_sight : scene_at motions s.moment ≡ sight s
   same_sight =
       ap (λ (ms : List (Option Course)). scene_at ms s.moment) written
-      ∙ subst (λ m. scene_at (slice_set s.motions n (Some motion)) m ≡ scene_at s.motions m) (at_instant s.moment can.at)
+      ∙ subst (λ m. scene_at (slice_set s.motions n (Some motion)) m ≡ scene_at s.motions m) (λ i. record { at = s.moment.at; phase = sym can.at i })
       (turn_keeps_scene s.motions n u v can.before motion s.moment.at sound.in_order.canonical can.had can.turns)
 
   -- so each live fact may still be asked for, and holds
@@ -72,19 +68,18 @@ module _ {s : Stage} (sound : IsSound s) (n : ℕ) (u v : ℤ) (motion : Course)
       (timed_holds (scene_at s.motions) s.moment sound.in_order.canonical l (timed sound.in_order sound.none_waits l there))
 
   module _ {table : Facts} (remade : HasRemade n (scene_at motions) s.moment s.table table) (once : NoneAlike table.live) (slow : AreSlow motions) where
-    -- each certificate was live
-    was : (l : LiveFact) → Contains table.live l → (k : LiveFact) × Contains s.table.live k × (k.certificate ≡ l.certificate)
-    was l there = elim (remade.only l there) [
-      | inl old ↦ (l, old.0, refl)
-      | inr anew ↦ (anew.0, anew.1, sym anew.3.certificate)
-    ]
-
-    -- and each stays so
-    stays : (l : LiveFact) → Contains s.table.live l → (k : LiveFact) × Contains table.live k × (k.certificate ≡ l.certificate)
-    stays l there = elim (cases_Bool (names_number n l)) [
-      | inl e ↦ let k = remade.remade l there e in (k.0, k.1, k.2.certificate)
-      | inr e ↦ (l, remade.kept l there e, refl)
-    ]
+    -- each certificate was live and stays so
+    same : HaveSameCertificates s.table.live table.live
+    same = record {
+      stay = λ l there. elim (cases_Bool (names_number n l)) [
+        | inl e ↦ let k = remade.remade l there e in (k.0, k.1, k.2.certificate)
+        | inr e ↦ (l, remade.kept l there e, refl)
+      ];
+      only = λ l there. elim (remade.only l there) [
+        | inl old ↦ (l, old.0, refl)
+        | inr anew ↦ (anew.0, anew.1, sym anew.3.certificate)
+      ];
+    }
 
     -- each has its first failure
     timed_now : (l : LiveFact) → Contains table.live l → IsTimed (scene_at motions) s.moment l
@@ -92,9 +87,6 @@ module _ {s : Stage} (sound : IsSound s) (n : ℕ) (u v : ℤ) (motion : Course)
       | inl old ↦ rw written ((timed_other s.motions n (Some motion) s.moment l old.1).0 (timed sound.in_order sound.none_waits l old.0))
       | inr anew ↦ record { waits_not = anew.3.waits_not; fails = anew.3.fails }
     ]
-
-    same : HaveSameCertificates s.table.live table.live
-    same = record { stay = stays; only = was }
 
     pub sound_turned : IsSound (record s { motions = motions; table = table })
     sound_turned = record {

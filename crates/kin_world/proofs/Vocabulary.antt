@@ -24,7 +24,7 @@ pub use Rattle.kin_motion.specs.Moments.{FailsFirst, HoldsAt}
 pub use Rattle.kin_motion.specs.Numbers.{filled_from}
 pub use Rattle.kin_motion.specs.Scene.{Holds, IsReal, Scene, scene_at}
 pub use Rattle.kin_motion.specs.Sets.{AreDistinct, ListsExactly}
-pub use Rattle.kin_motion.specs.Turning.{IsNotWhole, IsOutOfBounds, TurnsTo, just_at}
+pub use Rattle.kin_motion.specs.Turning.{IsNotWhole, IsOutOfBounds, TurnsTo}
 pub use Rattle.kin_motion.specs.declared.fact.Fact.{Fact}
 pub use Rattle.kin_motion.specs.declared.fact.Placed.{Placed}
 pub use Rattle.kin_motion.specs.declared.form.Form.{Form}

@@ -2,7 +2,7 @@ use Rattle.std.proofs.Common.{rules, refl, sym, ap, ◌∙◌, arith, length}
 use Rattle.kin_world.proofs.Vocabulary.{few_at_most, Stage, stage_of}
 use Rattle.kin_world.proofs.MarkLaws.{carried_out_all}
 use Rattle.kin_world.proofs.GatherLaws.{frame_through}
-use Rattle.kin_world.proofs.MadeLaws.{come_first, come_on}
+use Rattle.kin_world.proofs.Certificates.{come_first, come_on}
 use Rattle.kin_world.proofs.upkeep.Upkeep.carry_out_each.Goals as goal
 
 pub loop-k-init : goal.loop-k-init

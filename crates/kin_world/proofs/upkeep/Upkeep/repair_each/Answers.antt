@@ -1,7 +1,7 @@
 use Rattle.std.proofs.Common.{refl, arith}
 use Rattle.kin_world.proofs.Vocabulary.{few_at_most}
 use Rattle.kin_world.proofs.GatherLaws.{turn_within, turn_failed, turn_shorter, turn_over, repaired_all}
-use Rattle.kin_world.proofs.MadeLaws.{come_first}
+use Rattle.kin_world.proofs.Certificates.{come_first}
 use Rattle.kin_world.proofs.upkeep.Upkeep.repair_each.Goals as goal
 
 pub loop-turn-init : goal.loop-turn-init
