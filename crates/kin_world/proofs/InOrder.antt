@@ -123,12 +123,6 @@ module _ {is_fine : ℕ → Keep → Structure → Type 0} {s : Stage} (o : IsIn
       | inr other ↦ inl ((r.told.others l other).1 there)
     ]
 
-    timely_after : (l : LiveFact) → Contains table.live l → IsTimedOrFailed (scene_at s.motions) s.moment l
-    timely_after l there = elim (by_age l there) [
-      | inl old ↦ o.timely l old
-      | inr new ↦ timely_from_timed (scene_at s.motions) s.moment l new
-    ]
-
     -- the new structure is fine, and the others stay fine
     pub replaced : {is_fine' : ℕ → Keep → Structure → Type 0} → is_fine' k keep after → ((j : ℕ) (x : Keep) (y : Structure) → j ≢ k → is_fine j x y → is_fine' j x y)
         → IsInOrder is_fine' (record s { structures = slice_set s.structures k after; table = table })
@@ -137,23 +131,25 @@ module _ {is_fine : ℕ → Keep → Structure → Type 0} {s : Stage} (o : IsIn
       canonical = o.canonical;
       counted = omega (arith, r.made);
       count = length-set s.structures k after ∙ o.count;
-      each = λ j x y kept there. each j x y kept there (cases_eq j k);
+      each = λ j x y kept there. elim (cases_eq j k) [
+        | inl is ↦
+            let same_keep : keep ≡ x = same_Some _ _ (sym r.kept ∙ rw is at kept) in
+            let same : after ≡ y = same_Some _ _ (sym (get-set_same s.structures k after low) ∙ rw is at there) in
+            rw (is, ← same_keep, ← same) (record { fine = fine; tabled = tabled_here })
+        | inr apart ↦
+            let was = o.each j x y kept (sym (get-set_other s.structures k j after apart) ∙ there) in
+            record { fine = others j x y apart was.fine; tabled = tabled_there j (placed_facts y) apart was.tabled }
+      ];
       once = r.told.once;
       owned = λ l there. rw (length-set s.structures k after) (elim (cases_eq l.certificate.structure k) [
         | inl is ↦ rw is low
         | inr other ↦ o.owned l ((r.told.others l other).1 there)
       ]);
-      timely = timely_after;
+      timely = λ l there. elim (by_age l there) [
+        | inl old ↦ o.timely l old
+        | inr new ↦ timely_from_timed (scene_at s.motions) s.moment l new
+      ];
     }
       where
         low : k < length s.structures
         low = slice_get_within s.structures k st r.here
-
-        each : (j : ℕ) (x : Keep) (y : Structure) → slice_get s.keeps j ≡ Some x → slice_get (slice_set s.structures k after) j ≡ Some y → (j ≡ k) ⊎ (j ≢ k) → IsInPlace is_fine' table.live j x y
-        each j x y kept there (inl is) =
-            let same_keep : keep ≡ x = same_Some _ _ (sym r.kept ∙ subst (λ n. slice_get s.keeps n ≡ Some x) is kept) in
-            let same : after ≡ y = same_Some _ _ (sym (get-set_same s.structures k after low) ∙ subst (λ n. slice_get (slice_set s.structures k after) n ≡ Some y) is there) in
-            rw (is, ← same_keep, ← same) (record { fine = fine; tabled = tabled_here })
-        each j x y kept there (inr apart) =
-            let was = o.each j x y kept (sym (get-set_other s.structures k j after apart) ∙ there) in
-            record { fine = others j x y apart was.fine; tabled = tabled_there j (placed_facts y) apart was.tabled }
