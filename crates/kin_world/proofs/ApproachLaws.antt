@@ -3,7 +3,7 @@ use Rattle.std.proofs.Common.{◌≡◌, ℕ, Option, Some, None, IfSome, sym, �
 use Rattle.kin_world.proofs.Vocabulary.{IsCanonical, Moment, Course, Fact, IsFirstFailure, seen_by}
 use Rattle.kin_algebra.specs.declared.sign.Sign.TheVariants.{Plus}
 use Rattle.kin_num.proofs.MomentOrder.{not_earlier_itself, earlier_trans}
-use Rattle.kin_world.specs.Approach.{clearance, AreApart, IsFirstWithin}
+use Rattle.kin_world.specs.Approach.{clearance, IsFirstWithin}
 
 module _ (d : ℕ) (p q : Course) (now : Moment) (here : IsCanonical now.at) where
   -- where being apart fails first
@@ -15,7 +15,3 @@ module _ (d : ℕ) (p q : Course) (now : Moment) (here : IsCanonical now.at) whe
     within = λ e. h.fails (e ∙ sym plus);
     before = λ n k. h.holds_until n k ∙ plus;
   }
-
-  -- where they aren't apart now
-  pub is_within : ¬ (AreApart d p q now) → IsFirstWithin d p q now now
-  is_within h = record { canonical = here; from = not_earlier_itself now; within = h; before = λ n k. absurd (k.from k.until) }

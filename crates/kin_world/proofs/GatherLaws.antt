@@ -2,8 +2,8 @@
 use Rattle.std.proofs.Common.{not, append_assoc, append-nil, ◌≡◌, ◌≢◌, inl, inr, refl, sym, ap, ap₂, ◌∙◌, subst, arith, ℕ, ◌+◌, ◌<◌, ◌≤◌, true, false, List, [], ◌∷◌, ◌++◌, length, Option, Some, None, Contains, IsTrue, filter}
 use Rattle.std.proofs.lemmas.List.Filters.{length-filter_both}
 use Rattle.kin_world.proofs.Vocabulary.{cases_Bool, nat_tests, length-map, Contains-append_cases, Contains-append_left, Contains-append_right, same_Some, contains_cases, contains_head, contains_none, Certificate, owned_by, Placed}
-use Rattle.kin_world.proofs.Vocabulary.{contains_map, contains_mapped, distinct_filter, distinct_mapped_on, filter-complete, filter-sound, LiveFact, certificate_of, Owned, IsTurnBy, AreWaiting, HasRepaired, HasSameFrame, HasSettled}
-use Rattle.kin_world.proofs.Vocabulary.{IsAtTurn, IsSooner, IsTurn, ListsWaiting, Stage, gathered, is_of, placed_of, turns_left}
+use Rattle.kin_world.proofs.Vocabulary.{contains_map, contains_mapped, distinct_filter, distinct_mapped_on, filter-complete, filter-sound, LiveFact, certificate_of, Owned, AreWaiting, HasRepaired, HasSameFrame, HasSettled, IsAtTurn}
+use Rattle.kin_world.proofs.Vocabulary.{IsSooner, IsTurn, IsTurnBy, ListsWaiting, Stage, gathered, is_of, placed_of, turns_left}
 use Rattle.kin_world.proofs.Certificates.{come_on}
 use Rattle.kin_world.proofs.RepairLaws.{sound_when_none_waits}
 

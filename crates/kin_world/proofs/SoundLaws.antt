@@ -3,7 +3,7 @@ use Rattle.std.proofs.Common.{◌≡◌, inl, inr, refl, sym, ap, ◌∙◌, sub
 use Rattle.kin_world.proofs.Vocabulary.{All-contains, slice_get_read, slice_get_within, IsCanonical, moments_left, IsEarlier, Moment, never, through, total, Course, IsAskable, NothingFails, failures_at, Certificate, IsLiveFact, ListsLive}
 use Rattle.kin_world.proofs.Vocabulary.{FailsFirst, IsReal, scene_at, AreDistinct, Placed, Keep, live_fits, real_at, contains_map, contains_mapped, distinct_cons, distinct_none, AreAlike, LiveFact, NoneAlike, IsLeastFailure, NoneFails}
 use Rattle.kin_world.proofs.Vocabulary.{NoneFailsUntil, IsTimed, certificates_of, IsInTime, earlier_still, fails_first, hold_before_least, later_start, nothing_fails, timed_holds, placed_facts, IsSettledFor, HasSameFrame, HasSettled}
-use Rattle.kin_world.proofs.Vocabulary.{IsSound, Stage, meaning, setting, sight, HasMade, FailsWithin, HasInserted, HasRemoved, IsNextMoment, IsWhole, with_facts_of, Structure}
+use Rattle.kin_world.proofs.Vocabulary.{IsSound, Stage, meaning, setting, sight, FailsWithin, HasInserted, HasMade, HasRemoved, IsNextMoment, IsWhole, with_facts_of, Structure}
 use Rattle.kin_num.proofs.Grains.{moments_run_out}
 use Rattle.kin_motion.specs.Agreements.{FitsSize}
 use Rattle.kin_motion.proofs.LiveFactLaws.{live_facts_agree}
