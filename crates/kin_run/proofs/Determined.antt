@@ -4,7 +4,7 @@ use Rattle.kin_run.proofs.Vocabulary.{IsCanonical, IsEarlier, Quadratic, Shape, 
 use Rattle.kin_run.proofs.Vocabulary.{one_reply_line}
 use Rattle.kin_run.proofs.NamedRoots.{one_named_root, named_root_of, has_root}
 use Rattle.kin_script.proofs.Changes.{one_refused_change, one_change}
-use Rattle.kin_run.proofs.Blocks.{one_passed, one_next, one_told}
+use Rattle.kin_run.proofs.Passing.{one_passed, one_next, one_told}
 
 -- it goes to an instant which isn't before now
 pub goes_allowed : (s : State) (upper : Bool) (p : Quadratic) (w : Shape) → IsNamedRoot upper p w → (IsEarlier (at w) s.moment → ⊥) → IsAllowed s (goes_to upper p)

@@ -76,9 +76,6 @@ module _ {p q : Printer} {P : List ℕ → Type 0} (g : GainsSome P p q) where
 
 -- ---- a printer that had gathered nothing
 
-pub wrote_all : {a b : Bytes} {out : List ℕ} {P : List ℕ → Type 0} (c : Bytes) → GainsSome P (printer a []) (printer b out) → Appends b c out → Wrote a c P
-wrote_all {a} {b} {out} {P} c g w = (g.gained.written ++ out, Appends-trans a b c g.gained.written out g.gained.appended w, subst P (sym g.gained.joined) g.is)
-
 pub wrote_front : {a c : Bytes} {q : List ℕ} {P : List ℕ → Type 0} (Q : List ℕ → Type 0) → LosesSome P (printer a []) (printer c q) → ((x front : List ℕ) → P x → IsFront front x → Q front) → Wrote a c Q
 wrote_front Q l f = (take l.reached.0 l.text, l.reached.1, f l.text (take l.reached.0 l.text) l.is (front_take l.reached.0 l.text))
 

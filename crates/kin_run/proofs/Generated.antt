@@ -11,9 +11,8 @@ use Rattle.kin_motion.specs.declared.keep.Keep.TheVariants as keep
 use Rattle.kin_motion.specs.declared.keep.Rect.{Rect}
 use Rattle.kin_script.specs.declared.command.Command.TheVariants.{Extreme, Hull, Closest, Inside, Live}
 use Rattle.kin_run.proofs.Gathering.{Bytes, front_through, front_take, front_after}
-use Rattle.kin_run.proofs.InTurn.{one_in_turn}
 use Rattle.kin_run.proofs.OneText.{one_text}
-use Rattle.kin_run.proofs.Playing.{Line}
+use Rattle.kin_run.proofs.Playing.{Line, one_in_turn}
 use Rattle.kin_run.proofs.Tallying.{tallied_from_nothing}
 
 -- ---- the points enter
@@ -132,7 +131,7 @@ module _ (seed count : ℕ) (s : Script) (is : IsGenerated seed count s) (before
     replays = body.2;
     blocks = x.blocks;
     passed = x.passed;
-    joined = ap (λ (u : Tally). body.0 ++ tally_line u) (same_Some _ _ x.counted ∙ tallied_from_nothing x.blocks);
+    joined = ap (λ (u : Tally). body.0 ++ tally_line u) (same_Some _ _ (x.counted ∙ tallied_from_nothing x.blocks));
   }
 
   pub wrote_whole : (after : Bytes) → Appends played after (tally_line t) → Wrote before after (IsDemoText seed count)

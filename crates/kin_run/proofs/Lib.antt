@@ -1,7 +1,6 @@
 pub mod Vocabulary
 pub mod Gathering
 pub mod NamedRoots
-pub mod Blocks
 pub mod Determined
 pub mod Passing
 pub mod OnTheWay
@@ -14,5 +13,4 @@ pub mod StepExistence
 pub mod TextExistence
 pub mod Tallying
 pub mod Arriving
-pub mod InTurn
 pub mod Generated

@@ -24,12 +24,14 @@ named_root_of false p w h = h.0
 abbrev pub IsExact : Quadratic → Roots → Type 0
 IsExact p answer = (w : Shape) → IsCanonicalForm w → (sign_at_instant p w ≡ Zero) ↔ HasRoot answer w
 
+-- the only root is named by both words
+alone_named : (upper : Bool) (p : Quadratic) (r : Shape) → IsCanonical r → ((v : Shape) → IsCanonicalForm v → (sign_at_instant p v ≡ Zero) ↔ (v ≡ r)) → IsNamedRoot upper p r
+alone_named true p r canonical only = (record { canonical = canonical; zero = (only r canonical.form).1 refl }, λ v h less. not_less_itself r (subst (IsLess r) ((only v h.canonical.form).0 h.zero) less))
+alone_named false p r canonical only = (record { canonical = canonical; zero = (only r canonical.form).1 refl }, λ v h less. not_less_itself r (subst (λ (x : Shape). IsLess x r) ((only v h.canonical.form).0 h.zero) less))
+
 -- a fraction is the only root of its line
 pub ratio_in_range : (n d : ℤ) (r : Shape) → IsRatioInRange n d → IsFraction n d r → IsCanonical r → IsNamedRoot true (line n d) r
-ratio_in_range n d r range same canonical =
-    let only = fraction_zeros n d (omega (arith, ints, range.d_low)) r same canonical in
-    let root : IsRootOf (line n d) r = record { canonical = canonical; zero = (only r canonical.form).1 refl } in
-    (root, λ v h less. not_less_itself r (subst (IsLess r) ((only v h.canonical.form).0 h.zero) less))
+ratio_in_range n d r range same canonical = alone_named true (line n d) r canonical (fraction_zeros n d (omega (arith, ints, range.d_low)) r same canonical)
 
 -- also where its parts were handed on
 pub handed_ratio : (n d : ℤ) (r : Shape) → IsRatioInRange n d → IsFraction (to_z w64 (of_z w64 n)) (to_z w64 (of_z w64 d)) r → IsCanonical r → IsNamedRoot true (line n d) r
@@ -86,17 +88,6 @@ counted Plus b c Minus some = (λ e. refl, λ e. absurd cc)
 counted Plus b c Zero some = (λ e. absurd cc, λ e. absurd cc)
 counted Plus b c Plus some = (λ e. absurd cc, λ e. absurd cc)
 
--- one root is named by both words
-one_named : (upper : Bool) (p : Quadratic) (r : Shape) → AreRootsOf p (One r) → IsNamedRoot upper p r
-one_named upper p r roots = by_word upper
-  where
-    root : IsRootOf p r
-    root = record { canonical = roots.canonical; zero = (roots.exact r roots.canonical.form).1 refl }
-
-    by_word : (upper : Bool) → IsNamedRoot upper p r
-    by_word true = (root, λ v h less. not_less_itself r (subst (IsLess r) ((roots.exact v h.canonical.form).0 h.zero) less))
-    by_word false = (root, λ v h less. not_less_itself r (subst (λ (x : Shape). IsLess x r) ((roots.exact v h.canonical.form).0 h.zero) less))
-
 quadratic_asked : (a b c : ℤ) (upper : Bool) → IsRootInRange a b c → (discriminant a b c <ℤ pos 0) ⊎ ((w : Shape) × IsNamedRoot upper (quadratic a b c) w)
 quadratic_asked a b c upper range = let r = roots_exist (quadratic a b c) (record { a_small = range.a_small; b_small = range.b_small; c_small = range.c_small }) in by_roots r.0 r.1
   where
@@ -105,7 +96,7 @@ quadratic_asked a b c upper range = let r = roots_exist (quadratic a b c) (recor
 
     by_roots : (answer : Roots) → AreRootsOf (quadratic a b c) answer → (discriminant a b c <ℤ pos 0) ⊎ ((w : Shape) × IsNamedRoot upper (quadratic a b c) w)
     by_roots Nowhere roots = inl (sign_out Minus (discriminant a b c) ((counted (sign_of a) (sign_of b) (sign_of c) (sign_of (discriminant a b c)) some).0 roots.number))
-    by_roots (One r) roots = inr (r, one_named upper (quadratic a b c) r roots)
+    by_roots (One r) roots = inr (r, alone_named upper (quadratic a b c) r roots.canonical roots.exact)
     by_roots (Two r s) roots = inr (_, two_named upper (quadratic a b c) (quadratic a b c) r s refl roots.canonical roots.exact roots.rising)
     by_roots All roots = absurd ((counted (sign_of a) (sign_of b) (sign_of c) (sign_of (discriminant a b c)) some).1 roots.number)
 

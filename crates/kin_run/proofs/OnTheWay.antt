@@ -85,18 +85,15 @@ module _ {journal : Bool} {start : World} {w : Shape} {now : World} {p q : Print
     at_block : new.moment ≡ block.moment
     at_block = ap (λ (v : World). v.moment) h.state
 
-    counted_more : (bs cs : List Block) → AreUpTo S w now.moment bs → cs ≡ block ∷ [] → AreUpTo S w new.moment (bs ++ cs)
-    counted_more bs cs is more = subst (λ (m : Moment). AreUpTo S w m (bs ++ cs)) (sym at_block) (subst (λ (ds : List Block). AreUpTo S w block.moment (bs ++ ds)) (sym more) (up_to_block bs is))
-
     pub goes_on : (r : List ℕ) {f : Printer} → r ≡ q.gathered ++ printed_if journal block → Gains (printer q.held r) f [] → (failures : ℕ) {last : Option Tally} → failures ≡ length block.failures → last ≡ counted_on failures middle
         → IsOnTheWay journal start w new p f old last
     goes_on r e flushed failures {last} same counts = record {
       state = ap (state_of journal) h.state ∙ ap (λ (s : State). record s { moment = block.moment }) on.state ∙ ap (λ (m : Moment). record S { moment = m }) (sym at_block);
       printed = some_flushed (some_then on.printed (AreLines journal S w new.moment) (gains_put q.held q.gathered r (printed_if journal block) e)
-          (λ lines a. subst (λ (m : Moment). AreLines journal S w m (lines ++ printed_if journal block)) (sym at_block) (lines_more lines a))) flushed;
-      counted = tallied_then on.counted (one_tallied (λ bs. bs ≡ block ∷ []) block failures middle last same refl counts) counted_more;
+          (λ lines a. rw at_block (lines_more lines a))) flushed;
+      counted = tallied_then on.counted (one_tallied (λ bs. bs ≡ block ∷ []) block failures middle last same refl counts) (λ bs cs is more. rw (at_block, more) (up_to_block bs is));
       whole = h.whole;
-      later = subst (λ (m : Moment). ¬ (IsEarlier (at w) m)) (sym at_block) h.within;
+      later = rw at_block h.within;
     }
 
   -- where the journal is off nothing is printed

@@ -1,7 +1,7 @@
 -- An input has one text, and one status with it.
-use Rattle.std.proofs.Common.{◌≡◌, ℕ, ◌+◌, ◌≤◌, ◌<◌, ◌^◌, Bool, List, [], ◌∷◌, ◌++◌, length, Option, Some, None, Ok, Err, refl, sym, ap, ◌∙◌, subst, arith, ◌⊎◌, inl, inr, length-append, append-nil, Result}
-use Rattle.kin_run.proofs.Vocabulary.{Consumes, IsCanonical, start_canonical, deed_of, script_of, State, start, Ending, Text, bad_line, Script, Answers, IsAnswer, IsBrokenOff, IsCut, OneAnswer, Outcome, TakesWhole, Writes, status_of_stop}
-use Rattle.kin_run.proofs.Vocabulary.{IsCutOfText, IsFront, Status, Stop, Fault, NoMemory}
+use Rattle.std.proofs.Common.{◌≡◌, ℕ, ◌+◌, ◌≤◌, ◌^◌, Bool, List, [], ◌∷◌, ◌++◌, length, Option, Some, None, Ok, Err, refl, sym, ap, ◌∙◌, subst, arith, ◌⊎◌, inl, inr, length-append, append-nil, Result}
+use Rattle.kin_run.proofs.Vocabulary.{Consumes, IsCanonical, start_canonical, deed_of, script_of, State, start, Ending, Text, bad_line, Script, Answers, IsAnswer, IsBrokenOff, IsCut, OneAnswer, Outcome, TakesWhole, IsCutOfText, IsFront}
+use Rattle.kin_run.proofs.Vocabulary.{Status, Fault, NoMemory}
 use Rattle.kin_run.specs.declared.status.Status.TheVariants as status
 use Rattle.kin_run.proofs.Determined.{stays, one_step}
 use Rattle.kin_run.proofs.Playing.{Line, allowed_goes_on, text_refused}
@@ -51,15 +51,6 @@ one_answer input x y a b p q = one_of (script_of input) x y a b (answer_of input
 pub cut_of_bad : (input front : List ℕ) (line : ℕ) → script_of input ≡ Err line → IsFront front (bad_line line) → IsCut input front
 cut_of_bad input front line e f = λ answer text p. subst (IsFront front) (sym (answer_of input (Err line) e answer text p).1) f
 
--- a front of the text of a script is a front of the text of its input
-pub cut_of_script : (input front : List ℕ) (script : Script) → script_of input ≡ Ok script → IsCutOfText (start script.size script.keeps script.journal) script.lines front → IsCut input front
-cut_of_script input front script e cut = λ answer text p. let own = answer_of input (Ok script) e answer text p in cut text own.0 own.1
-
--- a run that was broken off writes a front
-pub broken_off : (input front : List ℕ) (stop : Stop) → IsCut input front → Writes input (status_of_stop stop) front
-broken_off input front Fault cut = cut
-broken_off input front NoMemory cut = cut
-
 -- ---- which status a known input has
 
 -- what is left of known bytes, behind what was taken
@@ -92,12 +83,4 @@ module _ {left now : Option (List ℕ)} {ended : Bool} {before after : Option (L
     | inl broke ↦ inr broke
     | inr (inl (whole, is)) ↦ inl (one_answer input p.written text st a (subst (λ (i : List ℕ). IsAnswer i st p.written) (all_of whole) is) q).0
     | inr (inr (too_long, much)) ↦ absurd (omega (arith, small, ap length rest.2, length-append p.input rest.0, much))
-  ]
-
-  -- a known input that is longer is too long, unless the run was broken off
-  pub long : 2 ^ 20 < length input → (st ≡ status.TooLong) ⊎ IsBrokenOff st
-  long much = elim (ends now ended p.input st p.written p.outcome) [
-    | inl broke ↦ inr broke
-    | inr (inl (whole, is)) ↦ absurd (omega (arith, ap length (all_of whole), whole.within, much))
-    | inr (inr (too_long, more)) ↦ inl too_long
   ]

@@ -4,7 +4,7 @@ use Rattle.kin_run.proofs.Vocabulary.{IsCanonical, IsEarlier, Quadratic, Shape, 
 use Rattle.kin_run.proofs.Vocabulary.{IsPassedText, Prints, Step, Command, one_reply_line, HasReplaced, World, BreaksOff, IsFrontOfEach, Performs, PutsLine, Replies, state_of, GainsSome, Printer, printer, Halt, Broken, Refused, Stop, Fault}
 use Rattle.kin_run.proofs.Vocabulary.{NoMemory}
 use Rattle.kin_run.proofs.Determined.{goes_allowed}
-use Rattle.kin_run.proofs.Blocks.{one_next}
+use Rattle.kin_run.proofs.Passing.{one_next}
 use Rattle.kin_run.proofs.Gathering.{Bytes, gains_put, some_is, gains_nothing, front_nil}
 use Rattle.kin_run.proofs.NamedRoots.{one_named_root}
 
@@ -36,16 +36,11 @@ replied s q (Err (Broken NoMemory)) held before now a = ((λ r h. h.1 a.0), reco
 replied s q (Err (Broken Fault)) held before now a = absurd a
 
 -- ---- a line
-
--- where there is one such line alone, what was put of it is what was put of each
-puts_known : {E : Type 0} (IsLine : List ℕ → Type 0) (line : List ℕ) (result : Result (Unit {0}) E) (before now : List ℕ) → IsLine line → ((text : List ℕ) → IsLine text → text ≡ line)
-    → OnOk result (now ≡ before ++ line) → OnErr result (PutsFront before now line) → PutsLine IsLine result before now
-puts_known IsLine line (Ok x) before now own only ok err = (line, ok, own)
-puts_known IsLine line (Err e) before now own only ok err = (err.front, err.put, λ text is. record { more = err.rest; joined = only text is ∙ err.cut })
-
+-- there is one text of the next block alone: what was put of it is what was put of each
 pub puts_next : {E : Type 0} (s : State) → IsCanonical s.moment.at → (line : List ℕ) → IsNextText s line → (result : Result (Unit {0}) E) (before now : List ℕ) → OnOk result (now ≡ before ++ line) → OnErr result (PutsFront before now line)
     → PutsLine (IsNextText s) result before now
-puts_next s canonical line own result before now = puts_known (IsNextText s) line result before now own (λ text is. one_next s text line canonical is own)
+puts_next s canonical line own (Ok x) before now ok err = (line, ok, own)
+puts_next s canonical line own (Err e) before now ok err = (err.front, err.put, λ text is. record { more = err.rest; joined = one_next s text line canonical is own ∙ err.cut })
 
 -- a front of the line of a question
 pub reply_cut : (s : State) → IsCanonical s.moment.at → (q : Command) (line before now : List ℕ) → IsReplyLine s q line → PutsFront before now line → (front : List ℕ) × (now ≡ before ++ front) × IsFrontOfEach (IsReplyLine s q) front

@@ -1,9 +1,11 @@
--- A run of commands: the text so far, and the text of what is left.
-use Rattle.std.proofs.Common.{◌≡◌, ℕ, List, [], ◌∷◌, ◌++◌, drop, suc, ◌+◌, ◌<◌, ◌≤◌, length, get_or, drop-cons, add-one, Some, None, refl, sym, ap, ◌∙◌, subst, append_assoc, inl, inr, append-nil}
-use Rattle.kin_run.proofs.Vocabulary.{drop_all, IsCanonical, AppendsFront, deed_of, IsAllowed, IsRefused, State, Ending, Prints, Step, Text, refused_line, Command, Refusal, BreaksOff, IsCutOfText, IsFrontOfEach, Gains, GainsSome, IsFront}
-use Rattle.kin_run.proofs.Vocabulary.{LosesSome, Printer, Stop}
-use Rattle.kin_run.proofs.Determined.{one_cause, one_step}
+-- A run of commands: the text so far and the blocks passed so far, and the text and the blocks of what is left.
+use Rattle.std.proofs.Common.{◌≡◌, ℕ, List, [], ◌∷◌, ◌++◌, drop, suc, ◌+◌, ◌<◌, ◌≤◌, length, get_or, drop-cons, add-one, Some, None, refl, sym, ap, ◌∙◌, subst, append_assoc, inl, inr, append-nil, Option}
+use Rattle.kin_run.proofs.Vocabulary.{drop_all, IsCanonical, Shape, Block, IsJournal, journal_is_one, AppendsFront, Deed, asks, changes, deed_of, goes_on, goes_to, IsAllowed, IsRefused, LeadsTo, State, at, state_setting, Ending, Prints}
+use Rattle.kin_run.proofs.Vocabulary.{Step, Text, refused_line, Command, Refusal, Passes, PassesInTurn, BreaksOff, IsCutOfText, IsFrontOfEach, HasTallied, Gains, GainsSome, IsFront, LosesSome, Printer, Tally, Stop}
+use Rattle.kin_run.proofs.Determined.{one_cause, one_step, stays, one_at_root, one_state}
 use Rattle.kin_run.proofs.Gathering.{some_then, some_is, some_broke, some_lost_here, front_through, front_after}
+use Rattle.kin_run.proofs.Passing.{one_told}
+use Rattle.kin_run.proofs.Tallying.{none_tallied, tallied_then, tallied_is}
 
 abbrev pub Line : Type 0
 Line = ℕ × Command
@@ -31,9 +33,9 @@ pub begins : (s : State) (cs : List Line) → IsSoFar s cs s cs []
 begins s cs = record { forth = λ rest ending p. p; back = λ text ending p. (text, p, refl) }
 
 module _ (s : State) (all : List Line) (t : State) where
-  pub goes_on : (c : Line) (left : List Line) (so_far text : List ℕ) (u : State) → IsCanonical t.moment.at
+  pub text_goes_on : (c : Line) (left : List Line) (so_far text : List ℕ) (u : State) → IsCanonical t.moment.at
       → IsSoFar s all t (c ∷ left) so_far → Step t (deed_of c.1) text u → IsSoFar s all u left (so_far ++ text)
-  goes_on c left so_far text u canonical p step = record {
+  text_goes_on c left so_far text u canonical p step = record {
     forth = λ rest ending q.
         subst (λ (w : List ℕ). Text s all w ending) (sym (append_assoc so_far text rest))
         (p.forth (text ++ rest) ending (inr (text, rest, u, step, q, refl)));
@@ -84,7 +86,7 @@ module _ {s t : State} {all : List Line} {p q : Printer} (i : ℕ) (so_far : Gai
 
     -- the command was carried out; and then a write failed
     pub carried_out : (u : State) {r : Printer} → IsCanonical t.moment.at → GainsSome (λ text. Step t (deed_of c.1) text u) q r → GainsSome (IsSoFar s all u (drop (i + 1) all)) p r
-    carried_out u canonical done = some_then here (IsSoFar s all u (drop (i + 1) all)) done.gained (λ x so. goes_on s all t c (drop (i + 1) all) x done.text u canonical so done.is)
+    carried_out u canonical done = some_then here (IsSoFar s all u (drop (i + 1) all)) done.gained (λ x so. text_goes_on s all t c (drop (i + 1) all) x done.text u canonical so done.is)
 
     pub lost_behind : (u : State) {r : Printer} (f : Printer) → IsCanonical t.moment.at → GainsSome (λ text. Step t (deed_of c.1) text u) q r → AppendsFront r.held f.held r.gathered → LosesSome (IsCutOfText s all) p f
     lost_behind u f canonical done front = some_lost_here (some_is (carried_out u canonical done) (IsCutOfText s all) (cut_here s all u (drop (i + 1) all))) f front
@@ -101,3 +103,36 @@ module _ {s t : State} {all : List Line} {p q : Printer} (i : ℕ) (so_far : Gai
 
       pub broke_refusing : (front : List ℕ) → Gains same n front → IsFront front (refused_line c.0 r) → GainsSome (IsCutOfText s all) p n
       broke_refusing front put cut = some_then here (IsCutOfText s all) (subst (λ (x : Printer). Gains x n front) unchanged put) (λ x so. cut_refused s all t c (drop (i + 1) all) x front r is so cut)
+
+-- From s, the blocks of all commands are those so far, and then those of the commands that are left, from t.
+pub record ArePassedSoFar (s : State) (all : List Line) (t : State) (left : List Line) (so_far : List Block) : Type 0 where
+  pub forth : (rest : List Block) → PassesInTurn t left rest → PassesInTurn s all (so_far ++ rest)
+
+pub begins_counting : (s : State) (cs : List Line) (t : Option Tally) → HasTallied (ArePassedSoFar s cs s cs) t t
+begins_counting s cs t = none_tallied (ArePassedSoFar s cs s cs) t (record { forth = λ rest is. is })
+
+module _ {s : State} {all : List Line} {t : State} {old now : Option Tally} where
+  pub counts_command : (i : ℕ) (c : Line) → HasTallied (ArePassedSoFar s all t (drop i all)) old now → i < length all → c ≡ get_or all i c
+      → (u : State) (new : Option Tally) → IsAllowed t (deed_of c.1) → LeadsTo t (deed_of c.1) u → HasTallied (Passes t (deed_of c.1)) now new → HasTallied (ArePassedSoFar s all u (drop (i + 1) all)) old new
+  counts_command i c x low read u new allowed leads y = tallied_then (subst (λ (left : List Line). HasTallied (ArePassedSoFar s all t left) old now) (at_item all i c low read) x) y
+      (λ bs more is passed. record {
+        forth = λ rest q. subst (PassesInTurn s all) (sym (append_assoc bs more rest)) (is.forth (more ++ rest) (more, rest, u, allowed, passed, leads, q, refl));
+      })
+
+  pub counts_all : (i : ℕ) → HasTallied (ArePassedSoFar s all t (drop i all)) old now → length all ≤ i → HasTallied (PassesInTurn s all) old now
+  counts_all i x none = tallied_is x (λ bs is. subst (PassesInTurn s all) (append-nil bs) (is.forth [] (subst (λ (left : List Line). PassesInTurn t left []) (sym (drop_all i all none)) refl)))
+
+-- ---- commands pass the same blocks always
+one_passed : (s : State) (d : Deed) (x y : List Block) → IsCanonical s.moment.at → Passes s d x → Passes s d y → x ≡ y
+one_passed s (changes n c) x y canonical a b = a ∙ sym b
+one_passed s (goes_to upper p) x y canonical a b = one_at_root upper p (λ (w : Shape) (bs : List Block). IsJournal (state_setting s) s.moment (at w) bs) x y (λ w there. journal_is_one (state_setting s) s.moment (at w) x y canonical there) a b
+one_passed s goes_on x y canonical a b = one_told s (λ (b : Block). b ∷ []) [] x y canonical a b
+one_passed s (asks q) x y canonical a b = a ∙ sym b
+
+pub one_in_turn : (s : State) (cs : List Line) (x y : List Block) → IsCanonical s.moment.at → PassesInTurn s cs x → PassesInTurn s cs y → x ≡ y
+one_in_turn s [] x y canonical p q = p ∙ sym q
+one_in_turn s (c ∷ cs) x y canonical p q =
+    let d = deed_of c.1 in
+    let same = one_state s d p.2 q.2 canonical p.5 q.5 in
+    let tails = one_in_turn q.2 cs p.1 q.1 (stays s d q.2 canonical q.5).1 (subst (λ (t : State). PassesInTurn t cs p.1) same p.6) q.6 in
+    p.7 ∙ ap (λ (v : List Block). v ++ p.1) (one_passed s d p.0 q.0 canonical p.4 q.4) ∙ ap (λ (w : List Block). q.0 ++ w) tails ∙ sym q.7

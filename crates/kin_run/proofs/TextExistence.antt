@@ -1,5 +1,5 @@
 -- Every input has a text.
-use Rattle.std.proofs.Common.{◌≡◌, inl, inr, ℕ, ◌^◌, List, [], ◌∷◌, ◌++◌, Some, None, Result, Ok, Err, refl, All, ◌≢◌, ◌⊎◌, zero, suc, ◌+◌, ◌≤◌, ◌<◌, false, sym, subst, arith}
+use Rattle.std.proofs.Common.{◌≡◌, inl, inr, ℕ, ◌^◌, List, [], ◌∷◌, ◌++◌, Some, None, Result, Ok, Err, refl, All, ◌≢◌, zero, suc, ◌+◌, ◌≤◌, false, sym, subst, arith}
 use Rattle.std.proofs.lemmas.List.Elements.{All-head, All-tail, All-weaker}
 use Rattle.kin_run.specs.declared.status.Status.TheVariants as status
 use Rattle.kin_run.proofs.Vocabulary.{cases_lt, length-replicate, start_canonical, Block, none_live, deed_of, IsGenerated, IsLeastSize, insertions, one_of_each, questions, script_of, IsKeepInRange, IsCommandInRange, IsWithin, State, start}
@@ -7,7 +7,8 @@ use Rattle.kin_run.proofs.Vocabulary.{Ending, Text, bad_line, refused_line, Scri
 use Rattle.kin_motion.specs.Live.{IsSmallKeep}
 use Rattle.kin_script.proofs.ScriptRanges.{script_within}
 use Rattle.kin_run.proofs.Playing.{Line}
-use Rattle.kin_run.proofs.StepExistence.{IsSound, Ends, deed_ends}
+use Rattle.kin_run.proofs.Determined.{stays}
+use Rattle.kin_run.proofs.StepExistence.{IsSound, deed_ends}
 use Rattle.kin_script.proofs.GeneratedRanges.{generated_in_range}
 use Rattle.kin_run.proofs.Generated.{never_refused}
 
@@ -21,19 +22,19 @@ pub record HasText (s : State) (cs : List Line) : Type 0 where
 
 pub text_exists : (cs : List Line) (s : State) → IsSound s → All (λ c. IsCommandInRange s.size c.1) cs → HasText s cs
 text_exists [] s sound range = record { text = []; ending = None; is = (refl, refl); passes = λ e. ([], refl) }
-text_exists (c ∷ cs) s sound range = by_end (deed_ends s sound (deed_of c.1) (deed_in_range s.size c.1 (All-head (λ d. IsCommandInRange s.size d.1) c cs range))) (text_exists cs)
-  where
-    by_end : Ends s (deed_of c.1) → ((t : State) → IsSound t → All (λ d. IsCommandInRange t.size d.1) cs → HasText t cs) → HasText s (c ∷ cs)
-    by_end (inl (r, refused)) rest = record { text = refused_line c.0 r; ending = Some (c.0, r); is = inl (r, refused, refl, refl); passes = λ e. absurd (let clash : Some (c.0, r) ≡ None = e in cc) }
-    by_end (inr steps) rest =
-        let range : All (λ d. IsCommandInRange steps.next.size d.1) cs = rw steps.size (All-tail (λ d. IsCommandInRange s.size d.1) c cs range) in
-        let more = rest steps.next steps.sound range in
-        record {
-          text = steps.text ++ more.text;
-          ending = more.ending;
-          is = inr (steps.text, more.text, steps.next, record { allowed = steps.allowed; prints = steps.prints; leads = steps.leads }, more.is, refl);
-          passes = λ e. let bs = more.passes e in (steps.blocks ++ bs.0, (steps.blocks, bs.0, steps.next, steps.allowed, steps.passes, steps.leads, bs.1, refl));
-        }
+text_exists (c ∷ cs) s sound range =
+    let rest = text_exists cs in
+    elim (deed_ends s sound (deed_of c.1) (deed_in_range s.size c.1 (All-head (λ d. IsCommandInRange s.size d.1) c cs range))) [
+      | inl (r, refused) ↦ record { text = refused_line c.0 r; ending = Some (c.0, r); is = inl (r, refused, refl, refl); passes = λ e. absurd (let clash : Some (c.0, r) ≡ None = e in cc) }
+      | inr steps ↦
+          let more = rest steps.next steps.sound (rw (stays s (deed_of c.1) steps.next sound.canonical steps.step.leads).0 (All-tail (λ d. IsCommandInRange s.size d.1) c cs range)) in
+          record {
+            text = steps.text ++ more.text;
+            ending = more.ending;
+            is = inr (steps.text, more.text, steps.next, steps.step, more.is, refl);
+            passes = λ e. let bs = more.passes e in (steps.blocks ++ bs.0, (steps.blocks, bs.0, steps.next, steps.step.allowed, steps.passes, steps.step.leads, bs.1, refl));
+          }
+    ]
 
 -- ---- the state at the start
 pub start_sound : (s : Script) → IsWithin s → IsSound (start s.size s.keeps s.journal)
@@ -67,20 +68,15 @@ size_from : (count fuel n : ℕ) → count ≤ 2 ^ (n + fuel) → 1 ≤ n → ((
 size_from count zero n room low least =
     let none : n + 0 ≡ n = omega arith in
     (n, record { low = low; room = subst (λ k. count ≤ 2 ^ k) none room; least = least })
-size_from count (suc fuel) n room low least = by_room (cases_lt (2 ^ n) count) (λ above. size_from count fuel (suc n) (subst (λ k. count ≤ 2 ^ k) more room) (omega arith) above)
-  where
-    more : n + suc fuel ≡ suc n + fuel
-    more = omega arith
-
-    not_at : 2 ^ n < count → (m : ℕ) → count ≤ 2 ^ m → n ≢ m
-    not_at narrow m fits e = let here = subst (λ k. count ≤ 2 ^ k) (sym e) fits in absurd (omega (arith, narrow, here))
-
-    above : 2 ^ n < count → (m : ℕ) → 1 ≤ m → count ≤ 2 ^ m → suc n ≤ m
-    above narrow m some fits = let apart = not_at narrow m fits in omega (arith, least m some fits, apart)
-
-    by_room : (2 ^ n < count) ⊎ (count ≤ 2 ^ n) → (((m : ℕ) → 1 ≤ m → count ≤ 2 ^ m → suc n ≤ m) → (size : ℕ) × IsLeastSize count size) → (size : ℕ) × IsLeastSize count size
-    by_room (inr fits) go_on = (n, record { low = low; room = fits; least = least })
-    by_room (inl narrow) go_on = go_on (above narrow)
+size_from count (suc fuel) n room low least =
+    let more : n + suc fuel ≡ suc n + fuel = omega arith in
+    let go_on = size_from count fuel (suc n) (subst (λ k. count ≤ 2 ^ k) more room) (omega arith) in
+    elim (cases_lt (2 ^ n) count) [
+      | inl narrow ↦ go_on (λ m some fits.
+          let apart : n ≢ m = λ e. let here = subst (λ k. count ≤ 2 ^ k) (sym e) fits in omega (arith, narrow, here) in
+          omega (arith, least m some fits, apart))
+      | inr fits ↦ (n, record { low = low; room = fits; least = least })
+    ]
 
 generated_exists : (seed count : ℕ) → count ≤ 2 ^ 10 → (s : Script) × IsGenerated seed count s
 generated_exists seed count few =

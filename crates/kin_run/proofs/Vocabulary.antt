@@ -47,14 +47,14 @@ pub use Rattle.kin_script.specs.declared.command.Command.{Command}
 pub use Rattle.kin_script.specs.declared.refusal.Refusal.{Refusal}
 pub use Rattle.kin_script.specs.declared.refusal.Refusal.TheVariants.{Absent, NoRoot, NotKept, NotWhole, OutOfBounds, Past, Taken}
 pub use Rattle.kin_script.specs.declared.script.Script.{Script}
-pub use Rattle.kin_script.proofs.Questions.{HasLine, asks_otherwise, deed_in_range, has_line, one_reply_line, small_keep}
-pub use Rattle.kin_world.specs.Worlds.{HasLeapt, HasMoved, HasPassed, HasReplaced, HasStepped, IsWhole, World, failure_count, with_facts_of}
+pub use Rattle.kin_script.proofs.Questions.{asks_otherwise, deed_in_range, has_line, one_reply_line, small_keep}
+pub use Rattle.kin_world.specs.Worlds.{HasMoved, HasPassed, HasReplaced, HasStepped, IsWhole, World, failure_count, with_facts_of}
 pub use Rattle.kin_run.specs.Demo.{DemoTextsExist, IsDemoText, OneDemoText, WritesDemo, demo_line, failures_in, start_of}
-pub use Rattle.kin_run.specs.Headline.{Answers, IsAnswer, IsBrokenOff, IsCut, IsTextOf, OneAnswer, Outcome, TakesWhole, TextsExist, Writes, status_of_stop}
+pub use Rattle.kin_run.specs.Headline.{Answers, IsAnswer, IsBrokenOff, IsCut, IsTextOf, OneAnswer, Outcome, TakesWhole, TextsExist, status_of_stop}
 pub use Rattle.kin_run.specs.Passed.{Passes, PassesInTurn}
 pub use Rattle.kin_run.specs.Performed.{BreaksOff, IsCutOfText, IsFrontOfEach, IsReply, Performs, PutsLine, Replies, RepliesTo}
 pub use Rattle.kin_run.specs.States.{printed_if, state_of}
-pub use Rattle.kin_run.specs.Tallies.{HasTallied, counted_on, one_more, tallied, tallied_on, tally_line}
+pub use Rattle.kin_run.specs.Tallies.{HasTallied, counted_on, tallied_on, tally_line}
 pub use Rattle.kin_run.specs.Written.{Gains, GainsSome, IsFront, LosesSome, Printer, Wrote, printer}
 pub use Rattle.kin_run.specs.declared.perform.Halt.{Halt}
 pub use Rattle.kin_run.specs.declared.perform.Halt.TheVariants.{Broken, Refused}

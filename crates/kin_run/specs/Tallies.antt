@@ -8,18 +8,14 @@ use Rattle.kin_run.specs.declared.tally.Tally.{Tally}
 abbrev pub one_more : ℕ → Tally → Tally
 one_more failures t = record { moments = min (t.moments + 1) (2 ^ 64 - 1); failures = min (t.failures + failures) (2 ^ 64 - 1) }
 
--- these blocks were counted in turn
-abbrev pub tallied : Tally → List Block → Tally
-tallied t bs = fold (λ u b. one_more (length b.failures) u) t bs
-
--- one more block, and several, if anybody asks for the counts
+-- one more block, if anybody asks for the counts
 abbrev pub counted_on : ℕ → Option Tally → Option Tally
 counted_on failures None = None
 counted_on failures (Some t) = Some (one_more failures t)
 
+-- these blocks in turn
 abbrev pub tallied_on : Option Tally → List Block → Option Tally
-tallied_on None bs = None
-tallied_on (Some t) bs = Some (tallied t bs)
+tallied_on t bs = fold (λ u b. counted_on (length b.failures) u) t bs
 
 -- such blocks were passed, and counted if anybody asks for the counts
 pub record HasTallied (IsPassed : List Block → Type 0) (old new : Option Tally) : Type 0 where

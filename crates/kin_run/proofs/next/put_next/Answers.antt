@@ -1,9 +1,10 @@
 use Rattle.std.proofs.Common.{[], ◌++◌, inl, inr, refl, sym, ap, append-nil}
-use Rattle.kin_run.proofs.Vocabulary.{err_from_is_err_and, on_err_weaker, on_ok, nothing, none_line, now_line, HasMoved, HasPassed, printed_if, state_of}
+use Rattle.kin_run.proofs.Vocabulary.{err_from_is_err_and, on_err_weaker, on_ok, block_is_listed, nothing, none_line, now_line, HasMoved, HasPassed, printed_if, state_of}
 use Rattle.kin_run.proofs.Tallying.{none_tallied, one_tallied}
-use Rattle.kin_run.proofs.Blocks.{not_back, not_reached}
+use Rattle.kin_run.proofs.Passing.{not_back}
 use Rattle.kin_run.proofs.Gathering.{front_nil}
 use Rattle.kin_run.proofs.Performing.{puts_next}
+use Rattle.kin_num.proofs.MomentLaws.{never}
 use Rattle.kin_run.proofs.next.put_next.Goals as goal
 
 pub returns-in_default-clause-line : goal.returns-in_default-clause-line
@@ -20,7 +21,7 @@ pub unreachable-requires : goal.unreachable-requires
 unreachable-requires g c =
     let n = c.in-Some.ensures.some in
     let moved : HasMoved c.in-Some.moment c.args.world.now c.step.new.self = rw c.in-None.is at c.in_ok-block.ensures.stepped in
-    not_reached _ _ (record { moment = c.in-Some.moment; failures = n.failures }) n.next moved.nothing
+    block_is_listed _ _ _ (record { moment = c.in-Some.moment; failures = n.failures }) c.requires.whole.canonical n.next.canonical n.next (never c.in-Some.moment n.next.canonical) moved.nothing
 
 pub returns-in_err-block-clause-line : goal.returns-in_err-block-clause-line
 returns-in_err-block-clause-line g c =
