@@ -1,6 +1,6 @@
 -- The certificates of live facts, and how many failure moments were made: what was made adds up, if the structures are changed in turn.
 use Rattle.std.proofs.Common.{refl, ◌≡◌, ℕ, ◌+◌, ◌-◌, ◌^◌, ◌≤◌, ◌⊎◌, inl, inr, sym, ap, ◌∙◌, arith, List, [], ◌++◌, length-append, ◌≢◌, ◌↔◌, Contains, subst}
-use Rattle.kin_world.proofs.Vocabulary.{cases_eq, Certificate, Placed, contains_map, contains_mapped, exactly_both, exactly_in_words, exactly_none, Facts, IsAt, LiveFact, HasFactsOf, certificates_of, AreLeft, HasComeTo, HasTimedNew}
+use Rattle.kin_world.proofs.Vocabulary.{cases_eq, Certificate, contains_map, contains_mapped, exactly_both, exactly_in_words, exactly_none, Facts, IsAt, LiveFact, certificates_of, AreLeft, HasComeTo, HasTimedNew}
 
 -- a fact is at the owner and of the form that its certificate tells
 pub at_its : (l : LiveFact) (c : Certificate) → l.certificate ≡ c → IsAt c.structure c.placed.part c.placed.fact.form l
@@ -25,23 +25,9 @@ pub record HaveSameCertificates (old new : List LiveFact) : Type 0 where
 pub same_listed : {old new : List LiveFact} → HaveSameCertificates old new → (c : Certificate) → Contains (certificates_of old) c ↔ Contains (certificates_of new) c
 same_listed {old} {new} same c = (listed_through old new c (λ l there is. same.stay l there), listed_through new old c (λ l there is. same.only l there))
 
--- so a structure's facts are tabled as they were
-pub same_tabled : {old new : List LiveFact} → HaveSameCertificates old new → (j : ℕ) (facts : List Placed) → HasFactsOf old j facts → HasFactsOf new j facts
-same_tabled same j facts tabled p = (
-  λ there. let l = (tabled p).0 there in let k = same.stay l.0 l.1 in (k.0, k.1, k.2 ∙ l.2),
-  λ l. let k = same.only l.0 l.1 in (tabled p).1 (k.0, k.1, k.2 ∙ l.2),
-)
-
 -- the certificate is in the second table and not in the first
 abbrev IsNew : Facts → Facts → Certificate → Type 0
 IsNew old new x = Contains (certificates_of new.live) x × ¬ (Contains (certificates_of old.live) x)
-
--- what is so of the other structures' live facts is so of their certificates
-others_listed : (k : ℕ) (old new : List LiveFact) → AreLeft k old new → (x : Certificate) → x.structure ≢ k → Contains (certificates_of old) x ↔ Contains (certificates_of new) x
-others_listed k old new others x apart = (listed_through old new x (λ l there is. (l, (others l (away l is)).0 there, refl)), listed_through new old x (λ l there is. (l, (others l (away l is)).1 there, refl)))
-  where
-    away : (l : LiveFact) → l.certificate ≡ x → l.certificate.structure ≢ k
-    away l is e = apart (sym (ap (λ (y : Certificate). y.structure) is) ∙ e)
 
 -- at the start nothing has come
 pub come_first : (start : Facts) → start.made ≤ 2 ^ 64 - 1 → HasComeTo 0 start start
@@ -65,7 +51,10 @@ come_on reached k start b c low come left made = record {
     ahead x above = come.ahead x (omega (arith, low, above))
 
     others : (x : Certificate) → x.structure ≢ k → Contains (certificates_of b.live) x ↔ Contains (certificates_of c.live) x
-    others = others_listed k b.live c.live left
+    others x apart = (
+      listed_through b.live c.live x (λ l there is. (l, (left l (λ e. apart (sym (ap (λ (y : Certificate). y.structure) is) ∙ e))).0 there, refl)),
+      listed_through c.live b.live x (λ l there is. (l, (left l (λ e. apart (sym (ap (λ (y : Certificate). y.structure) is) ∙ e))).1 there, refl)),
+    )
 
     either : (x : Certificate) → IsNew start b x ⊎ IsNew b c x → IsNew start c x
     either x (inl new) = ((others x (λ e. new.1 ((ahead x (omega (arith, e))).1 new.0))).0 new.0, new.1)

@@ -130,12 +130,13 @@ module _ {start s : Stage} {taken : List Owned} {k : ℕ} (turn : IsAtTurn start
       turn_is = is;
     }
 
-    same_count : length t.structures ≡ length s.structures
-    same_count = did.repair.count ∙ ap (λ (x : Stage). length x.keeps) frame ∙ sym turn.repairing.repair.count
-
     pub turn_shorter : (after : Option ℕ) → IsTurn (k + 1) taken after → turns_left (length t.structures) after < turns_left (length s.structures) (Some k)
     turn_shorter None none = let within = turn_within in omega (arith, within)
-    turn_shorter (Some j) later = let within = turn_within in let more = (later.some j refl).0 in omega (arith, within, more, same_count)
+    turn_shorter (Some j) later =
+        let within = turn_within in
+        let more = (later.some j refl).0 in
+        let same : length t.structures ≡ length s.structures = did.repair.count ∙ ap (λ (x : Stage). length x.keeps) frame ∙ sym turn.repairing.repair.count in
+        omega (arith, within, more, same)
 
 -- at the end no fact waits
 pub repaired_all : {start s : Stage} {taken : List Owned} → IsAtTurn start s taken None → HasSettled start.table s

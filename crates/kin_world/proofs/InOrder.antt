@@ -4,19 +4,15 @@ use Rattle.kin_world.proofs.Vocabulary.{cases_eq, length-map, Contains-get_or, s
 use Rattle.kin_world.proofs.Vocabulary.{owned_by, Holds, Scene, scene_at, Placed, Keep, Facts, LiveFact, NoneAlike, NoneWaits, HasFactsOf, IsTimed, MayTell, nothing, timed_holds, placed_facts, IsSettledFor, HasTimedNew, HasUpdated}
 use Rattle.kin_world.proofs.Vocabulary.{IsInOrder, IsInPlace, IsTimedOrFailed, Stage, sight, Structure}
 use Rattle.kin_motion.specs.Deltas.{Change}
-use Rattle.kin_world.proofs.Certificates.{HaveSameCertificates, same_tabled}
+use Rattle.kin_world.proofs.Certificates.{HaveSameCertificates}
 use Rattle.kin_world.proofs.StructureLaws.{settled_holds, settled_askable}
-
--- what is so of the certificate's fact is so of the fact
-pub by_certificate : (P : Placed → Type 0) (k : ℕ) (p : Placed) (c : Certificate) → c ≡ owned_by k p → P c.placed → P p
-by_certificate P k p c e h = subst P (ap (λ (x : Certificate). x.placed) e) h
 
 -- the live facts of the structure of this number hold, so all its facts hold
 pub facts_hold : (s : Scene) (live : List LiveFact) (j : ℕ) (facts : List Placed) → HasFactsOf live j facts → ((l : LiveFact) → Contains live l → Holds s l.certificate.placed.fact) → AllHold s facts
 facts_hold s live j facts tabled holds i d low =
     let p = get_or facts i d in
     let l = (tabled p).0 (Contains-get_or facts i d low) in
-    by_certificate (λ q. Holds s q.fact) j p l.0.certificate l.2 (holds l.0 l.1)
+    subst (λ (c : Certificate). Holds s c.placed.fact) l.2 (holds l.0 l.1)
 
 -- a fact with its first failure doesn't wait
 pub timely_from_timed : (scene : Moment → Scene) (m : Moment) (l : LiveFact) → IsTimed scene m l → IsTimedOrFailed scene m l
@@ -65,7 +61,15 @@ module _ {is_fine : ℕ → Keep → Structure → Type 0} {s : Stage} (o : IsIn
     canonical = canonical;
     counted = counted;
     count = o.count;
-    each = λ j keep st kept there. let was = o.each j keep st kept there in record { fine = finer j keep st there was; tabled = same_tabled same j (placed_facts st) was.tabled };
+    each = λ j keep st kept there.
+        let was = o.each j keep st kept there in
+        record {
+          fine = finer j keep st there was;
+          tabled = λ p. (
+            λ there. let l = (was.tabled p).0 there in let k = same.stay l.0 l.1 in (k.0, k.1, k.2 ∙ l.2),
+            λ l. let k = same.only l.0 l.1 in (was.tabled p).1 (k.0, k.1, k.2 ∙ l.2),
+          );
+        };
     once = once;
     owned = λ l there. let k = same.only l there in subst (λ (c : Certificate). c.structure < length s.structures) k.2 (o.owned k.0 k.1);
     timely = timely;

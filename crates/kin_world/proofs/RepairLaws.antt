@@ -1,8 +1,8 @@
 -- One structure is repaired, and the others stand as they were.
-use Rattle.std.proofs.Common.{◌≡◌, inl, inr, ap, ℕ, List, slice_set, Contains, IsTrue}
-use Rattle.kin_world.proofs.Vocabulary.{cases_Bool, All-contains, owned_by, HoldsAt, Holds, scene_at, ListsExactly, Placed, Keep, exactly_in_words, Facts, LiveFact, NoneWaits, HasFactsOf, timed_holds, placed_facts, HasRepaired, HasUpdated}
-use Rattle.kin_world.proofs.Vocabulary.{IsSound, IsUnderRepair, ListsWaiting, Stage, sight, Structure}
-use Rattle.kin_world.proofs.InOrder.{by_certificate, all_hold, restated, replaced, tabled_here, timed_new}
+use Rattle.std.proofs.Common.{subst, ◌≡◌, inl, inr, ap, ℕ, List, slice_set, Contains, IsTrue}
+use Rattle.kin_world.proofs.Vocabulary.{cases_Bool, All-contains, Certificate, owned_by, HoldsAt, Holds, scene_at, ListsExactly, Placed, Keep, exactly_in_words, Facts, LiveFact, NoneWaits, HasFactsOf, timed_holds, placed_facts, HasRepaired}
+use Rattle.kin_world.proofs.Vocabulary.{HasUpdated, IsSound, IsUnderRepair, ListsWaiting, Stage, sight, Structure}
+use Rattle.kin_world.proofs.InOrder.{all_hold, restated, replaced, tabled_here, timed_new}
 use Rattle.kin_world.proofs.StructureLaws.{settled_holds, settled_from_hold}
 
 module _ {s : Stage} (repair : IsUnderRepair s) where
@@ -11,14 +11,14 @@ module _ {s : Stage} (repair : IsUnderRepair s) where
   waiting_fail k facts failed tabled h = exactly_in_words failed _ _ (λ p. (to p, from p)) h
     where
       to : (p : Placed) → ((l : LiveFact) × Contains s.table.live l × IsTrue l.waits × (l.certificate ≡ owned_by k p)) → Contains facts p × ¬ (Holds (sight s) p.fact)
-      to p (l, there, waits, is) = ((tabled p).1 (l, there, is), by_certificate (λ q. ¬ (Holds (sight s) q.fact)) k p l.certificate is ((repair.timely l there).failed waits))
+      to p (l, there, waits, is) = ((tabled p).1 (l, there, is), subst (λ (c : Certificate). ¬ (Holds (sight s) c.placed.fact)) is ((repair.timely l there).failed waits))
 
       from : (p : Placed) → Contains facts p × ¬ (Holds (sight s) p.fact) → (l : LiveFact) × Contains s.table.live l × IsTrue l.waits × (l.certificate ≡ owned_by k p)
       from p (there, fails) =
           let l = (tabled p).0 there in
           elim (cases_Bool l.0.waits) [
             | inl waits ↦ (l.0, l.1, waits, l.2)
-            | inr not ↦ absurd (fails (by_certificate (λ q. Holds (sight s) q.fact) k p l.0.certificate l.2 (timed_holds (scene_at s.motions) s.moment repair.canonical l.0 ((repair.timely l.0 l.1).timed not))))
+            | inr not ↦ absurd (fails (subst (λ (c : Certificate). Holds (sight s) c.placed.fact) l.2 (timed_holds (scene_at s.motions) s.moment repair.canonical l.0 ((repair.timely l.0 l.1).timed not))))
           ]
 
   -- no fact of the repaired structure waits

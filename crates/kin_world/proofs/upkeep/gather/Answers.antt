@@ -1,13 +1,7 @@
-use Rattle.std.proofs.Common.{false, refl, ap, arith, length, ◌≡◌}
+use Rattle.std.proofs.Common.{false, ap, arith, length, ◌≡◌}
 use Rattle.kin_world.proofs.GatherLaws.{gathers_all}
 use Rattle.kin_world.proofs.Vocabulary.{nat_tests, gathered, is_of}
 use Rattle.kin_world.proofs.upkeep.gather.Goals as goal
-
-pub loop-owned-init : goal.loop-owned-init
-loop-owned-init c = record {
-  gathers = rw (c.in_ok-reserve.ensures.items, c.clear.ensures.items) refl;
-  room = let ok = c.in_ok-reserve.ensures.ok in omega (arith, ok);
-}
 
 pub loop-owned-preserved : goal.loop-owned-preserved
 loop-owned-preserved c =

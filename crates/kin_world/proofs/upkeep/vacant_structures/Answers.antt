@@ -4,9 +4,6 @@ use Rattle.kin_motion.specs.declared.keep.Keep.TheVariants.{Order}
 use Rattle.kin_world.proofs.StartLaws.{vacant_more}
 use Rattle.kin_world.proofs.upkeep.vacant_structures.Goals as goal
 
-pub loop-keep-init : goal.loop-keep-init
-loop-keep-init c = record { count = ap length c.new-structures.ensures.items; vacant = λ j keep st kept there. let none = rw c.new-structures.ensures.items at there in absurd cc }
-
 pub new-requires-clause-small : goal.new-requires-clause-small
 new-requires-clause-small c = c.requires.keepable.small c.loop-keep.keep-index _ (slice_get-get_or c.args.keeps.now c.loop-keep.keep-index _ c.loop-keep-test.true)
 

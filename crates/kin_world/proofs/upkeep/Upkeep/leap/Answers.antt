@@ -2,9 +2,6 @@ use Rattle.kin_world.proofs.LeapLaws.{landing_under_repair, has_landed}
 use Rattle.kin_world.proofs.TakeLaws.{given_waiting, given_askable, settled_since}
 use Rattle.kin_world.proofs.upkeep.Upkeep.leap.Goals as goal
 
-pub give_failing-requires-clause-none_waits : goal.give_failing-requires-clause-none_waits
-give_failing-requires-clause-none_waits g c = c.requires.sound.none_waits
-
 pub landing-self-requires : goal.landing-self-requires
 landing-self-requires g c =
     let out = c.in_ok-give_failing.ensures.given in

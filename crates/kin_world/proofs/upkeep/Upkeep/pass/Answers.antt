@@ -1,9 +1,6 @@
 use Rattle.kin_world.proofs.TakeLaws.{as_given, given_waiting, given_askable, taken_under_repair, taken_block, settled_since}
 use Rattle.kin_world.proofs.upkeep.Upkeep.pass.Goals as goal
 
-pub take_failing-requires-clause-none_waits : goal.take_failing-requires-clause-none_waits
-take_failing-requires-clause-none_waits g c = c.requires.sound.none_waits
-
 pub block_of-requires : goal.block_of-requires
 block_of-requires g c =
     rw c.deref.ensures.value (given_askable c.requires.sound c.take_failing.new.self (as_given c.in_ok-taken.ensures.taken))

@@ -3,9 +3,6 @@ use Rattle.kin_world.proofs.Vocabulary.{length-map, length_permutation, Block, F
 use Rattle.kin_world.proofs.TakeLaws.{given_waiting, taken_under_repair, taken_block, settled_since}
 use Rattle.kin_world.proofs.upkeep.Upkeep.pass_unlisted.Goals as goal
 
-pub give_failing-requires-clause-none_waits : goal.give_failing-requires-clause-none_waits
-give_failing-requires-clause-none_waits g c = c.requires.sound.none_waits
-
 pub repair_each-requires : goal.repair_each-requires
 repair_each-requires g c =
     let out = c.in_ok-give_failing.ensures.given in
