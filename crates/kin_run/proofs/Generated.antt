@@ -3,8 +3,8 @@ use Rattle.std.proofs.Common.{◌≡◌, inl, inr, ℕ, zero, suc, ◌+◌, ◌-
 use lib.IntN.{neg_ℤ}
 use Rattle.std.proofs.lemmas.Nat.Gcd.{IsGcd-from_zero, IsGcd-from_mod}
 use Rattle.kin_run.proofs.Vocabulary.{Appends, Appends-trans, ints, same_Some, Plus, line, sign_at_instant, IsEarlier, After, At, Shape, above_fraction, less_asym, start_canonical, is_live, Block, none_live, AppendsFront, Deed, asks}
-use Rattle.kin_run.proofs.Vocabulary.{deed_of, IsGenerated, IsLeastSize, course_behind, insertion, insertions, one_of_each, questions, state_after, IsProvided, IsNamedRoot, IsRefused, LeadsTo, State, at, Ending, Text, Command, Script}
-use Rattle.kin_run.proofs.Vocabulary.{IsDemoText, OneDemoText, WritesDemo, demo_line, start_of, status_of_stop, PassesInTurn, IsCutOfText, IsFrontOfEach, HasTallied, tally_line, IsFront, Wrote, Tally, Stop, Fault, NoMemory}
+use Rattle.kin_run.proofs.Vocabulary.{deed_of, IsGenerated, course_behind, insertion, insertions, one_of_each, questions, state_after, IsProvided, IsNamedRoot, IsRefused, LeadsTo, State, at, Ending, Text, Command, Script, IsDemoText}
+use Rattle.kin_run.proofs.Vocabulary.{OneDemoText, WritesDemo, demo_line, start_of, status_of_stop, PassesInTurn, IsCutOfText, IsFrontOfEach, HasTallied, tally_line, IsFront, Wrote, Tally, Stop, Fault, NoMemory}
 use Rattle.kin_num.specs.declared.instant.Shape.TheVariants.{Ratio}
 use Rattle.kin_num.proofs.FractionOrder.{fraction_itself, line_at_fraction}
 use Rattle.kin_motion.specs.declared.keep.Keep.TheVariants as keep
@@ -90,11 +90,10 @@ never_refused seed count s text ending is t =
     (record { free = λ number low. ap is_some (none_live (2 ^ s.size) number); keeps = is.keeps; moment = refl }) (rw is.lines at t)
 
 -- ---- a seed and a count have one script, and so one text
-one_size : (count m n : ℕ) → IsLeastSize count m → IsLeastSize count n → m ≡ n
-one_size count m n p q = omega (arith, p.least n q.low q.room, q.least m p.low p.room)
-
 one_script : (seed count : ℕ) (s t : Script) → IsGenerated seed count s → IsGenerated seed count t → s ≡ t
-one_script seed count s t p q = λ i. record { size = one_size count s.size t.size p.size q.size i; keeps = (p.keeps ∙ sym q.keeps) i; journal = (p.journal ∙ sym q.journal) i; lines = (p.lines ∙ sym q.lines) i }
+one_script seed count s t p q =
+    let size : s.size ≡ t.size = omega (arith, p.size.least t.size q.size.low q.size.room, q.size.least s.size p.size.low p.size.room) in
+    λ i. record { size = size i; keeps = (p.keeps ∙ sym q.keeps) i; journal = (p.journal ∙ sym q.journal) i; lines = (p.lines ∙ sym q.lines) i }
 
 pub one_demo_text : OneDemoText
 one_demo_text seed count x y p q =
@@ -104,10 +103,6 @@ one_demo_text seed count x y p q =
     p.joined ∙ ap (λ (w : List ℕ). w ++ demo_line p.blocks) body.0 ∙ ap (λ (bs : List Block). q.body ++ demo_line bs) blocks ∙ sym q.joined
 
 -- ---- fronts of that text
--- a front of its own text is a front of each
-pub cut_of_own : (seed count : ℕ) (own front : List ℕ) → IsDemoText seed count own → IsFront front own → IsFrontOfEach (IsDemoText seed count) front
-cut_of_own seed count own front is f = λ text other. subst (IsFront front) (one_demo_text seed count own text is other) f
-
 -- a front of what the commands print is one
 pub cut_of_body : (seed count : ℕ) (s : Script) (front : List ℕ) → IsGenerated seed count s → IsCutOfText (start_of s) s.lines front → IsFrontOfEach (IsDemoText seed count) front
 cut_of_body seed count s front is cut = λ text other.
@@ -140,5 +135,6 @@ module _ (seed count : ℕ) (s : Script) (is : IsGenerated seed count s) (before
   pub wrote_part : (after : Bytes) → AppendsFront played after (tally_line t) → (stop : Stop) → Wrote before after (WritesDemo seed count (status_of_stop stop))
   wrote_part after told stop =
       let part = take told.0 (tally_line t) in
-      let cut = cut_of_own seed count (body.0 ++ tally_line t) (body.0 ++ part) whole_text (front_after body.0 part (tally_line t) (front_take told.0 (tally_line t))) in
+      let front = front_after body.0 part (tally_line t) (front_take told.0 (tally_line t)) in
+      let cut : IsFrontOfEach (IsDemoText seed count) (body.0 ++ part) = λ text other. subst (IsFront (body.0 ++ part)) (one_demo_text seed count (body.0 ++ tally_line t) text whole_text other) front in
       (body.0 ++ part, Appends-trans before played after body.0 part body.1 told.1, broken_demo seed count stop (body.0 ++ part) cut)

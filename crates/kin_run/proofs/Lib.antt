@@ -12,5 +12,4 @@ pub mod ChangeExistence
 pub mod StepExistence
 pub mod TextExistence
 pub mod Tallying
-pub mod Arriving
 pub mod Generated

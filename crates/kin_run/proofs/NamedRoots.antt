@@ -60,9 +60,6 @@ zero_negated : (p : Quadratic) (w : Shape) → sign_at_instant p w ≡ Zero → 
 unfolding sign_at
 zero_negated p w e = sign_at-neg p (at w) ∙ ap opposite_of e
 
-square_alone : (b c : ℤ) → discriminant (pos 0) b c ≡ b *ℤ b
-square_alone b c = by_ring (b ∷ c ∷ []) _ _ (search quotes depth 20) (search quotes depth 20) refl
-
 no_square : (s : Sign) → product_of s s ≢ Minus
 no_square Minus e = cc
 no_square Zero e = cc
@@ -70,7 +67,8 @@ no_square Plus e = cc
 
 pub has_root : (a b c : ℤ) (w : Shape) → IsRootOf (record { a = a; b = b; c = c }) w → discriminant a b c <ℤ pos 0 → ⊥
 has_root (pos zero) b c w root negative =
-    no_square (sign_of b) (sym (sign_of-times b b) ∙ ap sign_of (sym (square_alone b c)) ∙ sign_in Minus (discriminant (pos 0) b c) negative)
+    let square : discriminant (pos 0) b c ≡ b *ℤ b = by_ring (b ∷ c ∷ []) _ _ (search quotes depth 20) (search quotes depth 20) refl in
+    no_square (sign_of b) (sym (sign_of-times b b) ∙ ap sign_of (sym square) ∙ sign_in Minus (discriminant (pos 0) b c) negative)
 has_root (pos (suc n)) b c w root negative =
     let plus = instant-negative w root.canonical.form (pos (suc n)) b c (sign_out Plus (pos (suc n)) refl) negative in
     let clash : Plus ≡ Zero = sym plus ∙ root.zero in cc

@@ -1,8 +1,7 @@
 -- What came of a deed, from what came of its parts.
 use Rattle.std.proofs.Common.{◌≡◌, ℕ, Bool, List, ◌++◌, ◌∙◌, refl, subst, Result, Ok, Err, OnOk, OnErr, [], Option, Some, None, ap, set-set, slice_set}
-use Rattle.kin_run.proofs.Vocabulary.{IsCanonical, IsEarlier, Quadratic, Shape, Course, motion_of, Change, ChangesTo, asks, changes, goes_on, goes_to, PutsFront, IsReplyLine, IsAllowed, IsNamedRoot, LeadsToNext, State, at, IsNextText}
-use Rattle.kin_run.proofs.Vocabulary.{IsPassedText, Prints, Step, Command, one_reply_line, HasReplaced, World, BreaksOff, IsFrontOfEach, Performs, PutsLine, Replies, state_of, GainsSome, Printer, printer, Halt, Broken, Refused, Stop, Fault}
-use Rattle.kin_run.proofs.Vocabulary.{NoMemory}
+use Rattle.kin_run.proofs.Vocabulary.{IsCanonical, IsEarlier, Quadratic, Shape, Course, motion_of, Change, ChangesTo, asks, changes, goes_to, PutsFront, IsReplyLine, IsAllowed, IsNamedRoot, State, at, IsNextText, IsPassedText, Prints, Step}
+use Rattle.kin_run.proofs.Vocabulary.{Command, one_reply_line, HasReplaced, World, BreaksOff, IsFrontOfEach, Performs, PutsLine, Replies, state_of, GainsSome, Printer, printer, Halt, Broken, Refused, Stop, Fault, NoMemory}
 use Rattle.kin_run.proofs.Determined.{goes_allowed}
 use Rattle.kin_run.proofs.Passing.{one_next}
 use Rattle.kin_run.proofs.Gathering.{Bytes, gains_put, some_is, gains_nothing, front_nil}
@@ -19,14 +18,6 @@ module _ (s : State) (upper : Bool) (z : Quadratic) (w : Shape) (named : IsNamed
   pub moving_broke : (stop : Stop) (p q : Printer) → BreaksOff (IsFrontOfEach (IsPassedText s.journal s w)) stop p q → IsAllowed s (goes_to upper z) × BreaksOff (IsFrontOfEach (Prints s (goes_to upper z))) stop p q
   moving_broke NoMemory p q x = (goes_allowed s upper z w named later, some_is x (IsFrontOfEach (Prints s (goes_to upper z))) cut)
   moving_broke Fault p q x = (goes_allowed s upper z w named later, record { text = x.text; reached = x.reached; is = cut x.text x.is })
-
--- ---- to the next failures
-module _ (s : State) (held : Bytes) (before now : List ℕ) where
-  pub went_on : (t : State) → (text : List ℕ) × (now ≡ before ++ text) × IsNextText s text → LeadsToNext s t → GainsSome (λ text. Step s goes_on text t) (printer held before) (printer held now)
-  went_on t put leads = record { text = put.0; gained = gains_put held before now put.0 put.1; is = record { allowed = λ r h. h; prints = put.2; leads = leads } }
-
-  pub going_broke : (front : List ℕ) × (now ≡ before ++ front) × IsFrontOfEach (IsNextText s) front → IsAllowed s goes_on × BreaksOff (IsFrontOfEach (Prints s goes_on)) NoMemory (printer held before) (printer held now)
-  going_broke put = ((λ r h. h), record { text = put.0; gained = gains_put held before now put.0 put.1; is = put.2 })
 
 -- ---- to a question
 pub replied : {E : Type 0} (s : State) (q : Command) (result : Result E Halt) (held : Bytes) (before now : List ℕ) → Replies s q result before now → Performs s (asks q) result (printer held before) (printer held now) s

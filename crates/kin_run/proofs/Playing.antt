@@ -5,7 +5,7 @@ use Rattle.kin_run.proofs.Vocabulary.{Step, Text, refused_line, Command, Refusal
 use Rattle.kin_run.proofs.Determined.{one_cause, one_step, stays, one_at_root, one_state}
 use Rattle.kin_run.proofs.Gathering.{some_then, some_is, some_broke, some_lost_here, front_through, front_after}
 use Rattle.kin_run.proofs.Passing.{one_told}
-use Rattle.kin_run.proofs.Tallying.{none_tallied, tallied_then, tallied_is}
+use Rattle.kin_run.proofs.Tallying.{tallied_then, tallied_is}
 
 abbrev pub Line : Type 0
 Line = ℕ × Command
@@ -49,11 +49,7 @@ module _ (s : State) (all : List Line) (t : State) where
         );
   }
 
-  -- the text so far is a front of all
-  pub cut_here : (left : List Line) (so_far : List ℕ) → IsSoFar s all t left so_far → IsCutOfText s all so_far
-  cut_here left so_far p = λ text ending q. let b = p.back text ending q in record { more = b.0; joined = b.2 }
-
-  -- and so is a front of the next command's text behind it
+  -- the text so far is a front of all, and so is a front of the next command's text behind it
   pub cut_within : (c : Line) (left : List Line) (so_far part : List ℕ) → IsAllowed t (deed_of c.1) → IsSoFar s all t (c ∷ left) so_far → IsFrontOfEach (Prints t (deed_of c.1)) part → IsCutOfText s all (so_far ++ part)
   cut_within c left so_far part allowed p cut = λ text ending q.
       let b = p.back text ending q in
@@ -66,10 +62,6 @@ module _ (s : State) (all : List Line) (t : State) where
       let b = p.back text ending q in
       let a = text_refused t c left b.0 ending r h b.1 in
       subst (IsFront (so_far ++ front)) (sym b.2) (front_after so_far front b.0 (subst (IsFront front) (sym a.0) f))
-
--- a front of a front is one
-pub cut_of_cut : (s : State) (all : List Line) (text front : List ℕ) → IsCutOfText s all text → IsFront front text → IsCutOfText s all front
-cut_of_cut s all text front cut f = λ whole ending q. front_through front text whole f (cut whole ending q)
 
 -- ---- one turn of the loop over the commands
 pub at_item : (xs : List Line) (i : ℕ) (x : Line) → i < length xs → x ≡ get_or xs i x → drop i xs ≡ x ∷ drop (i + 1) xs
@@ -89,7 +81,7 @@ module _ {s t : State} {all : List Line} {p q : Printer} (i : ℕ) (so_far : Gai
     carried_out u canonical done = some_then here (IsSoFar s all u (drop (i + 1) all)) done.gained (λ x so. text_goes_on s all t c (drop (i + 1) all) x done.text u canonical so done.is)
 
     pub lost_behind : (u : State) {r : Printer} (f : Printer) → IsCanonical t.moment.at → GainsSome (λ text. Step t (deed_of c.1) text u) q r → AppendsFront r.held f.held r.gathered → LosesSome (IsCutOfText s all) p f
-    lost_behind u f canonical done front = some_lost_here (some_is (carried_out u canonical done) (IsCutOfText s all) (cut_here s all u (drop (i + 1) all))) f front
+    lost_behind u f canonical done front = some_lost_here (some_is (carried_out u canonical done) (IsCutOfText s all) (λ x so text ending whole. let b = so.back text ending whole in record { more = b.0; joined = b.2 })) f front
 
     -- the run was broken off amid it
     pub broke_off : (stop : Stop) (r : Printer) → IsAllowed t (deed_of c.1) × BreaksOff (IsFrontOfEach (Prints t (deed_of c.1))) stop q r → BreaksOff (IsCutOfText s all) stop p r
@@ -107,9 +99,6 @@ module _ {s t : State} {all : List Line} {p q : Printer} (i : ℕ) (so_far : Gai
 -- From s, the blocks of all commands are those so far, and then those of the commands that are left, from t.
 pub record ArePassedSoFar (s : State) (all : List Line) (t : State) (left : List Line) (so_far : List Block) : Type 0 where
   pub forth : (rest : List Block) → PassesInTurn t left rest → PassesInTurn s all (so_far ++ rest)
-
-pub begins_counting : (s : State) (cs : List Line) (t : Option Tally) → HasTallied (ArePassedSoFar s cs s cs) t t
-begins_counting s cs t = none_tallied (ArePassedSoFar s cs s cs) t (record { forth = λ rest is. is })
 
 module _ {s : State} {all : List Line} {t : State} {old now : Option Tally} where
   pub counts_command : (i : ℕ) (c : Line) → HasTallied (ArePassedSoFar s all t (drop i all)) old now → i < length all → c ≡ get_or all i c

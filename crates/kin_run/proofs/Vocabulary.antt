@@ -40,7 +40,7 @@ pub use Rattle.kin_script.specs.Printed.{PutsFront}
 pub use Rattle.kin_script.specs.PrintedJournal.{block_lines, failure_line, journal_lines, none_line, now_line}
 pub use Rattle.kin_script.specs.Questions.{IsKeepInRange, IsProvided, IsReplyLine}
 pub use Rattle.kin_script.specs.Ranges.{IsAskedFor, IsCommandInRange, IsDeedInRange, IsRatioInRange, IsRootInRange, IsWithin}
-pub use Rattle.kin_script.specs.Replay.{HasNoRoot, IsAllowed, IsNamedRoot, IsRefused, IsRootOf, LeadsTo, LeadsToNext}
+pub use Rattle.kin_script.specs.Replay.{HasNoRoot, IsAllowed, IsNamedRoot, IsRefused, IsRootOf, LeadsTo}
 pub use Rattle.kin_script.specs.States.{State, at, start, state_setting}
 pub use Rattle.kin_script.specs.Text.{Ending, IsNextText, IsPassedText, Prints, Step, Text, bad_line, refused_line}
 pub use Rattle.kin_script.specs.declared.command.Command.{Command}

@@ -1,6 +1,6 @@
 -- A number comes or goes, and one structure after another carries the mark out. Going is coming turned round: the motions that have the number are then those before.
-use Rattle.std.proofs.Common.{◌≡◌, inl, inr, refl, sym, ap, ◌∙◌, arith, ℕ, zero, suc, ◌+◌, ◌<◌, ◌≤◌, ◌^◌, ◌⊎◌, true, false, List, [], ◌∷◌, length, slice_set, Option, Some, None, is_some, slice_get, Contains, get_or-set_same, set-set, length-set}
-use Rattle.kin_world.proofs.Vocabulary.{set-get_or, All-contains, slice_get_within, AreSlow, Course, is_live, live_of, motion_of, IsAskable, IsSmallKeep, owned_by, Holds, Scene, scene_at, Placed, Keep, Facts, LiveFact, NoneWaits, IsTimed}
+use Rattle.std.proofs.Common.{◌≡◌, inl, inr, refl, sym, ap, ◌∙◌, arith, ℕ, zero, suc, ◌<◌, ◌≤◌, ◌^◌, ◌⊎◌, true, false, List, [], ◌∷◌, length, slice_set, Option, Some, None, is_some, slice_get, Contains, get_or-set_same, set-set, length-set}
+use Rattle.kin_world.proofs.Vocabulary.{set-get_or, All-contains, slice_get_within, AreSlow, Course, is_live, live_of, motion_of, IsAskable, IsSmallKeep, owned_by, Holds, Scene, scene_at, Placed, Keep, Facts, LiveFact, IsTimed}
 use Rattle.kin_world.proofs.Vocabulary.{placed_facts, AreLiveAfter, HoldFor, IsSettledFor, HasGoneOn, HasGoneOver, HasOneMore, HasUpdated, IsCarriedOut, IsInOrder, IsInPlace, IsMarked, IsSound, Stage, sight, with_marked, HasRemoved, World}
 use Rattle.kin_world.proofs.Vocabulary.{Structure}
 use Rattle.kin_motion.proofs.MotionLaws.{slow-clear}
@@ -65,19 +65,6 @@ hold_for (Leaves n) {k} {before} {s} h keep st place kept = record {
       ∙ All-contains (λ (q : Placed). Holds (scene_at before s.moment) q.fact) (placed_facts st) p (settled_holds s.size keep (scene_at before s.moment) st (place.fine.ahead (omega arith))) there;
 }
 
--- a structure goes over to the scene now, after those below it, and no fact waits
-module _ {k : ℕ} {now : Scene} {s : Stage} {keep : Keep} {st after : Structure} {table : Facts} (r : HasUpdated k now s keep st after table) where
-  gone_over : {before : Scene} → IsInOrder (HasGoneOver s.size k before now) s → IsInOrder (HasGoneOver s.size (k + 1) before now) (record s { structures = slice_set s.structures k after; table = table })
-  gone_over o =
-      replaced o r (record { done = λ less. r.settled; ahead = λ more. absurd (omega (arith, more)) })
-      (λ j x y apart was. record { done = λ less. was.done (omega (arith, less, apart)); ahead = λ more. was.ahead (omega (arith, more)) })
-
-  none_waits_after : {is_fine : ℕ → Keep → Structure → Type 0} → IsInOrder is_fine s → NoneWaits s.table.live → NoneWaits table.live
-  none_waits_after o none l there = elim (by_age o r l there) [
-    | inl old ↦ none l old
-    | inr new ↦ new.waits_not
-  ]
-
 -- a form of a settled structure that is kept may be asked for
 asked_of : {size : ℕ} {keep : Keep} {scene : Scene} {st : Structure} (p : Placed) → IsSmallKeep keep → IsSettledFor size keep scene st → Contains (placed_facts st) p → IsAskable scene.live p.fact.form
 asked_of {size} {keep} {scene} {st} p small settled there = All-contains (λ (q : Placed). IsAskable scene.live q.fact.form) (placed_facts st) p (settled_askable size keep scene st small settled) there
@@ -94,11 +81,25 @@ seen (Leaves n) {k} {before} {s} h {keep} st {after} {table} r =
     ] in
     record { kept = r.kept; here = r.here; settled = r.settled; change = r.change; changed = r.changed; told = assumption own; made = r.made }
 
--- it has carried the mark out
+-- it has carried the mark out, after those below it, and no fact waits
 pub carried_on : (mark : Mark) {k : ℕ} {s : Stage} → IsCarriedOut mark k s → {keep : Keep} (st : Structure) {after : Structure} {table : Facts} → HasUpdated k (sight s) s keep st after table
     → HasGoneOn (IsCarriedOut mark) k s (record s { structures = slice_set s.structures k after; table = table })
 carried_on mark {k} {s} one {keep} st {after} {table} r = record {
-  next = λ h. (h.0, let r' = seen mark h.1 st r in record { in_order = gone_over r' h.1.in_order; none_waits = none_waits_after r' h.1.in_order h.1.none_waits; room = h.1.room; changed = h.1.changed; slow = h.1.slow });
+  next = λ h. (
+    h.0,
+    record {
+      in_order =
+          replaced h.1.in_order (seen mark h.1 st r) (record { done = λ less. r.settled; ahead = λ more. absurd (omega (arith, more)) })
+          (λ j x y apart was. record { done = λ less. was.done (omega (arith, less, apart)); ahead = λ more. was.ahead (omega (arith, more)) });
+      none_waits = λ l there. elim (by_age h.1.in_order (seen mark h.1 st r) l there) [
+        | inl old ↦ h.1.none_waits l old
+        | inr new ↦ new.waits_not
+      ];
+      room = h.1.room;
+      changed = h.1.changed;
+      slow = h.1.slow;
+    },
+  );
   others = r.told.others;
   made = timed_new one.1.in_order (seen mark one.1 st r);
 }

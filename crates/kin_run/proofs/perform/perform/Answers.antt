@@ -1,7 +1,8 @@
 use Rattle.std.proofs.Common.{◌≡◌, refl, [], true, arith, to_z, of_z, w32, w64}
-use Rattle.kin_run.proofs.Vocabulary.{to_z-of_z, err_from_is_err_and, on_ok, line, IsSlowVelocity, IsRootInRange, asks_otherwise, state_of, printer}
+use Rattle.kin_run.proofs.Vocabulary.{to_z-of_z, err_from_is_err_and, on_ok, line, IsSlowVelocity, goes_on, IsRootInRange, Step, asks_otherwise, state_of, printer}
 use Rattle.kin_run.proofs.Tallying.{none_tallied}
-use Rattle.kin_run.proofs.Performing.{went_on, going_broke, replied}
+use Rattle.kin_run.proofs.Gathering.{gains_put}
+use Rattle.kin_run.proofs.Performing.{replied}
 use Rattle.kin_run.proofs.NamedRoots.{handed_ratio}
 use Rattle.kin_run.proofs.perform.perform.Goals as goal
 
@@ -22,11 +23,14 @@ returns-in-Turn-clause-performs g c =
 pub returns-in_err-put_next-in-Next-clause-performs : goal.returns-in_err-put_next-in-Next-clause-performs
 returns-in_err-put_next-in-Next-clause-performs g c =
     let e = err_from_is_err_and c.from_residual.result c.from_residual.ensures.1 in
-    rw (c.in-Next.is, e.1, e.2) (going_broke (state_of c.args.journal c.args.world.now) (g.K.Sink.held c.args.sink.now) c.args.out.now.items c.put_next.new.out.items c.in_err-put_next-in-Next.ensures.line)
+    let put = c.in_err-put_next-in-Next.ensures.line in
+    rw (c.in-Next.is, e.1, e.2) ((λ r h. h), record { text = put.0; gained = gains_put (g.K.Sink.held c.args.sink.now) c.args.out.now.items c.put_next.new.out.items put.0 put.1; is = put.2 })
 
 pub returns-in_ok-put_next-in-Next-clause-performs : goal.returns-in_ok-put_next-in-Next-clause-performs
 returns-in_ok-put_next-in-Next-clause-performs g c =
-    rw c.in-Next.is (went_on (state_of c.args.journal c.args.world.now) (g.K.Sink.held c.args.sink.now) c.args.out.now.items c.put_next.new.out.items (state_of c.args.journal c.put_next.new.world) c.in_ok-put_next-in-Next.ensures.line c.in_ok-put_next-in-Next.ensures.leads)
+    let put = c.in_ok-put_next-in-Next.ensures.line in
+    let step : Step (state_of c.args.journal c.args.world.now) goes_on put.0 (state_of c.args.journal c.put_next.new.world) = record { allowed = λ r h. h; prints = put.2; leads = c.in_ok-put_next-in-Next.ensures.leads } in
+    rw c.in-Next.is (record { text = put.0; gained = gains_put (g.K.Sink.held c.args.sink.now) c.args.out.now.items c.put_next.new.out.items put.0 put.1; is = step })
 
 pub returns-in_default-clause-performs : goal.returns-in_default-clause-performs
 returns-in_default-clause-performs g c =
@@ -39,18 +43,6 @@ returns-in_default-clause-performs g c =
     (replied s q c.put_reply_to.result held c.args.out.now.items c.put_reply_to.new.out.items (c.put_reply_to.ensures.line c.args.journal))
 
 -- ---- the blocks that are passed
-
-pub returns-in-Insert-clause-tallied : goal.returns-in-Insert-clause-tallied
-returns-in-Insert-clause-tallied g c = on_ok c.insert.result (rw c.in-Insert.is (none_tallied (λ bs. bs ≡ []) c.args.tally.now refl))
-
-pub returns-in-Remove-clause-tallied : goal.returns-in-Remove-clause-tallied
-returns-in-Remove-clause-tallied g c = on_ok c.remove.result (rw c.in-Remove.is (none_tallied (λ bs. bs ≡ []) c.args.tally.now refl))
-
-pub returns-in-Replace-clause-tallied : goal.returns-in-Replace-clause-tallied
-returns-in-Replace-clause-tallied g c = on_ok c.replace.result (rw c.in-Replace.is (none_tallied (λ bs. bs ≡ []) c.args.tally.now refl))
-
-pub returns-in-Turn-clause-tallied : goal.returns-in-Turn-clause-tallied
-returns-in-Turn-clause-tallied g c = on_ok c.turn.result (rw c.in-Turn.is (none_tallied (λ bs. bs ≡ []) c.args.tally.now refl))
 
 pub returns-in-AtRatio-clause-tallied : goal.returns-in-AtRatio-clause-tallied
 returns-in-AtRatio-clause-tallied g c =
@@ -65,9 +57,6 @@ returns-in-Some-clause-tallied g c =
     let b_is : to_z w64 (of_z w64 q.b) ≡ q.b = grind (arith, to_z-of_z, range.b_small) in
     let c_is : to_z w64 (of_z w64 q.c) ≡ q.c = grind (arith, to_z-of_z, range.c_small) in
     rw q.is (c.move_to-in-Some.ensures.tallied q.upper (record { a = q.a; b = q.b; c = q.c }) (rw (a_is, b_is, c_is) at c.in-Some.ensures))
-
-pub returns-in_ok-put_next-in-Next-clause-tallied : goal.returns-in_ok-put_next-in-Next-clause-tallied
-returns-in_ok-put_next-in-Next-clause-tallied g c = rw c.in-Next.is c.in_ok-put_next-in-Next.ensures.tallied
 
 pub returns-in_default-clause-tallied : goal.returns-in_default-clause-tallied
 returns-in_default-clause-tallied g c =

@@ -2,13 +2,14 @@ use Rattle.std.proofs.Common.{[], ◌∙◌, refl, arith}
 use Rattle.kin_run.proofs.Vocabulary.{err_from_is_err_and, deed_of, refused_line, state_of, printer}
 use Rattle.kin_run.proofs.Determined.{stays}
 use Rattle.kin_run.proofs.Gathering.{gains_nothing, gains_put, some_flushed}
-use Rattle.kin_run.proofs.Playing.{begins, all_done, carried_out, lost_behind, broke_off, refused_here, broke_refusing, begins_counting, counts_command, counts_all}
+use Rattle.kin_run.proofs.Tallying.{none_tallied}
+use Rattle.kin_run.proofs.Playing.{begins, all_done, carried_out, lost_behind, broke_off, refused_here, broke_refusing, counts_command, counts_all}
 use Rattle.kin_run.proofs.play.perform_each.Goals as goal
 
 pub loop-line-init : goal.loop-line-init
 loop-line-init g c = record {
   so_far = record { text = []; gained = gains_nothing (printer (g.K.Sink.held c.args.sink.now) c.args.out.now.items); is = begins (state_of c.args.journal c.args.world.now) c.args.lines.now };
-  passed = begins_counting (state_of c.args.journal c.args.world.now) c.args.lines.now c.args.tally.now;
+  passed = none_tallied _ c.args.tally.now (record { forth = λ rest is. is });
   whole = c.requires.whole;
   size = refl;
   later = omega arith;

@@ -1,8 +1,7 @@
 use Rattle.std.proofs.Common.{[], ap}
 use Rattle.kin_run.proofs.Vocabulary.{on_err, IsCutOfText, state_of, printer}
-use Rattle.kin_run.proofs.Gathering.{some_lost_here, wrote_front, wrote_broken}
+use Rattle.kin_run.proofs.Gathering.{front_through, some_lost_here, wrote_front, wrote_broken}
 use Rattle.kin_run.proofs.OneText.{cut_of_text}
-use Rattle.kin_run.proofs.Playing.{cut_of_cut}
 use Rattle.kin_run.proofs.play.play.Goals as goal
 
 pub returns-in_err-flush-in-Ok-clause-cut : goal.returns-in_err-flush-in-Ok-clause-cut
@@ -23,4 +22,4 @@ returns-clause-cut g c =
     let held = g.K.Sink.held c.perform_each.new.sink in
     let out = c.perform_each.new.out.items in
     let broke = rw c.new-out.ensures.items at c.in-Err.ensures.text in
-    wrote_broken (IsCutOfText s all) before held (g.K.Sink.held c.salvage.new.sink) out c.in-Err.stop broke c.salvage.ensures.front (λ e. ap g.K.Sink.held (c.salvage.ensures.untouched e)) (cut_of_cut s all)
+    wrote_broken (IsCutOfText s all) before held (g.K.Sink.held c.salvage.new.sink) out c.in-Err.stop broke c.salvage.ensures.front (λ e. ap g.K.Sink.held (c.salvage.ensures.untouched e)) (λ text front cut f whole ending q. front_through front text whole f (cut whole ending q))
