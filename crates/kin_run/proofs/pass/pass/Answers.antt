@@ -1,5 +1,5 @@
 use Rattle.std.proofs.Common.{[], ap, arith, not, refl, ◌∙◌}
-use Rattle.kin_run.proofs.Vocabulary.{err_from_is_err_and, at, HasMoved, HasPassed, state_of, printer}
+use Rattle.kin_run.proofs.Vocabulary.{err_from_is_err_and, at, HasMoved, HasPassed, printer}
 use Rattle.kin_world.proofs.RootLaws.{journals_exist}
 use Rattle.kin_run.proofs.Tallying.{untallied}
 use Rattle.kin_run.proofs.Gathering.{gains_nothing}
@@ -83,6 +83,3 @@ returns-then-is_none-clause-tallied g c =
     let w = c.args.world.now in
     let j = journals_exist w (at c.args.asked) c.requires.whole c.requires.canonical c.requires.later in
     untallied _ c.args.tally.now j.0 (c.is_none.ensures ∙ ap not c.if-is_none.true) j.1
-
-pub returns-then-is_none-clause-moved : goal.returns-then-is_none-clause-moved
-returns-then-is_none-clause-moved g c = ap (state_of c.args.journal) c.in_ok-leap_to.ensures.arrived.state

@@ -1,7 +1,6 @@
 use Rattle.std.proofs.Common.{refl, sym, subst, inr}
 use Rattle.kin_run.proofs.Vocabulary.{err_from_is_err_and, IsEarlier, at, state_of, printer}
 use Rattle.kin_run.proofs.Performing.{moved, moving_broke}
-use Rattle.kin_run.proofs.Tallying.{tallied_is}
 use Rattle.kin_run.proofs.perform.move_to.Goals as goal
 
 pub returns-in_err-pass-clause-performs : goal.returns-in_err-pass-clause-performs
@@ -17,6 +16,3 @@ returns-clause-performs g c = λ upper p named.
 
 pub returns-then-is_before-clause-performs : goal.returns-then-is_before-clause-performs
 returns-then-is_before-clause-performs g c = λ upper p named. (inr (refl, (c.args.asked, named, subst (IsEarlier (at c.args.asked)) c.now.ensures.value (c.if-is_before.ensures.0 refl))), refl, refl)
-
-pub returns-clause-tallied : goal.returns-clause-tallied
-returns-clause-tallied g c = λ upper p named. tallied_is c.in_ok-pass.ensures.tallied (λ bs is. (c.args.asked, named, is))
