@@ -1,6 +1,6 @@
 -- First failures exist, and are at roots.
-use Rattle.std.proofs.Common.{◌≡◌, ◌≢◌, ◌⊎◌, inl, inr, Option, Some, None, MatchOption, zero, suc, refl, ap, sym, ◌∙◌, subst, ℤ, pos, negsuc, arith}
-use Rattle.std.proofs.lemmas.Int.{ints}
+use Rattle.std.proofs.Common.{◌≡◌, ◌≢◌, ◌⊎◌, inl, inr, Option, Some, None, MatchOption, refl, ap, sym, ◌∙◌, subst, pos}
+use Rattle.kin_basics.proofs.Integers.{zero_or_not}
 use Rattle.kin_algebra.specs.declared.sign.Sign.{Sign}
 use Rattle.kin_algebra.specs.declared.sign.Sign.TheVariants.{Minus, Zero, Plus}
 use Rattle.kin_algebra.proofs.Signs.{code}
@@ -27,13 +27,8 @@ use Rattle.kin_cert.proofs.Failing.{zero_everywhere, fails_at_root, never_fails,
 use Rattle.kin_cert.proofs.Seen.{holds-seen, failure-seen}
 
 -- ---- whether a polynomial is 0
-nothing_or_some : (z : ℤ) → (z ≡ pos 0) ⊎ (z ≢ pos 0)
-nothing_or_some (pos zero) = inl refl
-nothing_or_some (pos (suc n)) = inr (λ e. absurd (omega (arith, ints, e)))
-nothing_or_some (negsuc n) = inr (λ e. absurd (omega (arith, ints, e)))
-
-zero_or_not : (p : Quadratic) → IsZeroPolynomial p ⊎ ¬ (IsZeroPolynomial p)
-zero_or_not p = by_parts (nothing_or_some p.a) (nothing_or_some p.b) (nothing_or_some p.c)
+all_zero_or_not : (p : Quadratic) → IsZeroPolynomial p ⊎ ¬ (IsZeroPolynomial p)
+all_zero_or_not p = by_parts (zero_or_not p.a) (zero_or_not p.b) (zero_or_not p.c)
   where
     by_parts : (p.a ≡ pos 0) ⊎ (p.a ≢ pos 0) → (p.b ≡ pos 0) ⊎ (p.b ≢ pos 0) → (p.c ≡ pos 0) ⊎ (p.c ≢ pos 0) → IsZeroPolynomial p ⊎ ¬ (IsZeroPolynomial p)
     by_parts (inl e) (inl f) (inl g) = inl (record { a_zero = e; b_zero = f; c_zero = g })
@@ -60,7 +55,7 @@ module _ (p : Quadratic) (small : IsSmall p) (now : Moment) (here : IsCanonical 
       }
 
   zero_fails : f.sign ≡ Zero → HasFirst p now f
-  zero_fails e = by_polynomial (zero_or_not p)
+  zero_fails e = by_polynomial (all_zero_or_not p)
     where
       at_now : now.phase ≡ At → sign_at_instant p now.at ≡ Zero
       at_now h = sym (at_at p now.at) ∙ ap (λ (q : Phase). sign_at p (record { at = now.at; phase = q })) (sym h) ∙ holds ∙ e

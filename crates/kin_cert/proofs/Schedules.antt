@@ -17,7 +17,8 @@ use Rattle.kin_num.proofs.MomentOrder.{not_earlier_itself, earlier_trans, not_ea
 use Rattle.kin_motion.specs.Kinetics.{AreDistinct}
 use Rattle.kin_motion.proofs.SetLaws.{distinct_none, distinct_cons, distinct_append}
 use Rattle.kin_queue.specs.Agenda.{IsLeast}
-use Rattle.kin_queue.proofs.Entries.{same, same_itself, differ}
+use Rattle.kin_queue.proofs.Contents.{by_id}
+use Rattle.kin_queue.proofs.Entries.{differ}
 use Rattle.kin_cert.specs.Schedules.{with_each, AreBeside}
 
 abbrev pub Moments : Type 0
@@ -35,12 +36,6 @@ same_moments m n h = same_map nat_cmp_total nat_cmp-IsAntisymmetric m n (λ q. a
     at q (Some v) b e f = e ∙ sym ((h q v).0 e)
     at q None (Some w) e f = absurd (none-some w (sym e ∙ (h q w).1 f))
     at q None None e f = e ∙ sym f
-
-by_id : (q k : ℕ) (P : Bool → Type 0) → (q ≡ k → P true) → (q ≢ k → P false) → P (same q k)
-by_id q k P here other = elim (cases_eq q k) [
-  | inl e ↦ subst P (sym (ap (λ (x : ℕ). same x k) e ∙ same_itself k)) (here e)
-  | inr n ↦ subst P (sym (differ q k n)) (other n)
-]
 
 some_is : (v w : Moment) → Some v ≡ Some w → v ≡ w
 some_is v w e = cc

@@ -50,7 +50,7 @@ nowhere es q n = at (look_up q es) refl
     at None h = h
     at (Some v) h = absurd (n v (found es q v h))
 
-by_id : (q k : ℕ) (P : Bool → Type 0) → (q ≡ k → P true) → (q ≢ k → P false) → P (same q k)
+pub by_id : (q k : ℕ) (P : Bool → Type 0) → (q ≡ k → P true) → (q ≢ k → P false) → P (same q k)
 by_id q k P same_id other = elim (same q k) as (λ b. same q k ≡ b → P b) [
   | true ↦ λ t. same_id (same_is q k t)
   | false ↦ λ t. other (λ e. absurd (let both : true ≡ false = sym (subst (λ (x : ℕ). same q x ≡ true) e (same_itself q)) ∙ t in cc))

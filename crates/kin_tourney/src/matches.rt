@@ -214,7 +214,7 @@ impl<I: Copy> Tree<I> {
         pass_up(&mut self.doubts, node)
     }
 
-    /// The same, where nodes are in doubt.
+    /// `repair`, where nodes are in doubt.
     #[inline(never)]
     fn repair_doubts<K: Keyed<Item = I>, O: Signs, L: Ledger>(
         &mut self,
