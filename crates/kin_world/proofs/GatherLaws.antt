@@ -1,5 +1,6 @@
 -- Failed facts are gathered structure by structure, from the least one on.
 use Rattle.std.proofs.Common.{not, append_assoc, append-nil, ◌≡◌, ◌≢◌, inl, inr, refl, sym, ap, ap₂, ◌∙◌, subst, arith, ℕ, ◌+◌, ◌<◌, ◌≤◌, true, false, List, [], ◌∷◌, ◌++◌, length, Option, Some, None, Contains, IsTrue, filter}
+use Rattle.std.proofs.lemmas.List.{nil_from_length}
 use Rattle.std.proofs.lemmas.List.Filters.{length-filter_both}
 use Rattle.kin_world.proofs.Vocabulary.{cases_Bool, nat_tests, length-map, Contains-append_cases, Contains-append_left, Contains-append_right, same_Some, contains_cases, contains_head, contains_none, Certificate, owned_by, Placed}
 use Rattle.kin_world.proofs.Vocabulary.{contains_map, contains_mapped, distinct_filter, distinct_mapped_on, filter-complete, filter-sound, LiveFact, certificate_of, Owned, AreWaiting, HasRepaired, HasSameFrame, HasSettled, IsAtTurn}
@@ -41,12 +42,7 @@ seen_more k taken rest tail turn turn' o h here is =
     record { front = h.front ++ o ∷ []; split = h.split ∙ rw here (sym (append_assoc h.front (o ∷ []) tail)); turn_is = turn_more k h.front turn turn' o h.turn_is is }
 
 pub seen_all : (k : ℕ) (taken rest : List Owned) (turn : Option ℕ) → IsSeen k taken rest turn → length rest ≡ 0 → IsTurn k taken turn
-seen_all k taken [] turn h none = subst (λ (os : List Owned). IsTurn k os turn) (sym (h.split ∙ append-nil h.front)) h.turn_is
-seen_all k taken (o ∷ os) turn h none = absurd (omega (arith, none))
-
-pub gathers_all : (k : ℕ) (all : List Placed) {failed : List Placed} (rest : List Owned) → failed ++ gathered k rest ≡ all → length rest ≡ 0 → failed ≡ all
-gathers_all k all {failed} [] h none = sym (append-nil failed) ∙ h
-gathers_all k all (o ∷ os) h none = absurd (omega (arith, none))
+seen_all k taken rest turn h none = rw (h.split, nil_from_length rest none, append-nil h.front) h.turn_is
 
 -- where as many are of one structure as there are, none is of a later one
 pub all_of_one : (k : ℕ) (taken : List Owned) → length (gathered k taken) ≡ length taken → IsTurn (k + 1) taken None
@@ -60,11 +56,10 @@ all_of_one k taken e = record {
 
 -- ---- one turn: the facts of the structure are gathered, and it is repaired
 module _ {start s : Stage} {taken : List Owned} {k : ℕ} (turn : IsAtTurn start s taken (Some k)) where
-  waiting : AreWaiting turn.reached s.table.live taken
-  waiting = turn.repairing.waiting
+  open turn use {reached, turn_is, repairing.{repair, waiting, come, frame as frame_until}}
 
-  low : turn.reached ≤ k
-  low = (turn.turn_is.some k refl).0
+  low : reached ≤ k
+  low = (turn_is.some k refl).0
 
   waits_of : (o : Owned) → Contains taken o → o.structure ≡ k → (l : LiveFact) × Contains s.table.live l × IsTrue l.waits × (l.certificate ≡ certificate_of o)
   waits_of o there e = waiting.only o there (let from = low in omega (arith, e, from))
@@ -72,9 +67,9 @@ module _ {start s : Stage} {taken : List Owned} {k : ℕ} (turn : IsAtTurn start
   -- the fact is live, so its structure is there
   pub turn_within : k < length s.structures
   turn_within =
-      let next = turn.turn_is.some k refl in
+      let next = turn_is.some k refl in
       let l = waits_of next.1 next.2 next.3 in
-      subst (λ n. n < length s.structures) (ap (λ (c : Certificate). c.structure) l.3 ∙ next.3) (turn.repairing.repair.owned l.0 l.1)
+      subst (λ n. n < length s.structures) (ap (λ (c : Certificate). c.structure) l.3 ∙ next.3) (repair.owned l.0 l.1)
 
   of_structure : (o : Owned) → Contains (filter (is_of k) taken) o → o.structure ≡ k
   of_structure o there = let t = (filter-sound (is_of k) taken o there).1 in grind (arith, nat_tests, t)
@@ -108,7 +103,7 @@ module _ {start s : Stage} {taken : List Owned} {k : ℕ} (turn : IsAtTurn start
       each = λ l there waits.
           let away : l.certificate.structure ≢ k = λ e. let no_wait : l.waits ≡ false = did.own l there e in let wait : l.waits ≡ true = waits in absurd cc in
           let o = waiting.each l ((did.others l away).1 there) waits in
-          let least : k ≤ o.0.structure = turn.turn_is.least o.0 o.1 o.2 in
+          let least : k ≤ o.0.structure = turn_is.least o.0 o.1 o.2 in
           let other : o.0.structure ≢ k = λ e. away (ap (λ (c : Certificate). c.structure) o.3 ∙ e) in
           (o.0, o.1, omega (arith, least, other), o.3);
       only = λ o there more.
@@ -124,8 +119,8 @@ module _ {start s : Stage} {taken : List Owned} {k : ℕ} (turn : IsAtTurn start
       repairing = record {
         repair = did.repair;
         waiting = waiting_after;
-        come = come_on turn.reached k start.table s.table t.table low turn.repairing.come did.others did.made;
-        frame = frame_through start s t turn.repairing.frame frame;
+        come = come_on reached k start.table s.table t.table low come did.others did.made;
+        frame = frame_through start s t frame_until frame;
       };
       turn_is = is;
     }
@@ -135,7 +130,7 @@ module _ {start s : Stage} {taken : List Owned} {k : ℕ} (turn : IsAtTurn start
     turn_shorter (Some j) later =
         let within = turn_within in
         let more = (later.some j refl).0 in
-        let same : length t.structures ≡ length s.structures = did.repair.count ∙ ap (λ (x : Stage). length x.keeps) frame ∙ sym turn.repairing.repair.count in
+        let same : length t.structures ≡ length s.structures = did.repair.count ∙ ap (λ (x : Stage). length x.keeps) frame ∙ sym repair.count in
         omega (arith, within, more, same)
 
 -- at the end no fact waits

@@ -1,6 +1,7 @@
 -- A number turns: what is seen now is as before, so every structure stays settled, and the facts that don't name it fail as before.
 use Rattle.std.proofs.Common.{◌≡◌, inl, inr, refl, sym, ap, ◌∙◌, subst, arith, ℕ, ◌+◌, ◌-◌, ◌^◌, true, cond, List, [], ◌∷◌, length, slice_set, Result, Ok, Err, IfOk, Option, Some, ℤ, min, count_by, Contains, ◌↔◌, IsTrue, length-set}
 use Rattle.std.proofs.lemmas.List.Sums.{sum_by-cons}
+use Rattle.std.proofs.lemmas.Result.{IfOk-weaker}
 use Rattle.kin_world.proofs.Vocabulary.{cases_Bool, same_Some, IsCanonical, Moment, After, At, AreSlow, Course, IsSlow, is_live, live_of, motion_of, IsAskable, Certificate, Holds, Scene, scene_at, IsNotWhole, IsOutOfBounds, TurnsTo}
 use Rattle.kin_world.proofs.Vocabulary.{NotWhole, OutOfBounds, Facts, LiveFact, NoneAlike, IsTimed, certificates_of, timed_holds, IsSettledFor, IsSound, Stage, meaning, sight, CanTurn, HasTurned, World, is_about, with_facts_of}
 use Rattle.kin_motion.proofs.TurningLaws.{turn_keeps_scene, one_turn}
@@ -23,11 +24,9 @@ seen_so P inner seen n motion is there so had shown =
 pub can_turn : {E : Type 0} (w : World) (n : ℕ) (u v : ℤ) → is_live w.motions n ≡ true → (r : Result Course E)
     → ((had : Course) → motion_of w.motions n ≡ Some had → IfOk r (λ new. (w.moment.phase ≡ At) × TurnsTo w.moment.at u v had new × IsSlow new))
     → IfOk r (CanTurn n u v w)
-can_turn {E} w n u v live (Err e) turns = tt
-can_turn {E} w n u v live (Ok new) turns =
+can_turn w n u v live r turns =
     let had = motion_there (motion_of w.motions n) live in
-    let t = turns had.0 had.1 in
-    record { before = had.0; had = had.1; at = t.0; turns = t.1; slow = t.2 }
+    IfOk-weaker r _ _ (λ new t. record { before = had.0; had = had.1; at = t.0; turns = t.1; slow = t.2 }) (turns had.0 had.1)
 
 -- where a number may turn nothing speaks against it
 pub no_cause : (w : World) (n : ℕ) (u v : ℤ) (motion : Course) → CanTurn n u v w motion → IsCanonical w.moment.at → (r : Result Course TurnError)

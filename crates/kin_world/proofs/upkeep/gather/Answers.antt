@@ -1,6 +1,6 @@
-use Rattle.std.proofs.Common.{false, ap, arith, length, ◌≡◌}
-use Rattle.kin_world.proofs.GatherLaws.{gathers_all}
-use Rattle.kin_world.proofs.Vocabulary.{nat_tests, gathered, is_of}
+use Rattle.std.proofs.Common.{false, ap, append-nil, arith, length, sym, ◌≡◌, ◌∙◌}
+use Rattle.std.proofs.lemmas.List.{nil_from_length}
+use Rattle.kin_world.proofs.Vocabulary.{nat_tests, is_of}
 use Rattle.kin_world.proofs.upkeep.gather.Goals as goal
 
 pub loop-owned-preserved : goal.loop-owned-preserved
@@ -12,4 +12,4 @@ loop-owned-preserved c =
     record { gathers = rw (here, other) at h.gathers; room = omega (arith, h.room, less) }
 
 pub returns : goal.returns
-returns c = gathers_all c.args.k (gathered c.args.k c.args.taken.now) c.loop-owned.rest.now c.loop-owned.invariant.gathers c.in_default.ensures.cases
+returns c = sym (append-nil c.loop-owned.failed.items) ∙ rw (nil_from_length c.loop-owned.rest.now c.in_default.ensures.cases) at c.loop-owned.invariant.gathers
