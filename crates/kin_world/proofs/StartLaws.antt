@@ -1,6 +1,6 @@
 -- The start: no number is live, at the instant 0, and the structures have no members.
-use Rattle.std.proofs.Common.{ext_get_or, ◌≡◌, inl, inr, refl, sym, ap, ◌∙◌, subst, arith, ℕ, zero, suc, ◌+◌, List, [], ◌∷◌, ◌++◌, length, Option, Some, None, replicate, slice_get}
-use Rattle.kin_world.proofs.Vocabulary.{length-replicate, same_Some, contains_none, get-push_cases, IsCanonical, Moment, Course, live_of, motion_of, filled_from, scene_at, Keep, HasMembers, AreVacant, IsVacant, IsFit, IsSound, Structure}
+use Rattle.std.proofs.Common.{ext_get_or, ◌≡◌, inl, inr, refl, sym, ap, ◌∙◌, subst, arith, ℕ, zero, suc, ◌+◌, List, [], ◌∷◌, ◌++◌, length, Option, Some, None, replicate, slice_get, Contains}
+use Rattle.kin_world.proofs.Vocabulary.{length-replicate, same_Some, contains_none, get-push_cases, IsCanonical, Moment, Course, live_of, motion_of, filled_from, LiveFact, sight, Stage, Keep, AreVacant, IsVacant, IsFit, IsSound, Structure}
 use Rattle.kin_motion.proofs.SlotLaws.{none_live}
 
 -- a list of so many empty slots
@@ -20,26 +20,28 @@ vacant_more size keeps structures after keep st vacant here own pushed_is j keep
 ]
 
 -- without members they are all settled where no number is live
-pub sound_start : (size n : ℕ) (keeps : List Keep) (structures : List Structure) (motions : List (Option Course)) (m : Moment) → IsFit size keeps motions → IsCanonical m.at → motions ≡ replicate n None → length structures ≡ length keeps → AreVacant size keeps structures
-    → IsSound (record { size = size; keeps = keeps; structures = structures; table = record { live = []; made = 0 }; motions = motions; moment = m })
-sound_start size n keeps structures motions m fit canonical none count vacant = record {
+pub sound_start : (s : Stage) (n : ℕ) → IsFit s.size s.keeps s.motions → IsCanonical s.moment.at → s.motions ≡ replicate n None → length s.structures ≡ length s.keeps → AreVacant s.size s.keeps s.structures → s.table ≡ record { live = []; made = 0 } → IsSound s
+sound_start s n fit canonical none count vacant empty = record {
   in_order = record {
     fit = fit;
     canonical = canonical;
-    counted = omega arith;
+    counted = rw empty (omega arith);
     count = count;
     each = λ j keep st kept there.
         let v = vacant j keep st kept there in
         record {
-          fine = record { kind = v.kind; rest = v.rest; members = subst (λ live. HasMembers live st) (sym nobody) v.members; settled = v.settled (scene_at motions m) nobody };
-          tabled = rw v.facts (λ p. (λ there. absurd (contains_none p there), λ l. absurd (contains_none l.0 l.1)));
+          fine = record { kind = v.kind; rest = v.rest; members = rw nobody v.members; settled = v.settled (sight s) nobody };
+          tabled = rw (v.facts, empty) (λ p. (λ there. absurd (contains_none p there), λ l. absurd (contains_none l.0 l.1)));
         };
-    once = λ i j d less within. absurd (omega (arith, within));
-    owned = λ l there. absurd (contains_none l there);
-    timely = λ l there. absurd (contains_none l there);
+    once = rw empty (λ i j d less within. absurd (omega (arith, within)));
+    owned = λ l there. absurd (nothing_there l there);
+    timely = λ l there. absurd (nothing_there l there);
   };
-  none_waits = λ l there. absurd (contains_none l there);
+  none_waits = λ l there. absurd (nothing_there l there);
 }
   where
-    nobody : live_of motions ≡ []
+    nobody : live_of s.motions ≡ []
     nobody = ap live_of none ∙ none_filled n 0
+
+    nothing_there : (l : LiveFact) → Contains s.table.live l → ⊥
+    nothing_there l there = contains_none l (rw empty at there)

@@ -10,14 +10,11 @@ of-requires c = record { canonical = start_canonical }
 pub returns-clause-sound : goal.returns-clause-sound
 returns-clause-sound c =
     let motions = c.in_ok-motions.ensures in
-    let kept = c.in_ok-structures.ensures in
-    let m : Moment = record { at = c.of.result; phase = At } in
-    let start : Stage = record { size = c.args.size; keeps = c.args.keeps.now; structures = c.in_ok-structures.structures.items; table = record { live = []; made = 0 }; motions = c.in_ok-motions.motions; moment = m } in
-    let same : start ≡ record start { keeps = c.in-Ok.keeps.items; table = c.in_ok-with_room.field-0 } = λ t. record start { keeps = sym c.in-Ok.ensures.items t; table = record { live = sym c.in_ok-with_room.ensures.live t; made = sym c.in_ok-with_room.ensures.made t } } in
-    subst (λ (s : Stage). IsSound s) same
-    (sound_start c.args.size (2 ^ c.args.size) c.args.keeps.now c.in_ok-structures.structures.items c.in_ok-motions.motions m
-    (record { low = c.requires.low; high = c.requires.high; keepable = c.requires.keepable; room = motions.room; slow = motions.slow }) (subst IsCanonical (sym c.of.ensures) start_canonical)
-    (empty_slots (2 ^ c.args.size) c.in_ok-motions.motions motions.room motions.none) kept.count kept.vacant)
+    let kept = rw (← c.in-Ok.ensures.items) at c.in_ok-structures.ensures in
+    sound_start _ (2 ^ c.args.size)
+    (record { low = c.requires.low; high = c.requires.high; keepable = rw c.in-Ok.ensures.items c.requires.keepable; room = motions.room; slow = motions.slow }) (rw c.of.ensures start_canonical)
+    (empty_slots (2 ^ c.args.size) c.in_ok-motions.motions motions.room motions.none) kept.count kept.vacant
+    (λ t. record { live = c.in_ok-with_room.ensures.live t; made = c.in_ok-with_room.ensures.made t })
 
 pub returns-clause-empty : goal.returns-clause-empty
 returns-clause-empty c =
