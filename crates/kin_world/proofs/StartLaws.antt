@@ -1,6 +1,6 @@
 -- The start: no number is live, at the instant 0, and the structures have no members.
-use Rattle.std.proofs.Common.{ext_get_or, ◌≡◌, inl, inr, refl, sym, ap, ◌∙◌, subst, arith, ℕ, zero, suc, ◌+◌, List, [], ◌∷◌, ◌++◌, length, Option, Some, None, replicate, slice_get, Contains}
-use Rattle.kin_world.proofs.Vocabulary.{length-replicate, same_Some, contains_none, get-push_cases, IsCanonical, Moment, Course, live_of, motion_of, filled_from, LiveFact, sight, Stage, Keep, AreVacant, IsVacant, IsFit, IsSound, Structure}
+use Rattle.std.proofs.Common.{ext_get_or, ◌≡◌, inl, inr, refl, sym, ap, ◌∙◌, arith, ℕ, zero, suc, ◌+◌, List, [], ◌∷◌, ◌++◌, length, Option, Some, None, replicate, slice_get, Contains}
+use Rattle.kin_world.proofs.Vocabulary.{length-replicate, same_Some, contains_none, get-push_cases, IsCanonical, Course, live_of, motion_of, filled_from, LiveFact, sight, Stage, Keep, AreVacant, IsVacant, IsFit, IsSound, Structure}
 use Rattle.kin_motion.proofs.SlotLaws.{none_live}
 
 -- a list of so many empty slots

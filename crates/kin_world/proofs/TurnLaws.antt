@@ -1,5 +1,5 @@
 -- A number turns: what is seen now is as before, so every structure stays settled, and the facts that don't name it fail as before.
-use Rattle.std.proofs.Common.{◌≡◌, inl, inr, refl, sym, ap, ◌∙◌, subst, arith, ℕ, ◌+◌, ◌-◌, ◌^◌, true, cond, List, [], ◌∷◌, length, slice_set, Result, Ok, Err, IfOk, Option, Some, ℤ, min, count_by, Contains, ◌↔◌, IsTrue, length-set}
+use Rattle.std.proofs.Common.{◌≡◌, inl, inr, refl, sym, ap, ◌∙◌, subst, arith, ℕ, ◌+◌, ◌-◌, ◌^◌, true, cond, List, [], ◌∷◌, length, slice_set, Result, Err, IfOk, Option, Some, ℤ, min, count_by, Contains, ◌↔◌, IsTrue, length-set}
 use Rattle.std.proofs.lemmas.List.Sums.{sum_by-cons}
 use Rattle.std.proofs.lemmas.Result.{IfOk-weaker}
 use Rattle.kin_world.proofs.Vocabulary.{cases_Bool, same_Some, IsCanonical, Moment, After, At, AreSlow, Course, IsSlow, is_live, live_of, motion_of, IsAskable, Certificate, Holds, Scene, scene_at, IsNotWhole, IsOutOfBounds, TurnsTo}

@@ -1,5 +1,5 @@
 -- All that a world is made of, in one piece: what is true of it between two calls, and while it is repaired. No public clause of the world cites this module.
-use Rattle.std.specs.Prelude.{◌≡◌, ◌≢◌, ℕ, ◌+◌, ◌<◌, ◌≤◌, ◌^◌, ◌-◌, ◌⊎◌, min, true, false, Bool, List, map, length, slice_get, slice_set, Option, Some, None, MatchOption, filter, nat_eq, Contains, ◌↔◌, IsTrue}
+use Rattle.std.specs.Prelude.{◌≡◌, ◌≢◌, ℕ, ◌+◌, ◌<◌, ◌≤◌, ◌^◌, ◌-◌, ◌⊎◌, min, true, false, Bool, List, map, length, slice_get, slice_set, Option, Some, None, filter, nat_eq, Contains, ◌↔◌, IsTrue}
 use Rattle.std.specs.List.{All}
 use Rattle.kin_num.specs.declared.instant.Moment.{Moment}
 use Rattle.kin_num.specs.declared.instant.Phase.TheVariants.{At, After}

@@ -1,11 +1,8 @@
-use Rattle.std.proofs.Common.{◌≡◌, sym, ap, ◌∙◌, subst, ◌+◌, ◌++◌, ◌∷◌, [], rules, length, Some, pos, slice_get, slice_index_or, true}
+use Rattle.std.proofs.Common.{◌≡◌, sym, ap, ◌∙◌, subst, ◌+◌, ◌++◌, ◌∷◌, [], rules, length, Some, pos, slice_get, slice_index_or}
 use Rattle.kin_world.proofs.Vocabulary.{length_push, slice_get-get_or}
 use Rattle.kin_motion.specs.declared.keep.Keep.TheVariants.{Order}
 use Rattle.kin_world.proofs.StartLaws.{vacant_more}
 use Rattle.kin_world.proofs.upkeep.vacant_structures.Goals as goal
-
-pub new-requires-clause-small : goal.new-requires-clause-small
-new-requires-clause-small c = c.requires.keepable.small c.loop-keep.keep-index _ (slice_get-get_or c.args.keeps.now c.loop-keep.keep-index _ c.loop-keep-test.true)
 
 pub loop-keep-preserved : goal.loop-keep-preserved
 loop-keep-preserved c =

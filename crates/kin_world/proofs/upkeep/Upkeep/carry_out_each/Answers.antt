@@ -1,17 +1,9 @@
-use Rattle.std.proofs.Common.{rules, refl, sym, ap, ◌∙◌, arith, length}
+use Rattle.std.proofs.Common.{sym, ap, ◌∙◌, arith, length}
 use Rattle.kin_world.proofs.Vocabulary.{few_at_most, Stage, stage_of}
 use Rattle.kin_world.proofs.MarkLaws.{carried_out_all}
 use Rattle.kin_world.proofs.GatherLaws.{frame_through}
-use Rattle.kin_world.proofs.Certificates.{come_first, come_on}
+use Rattle.kin_world.proofs.Certificates.{come_on}
 use Rattle.kin_world.proofs.upkeep.Upkeep.carry_out_each.Goals as goal
-
-pub loop-k-init : goal.loop-k-init
-loop-k-init g c = record {
-  marked = c.requires.marked;
-  come = come_first c.args.self.now.table c.requires.marked.1.in_order.counted;
-  frame = refl;
-  all = search rules;
-}
 
 pub overflow_cast-k : goal.overflow_cast-k
 overflow_cast-k g c =

@@ -1,15 +1,7 @@
-use Rattle.std.proofs.Common.{refl, arith}
+use Rattle.std.proofs.Common.{arith}
 use Rattle.kin_world.proofs.Vocabulary.{few_at_most}
 use Rattle.kin_world.proofs.GatherLaws.{turn_within, turn_failed, turn_shorter, turn_over, repaired_all}
-use Rattle.kin_world.proofs.Certificates.{come_first}
 use Rattle.kin_world.proofs.upkeep.Upkeep.repair_each.Goals as goal
-
-pub loop-turn-init : goal.loop-turn-init
-loop-turn-init g c = record {
-  reached = 0;
-  repairing = record { repair = c.requires.repair; waiting = c.requires.waiting; come = come_first c.args.self.now.table c.requires.repair.counted; frame = refl };
-  turn_is = c.next_structure-turn.ensures;
-}
 
 pub repair-requires-clause-within : goal.repair-requires-clause-within
 repair-requires-clause-within g c = turn_within (rw c.in-Some.is at c.loop-turn.invariant)

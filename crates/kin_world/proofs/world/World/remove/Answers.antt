@@ -5,9 +5,6 @@ use Rattle.kin_world.proofs.MarkLaws.{live_within, may_remove}
 use Rattle.kin_world.proofs.SoundLaws.{has_removed}
 use Rattle.kin_world.proofs.world.World.remove.Goals as goal
 
-pub clear-requires : goal.clear-requires
-clear-requires g c = record { room = live_within c.self.inside.upkeep.motions c.args.no (rw (← c.self.view_is) at c.requires.live) }
-
 pub carry_out_each-requires : goal.carry_out_each-requires
 carry_out_each-requires g c =
     let sound = sound_inside c.self.inside c.self.view_is c.self.invariant c.requires.whole in

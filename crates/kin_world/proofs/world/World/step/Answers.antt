@@ -5,9 +5,6 @@ use Rattle.kin_world.proofs.world.World.step.Goals as goal
 pub due_within-requires : goal.due_within-requires
 due_within-requires g c = (sound_inside c.self.inside c.self.view_is c.self.invariant c.requires.whole).none_waits
 
-pub pass-requires : goal.pass-requires
-pass-requires g c = record { sound = sound_inside c.self.inside c.self.view_is c.self.invariant c.requires.whole; failing = c.in-Some.ensures.least }
-
 pub invariant_of-self : goal.invariant_of-self
 invariant_of-self g c = λ _. rests_sound c.self.inside c.self.view_is c.self.invariant c.requires.whole c.args.limit.now c.recall_canonical.ensures c.requires.later c.in_default.ensures
 
