@@ -29,10 +29,6 @@ same_listed {old} {new} same c = (listed_through old new c (λ l there is. same.
 abbrev IsNew : Facts → Facts → Certificate → Type 0
 IsNew old new x = Contains (certificates_of new.live) x × ¬ (Contains (certificates_of old.live) x)
 
--- at the start nothing has come
-pub come_first : (start : Facts) → start.made ≤ 2 ^ 64 - 1 → HasComeTo 0 start start
-come_first start fits = record { made = record { born = []; exactly = exactly_none _ (λ x h. h.1 h.0); count = omega (arith, fits) }; ahead = λ c low. (λ h. h, λ h. h) }
-
 -- the structure k is told, after those below it: only certificates of structures below k were new, and only such of k are added
 pub come_on : (reached k : ℕ) (start b c : Facts) → reached ≤ k → HasComeTo reached start b → AreLeft k b.live c.live → HasTimedNew b c → HasComeTo (k + 1) start c
 come_on reached k start b c low come left made = record {

@@ -34,15 +34,9 @@ pub record IsSeen (k : ℕ) (taken rest : List Owned) (turn : Option ℕ) : Type
   pub split : taken ≡ front ++ rest
   pub turn_is : IsTurn k front turn
 
-pub seen_none : (k : ℕ) (taken : List Owned) → IsSeen k taken taken None
-seen_none k taken = record { front = []; split = refl; turn_is = record { some = λ j e. absurd cc; least = λ o there. absurd (contains_none o there) } }
-
 pub seen_more : (k : ℕ) (taken rest tail : List Owned) (turn turn' : Option ℕ) (o : Owned) → IsSeen k taken rest turn → rest ≡ o ∷ tail → IsSooner k o.structure turn turn' → IsSeen k taken tail turn'
 seen_more k taken rest tail turn turn' o h here is =
     record { front = h.front ++ o ∷ []; split = h.split ∙ rw here (sym (append_assoc h.front (o ∷ []) tail)); turn_is = turn_more k h.front turn turn' o h.turn_is is }
-
-pub seen_all : (k : ℕ) (taken rest : List Owned) (turn : Option ℕ) → IsSeen k taken rest turn → length rest ≡ 0 → IsTurn k taken turn
-seen_all k taken rest turn h none = rw (h.split, nil_from_length rest none, append-nil h.front) h.turn_is
 
 -- where as many are of one structure as there are, none is of a later one
 pub all_of_one : (k : ℕ) (taken : List Owned) → length (gathered k taken) ≡ length taken → IsTurn (k + 1) taken None

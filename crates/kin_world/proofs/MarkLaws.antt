@@ -122,10 +122,3 @@ carried_out_all (Leaves n) {k} {s} (before, h) all = record {
 
     asked : (l : LiveFact) → Contains s.table.live l → IsAskable (live_of s.motions) l.certificate.placed.fact.form
     asked l there = let at = owner o l there in let within = o.owned l there in asked_of l.certificate.placed (o.fit.keepable.small l.certificate.structure at.0 at.2) (at.3.done (omega (arith, within, all))) at.4
-
--- a number that has left may enter again
-pub may_return : {leaving : ℕ} {old new : World} → HasRemoved leaving old new → is_live old.motions leaving ≡ true → (leaving < 2 ^ new.size) × (is_live new.motions leaving ≡ false)
-may_return {leaving} {old} {new} did live =
-    let low = live_within old.motions leaving live in
-    let motions : new.motions ≡ slice_set old.motions leaving None = ap (λ (w : World). w.motions) did.state in
-    (rw (← did.whole.room, motions, length-set old.motions leaving None) low, rw motions (ap is_some (get_or-set_same old.motions leaving None None low)))

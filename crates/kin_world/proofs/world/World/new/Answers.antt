@@ -1,5 +1,5 @@
 use Rattle.kin_world.proofs.SoundLaws.{whole}
 use Rattle.kin_world.proofs.world.World.new.Goals as goal
 
-pub returns : goal.returns
-returns c = record { empty = c.in_ok-new.ensures.empty; whole = whole c.in_ok-new.ensures.sound }
+pub returns-clause-whole : goal.returns-clause-whole
+returns-clause-whole c = whole c.in_ok-new.ensures.sound
