@@ -1,6 +1,6 @@
 -- The certificates of live facts, and how many failure moments were made: what was made adds up, if the structures are changed in turn.
-use Rattle.std.proofs.Common.{refl, ◌≡◌, ℕ, ◌+◌, ◌-◌, ◌^◌, ◌≤◌, ◌⊎◌, inl, inr, sym, ap, ◌∙◌, arith, List, [], ◌++◌, length-append, ◌≢◌, ◌↔◌, Contains, subst}
-use Rattle.kin_world.proofs.Vocabulary.{cases_eq, Certificate, contains_map, contains_mapped, exactly_both, exactly_in_words, exactly_none, Facts, IsAt, LiveFact, certificates_of, AreLeft, HasComeTo, HasTimedNew}
+use Rattle.std.proofs.Common.{refl, ◌≡◌, ℕ, ◌+◌, ◌≤◌, ◌⊎◌, inl, inr, sym, ap, ◌∙◌, arith, List, ◌++◌, length-append, ◌≢◌, ◌↔◌, Contains, subst}
+use Rattle.kin_world.proofs.Vocabulary.{cases_eq, Certificate, contains_map, contains_mapped, exactly_both, exactly_in_words, Facts, IsAt, LiveFact, certificates_of, AreLeft, HasComeTo, HasTimedNew}
 
 -- a fact is at the owner and of the form that its certificate tells
 pub at_its : (l : LiveFact) (c : Certificate) → l.certificate ≡ c → IsAt c.structure c.placed.part c.placed.fact.form l

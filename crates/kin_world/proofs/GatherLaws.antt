@@ -1,6 +1,5 @@
 -- Failed facts are gathered structure by structure, from the least one on.
-use Rattle.std.proofs.Common.{not, append_assoc, append-nil, ◌≡◌, ◌≢◌, inl, inr, refl, sym, ap, ap₂, ◌∙◌, subst, arith, ℕ, ◌+◌, ◌<◌, ◌≤◌, true, false, List, [], ◌∷◌, ◌++◌, length, Option, Some, None, Contains, IsTrue, filter}
-use Rattle.std.proofs.lemmas.List.{nil_from_length}
+use Rattle.std.proofs.Common.{rules, not, append_assoc, ◌≡◌, ◌≢◌, inl, inr, refl, sym, ap, ap₂, ◌∙◌, subst, arith, ℕ, ◌+◌, ◌<◌, ◌≤◌, true, false, List, [], ◌∷◌, ◌++◌, length, Option, Some, None, Contains, IsTrue, filter}
 use Rattle.std.proofs.lemmas.List.Filters.{length-filter_both}
 use Rattle.kin_world.proofs.Vocabulary.{cases_Bool, nat_tests, length-map, Contains-append_cases, Contains-append_left, Contains-append_right, same_Some, contains_cases, contains_head, contains_none, Certificate, owned_by, Placed}
 use Rattle.kin_world.proofs.Vocabulary.{contains_map, contains_mapped, distinct_filter, distinct_mapped_on, filter-complete, filter-sound, LiveFact, certificate_of, Owned, AreWaiting, HasRepaired, HasSameFrame, HasSettled, IsAtTurn}
@@ -108,16 +107,7 @@ module _ {start s : Stage} {taken : List Owned} {k : ℕ} (turn : IsAtTurn start
 
     -- the structure is repaired, and it is another one's turn
     pub turn_over : (after : Option ℕ) → IsTurn (k + 1) taken after → IsAtTurn start t taken after
-    turn_over after is = record {
-      reached = k + 1;
-      repairing = record {
-        repair = did.repair;
-        waiting = waiting_after;
-        come = come_on reached k start.table s.table t.table low come did.others did.made;
-        frame = frame_through start s t frame_until frame;
-      };
-      turn_is = is;
-    }
+    turn_over after is = search (rules, waiting_after, come_on, low, frame_through)
 
     pub turn_shorter : (after : Option ℕ) → IsTurn (k + 1) taken after → turns_left (length t.structures) after < turns_left (length s.structures) (Some k)
     turn_shorter None none = let within = turn_within in omega (arith, within)

@@ -1,5 +1,5 @@
 -- What stands at a place, who owns a live fact, and one structure put in the place of another.
-use Rattle.std.proofs.Common.{◌≡◌, ◌≢◌, ◌⊎◌, inl, inr, refl, sym, ap, ◌∙◌, subst, arith, ℕ, ◌+◌, ◌-◌, ◌^◌, ◌<◌, ◌≤◌, List, Option, length, get_or, slice_set, map, slice_get, Some, Contains, min, false, true, length-set}
+use Rattle.std.proofs.Common.{rules, ◌≡◌, ◌≢◌, ◌⊎◌, inl, inr, refl, sym, ap, ◌∙◌, subst, arith, ℕ, ◌-◌, ◌^◌, ◌<◌, ◌≤◌, List, Option, length, get_or, slice_set, slice_get, Some, Contains, length-set}
 use Rattle.kin_world.proofs.Vocabulary.{cases_eq, length-map, Contains-get_or, same_Some, slice_get_read, slice_get_within, get-set_other, get-set_same, get_within, IsCanonical, Moment, AreSlow, Course, AllHold, HasChanged, Certificate}
 use Rattle.kin_world.proofs.Vocabulary.{owned_by, Holds, Scene, scene_at, Placed, Keep, Facts, LiveFact, NoneAlike, NoneWaits, HasFactsOf, IsTimed, MayTell, nothing, timed_holds, placed_facts, IsSettledFor, HasTimedNew, HasUpdated}
 use Rattle.kin_world.proofs.Vocabulary.{IsInOrder, IsInPlace, IsTimedOrFailed, Stage, sight, Structure}
@@ -16,10 +16,7 @@ facts_hold s live j facts tabled holds i d low =
 
 -- a fact with its first failure doesn't wait
 pub timely_from_timed : (scene : Moment → Scene) (m : Moment) (l : LiveFact) → IsTimed scene m l → IsTimedOrFailed scene m l
-timely_from_timed scene m l timed = record {
-  timed = λ not. timed;
-  failed = λ waits. let no : l.waits ≡ false = timed.waits_not in let yes : l.waits ≡ true = waits in absurd cc;
-}
+timely_from_timed scene m l timed = search rules
 
 module _ {is_fine : ℕ → Keep → Structure → Type 0} {s : Stage} (o : IsInOrder is_fine s) where
   -- what stands at a place
@@ -88,15 +85,7 @@ module _ {is_fine : ℕ → Keep → Structure → Type 0} {s : Stage} (o : IsIn
   -- the change of a structure that is settled now may be told
   pub may_tell : (now : Scene) (k : ℕ) (keep : Keep) (st after : Structure) (change : Change) → slice_get s.keeps k ≡ Some keep → IsInPlace is_fine s.table.live k keep st → IsSettledFor s.size keep now after
       → HasChanged (placed_facts st) (placed_facts after) nothing change → MayTell k change now s.table.live
-  may_tell now k keep st after change kept place settled changed = record {
-    before = placed_facts st;
-    after = placed_facts after;
-    once = o.once;
-    tabled = place.tabled;
-    changed = changed;
-    hold = settled_holds s.size keep now after settled;
-    askable = settled_askable s.size keep now after (o.fit.keepable.small k keep kept) settled;
-  }
+  may_tell now k keep st after change kept place settled changed = search (rules, settled_holds, settled_askable)
 
   module _ {k : ℕ} {now : Scene} {keep : Keep} {st after : Structure} {table : Facts} (r : HasUpdated k now s keep st after table) where
     -- the structure's own facts are tabled
@@ -104,11 +93,7 @@ module _ {is_fine : ℕ → Keep → Structure → Type 0} {s : Stage} (o : IsIn
     tabled_here = r.told.facts (placed_facts st) (placed_facts after) (o.each k keep st r.kept r.here).tabled r.changed
 
     pub timed_new : HasTimedNew s.table table
-    timed_new = record {
-      born = map (owned_by k) r.change.born;
-      exactly = r.told.born;
-      count = r.made ∙ ap (λ n. min (s.table.made + n) (2 ^ 64 - 1)) (sym (length-map r.change.born (owned_by k)));
-    }
+    timed_new = search (rules, length-map)
 
     -- another structure has the facts that it had
     tabled_there : (j : ℕ) (facts : List Placed) → j ≢ k → HasFactsOf s.table.live j facts → HasFactsOf table.live j facts

@@ -1,5 +1,5 @@
 -- What is seen of the others, where one number's motion is another, or one number more has a motion.
-use Rattle.std.proofs.Common.{◌≡◌, ◌≢◌, ◌↔◌, inl, inr, refl, sym, ap, ap₂, ◌∙◌, arith, ℕ, ◌<◌, true, false, ◌||◌, nat_eq, List, [], ◌∷◌, map, length, slice_set, Option, Some, None, is_some, get_or-set_same, get_or-set_other, length-set}
+use Rattle.std.proofs.Common.{rules, ◌≡◌, ◌≢◌, ◌↔◌, refl, sym, ap, ap₂, ◌∙◌, arith, ℕ, ◌<◌, true, false, nat_eq, List, [], ◌∷◌, map, length, slice_set, Option, Some, None, get_or-set_same, get_or-set_other, length-set}
 use Rattle.kin_motion.specs.declared.form.Form.{Form}
 use Rattle.kin_motion.specs.declared.form.Form.TheVariants.{Line, Turn, Slope, Dist}
 use Rattle.kin_motion.specs.Forms.{polynomial_of, sign_of_form}
@@ -58,10 +58,4 @@ module _ {n : ℕ} {less more : List (Option Course)} (one : HasOneMore n less m
 
   -- the number is live with it, and of the others those that are without
   pub one_more : n < length less → HasEntered n (live_of less) (live_of more)
-  one_more low = record { absent = absent; lists = record { once = (absent, filled-once 0 less); same = λ i. live i ∙ sym (live-members more i ∙ ap (λ ms. is_some (motion_of ms i)) one.is) } }
-    where
-      live : (i : ℕ) → nat_eq i n || is_in i (live_of less) ≡ is_some (motion_of (slice_set less n (Some one.motion)) i)
-      live i = elim (cases_eq i n) [
-        | inl e ↦ let here : nat_eq n n ≡ true = grind (arith, nat_tests) in rw (e, here, get_or-set_same less n (Some one.motion) None low) refl
-        | inr apart ↦ let there : nat_eq i n ≡ false = grind (arith, nat_tests, apart) in rw (there, get_or-set_other less n i (Some one.motion) None apart) (live-members less i)
-      ]
+  one_more low = search (rules, absent, filled-once, live-members, cases_eq, get_or-set_same, get_or-set_other)

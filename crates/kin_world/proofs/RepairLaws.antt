@@ -24,7 +24,7 @@ module _ {s : Stage} (repair : IsUnderRepair s) where
   -- no fact of the repaired structure waits
   pub repaired : (k : ℕ) (keep : Keep) (st after : Structure) (table : Facts) → HasUpdated k (sight s) s keep st after table → HasRepaired k s (record s { structures = slice_set s.structures k after; table = table })
   repaired k keep st after table r = record {
-    repair = replaced repair r (record { kind = r.settled.kind; rest = r.settled.rest; members = r.settled.members; settled = λ h. r.settled.settled }) (λ j x y apart fine. fine);
+    repair = replaced repair r (assumption r) (λ j x y apart fine. fine);
     own = λ l there is. elim (r.told.own l there is) [
       | inl old ↦ elim (cases_Bool l.waits) [
         | inl waits ↦ absurd ((repair.timely l old).failed waits (holds l there is))

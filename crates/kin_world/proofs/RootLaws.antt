@@ -1,5 +1,5 @@
 -- What holds of the motions, keeps and moment of every whole world: the laws of failures apply to it.
-use Rattle.std.proofs.Common.{get_or}
+use Rattle.std.proofs.Common.{rules}
 use Rattle.kin_world.proofs.Vocabulary.{slice_get-get_or, IsWhole, World}
 use Rattle.kin_cert.specs.Laws.{IsProper}
 use Rattle.kin_cert.proofs.FailureRoots as cert
@@ -7,11 +7,7 @@ use Rattle.kin_cert.proofs.JournalExistence as cert_journal
 use Rattle.kin_world.specs.Laws.{BlocksAreAtRoots, JournalsExist}
 
 pub proper : (w : World) → IsWhole w → IsProper w.motions w.size w.keeps
-proper w whole = record {
-  slow = whole.slow;
-  slots = whole.room;
-  small = λ i d low. whole.keepable.small i (get_or w.keeps i d) (slice_get-get_or w.keeps i d low);
-}
+proper w whole = search (rules, slice_get-get_or)
 
 pub blocks_are_at_roots : BlocksAreAtRoots
 blocks_are_at_roots w b f whole next there = cert.blocks_are_at_roots w.motions w.size w.keeps w.moment b f whole.slow (proper w whole).small whole.canonical next there

@@ -1,5 +1,5 @@
 -- A number turns: what is seen now is as before, so every structure stays settled, and the facts that don't name it fail as before.
-use Rattle.std.proofs.Common.{◌≡◌, inl, inr, refl, sym, ap, ◌∙◌, subst, arith, ℕ, ◌+◌, ◌-◌, ◌^◌, true, cond, List, [], ◌∷◌, length, slice_set, Result, Err, IfOk, Option, Some, ℤ, min, count_by, Contains, ◌↔◌, IsTrue, length-set}
+use Rattle.std.proofs.Common.{rules, ◌≡◌, inl, inr, refl, sym, ap, ◌∙◌, subst, arith, ℕ, ◌+◌, ◌-◌, ◌^◌, true, cond, List, [], ◌∷◌, length, slice_set, Result, Err, IfOk, Option, Some, ℤ, min, count_by, Contains, ◌↔◌, IsTrue, length-set}
 use Rattle.std.proofs.lemmas.List.Sums.{sum_by-cons}
 use Rattle.std.proofs.lemmas.Result.{IfOk-weaker}
 use Rattle.kin_world.proofs.Vocabulary.{cases_Bool, same_Some, IsCanonical, Moment, After, At, AreSlow, Course, IsSlow, is_live, live_of, motion_of, IsAskable, Certificate, Holds, Scene, scene_at, IsNotWhole, IsOutOfBounds, TurnsTo}
@@ -16,9 +16,7 @@ use Rattle.kin_world.proofs.OneMore.{timed_other}
 -- what is so at the moment and of the motion inside is so as they are seen
 pub seen_so : (P : Moment → Course → Type 0) (inner seen : World) (n : ℕ) (motion : Course) → inner ≡ seen → motion_of inner.motions n ≡ Some motion → P inner.moment motion
     → (had : Course) → motion_of seen.motions n ≡ Some had → P seen.moment had
-seen_so P inner seen n motion is there so had shown =
-    let same : motion ≡ had = same_Some _ _ (sym there ∙ ap (λ (w : World). motion_of w.motions n) is ∙ shown) in
-    subst (λ (c : Course). P seen.moment c) same (subst (λ (w : World). P w.moment motion) is so)
+seen_so P inner seen n motion is there so had shown = search (rules, same_Some)
 
 -- a motion that a live number turns to may be taken up
 pub can_turn : {E : Type 0} (w : World) (n : ℕ) (u v : ℤ) → is_live w.motions n ≡ true → (r : Result Course E)
