@@ -1,6 +1,5 @@
 -- When two points come within a distance, by the first failure of their being apart.
-use Rattle.std.proofs.Common.{◌≡◌, ℕ, Option, Some, None, IfSome, sym, ◌∙◌}
-use Rattle.kin_world.proofs.Vocabulary.{IsCanonical, Moment, Course, Fact, IsFirstFailure, seen_by}
+use Rattle.kin_world.proofs.Vocabulary.{◌≡◌, ℕ, Option, Some, None, IfSome, sym, ◌∙◌, IsCanonical, Moment, Course, Fact, IsFirstFailure, seen_by}
 use Rattle.kin_algebra.specs.declared.sign.Sign.TheVariants.{Plus}
 use Rattle.kin_num.proofs.MomentOrder.{not_earlier_itself, earlier_trans}
 use Rattle.kin_world.specs.Approach.{clearance, IsFirstWithin}

@@ -1,6 +1,5 @@
 -- What a table tells of an owner and a form, told of certificates.
-use Rattle.std.proofs.Common.{◌≡◌, ◌↔◌, refl, sym, subst, ℕ, List, Option, Some, None, Contains, IsNone}
-use Rattle.kin_world.proofs.Vocabulary.{Certificate, Form, contains_map, contains_mapped, IsAt, LiveFact, certificates_of, certificate}
+use Rattle.kin_world.proofs.Vocabulary.{◌≡◌, ◌↔◌, refl, sym, subst, ℕ, List, Option, Some, None, Contains, IsNone, Certificate, Form, contains_map, contains_mapped, IsAt, LiveFact, certificates_of, certificate}
 use Rattle.kin_algebra.specs.declared.sign.Sign.{Sign}
 use Rattle.kin_world.proofs.Certificates.{at_its}
 

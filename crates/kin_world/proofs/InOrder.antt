@@ -1,8 +1,7 @@
 -- What stands at a place, who owns a live fact, and one structure put in the place of another.
-use Rattle.std.proofs.Common.{rules, ◌≡◌, ◌≢◌, ◌⊎◌, inl, inr, refl, sym, ap, ◌∙◌, subst, arith, ℕ, ◌-◌, ◌^◌, ◌<◌, ◌≤◌, List, Option, length, get_or, slice_set, slice_get, Some, Contains, length-set}
-use Rattle.kin_world.proofs.Vocabulary.{cases_eq, length-map, Contains-get_or, same_Some, slice_get_read, slice_get_within, get-set_other, get-set_same, get_within, IsCanonical, Moment, AreSlow, Course, AllHold, HasChanged, Certificate}
-use Rattle.kin_world.proofs.Vocabulary.{owned_by, Holds, Scene, scene_at, Placed, Keep, Facts, LiveFact, NoneAlike, NoneWaits, HasFactsOf, IsTimed, MayTell, nothing, timed_holds, placed_facts, IsSettledFor, HasTimedNew, HasUpdated}
-use Rattle.kin_world.proofs.Vocabulary.{IsInOrder, IsInPlace, IsTimedOrFailed, Stage, sight, Structure}
+use Rattle.kin_world.proofs.Vocabulary.{rules, ◌≡◌, ◌≢◌, ◌⊎◌, inl, inr, refl, sym, ap, ◌∙◌, subst, arith, ℕ, ◌-◌, ◌^◌, ◌<◌, ◌≤◌, List, Option, length, get_or, slice_set, slice_get, Some, Contains, length-set, cases_eq, length-map, Contains-get_or}
+use Rattle.kin_world.proofs.Vocabulary.{same_Some, slice_get_read, slice_get_within, get-set_other, get-set_same, get_within, IsCanonical, Moment, AreSlow, Course, AllHold, HasChanged, Certificate, owned_by, Holds, Scene, scene_at, Placed, Keep}
+use Rattle.kin_world.proofs.Vocabulary.{Facts, LiveFact, NoneAlike, NoneWaits, HasFactsOf, IsTimed, MayTell, nothing, timed_holds, placed_facts, IsSettledFor, HasTimedNew, HasUpdated, IsInOrder, IsInPlace, IsTimedOrFailed, Stage, sight, Structure}
 use Rattle.kin_motion.specs.Deltas.{Change}
 use Rattle.kin_world.proofs.Certificates.{HaveSameCertificates}
 use Rattle.kin_world.proofs.StructureLaws.{settled_holds, settled_askable}

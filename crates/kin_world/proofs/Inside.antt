@@ -1,7 +1,6 @@
 -- What is inside a world that is seen as whole, and what the calls that move it do to what is seen.
-use Rattle.std.proofs.Common.{◌≡◌, refl, ap, sym, ◌∙◌, subst, ◌<◌, true, IsTrue, refl}
-use Rattle.kin_world.proofs.Vocabulary.{IsCanonical, moments_left, IsEarlier, Moment, Block, IsNextBlock, NoneFailsUntil, nothing_until, HasLanded, HasSameFrame, HasSettled, IsDueWithin, IsSound, Stage, meaning, setting, stage_of}
-use Rattle.kin_world.proofs.Vocabulary.{FailsWithin, HasLeftBehind, HasMoved, HasPassed, IsWhole, World, with_facts_of}
+use Rattle.kin_world.proofs.Vocabulary.{◌≡◌, refl, ap, sym, ◌∙◌, subst, ◌<◌, true, IsTrue, IsCanonical, moments_left, IsEarlier, Moment, Block, IsNextBlock, NoneFailsUntil, nothing_until, HasLanded, HasSameFrame, HasSettled, IsDueWithin, IsSound}
+use Rattle.kin_world.proofs.Vocabulary.{Stage, meaning, setting, stage_of, FailsWithin, HasLeftBehind, HasMoved, HasPassed, IsWhole, World, with_facts_of}
 use Rattle.kin_world.specs.declared.world.World.TheInside.{Inside}
 use Rattle.kin_world.proofs.SoundLaws.{whole, sound_later, in_time, fails_within, least_fewer, same_but_facts, has_made}
 use Rattle.kin_num.proofs.Grains.{moments_run_out}

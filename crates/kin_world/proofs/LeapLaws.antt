@@ -1,7 +1,6 @@
 -- Where a leap lands, all is as a repair needs it.
-use Rattle.std.proofs.Common.{ap, ◌≡◌, inl, inr, refl, sym, ◌∙◌, subst, true, false, pos, List, Option}
-use Rattle.kin_world.proofs.Vocabulary.{cases_Bool, All-contains, IsCanonical, IsEarlier, Moment, never, through, Course, FailsFirst, HoldsAt, scene_at, Form, Dist, Line, Slope, Turn, Facts, NoneAlike, HasGivenOut, IsLeastFailure, Owned}
-use Rattle.kin_world.proofs.Vocabulary.{HasLanded, HasSameFrame, HasSettled, IsBeyond, IsLanding, IsSound, IsUnderRepair, Stage, is_line}
+use Rattle.kin_world.proofs.Vocabulary.{ap, ◌≡◌, inl, inr, refl, sym, ◌∙◌, subst, true, false, pos, List, Option, cases_Bool, All-contains, IsCanonical, IsEarlier, Moment, never, through, Course, FailsFirst, HoldsAt, scene_at, Form, Dist, Line}
+use Rattle.kin_world.proofs.Vocabulary.{Slope, Turn, Facts, NoneAlike, HasGivenOut, IsLeastFailure, Owned, HasLanded, HasSameFrame, HasSettled, IsBeyond, IsLanding, IsSound, IsUnderRepair, Stage, is_line}
 use Rattle.kin_instant.proofs.Crossing.{at_it, just_after}
 use Rattle.kin_motion.specs.Forms.{polynomial_of}
 use Rattle.kin_cert.proofs.JustAfter.{follows, next_or_later, fails_not_just_after, line_fails_on}

@@ -1,7 +1,6 @@
 -- One structure is repaired, and the others stand as they were.
-use Rattle.std.proofs.Common.{subst, ◌≡◌, inl, inr, ap, ℕ, List, slice_set, Contains, IsTrue}
-use Rattle.kin_world.proofs.Vocabulary.{cases_Bool, All-contains, Certificate, owned_by, HoldsAt, Holds, scene_at, ListsExactly, Placed, Keep, exactly_in_words, Facts, LiveFact, NoneWaits, HasFactsOf, timed_holds, placed_facts, HasRepaired}
-use Rattle.kin_world.proofs.Vocabulary.{HasUpdated, IsSound, IsUnderRepair, ListsWaiting, Stage, sight, Structure}
+use Rattle.kin_world.proofs.Vocabulary.{subst, ◌≡◌, inl, inr, ap, ℕ, List, slice_set, Contains, IsTrue, cases_Bool, All-contains, Certificate, owned_by, HoldsAt, Holds, scene_at, ListsExactly, Placed, Keep, exactly_in_words, Facts, LiveFact}
+use Rattle.kin_world.proofs.Vocabulary.{NoneWaits, HasFactsOf, timed_holds, placed_facts, HasRepaired, HasUpdated, IsSound, IsUnderRepair, ListsWaiting, Stage, sight, Structure}
 use Rattle.kin_world.proofs.InOrder.{all_hold, restated, replaced, tabled_here, timed_new}
 use Rattle.kin_world.proofs.StructureLaws.{settled_holds, settled_from_hold}
 

@@ -1,6 +1,5 @@
 -- What holds of the motions, keeps and moment of every whole world: the laws of failures apply to it.
-use Rattle.std.proofs.Common.{rules}
-use Rattle.kin_world.proofs.Vocabulary.{slice_get-get_or, IsWhole, World}
+use Rattle.kin_world.proofs.Vocabulary.{rules, slice_get-get_or, IsWhole, World}
 use Rattle.kin_cert.specs.Laws.{IsProper}
 use Rattle.kin_cert.proofs.FailureRoots as cert
 use Rattle.kin_cert.proofs.JournalExistence as cert_journal

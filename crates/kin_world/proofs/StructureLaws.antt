@@ -1,7 +1,6 @@
 -- Laws of a kept structure, whatever its kind.
-use Rattle.std.proofs.Common.{subst, List, ℕ, Contains, All}
-use Rattle.kin_world.proofs.Vocabulary.{Contains-get_or, IsAskable, AllHold, HaveSameLive, IsKeepFact, IsSmallKeep, IsReal, Scene, ListsExactly, Placed, Keep, HasMembers, kinetic, placed_facts, IsSettledFor, IsSettledWhereAllHold}
-use Rattle.kin_world.proofs.Vocabulary.{Structure}
+use Rattle.kin_world.proofs.Vocabulary.{subst, List, ℕ, Contains, All, Contains-get_or, IsAskable, AllHold, HaveSameLive, IsKeepFact, IsSmallKeep, IsReal, Scene, ListsExactly, Placed, Keep, HasMembers, kinetic, placed_facts, IsSettledFor}
+use Rattle.kin_world.proofs.Vocabulary.{IsSettledWhereAllHold, Structure}
 use Rattle.kin_motion.proofs.AskableLaws.{keep_fact_askable}
 use Rattle.kin_motion.proofs.LiveFactsHold.{keep_fact_holds}
 
@@ -28,4 +27,4 @@ settled_where_hold size kept v w st real real' k same =
     record { kind = k.kind; rest = k.rest; members = subst (λ live. HasMembers live st) same k.members; settled = (kinetic st).determined v w k.rest real k.settled same real' }
 
 pub settled_from_hold : (size : ℕ) (kept : Keep) (s : Scene) (st : Structure) → IsSettledWhereAllHold size kept s st → AllHold s (placed_facts st) → IsSettledFor size kept s st
-settled_from_hold size kept s st k hold = record { kind = k.kind; rest = k.rest; members = k.members; settled = k.settled hold }
+settled_from_hold size kept s st k hold = assumption (k, k.settled hold)

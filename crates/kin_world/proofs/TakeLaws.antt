@@ -1,8 +1,7 @@
 -- What fails at the least failure moment is taken out, and all else is seen from there.
-use Rattle.std.proofs.Common.{◌≡◌, ◌≢◌, inl, inr, refl, sym, ap, ◌∙◌, subst, arith, false, List, get_or, map, Some, Contains, ◌↔◌, true, All, ℤ, Option}
-use Rattle.kin_world.proofs.Vocabulary.{Contains-get_or, Contains-permutation, IsPermutation-sym, IsCanonical, IsEarlier, Moment, total, live_of, IsAskable, Block, IsNextBlock, seen_in, Certificate, FailsFirst, HoldsAt, scene_at, real_at}
-use Rattle.kin_world.proofs.Vocabulary.{exactly_in_words, Facts, LiveFact, NoneAlike, certificate_of, IsFirstFailure, HasGivenOut, HasTaken, IsLeastFailure, certificate_rank, is_taken_before, IsTimed, Owned, later_start, next_block}
-use Rattle.kin_world.proofs.Vocabulary.{AreWaiting, HasSettled, IsSound, IsUnderRepair, Stage, setting, sight}
+use Rattle.kin_world.proofs.Vocabulary.{◌≡◌, ◌≢◌, inl, inr, refl, sym, ap, ◌∙◌, subst, arith, false, List, get_or, map, Some, Contains, ◌↔◌, true, All, ℤ, Option, Contains-get_or, Contains-permutation, IsPermutation-sym, IsCanonical, IsEarlier}
+use Rattle.kin_world.proofs.Vocabulary.{Moment, total, live_of, IsAskable, Block, IsNextBlock, seen_in, Certificate, FailsFirst, HoldsAt, scene_at, real_at, exactly_in_words, Facts, LiveFact, NoneAlike, certificate_of, IsFirstFailure, HasGivenOut}
+use Rattle.kin_world.proofs.Vocabulary.{HasTaken, IsLeastFailure, certificate_rank, is_taken_before, IsTimed, Owned, later_start, next_block, AreWaiting, HasSettled, IsSound, IsUnderRepair, Stage, setting, sight}
 use Rattle.kin_motion.proofs.JournalLaws.{never_less_rank, less_rank_through}
 use Rattle.kin_motion.proofs.ListChains.{chain_distinct}
 use Rattle.kin_world.proofs.Certificates.{HaveSameCertificates, same_listed}

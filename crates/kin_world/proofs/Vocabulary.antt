@@ -1,4 +1,6 @@
--- The words and lemmas of the crates below that several proofs of this crate speak in, brought in at one place.
+-- The words and lemmas of std and of the crates below that several proofs of this crate speak in, brought in at one place.
+pub use Rattle.std.proofs.Common.{All, Contains, Err, IfOk, IfSome, IsNone, IsTrue, List, None, Option, Some, [], ap, arith, below_more, false, get_or, get_or-set_same, inl, inr, is_some, length, length-set, map, pos, refl, rules, set-set, slice_get}
+pub use Rattle.std.proofs.Common.{slice_index_or, slice_set, subst, suc, sym, take, true, vec_capacity, vec_len, w32, zero, ℕ, ℤ, ◌++◌, ◌+◌, ◌-◌, ◌<◌, ◌^◌, ◌↔◌, ◌∙◌, ◌∷◌, ◌≡◌, ◌≢◌, ◌≤◌, ◌⊎◌}
 pub use Rattle.std.proofs.lemmas.Bool.{cases_Bool, cases_eq, or_parts}
 pub use Rattle.std.proofs.lemmas.Bool.Decides.{nat_tests}
 pub use Rattle.std.proofs.lemmas.List.{length-map, length-replicate, length_push, set-get_or}

@@ -1,5 +1,4 @@
-use Rattle.std.proofs.Common.{◌≡◌, map, take}
-use Rattle.kin_world.proofs.Vocabulary.{seen_in, scene_at, certificate_of}
+use Rattle.kin_world.proofs.Vocabulary.{◌≡◌, map, take, seen_in, scene_at, certificate_of}
 use Rattle.kin_cert.specs.Blocks.{failure_of}
 use Rattle.kin_world.proofs.failures.block_of.Given as goal
 

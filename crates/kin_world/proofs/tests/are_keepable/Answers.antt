@@ -1,5 +1,4 @@
-use Rattle.std.proofs.Common.{◌≡◌, refl, sym, ◌∙◌, subst, arith, ℕ, Some, slice_get, IsTrue, below_more}
-use Rattle.kin_world.proofs.Vocabulary.{same_Some, slice_get-get_or, slice_get_within, IsSmallKeep, Keep}
+use Rattle.kin_world.proofs.Vocabulary.{◌≡◌, refl, sym, ◌∙◌, subst, arith, ℕ, Some, slice_get, IsTrue, below_more, same_Some, slice_get-get_or, slice_get_within, IsSmallKeep, Keep}
 use Rattle.kin_world.proofs.tests.are_keepable.Goals as goal
 
 pub loop-keep-preserved : goal.loop-keep-preserved

@@ -1,5 +1,4 @@
-use Rattle.std.proofs.Common.{◌≡◌, ◌<◌, ℕ, Some, slice_get}
-use Rattle.kin_world.proofs.Vocabulary.{IsSmallKeep, Keep}
+use Rattle.kin_world.proofs.Vocabulary.{◌≡◌, ◌<◌, ℕ, Some, slice_get, IsSmallKeep, Keep}
 use Rattle.kin_world.proofs.tests.are_keepable.Given as goal
 
 abbrev pub invariant-loop-keep : goal.invariant-loop-keep

@@ -1,5 +1,4 @@
-use Rattle.std.proofs.Common.{◌≡◌, ◌+◌, ◌≤◌, ◌++◌, length, vec_len, vec_capacity}
-use Rattle.kin_world.proofs.Vocabulary.{gathered}
+use Rattle.kin_world.proofs.Vocabulary.{◌≡◌, ◌+◌, ◌≤◌, ◌++◌, length, vec_len, vec_capacity, gathered}
 use Rattle.kin_world.proofs.upkeep.gather.Given as goal
 
 abbrev pub invariant-loop-owned : goal.invariant-loop-owned

@@ -1,5 +1,4 @@
-use Rattle.std.proofs.Common.{◌≡◌, sym, ap, ◌∙◌, subst, ◌+◌, ◌++◌, ◌∷◌, [], rules, length, Some, pos, slice_get, slice_index_or}
-use Rattle.kin_world.proofs.Vocabulary.{length_push, slice_get-get_or}
+use Rattle.kin_world.proofs.Vocabulary.{◌≡◌, sym, ap, ◌∙◌, subst, ◌+◌, ◌++◌, ◌∷◌, [], rules, length, Some, pos, slice_get, slice_index_or, length_push, slice_get-get_or}
 use Rattle.kin_motion.specs.declared.keep.Keep.TheVariants.{Order}
 use Rattle.kin_world.proofs.StartLaws.{vacant_more}
 use Rattle.kin_world.proofs.upkeep.vacant_structures.Goals as goal

@@ -1,5 +1,4 @@
-use Rattle.std.proofs.Common.{◌≡◌, length}
-use Rattle.kin_world.proofs.Vocabulary.{AreVacant}
+use Rattle.kin_world.proofs.Vocabulary.{◌≡◌, length, AreVacant}
 use Rattle.kin_world.proofs.upkeep.vacant_structures.Given as goal
 
 abbrev pub invariant-loop-keep : goal.invariant-loop-keep

@@ -1,5 +1,4 @@
-use Rattle.std.proofs.Common.{sym, ap, ◌∙◌, arith, length}
-use Rattle.kin_world.proofs.Vocabulary.{few_at_most, Stage, stage_of}
+use Rattle.kin_world.proofs.Vocabulary.{sym, ap, ◌∙◌, arith, length, few_at_most, Stage, stage_of}
 use Rattle.kin_world.proofs.MarkLaws.{carried_out_all}
 use Rattle.kin_world.proofs.GatherLaws.{frame_through}
 use Rattle.kin_world.proofs.Certificates.{come_on}

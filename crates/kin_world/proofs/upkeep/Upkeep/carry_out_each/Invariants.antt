@@ -1,5 +1,4 @@
-use Rattle.std.proofs.Common.{◌≡◌, length}
-use Rattle.kin_world.proofs.Vocabulary.{HasComeTo, HasSameFrame, IsCarriedOut, stage_of}
+use Rattle.kin_world.proofs.Vocabulary.{◌≡◌, length, HasComeTo, HasSameFrame, IsCarriedOut, stage_of}
 use Rattle.kin_world.proofs.upkeep.Upkeep.carry_out_each.Given as goal
 
 abbrev pub invariant-loop-k : goal.invariant-loop-k

@@ -1,5 +1,4 @@
-use Rattle.std.proofs.Common.{arith}
-use Rattle.kin_world.proofs.Vocabulary.{from_two, scene_at, real_at, IsSettledFor, sight, stage_of}
+use Rattle.kin_world.proofs.Vocabulary.{arith, from_two, scene_at, real_at, IsSettledFor, sight, stage_of}
 use Rattle.kin_world.proofs.MarkLaws.{live_after, hold_for, carried_on}
 use Rattle.kin_world.proofs.InOrder.{standing_read, may_tell}
 use Rattle.kin_world.proofs.upkeep.Upkeep.carry_out_one.Goals as goal

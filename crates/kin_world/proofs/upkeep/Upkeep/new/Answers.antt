@@ -1,5 +1,4 @@
-use Rattle.std.proofs.Common.{ap, true, ◌^◌}
-use Rattle.kin_world.proofs.Vocabulary.{At, certificates_of}
+use Rattle.kin_world.proofs.Vocabulary.{ap, true, ◌^◌, At, certificates_of}
 use Rattle.kin_num.proofs.Values.{start_canonical}
 use Rattle.kin_world.proofs.StartLaws.{empty_slots, sound_start}
 use Rattle.kin_world.proofs.upkeep.Upkeep.new.Goals as goal

@@ -1,5 +1,4 @@
-use Rattle.std.proofs.Common.{length, map, refl, sym, ap, ◌∙◌}
-use Rattle.kin_world.proofs.Vocabulary.{length-map, length_permutation, Block, Failure, seen_in, scene_at, certificate_of, Owned}
+use Rattle.kin_world.proofs.Vocabulary.{length, map, refl, sym, ap, ◌∙◌, length-map, length_permutation, Block, Failure, seen_in, scene_at, certificate_of, Owned}
 use Rattle.kin_world.proofs.TakeLaws.{given_waiting, taken_under_repair, taken_block, settled_since}
 use Rattle.kin_world.proofs.upkeep.Upkeep.pass_unlisted.Goals as goal
 

@@ -1,5 +1,4 @@
-use Rattle.std.proofs.Common.{arith}
-use Rattle.kin_world.proofs.Vocabulary.{few_at_most}
+use Rattle.kin_world.proofs.Vocabulary.{arith, few_at_most}
 use Rattle.kin_world.proofs.GatherLaws.{turn_within, turn_failed, turn_shorter, turn_over, repaired_all}
 use Rattle.kin_world.proofs.upkeep.Upkeep.repair_each.Goals as goal
 

@@ -1,5 +1,4 @@
-use Rattle.std.proofs.Common.{length}
-use Rattle.kin_world.proofs.Vocabulary.{IsAtTurn, stage_of, turns_left}
+use Rattle.kin_world.proofs.Vocabulary.{length, IsAtTurn, stage_of, turns_left}
 use Rattle.kin_world.proofs.upkeep.Upkeep.repair_each.Given as goal
 
 abbrev pub invariant-loop-turn : goal.invariant-loop-turn

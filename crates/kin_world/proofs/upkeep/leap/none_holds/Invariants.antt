@@ -1,5 +1,4 @@
-use Rattle.std.proofs.Common.{◌≡◌, false, take, All}
-use Rattle.kin_world.proofs.Vocabulary.{Holds, scene_at, is_line}
+use Rattle.kin_world.proofs.Vocabulary.{◌≡◌, false, take, All, Holds, scene_at, is_line}
 use Rattle.kin_world.proofs.upkeep.leap.none_holds.Given as goal
 
 abbrev pub invariant-loop-owned : goal.invariant-loop-owned

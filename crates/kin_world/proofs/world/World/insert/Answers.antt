@@ -1,5 +1,4 @@
-use Rattle.std.proofs.Common.{◌<◌, ◌^◌, true}
-use Rattle.kin_world.proofs.Vocabulary.{meaning, stage_of, HasInserted}
+use Rattle.kin_world.proofs.Vocabulary.{◌<◌, ◌^◌, true, meaning, stage_of, HasInserted}
 use Rattle.kin_world.proofs.Inside.{sound_inside, as_seen, as_inside}
 use Rattle.kin_world.proofs.MarkLaws.{may_insert}
 use Rattle.kin_world.proofs.SoundLaws.{has_inserted}

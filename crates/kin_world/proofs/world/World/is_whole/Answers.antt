@@ -1,5 +1,4 @@
-use Rattle.std.proofs.Common.{ap, sym, ◌∙◌}
-use Rattle.kin_world.proofs.Vocabulary.{World}
+use Rattle.kin_world.proofs.Vocabulary.{ap, sym, ◌∙◌, World}
 use Rattle.kin_world.proofs.Inside.{whole_inside}
 use Rattle.kin_world.proofs.world.World.is_whole.Goals as goal
 

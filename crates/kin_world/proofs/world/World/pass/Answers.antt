@@ -1,5 +1,4 @@
-use Rattle.std.proofs.Common.{ℕ, Some, None, ap, sym, refl}
-use Rattle.kin_world.proofs.Vocabulary.{on_err}
+use Rattle.kin_world.proofs.Vocabulary.{ℕ, Some, None, ap, sym, refl, on_err}
 use Rattle.kin_world.proofs.Inside.{sound_inside, rests_sound, has_rested, fails_seen, passes, passed_fewer}
 use Rattle.kin_world.proofs.world.World.pass.Goals as goal
 

@@ -1,5 +1,4 @@
-use Rattle.std.proofs.Common.{subst, ◌<◌, true}
-use Rattle.kin_world.proofs.Vocabulary.{meaning, stage_of, HasRemoved}
+use Rattle.kin_world.proofs.Vocabulary.{subst, ◌<◌, true, meaning, stage_of, HasRemoved}
 use Rattle.kin_world.proofs.Inside.{sound_inside, as_seen}
 use Rattle.kin_world.proofs.MarkLaws.{live_within, may_remove}
 use Rattle.kin_world.proofs.SoundLaws.{has_removed}

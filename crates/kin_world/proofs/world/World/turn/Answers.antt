@@ -1,5 +1,4 @@
-use Rattle.std.proofs.Common.{w32, true}
-use Rattle.kin_world.proofs.Vocabulary.{clean, meaning, stage_of, CanTurn, HasTurned}
+use Rattle.kin_world.proofs.Vocabulary.{w32, true, clean, meaning, stage_of, CanTurn, HasTurned}
 use Rattle.kin_world.proofs.Inside.{sound_inside, as_seen, as_inside, whole_inside}
 use Rattle.kin_world.proofs.TurnLaws.{no_cause, askable_still, holds_still, sound_turned, has_turned}
 use Rattle.kin_world.proofs.world.World.turn.Goals as goal

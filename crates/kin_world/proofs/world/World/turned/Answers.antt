@@ -1,5 +1,4 @@
-use Rattle.std.proofs.Common.{◌≡◌, ◌↔◌, sym, ◌∙◌, w32, Err, IfOk}
-use Rattle.kin_world.proofs.Vocabulary.{At, clean, IsSlow, IsNotWhole, IsOutOfBounds, TurnsTo, NotWhole, OutOfBounds, meaning, stage_of}
+use Rattle.kin_world.proofs.Vocabulary.{◌≡◌, ◌↔◌, sym, ◌∙◌, w32, Err, IfOk, At, clean, IsSlow, IsNotWhole, IsOutOfBounds, TurnsTo, NotWhole, OutOfBounds, meaning, stage_of}
 use Rattle.kin_world.proofs.TurnLaws.{can_turn, seen_so}
 use Rattle.kin_world.proofs.world.World.turned.Goals as goal
 
