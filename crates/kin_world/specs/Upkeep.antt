@@ -149,7 +149,7 @@ is_of k o = nat_eq o.structure k
 abbrev pub gathered : ℕ → List Owned → List Placed
 gathered k taken = map placed_of (filter (is_of k) taken)
 
--- it is someone's turn, and his number is n at most
+-- it is the turn of a structure, and of none behind the n-th
 abbrev pub IsTurnBy : Option ℕ → ℕ → Type 0
 IsTurnBy None n = ⊥
 IsTurnBy (Some j) n = j ≤ n
