@@ -61,11 +61,12 @@ record EndWithKeeps (cs : List Line) : Type 0 where
   ends : (s : State) (text : List ℕ) (ending : Ending) → s.keeps ≡ one_of_each → Text s cs text ending → ending ≡ None
 
 asked_ends_well : (number : ℕ) (q : Command) (cs : List Line) → deed_of q ≡ asks q → ((s : State) → s.keeps ≡ one_of_each → IsProvided s q) → EndWithKeeps cs → EndWithKeeps ((number, q) ∷ cs)
-asked_ends_well number q cs is provided more = record { ends = ends }
-  where
-    ends : (s : State) (text : List ℕ) (ending : Ending) → s.keeps ≡ one_of_each → Text s ((number, q) ∷ cs) text ending → ending ≡ None
-    ends s text ending keeps (inl e) = absurd ((subst (λ (d : Deed). IsRefused s d e.0) is e.1).1 (provided s keeps))
-    ends s text ending keeps (inr g) = let same : g.2 ≡ s = subst (λ (d : Deed). LeadsTo s d g.2) is g.3.leads in more.ends g.2 g.1 ending (ap (λ (t : State). t.keeps) same ∙ keeps) g.4
+asked_ends_well number q cs is provided more = record {
+  ends = λ s text ending keeps t. elim t [
+    | inl e ↦ absurd ((subst (λ (d : Deed). IsRefused s d e.0) is e.1).1 (provided s keeps))
+    | inr g ↦ let same : g.2 ≡ s = subst (λ (d : Deed). LeadsTo s d g.2) is g.3.leads in more.ends g.2 g.1 ending (ap (λ (u : State). u.keeps) same ∙ keeps) g.4
+  ];
+}
 
 abbrev around : Rect
 around = record { x1 = neg_ℤ (pos 100); x2 = pos 100; y1 = neg_ℤ (pos 100); y2 = pos 100 }

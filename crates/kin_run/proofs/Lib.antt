@@ -5,7 +5,6 @@ pub mod Determined
 pub mod Passing
 pub mod OnTheWay
 pub mod Performing
-pub mod Replying
 pub mod Playing
 pub mod OneText
 pub mod ChangeExistence

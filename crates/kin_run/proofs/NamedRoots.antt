@@ -55,17 +55,14 @@ module _ (p : Quadratic) (r s : Shape) (canonical : IsCanonical r × IsCanonical
 pub two_named : (upper : Bool) (p q : Quadratic) (r s : Shape) → q ≡ p → IsCanonical r × IsCanonical s → IsExact q (Two r s) → IsLess r s → IsNamedRoot upper p (if upper then s else r)
 two_named upper p q r s e canonical exact rising = subst (λ (x : Quadratic). IsNamedRoot upper x (if upper then s else r)) e (named q r s canonical exact rising upper)
 
--- where there is a root the discriminant is not negative
-zero_negated : (p : Quadratic) (w : Shape) → sign_at_instant p w ≡ Zero → sign_at_instant (negated p) w ≡ Zero
-unfolding sign_at
-zero_negated p w e = sign_at-neg p (at w) ∙ ap opposite_of e
-
 no_square : (s : Sign) → product_of s s ≢ Minus
 no_square Minus e = cc
 no_square Zero e = cc
 no_square Plus e = cc
 
+-- where there is a root the discriminant is not negative
 pub has_root : (a b c : ℤ) (w : Shape) → IsRootOf (record { a = a; b = b; c = c }) w → discriminant a b c <ℤ pos 0 → ⊥
+unfolding sign_at
 has_root (pos zero) b c w root negative =
     let square : discriminant (pos 0) b c ≡ b *ℤ b = by_ring (b ∷ c ∷ []) _ _ (search quotes depth 20) (search quotes depth 20) refl in
     no_square (sign_of b) (sym (sign_of-times b b) ∙ ap sign_of (sym square) ∙ sign_in Minus (discriminant (pos 0) b c) negative)
@@ -74,7 +71,7 @@ has_root (pos (suc n)) b c w root negative =
     let clash : Plus ≡ Zero = sym plus ∙ root.zero in cc
 has_root (negsuc n) b c w root negative =
     let plus = instant-negative w root.canonical.form (pos (suc n)) (neg_ℤ b) (neg_ℤ c) (sign_out Plus (pos (suc n)) refl) (rw (discriminant-negated (negsuc n) b c) negative) in
-    let clash : Plus ≡ Zero = sym plus ∙ zero_negated _ w root.zero in cc
+    let clash : Plus ≡ Zero = sym plus ∙ sign_at-neg _ (at w) ∙ ap opposite_of root.zero in cc
 
 -- a quadratic with a square has a number of roots, and where it has none its discriminant is negative
 counted : (a b c d : Sign) → a ≢ Zero → (Some 0 ≡ count_by_signs a b c d → d ≡ Minus) × (None ≡ count_by_signs a b c d → ⊥)

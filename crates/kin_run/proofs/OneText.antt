@@ -1,9 +1,10 @@
 -- An input has one text, and one status with it.
-use Rattle.std.proofs.Common.{◌≡◌, ℕ, ◌+◌, ◌≤◌, ◌^◌, Bool, List, [], ◌∷◌, ◌++◌, length, Option, Some, None, Ok, Err, refl, sym, ap, ◌∙◌, subst, arith, ◌⊎◌, inl, inr, length-append, append-nil, Result}
+use Rattle.std.proofs.Common.{◌≡◌, ℕ, ◌+◌, ◌≤◌, ◌^◌, Bool, List, [], ◌∷◌, ◌++◌, length, Option, Some, None, Ok, Err, refl, sym, ap, ◌∙◌, subst, arith, ◌⊎◌, inl, inr, length-append, append-nil, Result, take}
 use Rattle.kin_run.proofs.Vocabulary.{Consumes, IsCanonical, start_canonical, deed_of, script_of, State, start, Ending, Text, bad_line, Script, Answers, IsAnswer, IsBrokenOff, IsCut, OneAnswer, Outcome, TakesWhole, IsCutOfText, IsFront}
 use Rattle.kin_run.proofs.Vocabulary.{Status, Fault, NoMemory}
 use Rattle.kin_run.specs.declared.status.Status.TheVariants as status
 use Rattle.kin_run.proofs.Determined.{stays, one_step}
+use Rattle.kin_run.proofs.Gathering.{front_take}
 use Rattle.kin_run.proofs.Playing.{Line, allowed_goes_on, text_refused}
 
 pub one_text : (s : State) (cs : List Line) (x y : List ℕ) (e f : Ending) → IsCanonical s.moment.at → Text s cs x e → Text s cs y f → (x ≡ y) × (e ≡ f)
@@ -35,10 +36,7 @@ answer_of : (input : List ℕ) (r : Result Script ℕ) → script_of input ≡ r
 answer_of input r e status.Done text p = rw (← e, p.reads) (None, p.replays, refl)
 answer_of input r e (status.Command n c) text p = rw (← e, p.reads) (Some (n, c), p.replays, refl)
 answer_of input r e (status.Script n) text p = rw (← e, p.0) (refl, p.1)
-answer_of input r e (status.Fault side) text p = absurd p
-answer_of input r e status.TooLong text p = absurd p
-answer_of input r e status.Words text p = absurd p
-answer_of input r e status.NoMemory text p = absurd p
+answer_of input r e other text p = absurd p
 
 one_of : (r : Result Script ℕ) (x y : List ℕ) (a b : Status) → IsOf r a x → IsOf r b y → (a ≡ b) × (x ≡ y)
 one_of (Ok s) x y a b p q = let same = one_text (start s.size s.keeps s.journal) s.lines x y p.0 q.0 start_canonical p.1 q.1 in (p.2 ∙ ap ended same.1 ∙ sym q.2, same.0)
@@ -48,8 +46,8 @@ pub one_answer : OneAnswer
 one_answer input x y a b p q = one_of (script_of input) x y a b (answer_of input _ refl a x p) (answer_of input _ refl b y q)
 
 -- a front of the line of an input outside the grammar is a front of its text
-pub cut_of_bad : (input front : List ℕ) (line : ℕ) → script_of input ≡ Err line → IsFront front (bad_line line) → IsCut input front
-cut_of_bad input front line e f = λ answer text p. subst (IsFront front) (sym (answer_of input (Err line) e answer text p).1) f
+pub cut_of_bad : (input said : List ℕ) (k line : ℕ) → script_of input ≡ Err line → said ≡ bad_line line → IsCut input (take k said)
+cut_of_bad input said k line e is = λ answer text p. subst (IsFront (take k said)) (is ∙ sym (answer_of input (Err line) e answer text p).1) (front_take k said)
 
 -- ---- which status a known input has
 
@@ -62,13 +60,11 @@ left_of (Some xs) (Some ys) input taken e c = let same : xs ≡ input = cc in (y
 -- a run answers its input, unless it was broken off or the input is too long
 ends : (left : Option (List ℕ)) (ended : Bool) (input : List ℕ) (st : Status) (written : List ℕ) → Outcome left ended input st written
     → IsBrokenOff st ⊎ ((TakesWhole left ended input × IsAnswer input st written) ⊎ ((st ≡ status.TooLong) × (length input ≡ 2 ^ 20 + 1)))
-ends left ended input status.Done written o = inr (inl o)
-ends left ended input (status.Command n r) written o = inr (inl o)
-ends left ended input (status.Script n) written o = inr (inl o)
 ends left ended input (status.Fault s) written o = inl tt
 ends left ended input status.TooLong written o = inr (inr (refl, o.1))
 ends left ended input status.Words written o = absurd o
 ends left ended input status.NoMemory written o = inl tt
+ends left ended input st written o = inr (inl o)
 
 module _ {left now : Option (List ℕ)} {ended : Bool} {before after : Option (List ℕ)} {st : Status} (input : List ℕ) (p : Answers left now ended before after st) (known : left ≡ Some input) where
   rest : (rest : List ℕ) × (now ≡ Some rest) × (input ≡ p.input ++ rest)

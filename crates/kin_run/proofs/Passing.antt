@@ -91,5 +91,5 @@ cut_on_the_way true s now w bs p text e =
 abbrev pub line_in : Moment → Failed → List ℕ
 line_in m f = failure_line m (failure_of f)
 
-pub lines_in : (m : Moment) (fs : List Failed) → flat_map (line_in m) fs ≡ flat_map (failure_line m) (map failure_of fs)
-lines_in m fs = sym (flat_map-map (failure_line m) failure_of fs)
+pub lines_in : (m : Moment) (fs gs : List Failed) (b : Block) → fs ≡ gs → record { moment = m; failures = map failure_of gs } ≡ b → flat_map (line_in m) fs ≡ block_lines b
+lines_in m fs gs b same is = sym (flat_map-map (failure_line m) failure_of fs) ∙ ap (λ (hs : List Failed). flat_map (failure_line m) (map failure_of hs)) same ∙ ap block_lines is

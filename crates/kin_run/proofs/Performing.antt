@@ -1,7 +1,9 @@
 -- What came of a deed, from what came of its parts.
-use Rattle.std.proofs.Common.{◌≡◌, ℕ, Bool, List, ◌++◌, ◌∙◌, refl, subst, Result, Ok, Err, OnOk, OnErr, [], Option, Some, None, ap, set-set, slice_set}
-use Rattle.kin_run.proofs.Vocabulary.{IsCanonical, IsEarlier, Quadratic, Shape, Course, motion_of, Change, ChangesTo, asks, changes, goes_to, PutsFront, IsReplyLine, IsAllowed, IsNamedRoot, State, at, IsNextText, IsPassedText, Prints, Step}
-use Rattle.kin_run.proofs.Vocabulary.{Command, one_reply_line, HasReplaced, World, BreaksOff, IsFrontOfEach, Performs, PutsLine, Replies, state_of, GainsSome, Printer, printer, Halt, Broken, Refused, Stop, Fault, NoMemory}
+use Rattle.std.proofs.Common.{◌≡◌, ◌≢◌, ℕ, Bool, List, ◌++◌, ◌∙◌, refl, sym, append-nil, subst, Result, Ok, Err, OnOk, OnErr, [], Option, Some, None, ap, set-set, slice_set}
+use Rattle.kin_run.proofs.Vocabulary.{IsCanonical, IsEarlier, Quadratic, Shape, Course, motion_of, Change, ChangesTo, asks, changes, goes_to, PutsFront, IsAllowed, IsNamedRoot, State, at, IsNextText, IsPassedText, Prints, Step}
+use Rattle.kin_run.proofs.Vocabulary.{Command, one_reply_line, HasReplaced, World, BreaksOff, IsFrontOfEach, IsReply, Performs, PutsLine, Replies, RepliesTo, state_of, GainsSome, Printer, printer, Halt, Broken, Refused, Stop, Fault, NoMemory}
+use Rattle.kin_print.specs.declared.reply.Reply.{Reply}
+use Rattle.kin_print.specs.Replies.{reply_line}
 use Rattle.kin_run.proofs.Determined.{goes_allowed}
 use Rattle.kin_run.proofs.Passing.{one_next}
 use Rattle.kin_run.proofs.Gathering.{Bytes, gains_put, some_is, gains_nothing, front_nil}
@@ -19,6 +21,29 @@ module _ (s : State) (upper : Bool) (z : Quadratic) (w : Shape) (named : IsNamed
   moving_broke NoMemory p q x = (goes_allowed s upper z w named later, some_is x (IsFrontOfEach (Prints s (goes_to upper z))) cut)
   moving_broke Fault p q x = (goes_allowed s upper z w named later, record { text = x.text; reached = x.reached; is = cut x.text x.is })
 
+-- ---- a reply
+-- a reply to the same question
+pub of_same : (w : World) (c q : Command) (r : Result Reply Halt) → c ≡ q → RepliesTo w q r → RepliesTo w c r
+of_same w c q r e h = subst (λ (x : Command). RepliesTo w x r) (sym e) h
+
+module _ (s : State) (q : Command) (before now : List ℕ) (E : Type 0) where
+  -- without a reply nothing is put
+  pub no_reply : (halt : Halt) → IsReply s q (Err halt) → now ≡ before → Replies {E = E} s q (Err halt) before now
+  no_reply (Refused r) is same = (is.0, is.1, same)
+  no_reply (Broken NoMemory) is same = (is, ([], same ∙ sym (append-nil before), λ text line. front_nil text))
+  no_reply (Broken Fault) is same = absurd is
+
+  pub reply_put : (x : E) (reply : Reply) → IsReply s q (Ok reply) → now ≡ before ++ reply_line reply → Replies s q (Ok x) before now
+  reply_put x reply is put = (is.0, (reply_line reply, put, is.1))
+
+  pub reply_broke : IsCanonical s.moment.at → (reply : Reply) → IsReply s q (Ok reply) → PutsFront before now (reply_line reply) → Replies {E = E} s q (Err (Broken NoMemory)) before now
+  reply_broke canonical reply is put = (is.0, (put.front, put.put, λ text line. record { more = put.rest; joined = one_reply_line s canonical q text (reply_line reply) line is.1 ∙ put.cut }))
+
+pub no_fault : (s : State) (q : Command) (halt : Halt) → IsReply s q (Err halt) → halt ≢ Broken Fault
+no_fault s q (Refused r) is e = cc
+no_fault s q (Broken NoMemory) is e = cc
+no_fault s q (Broken Fault) is e = absurd is
+
 -- ---- to a question
 pub replied : {E : Type 0} (s : State) (q : Command) (result : Result E Halt) (held : Bytes) (before now : List ℕ) → Replies s q result before now → Performs s (asks q) result (printer held before) (printer held now) s
 replied s q (Ok x) held before now a = record { text = a.1.0; gained = gains_put held before now a.1.0 a.1.1; is = record { allowed = λ r h. h.1 a.0; prints = a.1.2; leads = refl } }
@@ -32,10 +57,6 @@ pub puts_next : {E : Type 0} (s : State) → IsCanonical s.moment.at → (line :
     → PutsLine (IsNextText s) result before now
 puts_next s canonical line own (Ok x) before now ok err = (line, ok, own)
 puts_next s canonical line own (Err e) before now ok err = (err.front, err.put, λ text is. record { more = err.rest; joined = one_next s text line canonical is own ∙ err.cut })
-
--- a front of the line of a question
-pub reply_cut : (s : State) → IsCanonical s.moment.at → (q : Command) (line before now : List ℕ) → IsReplyLine s q line → PutsFront before now line → (front : List ℕ) × (now ≡ before ++ front) × IsFrontOfEach (IsReplyLine s q) front
-reply_cut s canonical q line before now own put = (put.front, put.put, λ text is. record { more = put.rest; joined = one_reply_line s canonical q text line is own ∙ put.cut })
 
 module _ (s : State) (number : ℕ) (c : Change) (p : Printer) (allowed : IsAllowed s (changes number c)) where
   pub changed : (next : Option Course) (t : State) → ChangesTo s.moment (motion_of s.motions number) c next → t ≡ record s { motions = slice_set s.motions number next } → GainsSome (λ text. Step s (changes number c) text t) p p

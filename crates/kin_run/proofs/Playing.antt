@@ -29,9 +29,6 @@ pub record IsSoFar (s : State) (all : List Line) (t : State) (left : List Line) 
   pub forth : (rest : List ℕ) (ending : Ending) → Text t left rest ending → Text s all (so_far ++ rest) ending
   pub back : (text : List ℕ) (ending : Ending) → Text s all text ending → (rest : List ℕ) × Text t left rest ending × (text ≡ so_far ++ rest)
 
-pub begins : (s : State) (cs : List Line) → IsSoFar s cs s cs []
-begins s cs = record { forth = λ rest ending p. p; back = λ text ending p. (text, p, refl) }
-
 module _ (s : State) (all : List Line) (t : State) where
   pub text_goes_on : (c : Line) (left : List Line) (so_far text : List ℕ) (u : State) → IsCanonical t.moment.at
       → IsSoFar s all t (c ∷ left) so_far → Step t (deed_of c.1) text u → IsSoFar s all u left (so_far ++ text)

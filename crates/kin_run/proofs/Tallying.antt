@@ -33,11 +33,6 @@ tallied_then {Is} {IsMore} {IsBoth} {old} {middle} {new} x y both = record {
 pub tallied_is : {Is IsOther : List Block → Type 0} {old new : Option Tally} → HasTallied Is old new → ((bs : List Block) → Is bs → IsOther bs) → HasTallied IsOther old new
 tallied_is x f = record { blocks = x.blocks; passed = f x.blocks x.passed; counted = x.counted }
 
--- counts that are asked for begin with nothing, and are told
-pub counts_told : (IsPassed : List Block → Type 0) (old : Tally) (new : Option Tally) (told : Tally) → old ≡ record { moments = 0; failures = 0 } → HasTallied IsPassed (Some old) new → new ≡ Some told
-    → HasTallied IsPassed (Some (record { moments = 0; failures = 0 })) (Some told)
-counts_told IsPassed old new told nothing x is = rw (nothing, is) at x
-
 -- a count that stops at the most, more often than once, stops there once
 stops : (most m n : ℕ) → min (min m most + n) most ≡ min (m + n) most
 stops most m n = grind arith

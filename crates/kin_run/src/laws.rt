@@ -23,7 +23,6 @@ pub fn demo_texts_exist()
 {}
 
 /// A seed and a count have no two texts.
-#[tactic(auto, using(crate::proofs::Generated::one_demo_text))]
 pub fn one_demo_text()
     ensures { OneDemoText }
 {}

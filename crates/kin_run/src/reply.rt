@@ -82,7 +82,7 @@ fn live(world: &World) -> Result<Reply, Halt>
 }
 
 /// What a question is answered with, where what it asks for is kept. No other command is one.
-#[tactic(auto, using(crate::proofs::Replying::of_same))]
+#[tactic(auto, using(crate::proofs::Performing::of_same))]
 fn reply_to(world: &World, command: &Command) -> Result<Reply, Halt>
     requires whole { IsWhole world.now }
     requires range { IsCommandInRange world.now.size command.now }

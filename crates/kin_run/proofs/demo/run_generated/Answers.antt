@@ -1,19 +1,19 @@
 use Rattle.std.proofs.Common.{◌≡◌, None, Some, sym, ◌∙◌}
 use Rattle.kin_run.proofs.Generated.{wrote_whole, wrote_part, never_refused, cut_of_body, broken_demo}
-use Rattle.kin_run.proofs.Tallying.{counts_told, tallied_from_nothing}
+use Rattle.kin_run.proofs.Tallying.{tallied_from_nothing}
 use Rattle.kin_basics.proofs.Options.{none_or_some}
 use Rattle.kin_run.proofs.demo.run_generated.Goals as goal
 
 pub returns-in-Ok-write_tally-clause-writes : goal.returns-in-Ok-write_tally-clause-writes
 returns-in-Ok-write_tally-clause-writes g c =
     let body = rw c.in-Ok-None.field-0-is at c.in-Ok-None.ensures.ok in
-    let counted = counts_told _ c.new.result c.play_script.new.tally c.in-Some.counts c.new.ensures (c.in-Ok-None.ensures.tallied c.in-Ok-None.field-0-is) c.in-Some.is in
+    let counted = rw (c.new.ensures, c.in-Some.is) at c.in-Ok-None.ensures.tallied c.in-Ok-None.field-0-is in
     wrote_whole c.args.seed c.args.count c.in-Ok.script c.in-Ok.ensures.script (g.K.Sink.held c.args.sink.now) (g.K.Sink.held c.play_script.new.sink) body c.in-Some.counts counted (g.K.Sink.held c.write_tally.new.sink) c.in-Ok-write_tally.ensures.ok
 
 pub returns-in-Ok-None-clause-writes : goal.returns-in-Ok-None-clause-writes
 returns-in-Ok-None-clause-writes g c =
     let body = rw c.in-Ok-None.field-0-is at c.in-Ok-None.ensures.ok in
-    let counted = counts_told _ c.new.result c.play_script.new.tally c.in-Some.counts c.new.ensures (c.in-Ok-None.ensures.tallied c.in-Ok-None.field-0-is) c.in-Some.is in
+    let counted = rw (c.new.ensures, c.in-Some.is) at c.in-Ok-None.ensures.tallied c.in-Ok-None.field-0-is in
     rw c.status_of.ensures (wrote_part c.args.seed c.args.count c.in-Ok.script c.in-Ok.ensures.script (g.K.Sink.held c.args.sink.now) (g.K.Sink.held c.play_script.new.sink) body c.in-Some.counts counted (g.K.Sink.held c.write_tally.new.sink) c.in-Err-write_tally.ensures.err c.in-Err-write_tally.stop)
 
 pub unreachable-requires : goal.unreachable-requires
@@ -23,8 +23,7 @@ unreachable-requires g c =
 
 pub unreachable-requires-in-Ok-Some : goal.unreachable-requires-in-Ok-Some
 unreachable-requires-in-Ok-Some g c =
-    let played = c.in-Ok-Some.ensures.ok in
-    let none = never_refused c.args.seed c.args.count c.in-Ok.script played.0 c.in-Ok-Some.field-0 c.in-Ok.ensures.script played.2 in
+    let none = never_refused c.args.seed c.args.count c.in-Ok.script _ _ c.in-Ok.ensures.script c.in-Ok-Some.ensures.ok.2 in
     let clash : Some c.in-Ok-Some.field-0-0 ≡ None = sym c.in-Ok-Some.field-0-is ∙ none in
     cc
 

@@ -25,8 +25,7 @@ unreachable-requires g c =
 
 pub returns-in_err-block-clause-line : goal.returns-in_err-block-clause-line
 returns-in_err-block-clause-line g c =
-    let e = err_from_is_err_and c.from_residual.result c.from_residual.ensures.1 in
-    rw e.1 ([], sym (append-nil c.args.out.now.items), λ text is. front_nil text)
+    rw (err_from_is_err_and c.from_residual.result c.from_residual.ensures.1).1 ([], sym (append-nil c.args.out.now.items), λ text is. front_nil text)
 
 pub returns-clause-line : goal.returns-clause-line
 returns-clause-line g c =

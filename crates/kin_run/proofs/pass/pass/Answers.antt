@@ -1,5 +1,5 @@
 use Rattle.std.proofs.Common.{[], ap, arith, not, refl, ◌∙◌}
-use Rattle.kin_run.proofs.Vocabulary.{err_from_is_err_and, at, HasMoved, HasPassed, printer}
+use Rattle.kin_run.proofs.Vocabulary.{err_from_is_err_and, at, printer}
 use Rattle.kin_world.proofs.RootLaws.{journals_exist}
 use Rattle.kin_run.proofs.Tallying.{untallied}
 use Rattle.kin_run.proofs.Gathering.{gains_nothing}
@@ -17,33 +17,27 @@ returns-in_err-block-clause-text g c =
 pub returns-in_err-put_if_on-clause-text : goal.returns-in_err-put_if_on-clause-text
 returns-in_err-put_if_on-clause-text g c =
     let e = err_from_is_err_and c.from_residual-in_err-put_if_on.result c.from_residual-in_err-put_if_on.ensures.1 in
-    let passed : HasPassed (at c.args.asked) c.in-Some-2.block c.loop-block.world c.step.new.self = rw c.in-Some-2.is at c.in_ok-block.ensures.stepped in
-    rw (e.1, e.2) (breaks_within c.loop-block.invariant.on c.requires.canonical passed c.put_if_on.new.out.items c.in_err-put_if_on.ensures.err)
+    rw (e.1, e.2) (breaks_within c.loop-block.invariant.on c.requires.canonical (rw c.in-Some-2.is at c.in_ok-block.ensures.stepped) c.put_if_on.new.out.items c.in_err-put_if_on.ensures.err)
 
 pub returns-in_err-flush_if_due-clause-text : goal.returns-in_err-flush_if_due-clause-text
 returns-in_err-flush_if_due-clause-text g c =
     let e = err_from_is_err_and c.from_residual-in_err-flush_if_due.result c.from_residual-in_err-flush_if_due.ensures.1 in
-    let passed : HasPassed (at c.args.asked) c.in-Some-2.block c.loop-block.world c.step.new.self = rw c.in-Some-2.is at c.in_ok-block.ensures.stepped in
     rw (e.1, e.2)
-    (faults_behind c.loop-block.invariant.on c.requires.canonical passed c.put_if_on.new.out.items (printer (g.K.Sink.held c.flush_if_due.new.sink) c.flush_if_due.new.out.items) c.in_ok-put_if_on.ensures.ok c.in_err-flush_if_due.ensures.front)
+    (faults_behind c.loop-block.invariant.on c.requires.canonical (rw c.in-Some-2.is at c.in_ok-block.ensures.stepped) c.put_if_on.new.out.items (printer (g.K.Sink.held c.flush_if_due.new.sink) c.flush_if_due.new.out.items) c.in_ok-put_if_on.ensures.ok c.in_err-flush_if_due.ensures.front)
 
 pub loop-block-preserved : goal.loop-block-preserved
-loop-block-preserved g c =
-    let passed : HasPassed (at c.args.asked) c.in-Some-2.block c.loop-block.world c.step.new.self = rw c.in-Some-2.is at c.in_ok-block.ensures.stepped in
-    record {
-      on = goes_on c.loop-block.invariant.on c.requires.canonical passed c.put_if_on.new.out.items c.in_ok-put_if_on.ensures.ok c.in_ok-flush_if_due.ensures.gained c.count_of.result c.count_of.ensures c.count_on-in-Some-2.ensures;
+loop-block-preserved g c = record {
+      on = goes_on c.loop-block.invariant.on c.requires.canonical (rw c.in-Some-2.is at c.in_ok-block.ensures.stepped) c.put_if_on.new.out.items c.in_ok-put_if_on.ensures.ok c.in_ok-flush_if_due.ensures.gained c.count_of.result c.count_of.ensures c.count_on-in-Some-2.ensures;
       later = omega (arith, c.loop-block.invariant.later, c.flush_if_due.ensures.cause.later);
     }
 
 pub returns-clause-text : goal.returns-clause-text
 returns-clause-text g c =
-    let moved : HasMoved (at c.args.asked) c.loop-block.world c.step.new.self = rw c.in_default-2.is at c.in_ok-block.ensures.stepped in
-    arrives c.loop-block.invariant.on c.requires.canonical moved
+    arrives c.loop-block.invariant.on c.requires.canonical (rw c.in_default-2.is at c.in_ok-block.ensures.stepped)
 
 pub returns-clause-tallied : goal.returns-clause-tallied
 returns-clause-tallied g c =
-    let moved : HasMoved (at c.args.asked) c.loop-block.world c.step.new.self = rw c.in_default-2.is at c.in_ok-block.ensures.stepped in
-    counted_all c.loop-block.invariant.on c.requires.canonical moved
+    counted_all c.loop-block.invariant.on c.requires.canonical (rw c.in_default-2.is at c.in_ok-block.ensures.stepped)
 
 -- ---- without a list of the failures
 

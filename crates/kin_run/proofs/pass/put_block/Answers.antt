@@ -1,6 +1,5 @@
-use Rattle.std.proofs.Common.{◌≡◌, ◌++◌, ◌∙◌, ap, subst, List, ℕ, map, flat_map, take_all}
-use Rattle.kin_run.proofs.Vocabulary.{on_err, failure_of, front_at, PutsFront, block_lines, failure_line}
-use Rattle.kin_cert.specs.declared.owned.Failure.{Failure}
+use Rattle.std.proofs.Common.{◌++◌, ◌∙◌, ap, subst, List, ℕ, flat_map, take_all}
+use Rattle.kin_run.proofs.Vocabulary.{on_err, front_at, PutsFront}
 use Rattle.kin_run.proofs.Passing.{line_in, lines_in}
 use Rattle.kin_run.proofs.pass.put_block.Goals as goal
 
@@ -8,8 +7,7 @@ pub returns-in_err-put_failure-clause-err : goal.returns-in_err-put_failure-clau
 returns-in_err-put_failure-clause-err c =
     let m = c.block.inside.moment in
     let failures = c.deref-failure-items.result.now in
-    let lines : flat_map (line_in m) failures ≡ block_lines c.args.block.now =
-    lines_in m failures ∙ ap (λ (fs : List Failure). flat_map (failure_line m) (map failure_of fs)) c.deref-failure-items.ensures.value ∙ ap block_lines c.block.view_is in
+    let lines = lines_in m failures _ _ c.deref-failure-items.ensures.value c.block.view_is in
     on_err c.from_residual.result
     (subst (PutsFront c.args.out.now.items c.put_failure.new.out.items) lines
     (front_at (line_in m) c.args.out.now.items c.loop-failure.out.items c.put_failure.new.out.items failures c.loop-failure.failure-index _ c.loop-failure-test.true c.loop-failure.invariant c.in_err-put_failure.ensures.err))
@@ -18,7 +16,6 @@ pub returns-clause-ok : goal.returns-clause-ok
 returns-clause-ok c =
     let m = c.block.inside.moment in
     let failures = c.deref-failure-items.result.now in
-    let lines : flat_map (line_in m) failures ≡ block_lines c.args.block.now =
-    lines_in m failures ∙ ap (λ (fs : List Failure). flat_map (failure_line m) (map failure_of fs)) c.deref-failure-items.ensures.value ∙ ap block_lines c.block.view_is in
+    let lines = lines_in m failures _ _ c.deref-failure-items.ensures.value c.block.view_is in
     c.loop-failure.invariant
     ∙ ap (λ (w : List ℕ). c.args.out.now.items ++ w) (ap (flat_map (line_in m)) (take_all c.loop-failure.failure-index failures c.loop-failure-test.false) ∙ lines)

@@ -1,5 +1,5 @@
 use Rattle.std.proofs.Common.{◌≡◌, refl, [], true, arith, to_z, of_z, w32, w64}
-use Rattle.kin_run.proofs.Vocabulary.{to_z-of_z, err_from_is_err_and, on_ok, line, IsSlowVelocity, goes_on, IsRootInRange, Step, asks_otherwise, state_of, printer}
+use Rattle.kin_run.proofs.Vocabulary.{to_z-of_z, err_from_is_err_and, on_ok, line, IsSlowVelocity, IsRootInRange, asks_otherwise, state_of, printer}
 use Rattle.kin_run.proofs.Tallying.{none_tallied}
 use Rattle.kin_run.proofs.Gathering.{gains_put}
 use Rattle.kin_run.proofs.Performing.{replied}
@@ -29,18 +29,14 @@ returns-in_err-put_next-in-Next-clause-performs g c =
 pub returns-in_ok-put_next-in-Next-clause-performs : goal.returns-in_ok-put_next-in-Next-clause-performs
 returns-in_ok-put_next-in-Next-clause-performs g c =
     let put = c.in_ok-put_next-in-Next.ensures.line in
-    let step : Step (state_of c.args.journal c.args.world.now) goes_on put.0 (state_of c.args.journal c.put_next.new.world) = record { allowed = λ r h. h; prints = put.2; leads = c.in_ok-put_next-in-Next.ensures.leads } in
-    rw c.in-Next.is (record { text = put.0; gained = gains_put (g.K.Sink.held c.args.sink.now) c.args.out.now.items c.put_next.new.out.items put.0 put.1; is = step })
+    rw c.in-Next.is (record { text = put.0; gained = gains_put (g.K.Sink.held c.args.sink.now) c.args.out.now.items c.put_next.new.out.items put.0 put.1; is = record { allowed = λ r h. h; prints = put.2; leads = c.in_ok-put_next-in-Next.ensures.leads } })
 
 pub returns-in_default-clause-performs : goal.returns-in_default-clause-performs
 returns-in_default-clause-performs g c =
     let d = c.in_default in
     let q = c.args.command.now in
-    let s = state_of c.args.journal c.args.world.now in
-    let held = g.K.Sink.held c.args.sink.now in
-    let asked = asks_otherwise q d.not-Insert d.not-Remove d.not-Replace d.not-Turn d.not-AtRatio d.not-AtRoot d.not-Next in
-    rw asked
-    (replied s q c.put_reply_to.result held c.args.out.now.items c.put_reply_to.new.out.items (c.put_reply_to.ensures.line c.args.journal))
+    rw (asks_otherwise q d.not-Insert d.not-Remove d.not-Replace d.not-Turn d.not-AtRatio d.not-AtRoot d.not-Next)
+    (replied (state_of c.args.journal c.args.world.now) q c.put_reply_to.result (g.K.Sink.held c.args.sink.now) c.args.out.now.items c.put_reply_to.new.out.items (c.put_reply_to.ensures.line c.args.journal))
 
 -- ---- the blocks that are passed
 
@@ -61,7 +57,5 @@ returns-in-Some-clause-tallied g c =
 pub returns-in_default-clause-tallied : goal.returns-in_default-clause-tallied
 returns-in_default-clause-tallied g c =
     let d = c.in_default in
-    let q = c.args.command.now in
-    let s = state_of c.args.journal c.args.world.now in
-    let asked = asks_otherwise q d.not-Insert d.not-Remove d.not-Replace d.not-Turn d.not-AtRatio d.not-AtRoot d.not-Next in
+    let asked = asks_otherwise c.args.command.now d.not-Insert d.not-Remove d.not-Replace d.not-Turn d.not-AtRatio d.not-AtRoot d.not-Next in
     on_ok c.put_reply_to.result (rw asked (none_tallied (λ bs. bs ≡ []) c.args.tally.now refl))

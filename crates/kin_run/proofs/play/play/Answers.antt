@@ -8,18 +8,11 @@ pub returns-in_err-flush-in-Ok-clause-cut : goal.returns-in_err-flush-in-Ok-clau
 returns-in_err-flush-in-Ok-clause-cut g c =
     let s = state_of c.args.journal c.args.world.now in
     let all = c.args.lines.now in
-    let before = g.K.Sink.held c.args.sink.now in
-    let now = printer (g.K.Sink.held c.perform_each.new.sink) c.perform_each.new.out.items in
     let gained = rw c.new-out.ensures.items at c.in-Ok.ensures.text in
     on_err c.from_residual.result
     (wrote_front (IsCutOfText s all) (some_lost_here gained (printer (g.K.Sink.held c.flush.new.sink) []) c.flush.ensures.front) (λ x front is f. cut_of_text s all x front c.in-Ok.ending c.requires.whole.canonical is f))
 
 pub returns-clause-cut : goal.returns-clause-cut
 returns-clause-cut g c =
-    let s = state_of c.args.journal c.args.world.now in
-    let all = c.args.lines.now in
-    let before = g.K.Sink.held c.args.sink.now in
-    let held = g.K.Sink.held c.perform_each.new.sink in
-    let out = c.perform_each.new.out.items in
     let broke = rw c.new-out.ensures.items at c.in-Err.ensures.text in
-    wrote_broken (IsCutOfText s all) before held (g.K.Sink.held c.salvage.new.sink) out c.in-Err.stop broke c.salvage.ensures.front (λ e. ap g.K.Sink.held (c.salvage.ensures.untouched e)) (λ text front cut f whole ending q. front_through front text whole f (cut whole ending q))
+    wrote_broken (IsCutOfText (state_of c.args.journal c.args.world.now) c.args.lines.now) (g.K.Sink.held c.args.sink.now) (g.K.Sink.held c.perform_each.new.sink) (g.K.Sink.held c.salvage.new.sink) c.perform_each.new.out.items c.in-Err.stop broke c.salvage.ensures.front (λ e. ap g.K.Sink.held (c.salvage.ensures.untouched e)) (λ text front cut f whole ending q. front_through front text whole f (cut whole ending q))

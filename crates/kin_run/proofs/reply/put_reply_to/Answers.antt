@@ -1,14 +1,12 @@
 use Rattle.std.proofs.Common.{false, refl}
 use Rattle.kin_run.proofs.Vocabulary.{err_from_is_err_and, state_of}
-use Rattle.kin_run.proofs.Replying.{no_reply, no_fault, reply_broke, reply_put}
+use Rattle.kin_run.proofs.Performing.{no_reply, no_fault, reply_broke, reply_put}
 use Rattle.kin_run.proofs.reply.put_reply_to.Goals as goal
 
 pub returns-in_err-reply-clause-line : goal.returns-in_err-reply-clause-line
 returns-in_err-reply-clause-line c = λ journal.
     let e = err_from_is_err_and c.from_residual.result c.from_residual.ensures.1 in
-    let q = c.args.command.now in
-    let halt = c.in_err-reply.field-0.0 in
-    rw (e.1, e.2) (no_reply (state_of journal c.args.world.now) q c.args.out.now.items c.args.out.now.items (Unit {0}) halt (c.in_err-reply.ensures.reply journal) refl)
+    rw (e.1, e.2) (no_reply (state_of journal c.args.world.now) c.args.command.now c.args.out.now.items c.args.out.now.items (Unit {0}) c.in_err-reply.field-0.0 (c.in_err-reply.ensures.reply journal) refl)
 
 pub returns-in_err-reply-clause-no_fault : goal.returns-in_err-reply-clause-no_fault
 returns-in_err-reply-clause-no_fault c =
@@ -18,12 +16,8 @@ returns-in_err-reply-clause-no_fault c =
 pub returns-in_err-put_reply-clause-line : goal.returns-in_err-put_reply-clause-line
 returns-in_err-put_reply-clause-line c = λ journal.
     let e = err_from_is_err_and c.from_residual-in_err-put_reply.result c.from_residual-in_err-put_reply.ensures.1 in
-    let q = c.args.command.now in
-    let reply = c.in_ok-reply.reply in
-    rw (e.1, e.2) (reply_broke (state_of journal c.args.world.now) q c.args.out.now.items c.put_reply.new.out.items (Unit {0}) c.requires.whole.canonical reply (c.in_ok-reply.ensures.reply journal) c.in_err-put_reply.ensures.err)
+    rw (e.1, e.2) (reply_broke (state_of journal c.args.world.now) c.args.command.now c.args.out.now.items c.put_reply.new.out.items (Unit {0}) c.requires.whole.canonical c.in_ok-reply.reply (c.in_ok-reply.ensures.reply journal) c.in_err-put_reply.ensures.err)
 
 pub returns-clause-line : goal.returns-clause-line
 returns-clause-line c = λ journal.
-    let q = c.args.command.now in
-    let reply = c.in_ok-reply.reply in
-    reply_put (state_of journal c.args.world.now) q c.args.out.now.items c.put_reply.new.out.items (Unit {0}) tt reply (c.in_ok-reply.ensures.reply journal) c.in_ok-put_reply.ensures.ok
+    reply_put (state_of journal c.args.world.now) c.args.command.now c.args.out.now.items c.put_reply.new.out.items (Unit {0}) tt c.in_ok-reply.reply (c.in_ok-reply.ensures.reply journal) c.in_ok-put_reply.ensures.ok
