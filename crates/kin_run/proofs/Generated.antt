@@ -28,14 +28,11 @@ EndWell first cs = (s : State) (text : List ℕ) (ending : Ending) → IsAwaitin
 
 insertion_ends_well : (seed first : ℕ) (cs : List Line) → EndWell (suc first) cs → EndWell first (insertion seed first ∷ cs)
 insertion_ends_well seed first cs more s text ending awaiting (inl e) = absurd (let free = awaiting.free first (omega arith) in let live = e.1.1 in cc)
-insertion_ends_well seed first cs more s text ending awaiting (inr g) = more g.2 g.1 ending after g.4
-  where
-    after : IsAwaiting (suc first) g.2
-    after = rw (g.3.leads.2, g.3.leads.1) (record {
+insertion_ends_well seed first cs more s text ending awaiting (inr g) = more g.2 g.1 ending (rw (g.3.leads.2, g.3.leads.1) (record {
       free = λ number low. ap is_some (get_or-set_other s.motions first number (Some (course_behind (state_after (4 * first) seed))) None (λ e. absurd (omega (arith, e, low)))) ∙ awaiting.free number (omega (arith, low));
       keeps = awaiting.keeps;
       moment = awaiting.moment;
-    })
+    })) g.4
 
 insertions_end_well : (seed count : ℕ) (cs : List Line) → EndWell count cs → EndWell 0 (insertions seed count ++ cs)
 insertions_end_well seed zero cs more = more
@@ -43,17 +40,11 @@ insertions_end_well seed (suc n) cs more = rw (append_assoc (insertions seed n) 
 
 -- ---- time goes to 20
 twenty_later : (w : Shape) → IsNamedRoot true (line (pos 20) (pos 1)) w → ¬ (IsEarlier (at w) (at (Ratio (pos 0) (pos 1))))
-twenty_later w named = later
-  where
-    is : w ≡ Ratio (pos 20) (pos 1)
-    is = fraction_itself (pos 20) (pos 1) (record { positive = omega arith; lowest = IsGcd-from_mod 20 1 1 (IsGcd-from_zero 1 0 refl) }) w named.0.canonical.form named.0.zero
-
-    positive : sign_at_instant (line (pos 0) (pos 1)) w ≡ Plus
-    positive = ap (sign_at_instant (line (pos 0) (pos 1))) is ∙ line_at_fraction (pos 20) (pos 1) (pos 0) (pos 1) refl
-
-    later : ¬ (IsEarlier (at w) (at (Ratio (pos 0) (pos 1))))
-    later (inl less) = less_asym w (Ratio (pos 0) (pos 1)) named.0.canonical.form start_canonical.form less (above_fraction (pos 0) (pos 1) start_canonical.form w named.0.canonical.form positive)
-    later (inr level) = let clash : At ≡ After = level.2 in cc
+twenty_later w named (inr level) = let clash : At ≡ After = level.2 in cc
+twenty_later w named (inl less) =
+    let is = fraction_itself (pos 20) (pos 1) (record { positive = omega arith; lowest = IsGcd-from_mod 20 1 1 (IsGcd-from_zero 1 0 refl) }) w named.0.canonical.form named.0.zero in
+    let positive = ap (sign_at_instant (line (pos 0) (pos 1))) is ∙ line_at_fraction (pos 20) (pos 1) (pos 0) (pos 1) refl in
+    less_asym w (Ratio (pos 0) (pos 1)) named.0.canonical.form start_canonical.form less (above_fraction (pos 0) (pos 1) start_canonical.form w named.0.canonical.form positive)
 
 -- ---- the questions
 -- what commands end in, where one of each kind is kept

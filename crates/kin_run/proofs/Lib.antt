@@ -7,7 +7,6 @@ pub mod OnTheWay
 pub mod Performing
 pub mod Playing
 pub mod OneText
-pub mod ChangeExistence
 pub mod StepExistence
 pub mod TextExistence
 pub mod Tallying

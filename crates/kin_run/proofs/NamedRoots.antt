@@ -1,7 +1,7 @@
 -- The root that a line names: there is one where the discriminant is not negative, and no more than one.
 use Rattle.std.proofs.Common.{arith, to_z, of_z, w64, ◌≡◌, zero, suc, Bool, true, false, [], ◌∷◌, inl, inr, refl, sym, ap, ◌∙◌, subst, ℤ, pos, negsuc, ◌<ℤ◌, ◌*ℤ◌, ◌↔◌, if◌then◌else◌, ◌≢◌, ◌⊎◌, ◌<◌, Some, None}
 use Rattle.kin_run.proofs.Vocabulary.{ints, to_z-of_z, opposite_of, product_of, sign_of, Sign, Minus, Plus, Zero, sign_in, sign_of-times, sign_out, IsCanonical, IsCanonicalForm, discriminant, line, sign_at_instant, IsLess, Quadratic}
-use Rattle.kin_run.proofs.Vocabulary.{negated, Shape, level_same, less_asym, not_less_itself, AreRootsOf, HasRoot, IsFraction, count_by_signs, quadratic, Roots, All, Nowhere, One, Two, IsAskedFor, IsRatioInRange, IsRootInRange, HasNoRoot}
+use Rattle.kin_run.proofs.Vocabulary.{Shape, level_same, less_asym, not_less_itself, AreRootsOf, HasRoot, IsFraction, count_by_signs, quadratic, Roots, All, Nowhere, One, Two, IsAskedFor, IsRatioInRange, IsRootInRange, HasNoRoot}
 use Rattle.kin_run.proofs.Vocabulary.{IsNamedRoot, IsRootOf, at}
 use lib.IntN.{neg_ℤ}
 use Rattle.kin_algebra.proofs.Ring.{by_ring, quotes}
@@ -57,8 +57,7 @@ two_named upper p q r s e canonical exact rising = subst (λ (x : Quadratic). Is
 
 no_square : (s : Sign) → product_of s s ≢ Minus
 no_square Minus e = cc
-no_square Zero e = cc
-no_square Plus e = cc
+no_square s e = cc
 
 -- where there is a root the discriminant is not negative
 pub has_root : (a b c : ℤ) (w : Shape) → IsRootOf (record { a = a; b = b; c = c }) w → discriminant a b c <ℤ pos 0 → ⊥
@@ -76,12 +75,8 @@ has_root (negsuc n) b c w root negative =
 -- a quadratic with a square has a number of roots, and where it has none its discriminant is negative
 counted : (a b c d : Sign) → a ≢ Zero → (Some 0 ≡ count_by_signs a b c d → d ≡ Minus) × (None ≡ count_by_signs a b c d → ⊥)
 counted Zero b c d some = absurd (some refl)
-counted Minus b c Minus some = (λ e. refl, λ e. absurd cc)
-counted Minus b c Zero some = (λ e. absurd cc, λ e. absurd cc)
-counted Minus b c Plus some = (λ e. absurd cc, λ e. absurd cc)
-counted Plus b c Minus some = (λ e. refl, λ e. absurd cc)
-counted Plus b c Zero some = (λ e. absurd cc, λ e. absurd cc)
-counted Plus b c Plus some = (λ e. absurd cc, λ e. absurd cc)
+counted a b c Minus some = (λ e. refl, λ e. absurd cc)
+counted a b c d some = (λ e. absurd cc, λ e. absurd cc)
 
 quadratic_asked : (a b c : ℤ) (upper : Bool) → IsRootInRange a b c → (discriminant a b c <ℤ pos 0) ⊎ ((w : Shape) × IsNamedRoot upper (quadratic a b c) w)
 quadratic_asked a b c upper range = let r = roots_exist (quadratic a b c) (record { a_small = range.a_small; b_small = range.b_small; c_small = range.c_small }) in by_roots r.0 r.1

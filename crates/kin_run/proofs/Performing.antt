@@ -40,9 +40,8 @@ module _ (s : State) (q : Command) (before now : List ℕ) (E : Type 0) where
   reply_broke canonical reply is put = (is.0, (put.front, put.put, λ text line. record { more = put.rest; joined = one_reply_line s canonical q text (reply_line reply) line is.1 ∙ put.cut }))
 
 pub no_fault : (s : State) (q : Command) (halt : Halt) → IsReply s q (Err halt) → halt ≢ Broken Fault
-no_fault s q (Refused r) is e = cc
-no_fault s q (Broken NoMemory) is e = cc
 no_fault s q (Broken Fault) is e = absurd is
+no_fault s q halt is e = cc
 
 -- ---- to a question
 pub replied : {E : Type 0} (s : State) (q : Command) (result : Result E Halt) (held : Bytes) (before now : List ℕ) → Replies s q result before now → Performs s (asks q) result (printer held before) (printer held now) s

@@ -1,6 +1,6 @@
 -- A run of commands: the text so far and the blocks passed so far, and the text and the blocks of what is left.
 use Rattle.std.proofs.Common.{◌≡◌, ℕ, List, [], ◌∷◌, ◌++◌, drop, suc, ◌+◌, ◌<◌, ◌≤◌, length, get_or, drop-cons, add-one, Some, None, refl, sym, ap, ◌∙◌, subst, append_assoc, inl, inr, append-nil, Option}
-use Rattle.kin_run.proofs.Vocabulary.{drop_all, IsCanonical, Shape, Block, IsJournal, journal_is_one, AppendsFront, Deed, asks, changes, deed_of, goes_on, goes_to, IsAllowed, IsRefused, LeadsTo, State, at, state_setting, Ending, Prints}
+use Rattle.kin_run.proofs.Vocabulary.{drop_all, IsCanonical, Shape, Block, IsJournal, journal_is_one, AppendsFront, Deed, deed_of, goes_on, goes_to, IsAllowed, IsRefused, LeadsTo, State, at, state_setting, Ending, Prints}
 use Rattle.kin_run.proofs.Vocabulary.{Step, Text, refused_line, Command, Refusal, Passes, PassesInTurn, BreaksOff, IsCutOfText, IsFrontOfEach, HasTallied, Gains, GainsSome, IsFront, LosesSome, Printer, Tally, Stop}
 use Rattle.kin_run.proofs.Determined.{one_cause, one_step, stays, one_at_root, one_state}
 use Rattle.kin_run.proofs.Gathering.{some_then, some_is, some_broke, some_lost_here, front_through, front_after}
@@ -29,37 +29,6 @@ pub record IsSoFar (s : State) (all : List Line) (t : State) (left : List Line) 
   pub forth : (rest : List ℕ) (ending : Ending) → Text t left rest ending → Text s all (so_far ++ rest) ending
   pub back : (text : List ℕ) (ending : Ending) → Text s all text ending → (rest : List ℕ) × Text t left rest ending × (text ≡ so_far ++ rest)
 
-module _ (s : State) (all : List Line) (t : State) where
-  pub text_goes_on : (c : Line) (left : List Line) (so_far text : List ℕ) (u : State) → IsCanonical t.moment.at
-      → IsSoFar s all t (c ∷ left) so_far → Step t (deed_of c.1) text u → IsSoFar s all u left (so_far ++ text)
-  text_goes_on c left so_far text u canonical p step = record {
-    forth = λ rest ending q.
-        subst (λ (w : List ℕ). Text s all w ending) (sym (append_assoc so_far text rest))
-        (p.forth (text ++ rest) ending (inr (text, rest, u, step, q, refl)));
-    back = λ whole ending q.
-        let b = p.back whole ending q in
-        let a = allowed_goes_on t c left b.0 ending step.allowed b.1 in
-        let same = one_step t (deed_of c.1) a.0 text a.2 u canonical a.3 step in (
-          a.1,
-          subst (λ (v : State). Text v left a.1 ending) same.1 a.4,
-          b.2 ∙ ap (λ (w : List ℕ). so_far ++ w) (a.5 ∙ ap (λ (w : List ℕ). w ++ a.1) same.0) ∙ sym (append_assoc so_far text a.1),
-        );
-  }
-
-  -- the text so far is a front of all, and so is a front of the next command's text behind it
-  pub cut_within : (c : Line) (left : List Line) (so_far part : List ℕ) → IsAllowed t (deed_of c.1) → IsSoFar s all t (c ∷ left) so_far → IsFrontOfEach (Prints t (deed_of c.1)) part → IsCutOfText s all (so_far ++ part)
-  cut_within c left so_far part allowed p cut = λ text ending q.
-      let b = p.back text ending q in
-      let a = allowed_goes_on t c left b.0 ending allowed b.1 in
-      subst (IsFront (so_far ++ part)) (sym b.2) (front_after so_far part b.0 (front_through part a.0 b.0 (cut a.0 a.3.prints) (record { more = a.1; joined = a.5 })))
-
-  -- and a front of the line that refuses it
-  pub cut_refused : (c : Line) (left : List Line) (so_far front : List ℕ) (r : Refusal) → IsRefused t (deed_of c.1) r → IsSoFar s all t (c ∷ left) so_far → IsFront front (refused_line c.0 r) → IsCutOfText s all (so_far ++ front)
-  cut_refused c left so_far front r h p f = λ text ending q.
-      let b = p.back text ending q in
-      let a = text_refused t c left b.0 ending r h b.1 in
-      subst (IsFront (so_far ++ front)) (sym b.2) (front_after so_far front b.0 (subst (IsFront front) (sym a.0) f))
-
 -- ---- one turn of the loop over the commands
 pub at_item : (xs : List Line) (i : ℕ) (x : Line) → i < length xs → x ≡ get_or xs i x → drop i xs ≡ x ∷ drop (i + 1) xs
 at_item xs i x lt e = drop-cons xs i x lt ∙ ap (λ (y : Line). y ∷ drop (suc i) xs) (sym e) ∙ rw add-one refl
@@ -75,15 +44,29 @@ module _ {s t : State} {all : List Line} {p q : Printer} (i : ℕ) (so_far : Gai
 
     -- the command was carried out; and then a write failed
     pub carried_out : (u : State) {r : Printer} → IsCanonical t.moment.at → GainsSome (λ text. Step t (deed_of c.1) text u) q r → GainsSome (IsSoFar s all u (drop (i + 1) all)) p r
-    carried_out u canonical done = some_then here (IsSoFar s all u (drop (i + 1) all)) done.gained (λ x so. text_goes_on s all t c (drop (i + 1) all) x done.text u canonical so done.is)
+    carried_out u canonical done = some_then here (IsSoFar s all u (drop (i + 1) all)) done.gained (λ x so. record {
+      forth = λ rest ending q.
+          subst (λ (w : List ℕ). Text s all w ending) (sym (append_assoc x done.text rest))
+          (so.forth (done.text ++ rest) ending (inr (done.text, rest, u, done.is, q, refl)));
+      back = λ whole ending q.
+          let b = so.back whole ending q in
+          let a = allowed_goes_on t c (drop (i + 1) all) b.0 ending done.is.allowed b.1 in
+          let same = one_step t (deed_of c.1) a.0 done.text a.2 u canonical a.3 done.is in (
+            a.1,
+            subst (λ (v : State). Text v (drop (i + 1) all) a.1 ending) same.1 a.4,
+            b.2 ∙ ap (λ (w : List ℕ). x ++ w) (a.5 ∙ ap (λ (w : List ℕ). w ++ a.1) same.0) ∙ sym (append_assoc x done.text a.1),
+          );
+    })
 
     pub lost_behind : (u : State) {r : Printer} (f : Printer) → IsCanonical t.moment.at → GainsSome (λ text. Step t (deed_of c.1) text u) q r → AppendsFront r.held f.held r.gathered → LosesSome (IsCutOfText s all) p f
     lost_behind u f canonical done front = some_lost_here (some_is (carried_out u canonical done) (IsCutOfText s all) (λ x so text ending whole. let b = so.back text ending whole in record { more = b.0; joined = b.2 })) f front
 
-    -- the run was broken off amid it
+    -- the run was broken off amid it: a front of its text stands behind the text so far
     pub broke_off : (stop : Stop) (r : Printer) → IsAllowed t (deed_of c.1) × BreaksOff (IsFrontOfEach (Prints t (deed_of c.1))) stop q r → BreaksOff (IsCutOfText s all) stop p r
-    broke_off stop r h =
-        some_broke here (IsCutOfText s all) stop r (IsFrontOfEach (Prints t (deed_of c.1))) h.1 (λ x part so cut. cut_within s all t c (drop (i + 1) all) x part h.0 so cut)
+    broke_off stop r h = some_broke here (IsCutOfText s all) stop r (IsFrontOfEach (Prints t (deed_of c.1))) h.1 (λ x part so cut text ending q.
+        let b = so.back text ending q in
+        let a = allowed_goes_on t c (drop (i + 1) all) b.0 ending h.0 b.1 in
+        subst (IsFront (x ++ part)) (sym b.2) (front_after x part b.0 (front_through part a.0 b.0 (cut a.0 a.3.prints) (record { more = a.1; joined = a.5 }))))
 
     -- it was refused, which changed nothing, and the line that tells so was put; or memory ran out amid that
     module _ (r : Refusal) (is : IsRefused t (deed_of c.1) r) {same n : Printer} (unchanged : same ≡ q) where
@@ -91,7 +74,10 @@ module _ {s t : State} {all : List Line} {p q : Printer} (i : ℕ) (so_far : Gai
       refused_here put = some_then here (λ text. Text s all text (Some (c.0, r))) (subst (λ (x : Printer). Gains x n (refused_line c.0 r)) unchanged put) (λ x so. so.forth (refused_line c.0 r) (Some (c.0, r)) (inl (r, is, refl, refl)))
 
       pub broke_refusing : (front : List ℕ) → Gains same n front → IsFront front (refused_line c.0 r) → GainsSome (IsCutOfText s all) p n
-      broke_refusing front put cut = some_then here (IsCutOfText s all) (subst (λ (x : Printer). Gains x n front) unchanged put) (λ x so. cut_refused s all t c (drop (i + 1) all) x front r is so cut)
+      broke_refusing front put cut = some_then here (IsCutOfText s all) (subst (λ (x : Printer). Gains x n front) unchanged put) (λ x so text ending q.
+          let b = so.back text ending q in
+          let a = text_refused t c (drop (i + 1) all) b.0 ending r is b.1 in
+          subst (IsFront (x ++ front)) (sym b.2) (front_after x front b.0 (subst (IsFront front) (sym a.0) cut)))
 
 -- From s, the blocks of all commands are those so far, and then those of the commands that are left, from t.
 pub record ArePassedSoFar (s : State) (all : List Line) (t : State) (left : List Line) (so_far : List Block) : Type 0 where
@@ -110,10 +96,9 @@ module _ {s : State} {all : List Line} {t : State} {old now : Option Tally} wher
 
 -- ---- commands pass the same blocks always
 one_passed : (s : State) (d : Deed) (x y : List Block) → IsCanonical s.moment.at → Passes s d x → Passes s d y → x ≡ y
-one_passed s (changes n c) x y canonical a b = a ∙ sym b
 one_passed s (goes_to upper p) x y canonical a b = one_at_root upper p (λ (w : Shape) (bs : List Block). IsJournal (state_setting s) s.moment (at w) bs) x y (λ w there. journal_is_one (state_setting s) s.moment (at w) x y canonical there) a b
 one_passed s goes_on x y canonical a b = one_told s (λ (b : Block). b ∷ []) [] x y canonical a b
-one_passed s (asks q) x y canonical a b = a ∙ sym b
+one_passed s d x y canonical a b = a ∙ sym b
 
 pub one_in_turn : (s : State) (cs : List Line) (x y : List Block) → IsCanonical s.moment.at → PassesInTurn s cs x → PassesInTurn s cs y → x ≡ y
 one_in_turn s [] x y canonical p q = p ∙ sym q

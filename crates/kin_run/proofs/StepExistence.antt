@@ -1,16 +1,89 @@
--- Every deed in its range is refused, or prints a text, passes blocks and leads to a state that is as sound.
-use Rattle.std.proofs.Common.{◌⊎◌, inl, inr, ℕ, Bool, List, [], ◌∷◌, Option, Some, None, refl, ◌∙◌, length-set, slice_set}
-use Rattle.kin_run.proofs.Vocabulary.{IsCanonical, Quadratic, Moment, Shape, AreSlow, Course, motion_of, Block, Change, Deed, asks, changes, goes_on, goes_to, IsDeedInRange, IsNamedRoot, IsRefused, State, at, Step, Refusal, NoRoot, NotKept}
-use Rattle.kin_run.proofs.Vocabulary.{Past, has_line, Passes}
+-- Every deed in its range is refused, or prints a text, passes blocks and leads to a state that is as sound; a change has an outcome.
+use Rattle.std.proofs.Common.{◌≡◌, ◌⊎◌, inl, inr, ◌≤◌, true, false, ℤ, ℕ, Bool, List, [], ◌∷◌, unsigned_abs, Option, Some, None, refl, sym, ap, ◌∙◌, subst, arith, is_some, length-set, slice_set}
+use Rattle.kin_run.proofs.Vocabulary.{cases_lt, same_Some, IsCanonical, Quadratic, Moment, Shape, After, At, AreSlow, Course, IsSlow, motion_of, Block, Change, ChangesTo, IsChangeInRange, IsRefusedChange, IsRefusedTurn, enters, leaves, restarts, turns, Deed, asks, changes, goes_on, goes_to, IsDeedInRange}
+use Rattle.kin_run.proofs.Vocabulary.{IsNamedRoot, IsRefused, State, at, Step, Refusal, Absent, NoRoot, NotKept, NotWhole, OutOfBounds, Past, Taken, has_line, Passes}
+use Rattle.kin_num.specs.declared.instant.Phase.{Phase}
+use Rattle.kin_motion.specs.Turning.{TurnsTo}
 use Rattle.kin_motion.proofs.MotionLaws.{slow-set, slow-clear}
 use Rattle.kin_motion.proofs.MotionScenes.{live_fits}
+use Rattle.kin_motion.proofs.TurningLaws.{one_turn}
+use Rattle.kin_turn.proofs.Existence.{turn_or_none}
 use Rattle.kin_cert.specs.Laws.{IsProper}
 use Rattle.kin_cert.proofs.JournalExistence.{earlier_or_not, next_blocks_exist, journals_exist}
-use Rattle.kin_run.proofs.ChangeExistence.{IsSlowIfSome, IsDecided, change_decided}
 use Rattle.kin_run.proofs.Determined.{goes_allowed}
 use Rattle.kin_run.proofs.NamedRoots.{named_root_of, root_asked}
 use Rattle.kin_run.proofs.Passing.{lines_if, is_text}
 
+-- a motion, if there is one, is slow
+abbrev IsSlowIfSome : Option Course → Type 0
+IsSlowIfSome now = (c : Course) → now ≡ Some c → IsSlow c
+
+-- the motion that the number has then, or none
+record Outcome (m : Moment) (now : Option Course) (c : Change) : Type 0 where
+  next : Option Course
+  allowed : (r : Refusal) → ¬ (IsRefusedChange m now c r)
+  leads : ChangesTo m now c next
+  slow : IsSlowIfSome next
+
+abbrev IsDecided : Moment → Option Course → Change → Type 0
+IsDecided m now c = ((r : Refusal) × IsRefusedChange m now c r) ⊎ Outcome m now c
+
+slow_some : (c : Course) → IsSlow c → IsSlowIfSome (Some c)
+slow_some c slow d e = subst IsSlow (same_Some c d e) slow
+
+-- ---- whether a motion is slow
+-- a motion with a slow velocity is slow or not
+slow_or_not : (c : Course) → unsigned_abs c.u ≤ 4096 → unsigned_abs c.v ≤ 4096 → IsSlow c ⊎ ¬ (IsSlow c)
+slow_or_not c u v = elim (cases_lt 4096 (unsigned_abs c.x)) [
+  | inl far ↦ inr (λ slow. let near = slow.x_small in omega (arith, far, near))
+  | inr x ↦ elim (cases_lt 4096 (unsigned_abs c.y)) [
+    | inl far ↦ inr (λ slow. let near = slow.y_small in omega (arith, far, near))
+    | inr y ↦ inl (record { x_small = x; y_small = y; u_small = u; v_small = v })
+  ]
+]
+
+-- ---- turns
+module _ (m : Moment) (canonical : IsCanonical m.at) (u v : ℤ) (old : Course) where
+  -- a turn to a slow motion is not refused
+  not_refused : m.phase ≡ At → (new : Course) → TurnsTo m.at u v old new → IsSlow new → (r : Refusal) → ¬ (IsRefusedTurn m u v old r)
+  not_refused at new goes slow r (inl (is, inl after)) = absurd (let clash : At ≡ After = sym at ∙ after in cc)
+  not_refused at new goes slow r (inl (is, inr none)) = none new goes
+  not_refused at new goes slow r (inr (is, out)) = out.1.2 (subst IsSlow (one_turn m.at u v old new out.1.0 canonical goes out.1.1) slow)
+
+  pub allowed_turn : (now : Option Course) → now ≡ Some old → m.phase ≡ At → (new : Course) → TurnsTo m.at u v old new → IsSlow new → (r : Refusal) → ¬ (IsRefusedChange m now (turns u v) r)
+  allowed_turn now had at new goes slow r (inl absent) = absurd (let clash : true ≡ false = ap is_some (sym had) ∙ absent.1 in cc)
+  allowed_turn now had at new goes slow r (inr (also, is, refused)) = not_refused at new goes slow r (subst (λ (c : Course). IsRefusedTurn m u v c r) (same_Some also old (sym is ∙ had)) refused)
+
+  by_size : m.phase ≡ At → (new : Course) → TurnsTo m.at u v old new → IsSlow new ⊎ ¬ (IsSlow new) → IsDecided m (Some old) (turns u v)
+  by_size at new goes (inl slow) = inr (record {
+    next = Some new;
+    allowed = allowed_turn (Some old) refl at new goes slow;
+    leads = record { old = old; new = new; was = refl; same_place = goes; is = refl };
+    slow = slow_some new slow;
+  })
+  by_size at new goes (inr far) = inl (OutOfBounds, inr (old, refl, inr (refl, (at, (new, goes, far)))))
+
+  turn_decided : unsigned_abs u ≤ 4096 → unsigned_abs v ≤ 4096 → IsDecided m (Some old) (turns u v)
+  turn_decided u_small v_small = by_phase m.phase refl
+    where
+      by_phase : (p : Phase) → m.phase ≡ p → IsDecided m (Some old) (turns u v)
+      by_phase After after = inl (NotWhole, inr (old, refl, inl (refl, inl after)))
+      by_phase At at = elim (turn_or_none m.at u v old canonical.form) [
+        | inl (new, goes) ↦ by_size at new goes (slow_or_not new (rw goes.u_is u_small) (rw goes.v_is v_small))
+        | inr none ↦ inl (NotWhole, inr (old, refl, inl (refl, inr none)))
+      ]
+
+-- ---- one row for each change
+change_decided : (m : Moment) → IsCanonical m.at → (now : Option Course) (c : Change) → IsChangeInRange c → IsDecided m now c
+change_decided m canonical (Some old) (enters motion) range = inl (Taken, (refl, refl))
+change_decided m canonical None (enters motion) range = inr (record { next = Some motion; allowed = λ r h. let clash : false ≡ true = h.1 in cc; leads = refl; slow = slow_some motion range })
+change_decided m canonical (Some old) leaves range = inr (record { next = None; allowed = λ r h. let clash : true ≡ false = h.1 in cc; leads = refl; slow = λ c e. absurd cc })
+change_decided m canonical (Some old) (restarts motion) range = inr (record { next = Some motion; allowed = λ r h. let clash : true ≡ false = h.1 in cc; leads = refl; slow = slow_some motion range })
+change_decided m canonical (Some old) (turns u v) range = turn_decided m canonical u v old range.u_small range.v_small
+change_decided m canonical None (turns u v) range = inl (Absent, inl (refl, refl))
+change_decided m canonical None change range = inl (Absent, (refl, refl))
+
+-- ---- deeds
 -- what holds of every state of a run
 pub record IsSound (s : State) : Type 0 where
   pub proper : IsProper s.motions s.size s.keeps
@@ -30,27 +103,23 @@ abbrev pub Ends : State → Deed → Type 0
 Ends s d = ((r : Refusal) × IsRefused s d r) ⊎ Steps s d
 
 module _ (s : State) (sound : IsSound s) where
+  ends_in : (d : Deed) (next : State) → IsSound next → (text : List ℕ) (blocks : List Block) → Step s d text next → Passes s d blocks → Ends s d
+  ends_in d next sound text blocks step passes = inr (record { text = text; next = next; blocks = blocks; step = step; passes = passes; sound = sound })
+
   slow_after : (number : ℕ) (next : Option Course) → IsSlowIfSome next → AreSlow (slice_set s.motions number next)
   slow_after number (Some c) slow = slow-set s.motions number c sound.proper.slow (slow c refl)
   slow_after number None slow = slow-clear s.motions number sound.proper.slow
 
   changes_end : (number : ℕ) (c : Change) → IsDecided s.moment (motion_of s.motions number) c → Ends s (changes number c)
   changes_end number c (inl refused) = inl refused
-  changes_end number c (inr out) = inr (record {
-    text = [];
-    next = record s { motions = slice_set s.motions number out.next };
-    blocks = [];
-    step = record { allowed = out.allowed; prints = refl; leads = (out.next, out.changes, refl) };
-    passes = refl;
-    sound = record {
-      proper = record { slow = slow_after number out.next out.slow; slots = length-set s.motions number out.next ∙ sound.proper.slots; small = sound.proper.small };
-      canonical = sound.canonical;
-    };
-  })
+  changes_end number c (inr out) =
+      ends_in (changes number c) (record s { motions = slice_set s.motions number out.next })
+      (record { proper = record { slow = slow_after number out.next out.slow; slots = length-set s.motions number out.next ∙ sound.proper.slots; small = sound.proper.small }; canonical = sound.canonical })
+      [] [] (record { allowed = out.allowed; prints = refl; leads = (out.next, out.leads, refl) }) refl
 
   -- time goes on, or stays
   at_moment : (d : Deed) (m : Moment) → IsCanonical m.at → (text : List ℕ) (blocks : List Block) → Step s d text (record s { moment = m }) → Passes s d blocks → Ends s d
-  at_moment d m canonical text blocks step passes = inr (record { text = text; next = record s { moment = m }; blocks = blocks; step = step; passes = passes; sound = record { proper = sound.proper; canonical = canonical } })
+  at_moment d m canonical = ends_in d (record s { moment = m }) (record { proper = sound.proper; canonical = canonical })
 
   goes_ends : (upper : Bool) (p : Quadratic) (w : Shape) → IsNamedRoot upper p w → Ends s (goes_to upper p)
   goes_ends upper p w named =

@@ -1,5 +1,6 @@
 -- Every input has a text.
-use Rattle.std.proofs.Common.{◌≡◌, inl, inr, ℕ, ◌^◌, List, [], ◌∷◌, ◌++◌, Some, None, Result, Ok, Err, refl, All, ◌≢◌, zero, suc, ◌+◌, ◌≤◌, false, sym, subst, arith}
+use Rattle.std.proofs.Common.{◌≡◌, inl, inr, ℕ, ◌^◌, List, [], ◌∷◌, ◌++◌, Some, None, Result, Ok, Err, refl, All, zero, suc, ◌+◌, ◌≤◌, false, subst, arith}
+use Rattle.std.proofs.Math.Pow.{pow_mono}
 use Rattle.std.proofs.lemmas.List.Elements.{All-head, All-tail, All-weaker}
 use Rattle.kin_run.specs.declared.status.Status.TheVariants as status
 use Rattle.kin_run.proofs.Vocabulary.{cases_lt, length-replicate, start_canonical, Block, none_live, deed_of, IsGenerated, IsLeastSize, insertions, one_of_each, questions, script_of, IsKeepInRange, IsCommandInRange, IsWithin, State, start}
@@ -63,24 +64,24 @@ texts_exist input = by_reading (script_of input) refl
         by_ending has.ending has.text (record { script = s; reads = e; replays = has.is })
 
 -- ---- the script
--- the least size is found below the greatest
-size_from : (count fuel n : ℕ) → count ≤ 2 ^ (n + fuel) → 1 ≤ n → ((m : ℕ) → 1 ≤ m → count ≤ 2 ^ m → n ≤ m) → (size : ℕ) × IsLeastSize count size
-size_from count zero n room low least =
-    let none : n + 0 ≡ n = omega arith in
-    (n, record { low = low; room = subst (λ k. count ≤ 2 ^ k) none room; least = least })
-size_from count (suc fuel) n room low least =
-    let more : n + suc fuel ≡ suc n + fuel = omega arith in
-    let go_on = size_from count fuel (suc n) (subst (λ k. count ≤ 2 ^ k) more room) (omega arith) in
-    elim (cases_lt (2 ^ n) count) [
-      | inl narrow ↦ go_on (λ m some fits.
-          let apart : n ≢ m = λ e. let here = subst (λ k. count ≤ 2 ^ k) (sym e) fits in omega (arith, narrow, here) in
-          omega (arith, least m some fits, apart))
-      | inr fits ↦ (n, record { low = low; room = fits; least = least })
-    ]
+-- the least size is found from above
+least_size : (count n : ℕ) → count ≤ 2 ^ suc n → (size : ℕ) × IsLeastSize count size
+least_size count zero room = (1, record { low = omega arith; room = room; least = λ m some fits. some })
+least_size count (suc n) room = elim (cases_lt (2 ^ suc n) count) [
+  | inr fits ↦ least_size count n fits
+  | inl narrow ↦ (suc (suc n), record {
+    low = omega arith;
+    room = room;
+    least = λ m some fits. elim (cases_lt (suc n) m) [
+      | inl above ↦ omega (arith, above)
+      | inr below ↦ absurd (let less = pow_mono below in omega (arith, less, fits, narrow))
+    ];
+  })
+]
 
 generated_exists : (seed count : ℕ) → count ≤ 2 ^ 10 → (s : Script) × IsGenerated seed count s
 generated_exists seed count few =
-    let size = size_from count 9 1 few (omega arith) (λ m some fits. some) in
+    let size = least_size count 9 few in
     (record { size = size.0; keeps = one_of_each; journal = false; lines = insertions seed count ++ questions (8 + count) }, record { size = size.1; keeps = refl; journal = refl; lines = refl })
 
 -- ---- the text
@@ -89,8 +90,7 @@ demo_texts_exist seed count some few =
     let script = generated_exists seed count few in
     let s = script.0 in
     let within : IsWithin s = (generated_in_range seed count s few script.1).within in
-    let sound = start_sound s within in
-    let has = text_exists s.lines (start_of s) sound within.commands in
+    let has = text_exists s.lines (start_of s) (start_sound s within) within.commands in
     let none = never_refused seed count s has.text has.ending script.1 has.is in
     let replays = subst (λ (e : Ending). Text (start_of s) s.lines has.text e) none has.is in
     let blocks = has.passes none in

@@ -38,7 +38,7 @@ pub use Rattle.kin_script.specs.Generated.{IsGenerated, IsLeastSize, course_behi
 pub use Rattle.kin_script.specs.Grammar.{script_of}
 pub use Rattle.kin_script.specs.Printed.{PutsFront}
 pub use Rattle.kin_script.specs.PrintedJournal.{block_lines, failure_line, journal_lines, none_line, now_line}
-pub use Rattle.kin_script.specs.Questions.{IsKeepInRange, IsProvided, IsReplyLine}
+pub use Rattle.kin_script.specs.Questions.{IsKeepInRange, IsProvided}
 pub use Rattle.kin_script.specs.Ranges.{IsAskedFor, IsCommandInRange, IsDeedInRange, IsRatioInRange, IsRootInRange, IsWithin}
 pub use Rattle.kin_script.specs.Replay.{HasNoRoot, IsAllowed, IsNamedRoot, IsRefused, IsRootOf, LeadsTo}
 pub use Rattle.kin_script.specs.States.{State, at, start, state_setting}

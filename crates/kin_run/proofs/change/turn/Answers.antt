@@ -1,7 +1,7 @@
 use Rattle.std.proofs.Common.{ap, ◌≡◌, inl, inr, Some, refl, sym, ◌∙◌, w32}
 use Rattle.kin_run.proofs.Vocabulary.{err_from_is_err_and, motion_of, turns, state_of}
 use Rattle.kin_instant.proofs.Widths.{clean}
-use Rattle.kin_run.proofs.ChangeExistence.{allowed_turn}
+use Rattle.kin_run.proofs.StepExistence.{allowed_turn}
 use Rattle.kin_run.proofs.Performing.{changed, changing_broke}
 use Rattle.kin_run.proofs.change.turn.Goals as goal
 
