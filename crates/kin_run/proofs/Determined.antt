@@ -1,7 +1,6 @@
 -- What comes of a deed: it is refused for one cause; or it is allowed, prints one text, and leads to one state, of the same size and at a canonical instant.
 use Rattle.std.proofs.Common.{◌≡◌, inl, inr, Bool, List, ℕ, Option, ◌∙◌, sym, ap, subst, slice_set, refl}
-use Rattle.kin_run.proofs.Vocabulary.{IsCanonical, IsEarlier, Quadratic, Shape, Course, motion_of, Block, Deed, asks, changes, goes_on, goes_to, IsAllowed, IsNamedRoot, IsRefused, LeadsTo, State, at, IsPassedText, Prints, Step, Refusal}
-use Rattle.kin_run.proofs.Vocabulary.{one_reply_line}
+use Rattle.kin_run.proofs.Vocabulary.{IsCanonical, IsEarlier, Quadratic, Shape, Course, motion_of, Block, Deed, asks, changes, goes_on, goes_to, IsAllowed, IsNamedRoot, IsRefused, LeadsTo, State, at, IsPassedText, Prints, Step, Refusal, one_reply_line}
 use Rattle.kin_run.proofs.NamedRoots.{one_named_root, named_root_of, has_root}
 use Rattle.kin_script.proofs.Changes.{one_refused_change, one_change}
 use Rattle.kin_run.proofs.Passing.{one_passed, one_next, one_told}

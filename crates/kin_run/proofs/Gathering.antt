@@ -75,7 +75,6 @@ module _ {p q : Printer} {P : List ℕ → Type 0} (g : GainsSome P p q) where
   some_lost_here r h = some_lost g P r [] (subst (AppendsFront q.held r.held) (sym (append-nil q.gathered)) h) (λ x is. subst P (sym (append-nil x)) is)
 
 -- ---- a printer that had gathered nothing
-
 pub wrote_front : {a c : Bytes} {q : List ℕ} {P : List ℕ → Type 0} (Q : List ℕ → Type 0) → LosesSome P (printer a []) (printer c q) → ((x front : List ℕ) → P x → IsFront front x → Q front) → Wrote a c Q
 wrote_front Q l f = (take l.reached.0 l.text, l.reached.1, f l.text (take l.reached.0 l.text) l.is (front_take l.reached.0 l.text))
 

@@ -3,11 +3,9 @@ pub mod Gathering
 pub mod NamedRoots
 pub mod Determined
 pub mod Passing
-pub mod OnTheWay
 pub mod Performing
 pub mod Playing
 pub mod OneText
-pub mod StepExistence
-pub mod TextExistence
 pub mod Tallying
 pub mod Generated
+pub mod Existence

@@ -1,8 +1,7 @@
 -- The root that a line names: there is one where the discriminant is not negative, and no more than one.
 use Rattle.std.proofs.Common.{arith, to_z, of_z, w64, ◌≡◌, zero, suc, Bool, true, false, [], ◌∷◌, inl, inr, refl, sym, ap, ◌∙◌, subst, ℤ, pos, negsuc, ◌<ℤ◌, ◌*ℤ◌, ◌↔◌, if◌then◌else◌, ◌≢◌, ◌⊎◌, ◌<◌, Some, None}
-use Rattle.kin_run.proofs.Vocabulary.{ints, to_z-of_z, opposite_of, product_of, sign_of, Sign, Minus, Plus, Zero, sign_in, sign_of-times, sign_out, IsCanonical, IsCanonicalForm, discriminant, line, sign_at_instant, IsLess, Quadratic}
-use Rattle.kin_run.proofs.Vocabulary.{Shape, level_same, less_asym, not_less_itself, AreRootsOf, HasRoot, IsFraction, count_by_signs, quadratic, Roots, All, Nowhere, One, Two, IsAskedFor, IsRatioInRange, IsRootInRange, HasNoRoot}
-use Rattle.kin_run.proofs.Vocabulary.{IsNamedRoot, IsRootOf, at}
+use Rattle.kin_run.proofs.Vocabulary.{ints, to_z-of_z, opposite_of, product_of, sign_of, Sign, Minus, Plus, Zero, sign_in, sign_of-times, sign_out, IsCanonical, IsCanonicalForm, discriminant, line, sign_at_instant, IsLess, Quadratic, Shape, level_same, less_asym, not_less_itself, AreRootsOf}
+use Rattle.kin_run.proofs.Vocabulary.{HasRoot, IsFraction, count_by_signs, Roots, All, Nowhere, One, Two, IsAskedFor, IsRatioInRange, HasNoRoot, IsNamedRoot, IsRootOf, at}
 use lib.IntN.{neg_ℤ}
 use Rattle.kin_algebra.proofs.Ring.{by_ring, quotes}
 use Rattle.kin_num.specs.Instants.{sign_at}
@@ -78,20 +77,17 @@ counted Zero b c d some = absurd (some refl)
 counted a b c Minus some = (λ e. refl, λ e. absurd cc)
 counted a b c d some = (λ e. absurd cc, λ e. absurd cc)
 
-quadratic_asked : (a b c : ℤ) (upper : Bool) → IsRootInRange a b c → (discriminant a b c <ℤ pos 0) ⊎ ((w : Shape) × IsNamedRoot upper (quadratic a b c) w)
-quadratic_asked a b c upper range = let r = roots_exist (quadratic a b c) (record { a_small = range.a_small; b_small = range.b_small; c_small = range.c_small }) in by_roots r.0 r.1
-  where
-    some : sign_of a ≢ Zero
-    some e = let none : a ≡ pos 0 = sign_out Zero a e in let size = range.a_not_zero in omega (arith, ints, size, none)
-
-    by_roots : (answer : Roots) → AreRootsOf (quadratic a b c) answer → (discriminant a b c <ℤ pos 0) ⊎ ((w : Shape) × IsNamedRoot upper (quadratic a b c) w)
-    by_roots Nowhere roots = inl (sign_out Minus (discriminant a b c) ((counted (sign_of a) (sign_of b) (sign_of c) (sign_of (discriminant a b c)) some).0 roots.number))
-    by_roots (One r) roots = inr (r, alone_named upper (quadratic a b c) r roots.canonical roots.exact)
-    by_roots (Two r s) roots = inr (_, two_named upper (quadratic a b c) (quadratic a b c) r s refl roots.canonical roots.exact roots.rising)
-    by_roots All roots = absurd ((counted (sign_of a) (sign_of b) (sign_of c) (sign_of (discriminant a b c)) some).1 roots.number)
-
 pub root_asked : (upper : Bool) (p : Quadratic) → IsAskedFor upper p → HasNoRoot p ⊎ ((w : Shape) × IsNamedRoot upper p w)
 root_asked upper p (inl (n, d, range, is, word)) =
     let r = ratio_exists n d range.n_small range.d_small (omega (arith, ints, range.d_low)) in
     inr (r.0, rw (is, word) (ratio_in_range n d r.0 range r.1 r.2))
-root_asked upper p (inr range) = quadratic_asked p.a p.b p.c upper range
+root_asked upper p (inr range) = let r = roots_exist p (record { a_small = range.a_small; b_small = range.b_small; c_small = range.c_small }) in by_roots r.0 r.1
+  where
+    some : sign_of p.a ≢ Zero
+    some e = let none : p.a ≡ pos 0 = sign_out Zero p.a e in let size = range.a_not_zero in omega (arith, ints, size, none)
+
+    by_roots : (answer : Roots) → AreRootsOf p answer → HasNoRoot p ⊎ ((w : Shape) × IsNamedRoot upper p w)
+    by_roots Nowhere roots = inl (sign_out Minus (discriminant p.a p.b p.c) ((counted (sign_of p.a) (sign_of p.b) (sign_of p.c) (sign_of (discriminant p.a p.b p.c)) some).0 roots.number))
+    by_roots (One r) roots = inr (r, alone_named upper p r roots.canonical roots.exact)
+    by_roots (Two r s) roots = inr (_, two_named upper p p r s refl roots.canonical roots.exact roots.rising)
+    by_roots All roots = absurd ((counted (sign_of p.a) (sign_of p.b) (sign_of p.c) (sign_of (discriminant p.a p.b p.c)) some).1 roots.number)

@@ -1,11 +1,10 @@
 -- An input has one text, and one status with it.
 use Rattle.std.proofs.Common.{◌≡◌, ℕ, ◌+◌, ◌≤◌, ◌^◌, Bool, List, [], ◌∷◌, ◌++◌, length, Option, Some, None, Ok, Err, refl, sym, ap, ◌∙◌, subst, arith, ◌⊎◌, inl, inr, length-append, append-nil, Result, take}
-use Rattle.kin_run.proofs.Vocabulary.{Consumes, IsCanonical, start_canonical, deed_of, script_of, State, start, Ending, Text, bad_line, Script, Answers, IsAnswer, IsBrokenOff, IsCut, OneAnswer, Outcome, TakesWhole, IsCutOfText, IsFront}
-use Rattle.kin_run.proofs.Vocabulary.{Status, Fault, NoMemory}
-use Rattle.kin_run.specs.declared.status.Status.TheVariants as status
+use Rattle.kin_run.proofs.Vocabulary.{Consumes, IsCanonical, start_canonical, deed_of, script_of, State, start, Ending, Text, bad_line, Script, Answers, IsAnswer, IsBrokenOff, IsCut, OneAnswer, Outcome, TakesWhole, IsFront, Status, Fault, NoMemory}
 use Rattle.kin_run.proofs.Determined.{stays, one_step}
 use Rattle.kin_run.proofs.Gathering.{front_take}
 use Rattle.kin_run.proofs.Playing.{Line, allowed_goes_on, text_refused}
+use Rattle.kin_run.specs.declared.status.Status.TheVariants as status
 
 pub one_text : (s : State) (cs : List Line) (x y : List ℕ) (e f : Ending) → IsCanonical s.moment.at → Text s cs x e → Text s cs y f → (x ≡ y) × (e ≡ f)
 one_text s [] x y e f canonical p q = (p.0 ∙ sym q.0, p.1 ∙ sym q.1)
@@ -17,10 +16,6 @@ one_text s (c ∷ cs) x y e f canonical (inr a) q =
     let same = one_step s (deed_of c.1) a.0 b.0 a.2 b.2 canonical a.3 b.3 in
     let tails = one_text b.2 cs a.1 b.1 e f (stays s (deed_of c.1) b.2 canonical b.3.leads).1 (subst (λ (t : State). Text t cs a.1 e) same.1 a.4) b.4 in
     (a.5 ∙ ap (λ (v : List ℕ). v ++ a.1) same.0 ∙ ap (λ (w : List ℕ). b.0 ++ w) tails.0 ∙ sym b.5, tails.1)
-
--- so a front of it is a front of each
-pub cut_of_text : (s : State) (cs : List Line) (x front : List ℕ) (e : Ending) → IsCanonical s.moment.at → Text s cs x e → IsFront front x → IsCutOfText s cs front
-cut_of_text s cs x front e canonical is f = λ text ending q. subst (IsFront front) (one_text s cs x text e ending canonical is q).0 f
 
 -- the status of a script whose run ends so
 abbrev ended : Ending → Status
@@ -50,12 +45,10 @@ pub cut_of_bad : (input said : List ℕ) (k line : ℕ) → script_of input ≡ 
 cut_of_bad input said k line e is = λ answer text p. subst (IsFront (take k said)) (is ∙ sym (answer_of input (Err line) e answer text p).1) (front_take k said)
 
 -- ---- which status a known input has
-
 -- what is left of known bytes, behind what was taken
-left_of : (left now : Option (List ℕ)) (input taken : List ℕ) → left ≡ Some input → Consumes left now taken → (rest : List ℕ) × (now ≡ Some rest) × (input ≡ taken ++ rest)
-left_of None now input taken e c = absurd cc
-left_of (Some xs) None input taken e c = absurd c
-left_of (Some xs) (Some ys) input taken e c = let same : xs ≡ input = cc in (ys, refl, sym same ∙ c)
+left_of : (now : Option (List ℕ)) (input taken : List ℕ) → Consumes (Some input) now taken → (rest : List ℕ) × (now ≡ Some rest) × (input ≡ taken ++ rest)
+left_of None input taken c = absurd c
+left_of (Some ys) input taken c = (ys, refl, c)
 
 -- a run answers its input, unless it was broken off or the input is too long
 ends : (left : Option (List ℕ)) (ended : Bool) (input : List ℕ) (st : Status) (written : List ℕ) → Outcome left ended input st written
@@ -68,15 +61,15 @@ ends left ended input st written o = inr (inl o)
 
 module _ {left now : Option (List ℕ)} {ended : Bool} {before after : Option (List ℕ)} {st : Status} (input : List ℕ) (p : Answers left now ended before after st) (known : left ≡ Some input) where
   rest : (rest : List ℕ) × (now ≡ Some rest) × (input ≡ p.input ++ rest)
-  rest = left_of left now input p.input known p.taken
-
-  all_of : TakesWhole now ended p.input → p.input ≡ input
-  all_of whole = let none : rest.0 ≡ [] = rw rest.1 at whole.nothing_left in sym (rest.2 ∙ ap (λ (w : List ℕ). p.input ++ w) none ∙ append-nil p.input)
+  rest = left_of now input p.input (rw known at p.taken)
 
   -- a known input has its own status, unless the run was broken off
   pub exact : (a : Status) (text : List ℕ) → length input ≤ 2 ^ 20 → IsAnswer input a text → (st ≡ a) ⊎ IsBrokenOff st
   exact a text small q = elim (ends now ended p.input st p.written p.outcome) [
     | inl broke ↦ inr broke
-    | inr (inl (whole, is)) ↦ inl (one_answer input p.written text st a (subst (λ (i : List ℕ). IsAnswer i st p.written) (all_of whole) is) q).0
+    | inr (inl (whole, is)) ↦
+        let none : rest.0 ≡ [] = rw rest.1 at whole.nothing_left in
+        let same = rest.2 ∙ ap (λ (w : List ℕ). p.input ++ w) none ∙ append-nil p.input in
+        inl (one_answer input p.written text st a (subst (λ (i : List ℕ). IsAnswer i st p.written) (sym same) is) q).0
     | inr (inr (too_long, much)) ↦ absurd (omega (arith, small, ap length rest.2, length-append p.input rest.0, much))
   ]

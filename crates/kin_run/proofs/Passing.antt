@@ -1,12 +1,14 @@
--- The blocks passed so far, and those that are still to come. What `at` and `next` print is one, and so is what is told of the next block.
-use Rattle.std.proofs.Common.{◌≡◌, ℕ, Bool, true, false, List, [], ◌∷◌, ◌++◌, refl, sym, ap, ◌∙◌, subst, append_assoc, map, flat_map, append-nil, ◌≢◌, ◌⊎◌, inl, inr, Contains, if◌then◌else◌}
+-- The blocks passed so far, and those that are still to come: what `at` and `next` print is one, and so is what is told of the next block; and one turn of the loop that passes the failures up to an instant.
+use Rattle.std.proofs.Common.{◌≡◌, ℕ, Bool, true, false, List, [], ◌∷◌, ◌++◌, refl, sym, ap, ◌∙◌, subst, append_assoc, map, flat_map, append-nil, ◌≢◌, ◌⊎◌, inl, inr, Contains, if◌then◌else◌, length, Option, Some, None}
 use Rattle.std.proofs.lemmas.List.Concat.{flat_map-append}
 use Rattle.std.proofs.lemmas.List.Folds.{flat_map-map}
-use Rattle.kin_run.proofs.Vocabulary.{IsCanonical, IsEarlier, Moment, Shape, Block, Failure, IsJournal, IsNextBlock, NothingFails, Setting, block_is_listed, journal_is_one, next_block_is_one, failure_of, block_lines, failure_line}
-use Rattle.kin_run.proofs.Vocabulary.{journal_lines, none_line, now_line, State, at, state_setting, IsNextText, IsPassedText, IsFrontOfEach, printed_if}
+use Rattle.kin_run.proofs.Vocabulary.{IsCanonical, IsEarlier, Moment, Shape, Block, Failure, IsJournal, IsNextBlock, NothingFails, Setting, block_is_listed, journal_is_one, next_block_is_one, failure_of, block_lines, failure_line, journal_lines, none_line, now_line, State, at, state_setting}
+use Rattle.kin_run.proofs.Vocabulary.{IsNextText, IsPassedText, IsFrontOfEach, printed_if, AppendsFront, PutsFront, HasMoved, HasPassed, HasStepped, IsWhole, World, failure_count, BreaksOff, state_of, HasTallied, counted_on, Gains, GainsSome, Printer, printer, Tally, Fault, NoMemory}
 use Rattle.kin_cert.specs.declared.owned.Failure.{Failure as Failed}
 use Rattle.kin_num.proofs.MomentOrder.{not_earlier_itself, earlier_trans}
 use Rattle.kin_basics.proofs.Members.{contains_head}
+use Rattle.kin_run.proofs.Gathering.{gains_nothing, gains_put, some_then, some_lost, some_flushed, some_is, front_through, front_after}
+use Rattle.kin_run.proofs.Tallying.{none_tallied, one_tallied, tallied_then, tallied_is}
 
 pub one_passed : (on : Bool) (s : State) (w : Shape) (x y : List ℕ) → IsCanonical s.moment.at → IsCanonical w → IsPassedText on s w x → IsPassedText on s w y → x ≡ y
 one_passed false s w x y now asked p q = p ∙ sym q
@@ -44,9 +46,6 @@ one_next s x y canonical p q = one_told s (λ (b : Block). (if s.journal then bl
 pub record ArePassed (t : Setting) (start now last : Moment) (bs : List Block) : Type 0 where
   pub forth : (more : List Block) → IsJournal t now last more → IsJournal t start last (bs ++ more)
   pub back : (all : List Block) → IsJournal t start last all → (more : List Block) × IsJournal t now last more × (all ≡ bs ++ more)
-
-pub none_passed : (t : Setting) (start last : Moment) → ArePassed t start start last []
-none_passed t start last = record { forth = λ more j. j; back = λ all j. (all, j, refl) }
 
 -- the journal from a moment begins with the next block
 behind_block : (t : Setting) (now last : Moment) (b : Block) → IsCanonical now.at → IsCanonical last.at → IsNextBlock t now b → ¬ (IsEarlier last b.moment)
@@ -93,3 +92,112 @@ line_in m f = failure_line m (failure_of f)
 
 pub lines_in : (m : Moment) (fs gs : List Failed) (b : Block) → fs ≡ gs → record { moment = m; failures = map failure_of gs } ≡ b → flat_map (line_in m) fs ≡ block_lines b
 lines_in m fs gs b same is = sym (flat_map-map (failure_line m) failure_of fs) ∙ ap (λ (hs : List Failed). flat_map (failure_line m) (map failure_of hs)) same ∙ ap block_lines is
+
+-- the blocks up to now
+abbrev AreUpTo : State → Shape → Moment → List Block → Type 0
+AreUpTo s w now bs = ArePassed (state_setting s) s.moment now (at w) bs
+
+-- the printed lines are those of these blocks
+abbrev AreLines : Bool → State → Shape → Moment → List ℕ → Type 0
+AreLines journal s w now lines = (bs : List Block) × AreUpTo s w now bs × (lines ≡ lines_if journal bs)
+
+-- some blocks were passed, printed and counted, and nothing else was done
+pub record IsOnTheWay (journal : Bool) (start : World) (w : Shape) (now : World) (p q : Printer) (old new : Option Tally) : Type 0 where
+  pub state : state_of journal now ≡ record (state_of journal start) { moment = now.moment }
+  pub printed : GainsSome (AreLines journal (state_of journal start) w now.moment) p q
+  pub counted : HasTallied (AreUpTo (state_of journal start) w now.moment) old new
+  pub whole : IsWhole now
+  pub later : ¬ (IsEarlier (at w) now.moment)
+
+no_lines : (journal : Bool) → [] ≡ lines_if journal []
+no_lines false = refl
+no_lines true = refl
+
+pub sets_out : (journal : Bool) (start : World) (w : Shape) (p : Printer) (t : Option Tally) → IsWhole start → ¬ (IsEarlier (at w) start.moment) → IsOnTheWay journal start w start p p t t
+sets_out journal start w p t whole later =
+    let none : AreUpTo (state_of journal start) w start.moment [] = record { forth = λ more j. j; back = λ all j. (all, j, refl) } in
+    record {
+      state = refl;
+      printed = record { text = []; gained = gains_nothing p; is = ([], none, no_lines journal) };
+      counted = none_tallied (AreUpTo (state_of journal start) w start.moment) t none;
+      whole = whole;
+      later = later;
+    }
+
+-- a step that lists nothing has passed a block where it tells how many failures that held, and else has moved
+pub told_some : (limit : Moment) (old new : World) (count : Option ℕ) (failures : ℕ) → count ≡ Some failures → (block : Option Block) × HasStepped limit block old new × (count ≡ failure_count block)
+    → (block : Block) × HasPassed limit block old new × (failures ≡ length block.failures)
+told_some limit old new count failures some (None, h, e) = let both : Some failures ≡ None = sym some ∙ e in absurd cc
+told_some limit old new count failures some (Some block, h, e) = let both : Some failures ≡ Some (length block.failures) = sym some ∙ e in (block, h, cc)
+
+pub told_none : (limit : Moment) (old new : World) (count : Option ℕ) → count ≡ None → (block : Option Block) × HasStepped limit block old new × (count ≡ failure_count block) → HasMoved limit old new
+told_none limit old new count none (None, h, e) = h
+told_none limit old new count none (Some block, h, e) = let both : None ≡ Some (length block.failures) = sym none ∙ e in absurd cc
+
+module _ {journal : Bool} {start : World} {w : Shape} {now : World} {p q : Printer} {old middle : Option Tally} (on : IsOnTheWay journal start w now p q old middle) (canonical : IsCanonical w) where
+  abbrev S : State
+  S = state_of journal start
+
+  cut : (m : Moment) (lines : List ℕ) → AreLines journal S w m lines → IsFrontOfEach (IsPassedText journal S w) lines
+  cut m lines a = subst (IsFrontOfEach (IsPassedText journal S w)) (sym a.2) (cut_on_the_way journal S m w a.0 a.1)
+
+  -- where memory ran out between two blocks
+  pub breaks_here : BreaksOff (IsFrontOfEach (IsPassedText journal S w)) NoMemory p q
+  breaks_here = some_is on.printed (IsFrontOfEach (IsPassedText journal S w)) (cut now.moment)
+
+  -- the setting has not changed
+  same_setting : state_setting (state_of journal now) ≡ state_setting S
+  same_setting = ap state_setting on.state
+
+  module _ {new : World} {block : Block} (h : HasPassed (at w) block now new) where
+    up_to_block : (bs : List Block) → AreUpTo S w now.moment bs → AreUpTo S w block.moment (bs ++ block ∷ [])
+    up_to_block bs is =
+        let next : IsNextBlock (state_setting S) now.moment block = subst (λ (t : Setting). IsNextBlock t now.moment block) same_setting h.next in
+        one_more_passed (state_setting S) start.moment now.moment (at w) bs block on.whole.canonical canonical is next h.within
+
+    lines_more : (lines : List ℕ) → AreLines journal S w now.moment lines → AreLines journal S w block.moment (lines ++ printed_if journal block)
+    lines_more lines a = (a.0 ++ block ∷ [], up_to_block a.0 a.1, ap (λ (ls : List ℕ). ls ++ printed_if journal block) a.2 ∙ sym (lines_behind journal a.0 block))
+
+    -- where memory ran out within the lines of a block
+    pub breaks_within : (r : List ℕ) → PutsFront q.gathered r (printed_if journal block) → BreaksOff (IsFrontOfEach (IsPassedText journal S w)) NoMemory p (printer q.held r)
+    breaks_within r f = some_then on.printed (IsFrontOfEach (IsPassedText journal S w)) (gains_put q.held q.gathered r f.front f.put)
+        (λ lines a text is. front_through (lines ++ f.front) (lines ++ printed_if journal block) text (front_after lines f.front (printed_if journal block) (record { more = f.rest; joined = f.cut }))
+        (cut block.moment (lines ++ printed_if journal block) (lines_more lines a) text is))
+
+    -- where a write fails behind a block
+    pub faults_behind : (r : List ℕ) (f : Printer) → r ≡ q.gathered ++ printed_if journal block → AppendsFront q.held f.held r → BreaksOff (IsFrontOfEach (IsPassedText journal S w)) Fault p f
+    faults_behind r f e front =
+        some_lost on.printed (IsFrontOfEach (IsPassedText journal S w)) f (printed_if journal block) (subst (AppendsFront q.held f.held) e front) (λ lines a. cut block.moment (lines ++ printed_if journal block) (lines_more lines a))
+
+    at_block : new.moment ≡ block.moment
+    at_block = ap (λ (v : World). v.moment) h.state
+
+    pub goes_on : (r : List ℕ) {f : Printer} → r ≡ q.gathered ++ printed_if journal block → Gains (printer q.held r) f [] → (failures : ℕ) {last : Option Tally} → failures ≡ length block.failures → last ≡ counted_on failures middle
+        → IsOnTheWay journal start w new p f old last
+    goes_on r e flushed failures {last} same counts = record {
+      state = ap (state_of journal) h.state ∙ ap (λ (s : State). record s { moment = block.moment }) on.state ∙ ap (λ (m : Moment). record S { moment = m }) (sym at_block);
+      printed = some_flushed (some_then on.printed (AreLines journal S w new.moment) (gains_put q.held q.gathered r (printed_if journal block) e)
+          (λ lines a. rw at_block (lines_more lines a))) flushed;
+      counted = tallied_then on.counted (one_tallied (λ bs. bs ≡ block ∷ []) block failures middle last same refl counts) (λ bs cs is more. rw (at_block, more) (up_to_block bs is));
+      whole = h.whole;
+      later = rw at_block h.within;
+    }
+
+  -- where the journal is off nothing is printed
+  pub goes_on_quietly : journal ≡ false → {new : World} {block : Block} → HasPassed (at w) block now new → (failures : ℕ) {last : Option Tally} → failures ≡ length block.failures → last ≡ counted_on failures middle
+      → IsOnTheWay journal start w new p q old last
+  goes_on_quietly off {new} {block} h failures same counts =
+      goes_on h q.gathered (sym (append-nil q.gathered) ∙ ap (λ (b : Bool). q.gathered ++ printed_if b block) (sym off)) (gains_nothing q) failures same counts
+
+  -- at the instant
+  module _ {new : World} (h : HasMoved (at w) now new) where
+    all_passed : (bs : List Block) → AreUpTo S w now.moment bs → IsJournal (state_setting S) start.moment (at w) bs
+    all_passed bs is =
+        let rest = subst (λ (t : Setting). IsJournal t now.moment (at w) []) same_setting h.nothing in
+        subst (λ (cs : List Block). IsJournal (state_setting S) start.moment (at w) cs) (append-nil bs) (is.forth [] rest)
+
+    pub arrives : GainsSome (IsPassedText journal S w) p q
+    arrives = some_is on.printed (IsPassedText journal S w) (λ lines a. subst (IsPassedText journal S w) (sym a.2) (is_text journal S w a.0 (all_passed a.0 a.1)))
+
+    pub counted_all : HasTallied (IsJournal (state_setting S) start.moment (at w)) old middle
+    counted_all = tallied_is on.counted all_passed

@@ -33,9 +33,6 @@ module _ (s : State) (q : Command) (before now : List ℕ) (E : Type 0) where
   no_reply (Broken NoMemory) is same = (is, ([], same ∙ sym (append-nil before), λ text line. front_nil text))
   no_reply (Broken Fault) is same = absurd is
 
-  pub reply_put : (x : E) (reply : Reply) → IsReply s q (Ok reply) → now ≡ before ++ reply_line reply → Replies s q (Ok x) before now
-  reply_put x reply is put = (is.0, (reply_line reply, put, is.1))
-
   pub reply_broke : IsCanonical s.moment.at → (reply : Reply) → IsReply s q (Ok reply) → PutsFront before now (reply_line reply) → Replies {E = E} s q (Err (Broken NoMemory)) before now
   reply_broke canonical reply is put = (is.0, (put.front, put.put, λ text line. record { more = put.rest; joined = one_reply_line s canonical q text (reply_line reply) line is.1 ∙ put.cut }))
 
@@ -60,9 +57,6 @@ puts_next s canonical line own (Err e) before now ok err = (err.front, err.put, 
 module _ (s : State) (number : ℕ) (c : Change) (p : Printer) (allowed : IsAllowed s (changes number c)) where
   pub changed : (next : Option Course) (t : State) → ChangesTo s.moment (motion_of s.motions number) c next → t ≡ record s { motions = slice_set s.motions number next } → GainsSome (λ text. Step s (changes number c) text t) p p
   changed next t to e = record { text = []; gained = gains_nothing p; is = record { allowed = allowed; prints = refl; leads = (next, to, e) } }
-
-  pub changing_broke : IsAllowed s (changes number c) × BreaksOff (IsFrontOfEach (Prints s (changes number c))) NoMemory p p
-  changing_broke = (allowed, record { text = []; gained = gains_nothing p; is = λ text is. front_nil text })
 
 -- what the replay sees of a replacement
 pub replaced : (journal : Bool) (n : ℕ) (m : Course) (old new : World) → HasReplaced n m old new → state_of journal new ≡ record (state_of journal old) { motions = slice_set old.motions n (Some m) }

@@ -11,10 +11,8 @@ abbrev pub Line : Type 0
 Line = ℕ × Command
 
 -- the text of commands of which the first is not refused
-abbrev pub GoesOn : State → Line → List Line → List ℕ → Ending → Type 0
-GoesOn s c cs text ending = (first : List ℕ) × (rest : List ℕ) × (t : State) × Step s (deed_of c.1) first t × Text t cs rest ending × (text ≡ first ++ rest)
-
-pub allowed_goes_on : (s : State) (c : Line) (cs : List Line) (text : List ℕ) (ending : Ending) → IsAllowed s (deed_of c.1) → Text s (c ∷ cs) text ending → GoesOn s c cs text ending
+pub allowed_goes_on : (s : State) (c : Line) (cs : List Line) (text : List ℕ) (ending : Ending) → IsAllowed s (deed_of c.1) → Text s (c ∷ cs) text ending
+    → (first : List ℕ) × (rest : List ℕ) × (t : State) × Step s (deed_of c.1) first t × Text t cs rest ending × (text ≡ first ++ rest)
 allowed_goes_on s c cs text ending allowed (inl e) = absurd (allowed e.0 e.1)
 allowed_goes_on s c cs text ending allowed (inr g) = g
 

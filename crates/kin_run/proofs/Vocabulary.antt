@@ -15,7 +15,7 @@ pub use Rattle.kin_num.specs.Canonical.{IsCanonical, IsCanonicalForm, discrimina
 pub use Rattle.kin_num.specs.Grains.{moments_left}
 pub use Rattle.kin_num.specs.Instants.{line, sign_at_instant}
 pub use Rattle.kin_num.specs.Order.{IsEarlier, IsLess}
-pub use Rattle.kin_num.specs.Quadratic.{Quadratic, negated}
+pub use Rattle.kin_num.specs.Quadratic.{Quadratic}
 pub use Rattle.kin_num.specs.declared.instant.Moment.{Moment}
 pub use Rattle.kin_num.specs.declared.instant.Phase.TheVariants.{After, At}
 pub use Rattle.kin_num.specs.declared.instant.Shape.{Shape}

@@ -11,13 +11,13 @@ pub fn one_answer()
 
 /// Every input has a text, and a status with it. So a front of each text of an input is a front of
 /// one that exists.
-#[tactic(auto, using(crate::proofs::TextExistence::texts_exist))]
+#[tactic(auto, using(crate::proofs::Existence::texts_exist))]
 pub fn texts_exist()
     ensures { TextsExist }
 {}
 
 /// Each seed has a text with each count of 1..1024.
-#[tactic(auto, using(crate::proofs::TextExistence::demo_texts_exist))]
+#[tactic(auto, using(crate::proofs::Existence::demo_texts_exist))]
 pub fn demo_texts_exist()
     ensures { DemoTextsExist }
 {}

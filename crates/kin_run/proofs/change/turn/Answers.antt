@@ -1,8 +1,9 @@
-use Rattle.std.proofs.Common.{ap, ◌≡◌, inl, inr, Some, refl, sym, ◌∙◌, w32}
+use Rattle.std.proofs.Common.{[], ap, ◌≡◌, inl, inr, Some, refl, sym, ◌∙◌, w32}
 use Rattle.kin_run.proofs.Vocabulary.{err_from_is_err_and, motion_of, turns, state_of}
 use Rattle.kin_instant.proofs.Widths.{clean}
-use Rattle.kin_run.proofs.StepExistence.{allowed_turn}
-use Rattle.kin_run.proofs.Performing.{changed, changing_broke}
+use Rattle.kin_run.proofs.Existence.{allowed_turn}
+use Rattle.kin_run.proofs.Gathering.{front_nil, gains_nothing}
+use Rattle.kin_run.proofs.Performing.{changed}
 use Rattle.kin_run.proofs.change.turn.Goals as goal
 
 pub returns-in_err-turn-in-Ok-clause-performs : goal.returns-in_err-turn-in-Ok-clause-performs
@@ -10,7 +11,7 @@ returns-in_err-turn-in-Ok-clause-performs g c = λ journal p.
     let e = err_from_is_err_and c.from_residual.result c.from_residual.ensures.1 in
     let w = c.args.world.now in
     let can = rw (clean w32 c.args.u c.ranges.u.sfits, clean w32 c.args.v c.ranges.v.sfits) at c.in-Ok.ensures.turns in
-    rw (e.1, e.2) (changing_broke (state_of journal w) c.args.no (turns c.args.u c.args.v) p (allowed_turn w.moment c.requires.whole.canonical c.args.u c.args.v can.before (motion_of w.motions c.args.no) can.had can.at c.in-Ok.field-0 can.turns can.slow))
+    rw (e.1, e.2) (allowed_turn w.moment c.requires.whole.canonical c.args.u c.args.v can.before (motion_of w.motions c.args.no) can.had can.at c.in-Ok.field-0 can.turns can.slow, record { text = []; gained = gains_nothing p; is = λ text is. front_nil text })
 
 pub returns-in_ok-turn-in-Ok-clause-performs : goal.returns-in_ok-turn-in-Ok-clause-performs
 returns-in_ok-turn-in-Ok-clause-performs g c = λ journal p.

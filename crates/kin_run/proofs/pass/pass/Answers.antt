@@ -3,7 +3,7 @@ use Rattle.kin_run.proofs.Vocabulary.{err_from_is_err_and, at, printer}
 use Rattle.kin_world.proofs.RootLaws.{journals_exist}
 use Rattle.kin_run.proofs.Tallying.{untallied}
 use Rattle.kin_run.proofs.Gathering.{gains_nothing}
-use Rattle.kin_run.proofs.OnTheWay.{sets_out, breaks_here, breaks_within, faults_behind, goes_on, goes_on_quietly, arrives, counted_all, told_some, told_none}
+use Rattle.kin_run.proofs.Passing.{sets_out, breaks_here, breaks_within, faults_behind, goes_on, goes_on_quietly, arrives, counted_all, told_some, told_none}
 use Rattle.kin_run.proofs.pass.pass.Goals as goal
 
 pub loop-block-init : goal.loop-block-init
@@ -40,7 +40,6 @@ returns-clause-tallied g c =
     counted_all c.loop-block.invariant.on c.requires.canonical (rw c.in_default-2.is at c.in_ok-block.ensures.stepped)
 
 -- ---- without a list of the failures
-
 pub loop-failures-init : goal.loop-failures-init
 loop-failures-init g c = sets_out c.args.journal c.args.world.now c.args.asked (printer (g.K.Sink.held c.args.sink.now) c.args.out.now.items) c.args.tally.now c.requires.whole c.requires.later
 
@@ -59,7 +58,6 @@ returns-then-not-journal-2-clause-tallied g c =
     counted_all c.loop-failures.invariant c.requires.canonical (told_none (at c.args.asked) c.loop-failures.world c.pass.new.self c.in_ok-failures.field-0 c.in_default.is c.in_ok-failures.ensures.stepped)
 
 -- ---- by leaps
-
 pub returns-in_err-leap_to-clause-text : goal.returns-in_err-leap_to-clause-text
 returns-in_err-leap_to-clause-text g c =
     let e = err_from_is_err_and c.from_residual.result c.from_residual.ensures.1 in

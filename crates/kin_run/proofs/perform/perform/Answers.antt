@@ -39,7 +39,6 @@ returns-in_default-clause-performs g c =
     (replied (state_of c.args.journal c.args.world.now) q c.put_reply_to.result (g.K.Sink.held c.args.sink.now) c.args.out.now.items c.put_reply_to.new.out.items (c.put_reply_to.ensures.line c.args.journal))
 
 -- ---- the blocks that are passed
-
 pub returns-in-AtRatio-clause-tallied : goal.returns-in-AtRatio-clause-tallied
 returns-in-AtRatio-clause-tallied g c =
     let asked = handed_ratio c.in-AtRatio.n c.in-AtRatio.d c.ratio.result (rw c.in-AtRatio.is at c.requires.range) c.ratio.ensures.value c.ratio.ensures.canonical in

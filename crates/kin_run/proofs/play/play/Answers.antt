@@ -1,7 +1,7 @@
-use Rattle.std.proofs.Common.{[], ap}
-use Rattle.kin_run.proofs.Vocabulary.{on_err, IsCutOfText, state_of, printer}
+use Rattle.std.proofs.Common.{[], ap, subst}
+use Rattle.kin_run.proofs.Vocabulary.{on_err, IsCutOfText, IsFront, state_of, printer}
 use Rattle.kin_run.proofs.Gathering.{front_through, some_lost_here, wrote_front, wrote_broken}
-use Rattle.kin_run.proofs.OneText.{cut_of_text}
+use Rattle.kin_run.proofs.OneText.{one_text}
 use Rattle.kin_run.proofs.play.play.Goals as goal
 
 pub returns-in_err-flush-in-Ok-clause-cut : goal.returns-in_err-flush-in-Ok-clause-cut
@@ -10,7 +10,7 @@ returns-in_err-flush-in-Ok-clause-cut g c =
     let all = c.args.lines.now in
     let gained = rw c.new-out.ensures.items at c.in-Ok.ensures.text in
     on_err c.from_residual.result
-    (wrote_front (IsCutOfText s all) (some_lost_here gained (printer (g.K.Sink.held c.flush.new.sink) []) c.flush.ensures.front) (λ x front is f. cut_of_text s all x front c.in-Ok.ending c.requires.whole.canonical is f))
+    (wrote_front (IsCutOfText s all) (some_lost_here gained (printer (g.K.Sink.held c.flush.new.sink) []) c.flush.ensures.front) (λ x front is f text ending q. subst (IsFront front) (one_text s all x text c.in-Ok.ending ending c.requires.whole.canonical is q).0 f))
 
 pub returns-clause-cut : goal.returns-clause-cut
 returns-clause-cut g c =

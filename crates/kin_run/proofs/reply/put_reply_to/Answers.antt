@@ -1,6 +1,6 @@
 use Rattle.std.proofs.Common.{false, refl}
 use Rattle.kin_run.proofs.Vocabulary.{err_from_is_err_and, state_of}
-use Rattle.kin_run.proofs.Performing.{no_reply, no_fault, reply_broke, reply_put}
+use Rattle.kin_run.proofs.Performing.{no_reply, no_fault, reply_broke}
 use Rattle.kin_run.proofs.reply.put_reply_to.Goals as goal
 
 pub returns-in_err-reply-clause-line : goal.returns-in_err-reply-clause-line
@@ -20,4 +20,5 @@ returns-in_err-put_reply-clause-line c = λ journal.
 
 pub returns-clause-line : goal.returns-clause-line
 returns-clause-line c = λ journal.
-    reply_put (state_of journal c.args.world.now) c.args.command.now c.args.out.now.items c.put_reply.new.out.items (Unit {0}) tt c.in_ok-reply.reply (c.in_ok-reply.ensures.reply journal) c.in_ok-put_reply.ensures.ok
+    let is = c.in_ok-reply.ensures.reply journal in
+    (is.0, (_, c.in_ok-put_reply.ensures.ok, is.1))
