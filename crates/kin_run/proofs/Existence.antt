@@ -40,8 +40,7 @@ IsDecided m now c = ((r : Refusal) × IsRefusedChange m now c r) ⊎ Outcome m n
 slow_some : (c : Course) → IsSlow c → IsSlowIfSome (Some c)
 slow_some c slow d e = subst IsSlow (same_Some c d e) slow
 
--- ---- whether a motion is slow
--- a motion with a slow velocity is slow or not
+-- ---- a motion with a slow velocity is slow or not
 slow_or_not : (c : Course) → unsigned_abs c.u ≤ 4096 → unsigned_abs c.v ≤ 4096 → IsSlow c ⊎ ¬ (IsSlow c)
 slow_or_not c u v = elim (cases_lt 4096 (unsigned_abs c.x)) [
   | inl far ↦ inr (λ slow. let near = slow.x_small in omega (arith, far, near))
@@ -54,14 +53,13 @@ slow_or_not c u v = elim (cases_lt 4096 (unsigned_abs c.x)) [
 -- ---- turns
 module _ (m : Moment) (canonical : IsCanonical m.at) (u v : ℤ) (old : Course) where
   -- a turn to a slow motion is not refused
-  not_refused : m.phase ≡ At → (new : Course) → TurnsTo m.at u v old new → IsSlow new → (r : Refusal) → ¬ (IsRefusedTurn m u v old r)
-  not_refused at new goes slow r (inl (is, inl after)) = absurd (let clash : At ≡ After = sym at ∙ after in cc)
-  not_refused at new goes slow r (inl (is, inr none)) = none new goes
-  not_refused at new goes slow r (inr (is, out)) = out.1.2 (subst IsSlow (one_turn m.at u v old new out.1.0 canonical goes out.1.1) slow)
-
   pub allowed_turn : (now : Option Course) → now ≡ Some old → m.phase ≡ At → (new : Course) → TurnsTo m.at u v old new → IsSlow new → (r : Refusal) → ¬ (IsRefusedChange m now (turns u v) r)
   allowed_turn now had at new goes slow r (inl absent) = absurd (let clash : true ≡ false = ap is_some (sym had) ∙ absent.1 in cc)
-  allowed_turn now had at new goes slow r (inr (also, is, refused)) = not_refused at new goes slow r (subst (λ (c : Course). IsRefusedTurn m u v c r) (same_Some also old (sym is ∙ had)) refused)
+  allowed_turn now had at new goes slow r (inr (also, is, refused)) = elim (subst (λ (c : Course). IsRefusedTurn m u v c r) (same_Some also old (sym is ∙ had)) refused) [
+    | inl (word, inl after) ↦ absurd (let clash : At ≡ After = sym at ∙ after in cc)
+    | inl (word, inr none) ↦ none new goes
+    | inr (word, out) ↦ out.1.2 (subst IsSlow (one_turn m.at u v old new out.1.0 canonical goes out.1.1) slow)
+  ]
 
   by_size : m.phase ≡ At → (new : Course) → TurnsTo m.at u v old new → IsSlow new ⊎ ¬ (IsSlow new) → IsDecided m (Some old) (turns u v)
   by_size at new goes (inl slow) = inr (record {
@@ -205,8 +203,7 @@ texts_exist input = by_reading (script_of input) refl
         let has = text_exists s.lines (start s.size s.keeps s.journal) (start_sound s within) within.commands in
         by_ending has.ending has.text (record { script = s; reads = e; replays = has.is })
 
--- ---- the script
--- the least size is found from above
+-- ---- a generated script, whose least size is found from above
 least_size : (count n : ℕ) → count ≤ 2 ^ suc n → (size : ℕ) × IsLeastSize count size
 least_size count zero room = (1, record { low = omega arith; room = room; least = λ m some fits. some })
 least_size count (suc n) room = elim (cases_lt (2 ^ suc n) count) [
@@ -221,7 +218,6 @@ least_size count (suc n) room = elim (cases_lt (2 ^ suc n) count) [
   })
 ]
 
--- ---- the text
 pub demo_texts_exist : DemoTextsExist
 demo_texts_exist seed count some few =
     let size = least_size count 9 few in

@@ -55,16 +55,6 @@ behind_block t now last b here there next within (c ∷ more) j =
     let same : c ≡ b = next_block_is_one t now c b here j.0 next in
     (more, subst (λ (d : Block). IsJournal t d.moment last more) same j.2, ap (λ (d : Block). d ∷ more) same)
 
-pub one_more_passed : (t : Setting) (start now last : Moment) (bs : List Block) (b : Block) → IsCanonical now.at → IsCanonical last.at
-    → ArePassed t start now last bs → IsNextBlock t now b → ¬ (IsEarlier last b.moment) → ArePassed t start b.moment last (bs ++ b ∷ [])
-one_more_passed t start now last bs b here there p next within = record {
-  forth = λ more j. subst (λ (all : List Block). IsJournal t start last all) (sym (append_assoc bs (b ∷ []) more)) (p.forth (b ∷ more) (next, within, j));
-  back = λ all j.
-      let x = p.back all j in
-      let y = behind_block t now last b here there next within x.0 x.1 in
-      (y.0, y.1, x.2 ∙ ap (λ (more : List Block). bs ++ more) y.2 ∙ sym (append_assoc bs (b ∷ []) y.0));
-}
-
 -- the lines of blocks where the journal is on
 abbrev pub lines_if : Bool → List Block → List ℕ
 lines_if false bs = []
@@ -153,7 +143,13 @@ module _ {journal : Bool} {start : World} {w : Shape} {now : World} {p q : Print
     up_to_block : (bs : List Block) → AreUpTo S w now.moment bs → AreUpTo S w block.moment (bs ++ block ∷ [])
     up_to_block bs is =
         let next : IsNextBlock (state_setting S) now.moment block = subst (λ (t : Setting). IsNextBlock t now.moment block) same_setting h.next in
-        one_more_passed (state_setting S) start.moment now.moment (at w) bs block on.whole.canonical canonical is next h.within
+        record {
+          forth = λ more j. subst (IsJournal (state_setting S) start.moment (at w)) (sym (append_assoc bs (block ∷ []) more)) (is.forth (block ∷ more) (next, h.within, j));
+          back = λ all j.
+              let x = is.back all j in
+              let y = behind_block (state_setting S) now.moment (at w) block on.whole.canonical canonical next h.within x.0 x.1 in
+              (y.0, y.1, x.2 ∙ ap (λ (more : List Block). bs ++ more) y.2 ∙ sym (append_assoc bs (block ∷ []) y.0));
+        }
 
     lines_more : (lines : List ℕ) → AreLines journal S w now.moment lines → AreLines journal S w block.moment (lines ++ printed_if journal block)
     lines_more lines a = (a.0 ++ block ∷ [], up_to_block a.0 a.1, ap (λ (ls : List ℕ). ls ++ printed_if journal block) a.2 ∙ sym (lines_behind journal a.0 block))

@@ -21,8 +21,7 @@ module _ (s : State) (upper : Bool) (z : Quadratic) (w : Shape) (named : IsNamed
   moving_broke NoMemory p q x = (goes_allowed s upper z w named later, some_is x (IsFrontOfEach (Prints s (goes_to upper z))) cut)
   moving_broke Fault p q x = (goes_allowed s upper z w named later, record { text = x.text; reached = x.reached; is = cut x.text x.is })
 
--- ---- a reply
--- a reply to the same question
+-- ---- a reply, also to the same question
 pub of_same : (w : World) (c q : Command) (r : Result Reply Halt) → c ≡ q → RepliesTo w q r → RepliesTo w c r
 of_same w c q r e h = subst (λ (x : Command). RepliesTo w x r) (sym e) h
 

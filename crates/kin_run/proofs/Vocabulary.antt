@@ -22,7 +22,7 @@ pub use Rattle.kin_num.specs.declared.instant.Shape.{Shape}
 pub use Rattle.kin_num.proofs.InstantOrder.{above_fraction, level_same}
 pub use Rattle.kin_num.proofs.LowerFractions.{less_asym, not_less_itself}
 pub use Rattle.kin_num.proofs.Values.{start_canonical}
-pub use Rattle.kin_instant.specs.Roots.{AreRootsOf, HasRoot, IsFraction, count_by_signs, quadratic}
+pub use Rattle.kin_instant.specs.Roots.{AreRootsOf, HasRoot, IsFraction, count_by_signs}
 pub use Rattle.kin_instant.specs.declared.roots.Roots.{Roots}
 pub use Rattle.kin_instant.specs.declared.roots.Roots.TheVariants.{All, Nowhere, One, Two}
 pub use Rattle.kin_motion.specs.Course.{AreSlow, Course, IsSlow, is_live, motion_of}

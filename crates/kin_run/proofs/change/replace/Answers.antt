@@ -1,5 +1,5 @@
 use Rattle.std.proofs.Common.{◌≡◌, true, false, Some, refl, sym, ap, ◌∙◌, is_some}
-use Rattle.kin_run.proofs.Vocabulary.{motion_of, restarts, state_of}
+use Rattle.kin_run.proofs.Vocabulary.{restarts, state_of}
 use Rattle.kin_run.proofs.Performing.{changed, replaced}
 use Rattle.kin_run.proofs.change.replace.Goals as goal
 
@@ -8,5 +8,4 @@ returns-clause-performs g c = λ journal p.
     let w = c.args.world.now in
     let n = c.args.no in
     let m = c.args.m in
-    let had : motion_of w.motions n ≡ Some c.in-Some.field-0 = sym c.motion.ensures.value ∙ c.in-Some.is in
-    changed (state_of journal w) n (restarts m) p (λ r h. absurd (let clash : true ≡ false = ap is_some (sym had) ∙ h.1 in cc)) (Some m) (state_of journal c.replace.new.self) refl (replaced journal n m w c.replace.new.self c.in_ok-replace.ensures.replaced)
+    changed (state_of journal w) n (restarts m) p (λ r h. absurd (let clash : true ≡ false = ap is_some (sym c.in-Some.is ∙ c.motion.ensures.value) ∙ h.1 in cc)) (Some m) (state_of journal c.replace.new.self) refl (replaced journal n m w c.replace.new.self c.in_ok-replace.ensures.replaced)

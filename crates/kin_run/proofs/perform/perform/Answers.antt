@@ -8,8 +8,7 @@ use Rattle.kin_run.proofs.perform.perform.Goals as goal
 
 pub returns-in-AtRatio-clause-performs : goal.returns-in-AtRatio-clause-performs
 returns-in-AtRatio-clause-performs g c =
-    let asked = handed_ratio c.in-AtRatio.n c.in-AtRatio.d c.ratio.result (rw c.in-AtRatio.is at c.requires.range) c.ratio.ensures.value c.ratio.ensures.canonical in
-    rw c.in-AtRatio.is (c.move_to.ensures.performs true (line c.in-AtRatio.n c.in-AtRatio.d) asked)
+    rw c.in-AtRatio.is (c.move_to.ensures.performs true (line c.in-AtRatio.n c.in-AtRatio.d) (handed_ratio c.in-AtRatio.n c.in-AtRatio.d c.ratio.result (rw c.in-AtRatio.is at c.requires.range) c.ratio.ensures.value c.ratio.ensures.canonical))
 
 pub returns-in-Turn-clause-performs : goal.returns-in-Turn-clause-performs
 returns-in-Turn-clause-performs g c =
@@ -41,8 +40,7 @@ returns-in_default-clause-performs g c =
 -- ---- the blocks that are passed
 pub returns-in-AtRatio-clause-tallied : goal.returns-in-AtRatio-clause-tallied
 returns-in-AtRatio-clause-tallied g c =
-    let asked = handed_ratio c.in-AtRatio.n c.in-AtRatio.d c.ratio.result (rw c.in-AtRatio.is at c.requires.range) c.ratio.ensures.value c.ratio.ensures.canonical in
-    rw c.in-AtRatio.is (c.move_to.ensures.tallied true (line c.in-AtRatio.n c.in-AtRatio.d) asked)
+    rw c.in-AtRatio.is (c.move_to.ensures.tallied true (line c.in-AtRatio.n c.in-AtRatio.d) (handed_ratio c.in-AtRatio.n c.in-AtRatio.d c.ratio.result (rw c.in-AtRatio.is at c.requires.range) c.ratio.ensures.value c.ratio.ensures.canonical))
 
 pub returns-in-Some-clause-tallied : goal.returns-in-Some-clause-tallied
 returns-in-Some-clause-tallied g c =
