@@ -153,8 +153,7 @@ module _ (s : State) (sound : IsSound s) where
     | inr (kept, line) ↦ at_moment (asks q) s.moment sound.canonical line.0 [] (record { allowed = λ r h. h.1 kept; prints = line.1; leads = refl }) refl
   ]
 
--- ---- the text of commands
--- a text with its ending, and the blocks that the commands pass if none is refused
+-- ---- a text with its ending, and the blocks that the commands pass if none is refused
 pub record HasText (s : State) (cs : List Line) : Type 0 where
   pub text : List ℕ
   pub ending : Ending
@@ -208,14 +207,17 @@ least_size : (count n : ℕ) → count ≤ 2 ^ suc n → (size : ℕ) × IsLeast
 least_size count zero room = (1, record { low = omega arith; room = room; least = λ m some fits. some })
 least_size count (suc n) room = elim (cases_lt (2 ^ suc n) count) [
   | inr fits ↦ least_size count n fits
-  | inl narrow ↦ (suc (suc n), record {
-    low = omega arith;
-    room = room;
-    least = λ m some fits. elim (cases_lt (suc n) m) [
-      | inl above ↦ omega (arith, above)
-      | inr below ↦ absurd (let less = pow_mono below in omega (arith, less, fits, narrow))
-    ];
-  })
+  | inl narrow ↦ (
+    suc (suc n),
+    record {
+      low = omega arith;
+      room = room;
+      least = λ m some fits. elim (cases_lt (suc n) m) [
+        | inl above ↦ omega (arith, above)
+        | inr below ↦ absurd (let less = pow_mono below in omega (arith, less, fits, narrow))
+      ];
+    },
+  )
 ]
 
 pub demo_texts_exist : DemoTextsExist

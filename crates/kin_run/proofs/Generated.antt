@@ -1,5 +1,5 @@
 -- The commands of a generated script are never refused, and a seed and a count have one text.
-use Rattle.std.proofs.Common.{◌≡◌, inl, inr, ℕ, zero, suc, ◌+◌, ◌-◌, ◌*◌, ◌≤◌, ◌^◌, true, false, List, [], ◌∷◌, ◌++◌, Some, None, refl, sym, ap, ◌∙◌, subst, append_assoc, arith, pos, take, is_some, get_or-set_other}
+use Rattle.std.proofs.Common.{◌≡◌, inl, inr, ℕ, zero, suc, ◌+◌, ◌*◌, ◌≤◌, ◌^◌, true, false, List, [], ◌∷◌, ◌++◌, Some, None, refl, sym, ap, ◌∙◌, subst, append_assoc, arith, pos, take, is_some, get_or-set_other}
 use lib.IntN.{neg_ℤ}
 use Rattle.std.proofs.lemmas.Nat.Gcd.{IsGcd-from_zero, IsGcd-from_mod}
 use Rattle.kin_run.proofs.Vocabulary.{Appends, Appends-trans, ints, same_Some, line, sign_at_instant, IsEarlier, After, At, Shape, above_fraction, less_asym, start_canonical, is_live, Block, none_live, AppendsFront, Deed, asks}
@@ -7,7 +7,6 @@ use Rattle.kin_run.proofs.Vocabulary.{deed_of, IsGenerated, course_behind, inser
 use Rattle.kin_run.proofs.Vocabulary.{OneDemoText, WritesDemo, demo_line, start_of, status_of_stop, PassesInTurn, IsCutOfText, IsFrontOfEach, HasTallied, tally_line, IsFront, Wrote, Tally, Stop, Fault, NoMemory}
 use Rattle.kin_num.specs.declared.instant.Shape.TheVariants.{Ratio}
 use Rattle.kin_num.proofs.FractionOrder.{fraction_itself, line_at_fraction}
-use Rattle.kin_motion.specs.declared.keep.Keep.TheVariants as keep
 use Rattle.kin_motion.specs.declared.keep.Rect.{Rect}
 use Rattle.kin_script.specs.declared.command.Command.TheVariants.{Extreme, Hull, Closest, Inside, Live}
 use Rattle.kin_run.proofs.Gathering.{Bytes, front_through, front_take, front_after}
@@ -29,10 +28,10 @@ EndWell first cs = (s : State) (text : List ℕ) (ending : Ending) → IsAwaitin
 insertion_ends_well : (seed first : ℕ) (cs : List Line) → EndWell (suc first) cs → EndWell first (insertion seed first ∷ cs)
 insertion_ends_well seed first cs more s text ending awaiting (inl e) = absurd (let free = awaiting.free first (omega arith) in let live = e.1.1 in cc)
 insertion_ends_well seed first cs more s text ending awaiting (inr g) = more g.2 g.1 ending (rw (g.3.leads.2, g.3.leads.1) (record {
-      free = λ number low. ap is_some (get_or-set_other s.motions first number (Some (course_behind (state_after (4 * first) seed))) None (λ e. absurd (omega (arith, e, low)))) ∙ awaiting.free number (omega (arith, low));
-      keeps = awaiting.keeps;
-      moment = awaiting.moment;
-    })) g.4
+  free = λ number low. ap is_some (get_or-set_other s.motions first number (Some (course_behind (state_after (4 * first) seed))) None (λ e. absurd (omega (arith, e, low)))) ∙ awaiting.free number (omega (arith, low));
+  keeps = awaiting.keeps;
+  moment = awaiting.moment;
+})) g.4
 
 insertions_end_well : (seed count : ℕ) (cs : List Line) → EndWell count cs → EndWell 0 (insertions seed count ++ cs)
 insertions_end_well seed zero cs more = more
@@ -94,8 +93,7 @@ one_demo_text seed count x y p q =
     let blocks = one_in_turn (start_of q.script) q.script.lines p.blocks q.blocks start_canonical (rw same at p.passed) q.passed in
     p.joined ∙ ap (λ (w : List ℕ). w ++ demo_line p.blocks) body.0 ∙ ap (λ (bs : List Block). q.body ++ demo_line bs) blocks ∙ sym q.joined
 
--- ---- fronts of that text
--- a front of what the commands print is one
+-- ---- a front of what the commands print is one of that text
 pub cut_of_body : (seed count : ℕ) (s : Script) (front : List ℕ) → IsGenerated seed count s → IsCutOfText (start_of s) s.lines front → IsFrontOfEach (IsDemoText seed count) front
 cut_of_body seed count s front is cut = λ text other.
     let replays = subst (λ (t : Script). Text (start_of t) t.lines other.body None) (one_script seed count other.script s other.generated is) other.replays in
@@ -106,8 +104,7 @@ pub broken_demo : (seed count : ℕ) (stop : Stop) (front : List ℕ) → IsFron
 broken_demo seed count Fault front cut = cut
 broken_demo seed count NoMemory front cut = cut
 
--- ---- the whole of it
--- the text of the script is written, and it is told how much that passed: then all of it is, or a front of it where the run was broken off
+-- ---- the text of the script is written, and it is told how much that passed: then all of it is, or a front of it where the run was broken off
 module _ (seed count : ℕ) (s : Script) (is : IsGenerated seed count s) (before played : Bytes) (body : Wrote before played (λ text. Text (start_of s) s.lines text None)) (t : Tally)
     (x : HasTallied (PassesInTurn (start_of s) s.lines) (Some (record { moments = 0; failures = 0 })) (Some t)) where
   whole_text : IsDemoText seed count (body.0 ++ tally_line t)

@@ -1,5 +1,5 @@
 -- The root that a line names: there is one where the discriminant is not negative, and no more than one.
-use Rattle.std.proofs.Common.{arith, to_z, of_z, w64, ◌≡◌, zero, suc, Bool, true, false, [], ◌∷◌, inl, inr, refl, sym, ap, ◌∙◌, subst, ℤ, pos, negsuc, ◌<ℤ◌, ◌*ℤ◌, ◌↔◌, if◌then◌else◌, ◌≢◌, ◌⊎◌, ◌<◌, Some, None}
+use Rattle.std.proofs.Common.{arith, to_z, of_z, w64, ◌≡◌, zero, suc, Bool, true, false, [], ◌∷◌, inl, inr, refl, sym, ap, ◌∙◌, subst, ℤ, pos, negsuc, ◌<ℤ◌, ◌*ℤ◌, ◌↔◌, if◌then◌else◌, ◌≢◌, ◌⊎◌, Some, None}
 use Rattle.kin_run.proofs.Vocabulary.{ints, to_z-of_z, opposite_of, product_of, sign_of, Sign, Minus, Plus, Zero, sign_in, sign_of-times, sign_out, IsCanonical, IsCanonicalForm, discriminant, line, sign_at_instant, IsLess, Quadratic, Shape, level_same, less_asym, not_less_itself, AreRootsOf}
 use Rattle.kin_run.proofs.Vocabulary.{HasRoot, IsFraction, count_by_signs, Roots, All, Nowhere, One, Two, IsAskedFor, IsRatioInRange, HasNoRoot, IsNamedRoot, IsRootOf, at}
 use lib.IntN.{neg_ℤ}

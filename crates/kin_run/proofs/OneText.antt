@@ -1,6 +1,6 @@
 -- An input has one text, and one status with it.
 use Rattle.std.proofs.Common.{◌≡◌, ℕ, ◌+◌, ◌≤◌, ◌^◌, Bool, List, [], ◌∷◌, ◌++◌, length, Option, Some, None, Ok, Err, refl, sym, ap, ◌∙◌, subst, arith, ◌⊎◌, inl, inr, length-append, append-nil, Result, take}
-use Rattle.kin_run.proofs.Vocabulary.{Consumes, IsCanonical, start_canonical, deed_of, script_of, State, start, Ending, Text, bad_line, Script, Answers, IsAnswer, IsBrokenOff, IsCut, OneAnswer, Outcome, TakesWhole, IsFront, Status, Fault, NoMemory}
+use Rattle.kin_run.proofs.Vocabulary.{Consumes, IsCanonical, start_canonical, deed_of, script_of, State, start, Ending, Text, bad_line, Script, Answers, IsAnswer, IsBrokenOff, IsCut, OneAnswer, Outcome, TakesWhole, IsFront, Status}
 use Rattle.kin_run.proofs.Determined.{stays, one_step}
 use Rattle.kin_run.proofs.Gathering.{front_take}
 use Rattle.kin_run.proofs.Playing.{Line, allowed_goes_on, text_refused}

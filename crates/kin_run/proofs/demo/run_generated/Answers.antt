@@ -14,7 +14,8 @@ pub returns-in-Ok-None-clause-writes : goal.returns-in-Ok-None-clause-writes
 returns-in-Ok-None-clause-writes g c =
     let body = rw c.in-Ok-None.field-0-is at c.in-Ok-None.ensures.ok in
     let counted = rw (c.new.ensures, c.in-Some.is) at c.in-Ok-None.ensures.tallied c.in-Ok-None.field-0-is in
-    rw c.status_of.ensures (wrote_part c.args.seed c.args.count c.in-Ok.script c.in-Ok.ensures.script (g.K.Sink.held c.args.sink.now) (g.K.Sink.held c.play_script.new.sink) body c.in-Some.counts counted (g.K.Sink.held c.write_tally.new.sink) c.in-Err-write_tally.ensures.err c.in-Err-write_tally.stop)
+    rw c.status_of.ensures
+    (wrote_part c.args.seed c.args.count c.in-Ok.script c.in-Ok.ensures.script (g.K.Sink.held c.args.sink.now) (g.K.Sink.held c.play_script.new.sink) body c.in-Some.counts counted (g.K.Sink.held c.write_tally.new.sink) c.in-Err-write_tally.ensures.err c.in-Err-write_tally.stop)
 
 pub unreachable-requires : goal.unreachable-requires
 unreachable-requires g c =

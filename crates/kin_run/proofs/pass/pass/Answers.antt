@@ -27,9 +27,9 @@ returns-in_err-flush_if_due-clause-text g c =
 
 pub loop-block-preserved : goal.loop-block-preserved
 loop-block-preserved g c = record {
-      on = goes_on c.loop-block.invariant.on c.requires.canonical (rw c.in-Some-2.is at c.in_ok-block.ensures.stepped) c.put_if_on.new.out.items c.in_ok-put_if_on.ensures.ok c.in_ok-flush_if_due.ensures.gained c.count_of.result c.count_of.ensures c.count_on-in-Some-2.ensures;
-      later = omega (arith, c.loop-block.invariant.later, c.flush_if_due.ensures.cause.later);
-    }
+  on = goes_on c.loop-block.invariant.on c.requires.canonical (rw c.in-Some-2.is at c.in_ok-block.ensures.stepped) c.put_if_on.new.out.items c.in_ok-put_if_on.ensures.ok c.in_ok-flush_if_due.ensures.gained c.count_of.result c.count_of.ensures c.count_on-in-Some-2.ensures;
+  later = omega (arith, c.loop-block.invariant.later, c.flush_if_due.ensures.cause.later);
+}
 
 pub returns-clause-text : goal.returns-clause-text
 returns-clause-text g c =

@@ -19,7 +19,8 @@ pub returns-in_err-flush_if_due-in-Ok-clause-text : goal.returns-in_err-flush_if
 returns-in_err-flush_if_due-in-Ok-clause-text g c =
     let e = err_from_is_err_and c.from_residual.result c.from_residual.ensures.1 in
     rw (e.1, e.2)
-    (lost_behind c.loop-line.line-index c.loop-line.invariant.so_far c.loop-line-item.result c.loop-line-test.true c.loop-line-item.is (state_of c.args.journal c.perform.new.world) (printer (g.K.Sink.held c.flush_if_due.new.sink) c.flush_if_due.new.out.items) c.loop-line.invariant.whole.canonical c.in-Ok.ensures.performs c.in_err-flush_if_due-in-Ok.ensures.front)
+    (lost_behind c.loop-line.line-index c.loop-line.invariant.so_far c.loop-line-item.result c.loop-line-test.true c.loop-line-item.is (state_of c.args.journal c.perform.new.world)
+    (printer (g.K.Sink.held c.flush_if_due.new.sink) c.flush_if_due.new.out.items) c.loop-line.invariant.whole.canonical c.in-Ok.ensures.performs c.in_err-flush_if_due-in-Ok.ensures.front)
 
 pub returns-in_err-put_refused-in-Err-Refused-clause-text : goal.returns-in_err-put_refused-in-Err-Refused-clause-text
 returns-in_err-put_refused-in-Err-Refused-clause-text g c =
@@ -28,7 +29,8 @@ returns-in_err-put_refused-in-Err-Refused-clause-text g c =
     let performs = rw h.field-0-is at h.ensures.performs in
     let put = rw h.refusal-is at c.in_err-put_refused-in-Err-Refused.ensures.err in
     rw (e.1, e.2)
-    (broke_refusing c.loop-line.line-index c.loop-line.invariant.so_far c.loop-line-item.result c.loop-line-test.true c.loop-line-item.is h.refusal performs.0 performs.1 put.front (gains_put (g.K.Sink.held c.perform.new.sink) c.perform.new.out.items c.put_refused.new.out.items put.front put.put) (record { more = put.rest; joined = put.cut }))
+    (broke_refusing c.loop-line.line-index c.loop-line.invariant.so_far c.loop-line-item.result c.loop-line-test.true c.loop-line-item.is h.refusal performs.0 performs.1 put.front
+    (gains_put (g.K.Sink.held c.perform.new.sink) c.perform.new.out.items c.put_refused.new.out.items put.front put.put) (record { more = put.rest; joined = put.cut }))
 
 pub returns-in-Err-Refused-clause-text : goal.returns-in-Err-Refused-clause-text
 returns-in-Err-Refused-clause-text g c =
@@ -36,12 +38,12 @@ returns-in-Err-Refused-clause-text g c =
     let performs = rw h.field-0-is at h.ensures.performs in
     let put = rw h.refusal-is at c.in_ok-put_refused-in-Err-Refused.ensures.ok in
     rw h.refusal-is
-    (refused_here c.loop-line.line-index c.loop-line.invariant.so_far c.loop-line-item.result c.loop-line-test.true c.loop-line-item.is h.refusal performs.0 performs.1 (gains_put (g.K.Sink.held c.perform.new.sink) c.perform.new.out.items c.put_refused.new.out.items (refused_line c.loop-line-item.result.0 h.refusal) put))
+    (refused_here c.loop-line.line-index c.loop-line.invariant.so_far c.loop-line-item.result c.loop-line-test.true c.loop-line-item.is h.refusal performs.0 performs.1
+    (gains_put (g.K.Sink.held c.perform.new.sink) c.perform.new.out.items c.put_refused.new.out.items (refused_line c.loop-line-item.result.0 h.refusal) put))
 
 pub returns-in-Err-Broken-clause-text : goal.returns-in-Err-Broken-clause-text
 returns-in-Err-Broken-clause-text g c =
-    let h = c.in-Err-Broken in
-    rw h.stop-is (broke_off c.loop-line.line-index c.loop-line.invariant.so_far c.loop-line-item.result c.loop-line-test.true c.loop-line-item.is h.stop (printer (g.K.Sink.held c.perform.new.sink) c.perform.new.out.items) (rw h.field-0-is at h.ensures.performs))
+    rw c.in-Err-Broken.stop-is (broke_off c.loop-line.line-index c.loop-line.invariant.so_far c.loop-line-item.result c.loop-line-test.true c.loop-line-item.is c.in-Err-Broken.stop (printer (g.K.Sink.held c.perform.new.sink) c.perform.new.out.items) (rw c.in-Err-Broken.field-0-is at c.in-Err-Broken.ensures.performs))
 
 pub loop-line-preserved : goal.loop-line-preserved
 loop-line-preserved g c =

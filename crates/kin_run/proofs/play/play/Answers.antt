@@ -15,4 +15,5 @@ returns-in_err-flush-in-Ok-clause-cut g c =
 pub returns-clause-cut : goal.returns-clause-cut
 returns-clause-cut g c =
     let broke = rw c.new-out.ensures.items at c.in-Err.ensures.text in
-    wrote_broken (IsCutOfText (state_of c.args.journal c.args.world.now) c.args.lines.now) (g.K.Sink.held c.args.sink.now) (g.K.Sink.held c.perform_each.new.sink) (g.K.Sink.held c.salvage.new.sink) c.perform_each.new.out.items c.in-Err.stop broke c.salvage.ensures.front (λ e. ap g.K.Sink.held (c.salvage.ensures.untouched e)) (λ text front cut f whole ending q. front_through front text whole f (cut whole ending q))
+    wrote_broken (IsCutOfText (state_of c.args.journal c.args.world.now) c.args.lines.now) (g.K.Sink.held c.args.sink.now) (g.K.Sink.held c.perform_each.new.sink) (g.K.Sink.held c.salvage.new.sink) c.perform_each.new.out.items
+    c.in-Err.stop broke c.salvage.ensures.front (λ e. ap g.K.Sink.held (c.salvage.ensures.untouched e)) (λ text front cut f whole ending q. front_through front text whole f (cut whole ending q))
