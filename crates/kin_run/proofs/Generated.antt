@@ -45,8 +45,7 @@ twenty_later w named (inl less) =
     let positive = ap (sign_at_instant (line (pos 0) (pos 1))) is ∙ line_at_fraction (pos 20) (pos 1) (pos 0) (pos 1) refl in
     less_asym w (Ratio (pos 0) (pos 1)) named.0.canonical.form start_canonical.form less (above_fraction (pos 0) (pos 1) start_canonical.form w named.0.canonical.form positive)
 
--- ---- the questions
--- what commands end in, where one of each kind is kept
+-- ---- the questions: what commands end in, where one of each kind is kept
 record EndWithKeeps (cs : List Line) : Type 0 where
   ends : (s : State) (text : List ℕ) (ending : Ending) → s.keeps ≡ one_of_each → Text s cs text ending → ending ≡ None
 

@@ -46,8 +46,7 @@ replied s q (Err (Refused r)) held before now a = ((a.0, a.1), (λ i. printer he
 replied s q (Err (Broken NoMemory)) held before now a = ((λ r h. h.1 a.0), record { text = a.1.0; gained = gains_put held before now a.1.0 a.1.1; is = a.1.2 })
 replied s q (Err (Broken Fault)) held before now a = absurd a
 
--- ---- a line
--- there is one text of the next block alone: what was put of it is what was put of each
+-- ---- there is one text of the next block alone: what was put of it is what was put of each
 pub puts_next : {E : Type 0} (s : State) → IsCanonical s.moment.at → (line : List ℕ) → IsNextText s line → (result : Result (Unit {0}) E) (before now : List ℕ) → OnOk result (now ≡ before ++ line) → OnErr result (PutsFront before now line)
     → PutsLine (IsNextText s) result before now
 puts_next s canonical line own (Ok x) before now ok err = (line, ok, own)
