@@ -43,7 +43,8 @@ returns-in-Err-Refused-clause-text g c =
 
 pub returns-in-Err-Broken-clause-text : goal.returns-in-Err-Broken-clause-text
 returns-in-Err-Broken-clause-text g c =
-    rw c.in-Err-Broken.stop-is (broke_off c.loop-line.line-index c.loop-line.invariant.so_far c.loop-line-item.result c.loop-line-test.true c.loop-line-item.is c.in-Err-Broken.stop (printer (g.K.Sink.held c.perform.new.sink) c.perform.new.out.items) (rw c.in-Err-Broken.field-0-is at c.in-Err-Broken.ensures.performs))
+    let h = c.in-Err-Broken in
+    rw h.stop-is (broke_off c.loop-line.line-index c.loop-line.invariant.so_far c.loop-line-item.result c.loop-line-test.true c.loop-line-item.is h.stop (printer (g.K.Sink.held c.perform.new.sink) c.perform.new.out.items) (rw h.field-0-is at h.ensures.performs))
 
 pub loop-line-preserved : goal.loop-line-preserved
 loop-line-preserved g c =
