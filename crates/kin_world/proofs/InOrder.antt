@@ -1,31 +1,21 @@
 -- What stands at a place, who owns a live fact, and one structure put in the place of another.
-use Rattle.kin_world.proofs.Vocabulary.{rules, ◌≡◌, ◌≢◌, ◌⊎◌, inl, inr, refl, sym, ap, ◌∙◌, subst, arith, ℕ, ◌-◌, ◌^◌, ◌<◌, ◌≤◌, List, Option, length, get_or, slice_set, slice_get, Some, Contains, length-set, cases_eq, length-map, Contains-get_or}
+use Rattle.kin_world.proofs.Vocabulary.{rules, ◌≡◌, ◌≢◌, ◌⊎◌, inl, inr, refl, sym, ap, ◌∙◌, subst, arith, ℕ, ◌-◌, ◌^◌, ◌<◌, ◌≤◌, List, Option, length, get_or, slice_set, slice_get, Some, Contains, length-set, cases_eq, length-map}
 use Rattle.kin_world.proofs.Vocabulary.{same_Some, slice_get_read, slice_get_within, get-set_other, get-set_same, get_within, IsCanonical, Moment, AreSlow, Course, AllHold, HasChanged, Certificate, owned_by, Holds, Scene, scene_at, Placed, Keep}
 use Rattle.kin_world.proofs.Vocabulary.{Facts, LiveFact, NoneAlike, NoneWaits, HasFactsOf, IsTimed, MayTell, nothing, timed_holds, placed_facts, IsSettledFor, HasTimedNew, HasUpdated, IsInOrder, IsInPlace, IsTimedOrFailed, Stage, sight, Structure}
 use Rattle.kin_motion.specs.Deltas.{Change}
 use Rattle.kin_world.proofs.Certificates.{HaveSameCertificates}
-use Rattle.kin_world.proofs.StructureLaws.{settled_holds, settled_askable}
+use Rattle.kin_world.proofs.StructureLaws.{all_from_each, settled_holds, settled_askable}
 
 -- the live facts of the structure of this number hold, so all its facts hold
 pub facts_hold : (s : Scene) (live : List LiveFact) (j : ℕ) (facts : List Placed) → HasFactsOf live j facts → ((l : LiveFact) → Contains live l → Holds s l.certificate.placed.fact) → AllHold s facts
-facts_hold s live j facts tabled holds i d low =
-    let p = get_or facts i d in
-    let l = (tabled p).0 (Contains-get_or facts i d low) in
-    subst (λ (c : Certificate). Holds s c.placed.fact) l.2 (holds l.0 l.1)
+facts_hold s live j facts tabled holds = all_from_each facts (λ p there. let l = (tabled p).0 there in subst (λ (c : Certificate). Holds s c.placed.fact) l.2 (holds l.0 l.1))
 
 -- a fact with its first failure doesn't wait
 pub timely_from_timed : (scene : Moment → Scene) (m : Moment) (l : LiveFact) → IsTimed scene m l → IsTimedOrFailed scene m l
 timely_from_timed scene m l timed = search rules
 
 module _ {is_fine : ℕ → Keep → Structure → Type 0} {s : Stage} (o : IsInOrder is_fine s) where
-  -- what stands at a place
-  pub standing : (j : ℕ) → j < length s.structures → (keep : Keep) × (st : Structure) × (slice_get s.keeps j ≡ Some keep) × (slice_get s.structures j ≡ Some st)
-  standing j low =
-      let keep = get_within s.keeps j (subst (λ n. j < n) o.count low) in
-      let st = get_within s.structures j low in
-      (keep.0, st.0, keep.1, st.1)
-
-  -- what was read there
+  -- what stands at a place, and was read there
   pub standing_read : (j : ℕ) (st : Structure) → j < length s.structures → st ≡ get_or s.structures j st → (keep : Keep) × (slice_get s.keeps j ≡ Some keep) × (slice_get s.structures j ≡ Some st) × IsInPlace is_fine s.table.live j keep st
   standing_read j st low read =
       let keep = get_within s.keeps j (subst (λ n. j < n) o.count low) in
@@ -36,9 +26,10 @@ module _ {is_fine : ℕ → Keep → Structure → Type 0} {s : Stage} (o : IsIn
   pub owner : (l : LiveFact) → Contains s.table.live l
       → (keep : Keep) × (st : Structure) × (slice_get s.keeps l.certificate.structure ≡ Some keep) × is_fine l.certificate.structure keep st × Contains (placed_facts st) l.certificate.placed
   owner l there =
-      let at = standing l.certificate.structure (o.owned l there) in
-      let place = o.each l.certificate.structure at.0 at.1 at.2 at.3 in
-      (at.0, at.1, at.2, place.fine, (place.tabled l.certificate.placed).1 (l, there, refl))
+      let st = get_within s.structures l.certificate.structure (o.owned l there) in
+      let keep = get_within s.keeps l.certificate.structure (subst (λ n. l.certificate.structure < n) o.count (o.owned l there)) in
+      let place = o.each l.certificate.structure keep.0 st.0 keep.1 st.1 in
+      (keep.0, st.0, keep.1, place.fine, (place.tabled l.certificate.placed).1 (l, there, refl))
 
   -- where no fact waits each has its first failure, so it holds
   pub timed : NoneWaits s.table.live → (l : LiveFact) → Contains s.table.live l → IsTimed (scene_at s.motions) s.moment l
@@ -52,24 +43,21 @@ module _ {is_fine : ℕ → Keep → Structure → Type 0} {s : Stage} (o : IsIn
       → NoneAlike table.live → table.made ≤ 2 ^ 64 - 1 → HaveSameCertificates s.table.live table.live
       → ((j : ℕ) (keep : Keep) (st : Structure) → slice_get s.structures j ≡ Some st → IsInPlace is_fine s.table.live j keep st → is_fine' j keep st)
       → ((l : LiveFact) → Contains table.live l → IsTimedOrFailed (scene_at motions) m l) → IsInOrder is_fine' (record s { motions = motions; moment = m; table = table })
-  retimed motions m table room slow canonical once counted same finer timely = record {
-    fit = record { low = o.fit.low; high = o.fit.high; keepable = o.fit.keepable; room = room ∙ o.fit.room; slow = slow };
-    canonical = canonical;
-    counted = counted;
-    count = o.count;
-    each = λ j keep st kept there.
-        let was = o.each j keep st kept there in
-        record {
-          fine = finer j keep st there was;
-          tabled = λ p. (
-            λ there. let l = (was.tabled p).0 there in let k = same.stay l.0 l.1 in (k.0, k.1, k.2 ∙ l.2),
-            λ l. let k = same.only l.0 l.1 in (was.tabled p).1 (k.0, k.1, k.2 ∙ l.2),
-          );
-        };
-    once = once;
-    owned = λ l there. let k = same.only l there in subst (λ (c : Certificate). c.structure < length s.structures) k.2 (o.owned k.0 k.1);
-    timely = timely;
-  }
+  retimed {is_fine'} motions m table room slow canonical once counted same finer timely = search (rules, each, owned)
+    where
+      each : (j : ℕ) (keep : Keep) (st : Structure) → slice_get s.keeps j ≡ Some keep → slice_get s.structures j ≡ Some st → IsInPlace is_fine' table.live j keep st
+      each j keep st kept there =
+          let was = o.each j keep st kept there in
+          record {
+            fine = finer j keep st there was;
+            tabled = λ p. (
+              λ there. let l = (was.tabled p).0 there in let k = same.stay l.0 l.1 in (k.0, k.1, k.2 ∙ l.2),
+              λ l. let k = same.only l.0 l.1 in (was.tabled p).1 (k.0, k.1, k.2 ∙ l.2),
+            );
+          }
+
+      owned : (l : LiveFact) → Contains table.live l → l.certificate.structure < length s.structures
+      owned l there = let k = same.only l there in subst (λ (c : Certificate). c.structure < length s.structures) k.2 (o.owned k.0 k.1)
 
   -- the motions and the moment alone
   pub seen_anew : {is_fine' : ℕ → Keep → Structure → Type 0} (motions : List (Option Course)) (m : Moment) → length motions ≡ length s.motions → AreSlow motions → IsCanonical m.at

@@ -2,7 +2,7 @@
 use Rattle.kin_world.proofs.Vocabulary.{◌≡◌, refl, ap, sym, ◌∙◌, subst, ◌<◌, true, IsTrue, IsCanonical, moments_left, IsEarlier, Moment, Block, IsNextBlock, NoneFailsUntil, nothing_until, HasLanded, HasSameFrame, HasSettled, IsDueWithin, IsSound}
 use Rattle.kin_world.proofs.Vocabulary.{Stage, meaning, setting, stage_of, FailsWithin, HasLeftBehind, HasMoved, HasPassed, IsWhole, World, with_facts_of}
 use Rattle.kin_world.specs.declared.world.World.TheInside.{Inside}
-use Rattle.kin_world.proofs.SoundLaws.{whole, sound_later, in_time, fails_within, least_fewer, same_but_facts, has_made}
+use Rattle.kin_world.proofs.SoundLaws.{whole, sound_later, in_time, fails_within, least_fails, same_but_facts, has_made}
 use Rattle.kin_num.proofs.Grains.{moments_run_out}
 
 module _ (w : Inside) {v : World} (is : meaning (stage_of w.upkeep) w.whole ≡ v) (sound : IsTrue w.whole → IsSound (stage_of w.upkeep)) (there : IsTrue v.whole) where
@@ -25,6 +25,10 @@ module _ (w : Inside) {v : World} (is : meaning (stage_of w.upkeep) w.whole ≡ 
   pub whole_inside : IsWhole v
   whole_inside = as_seen IsWhole (whole sound_inside)
 
+  -- fewer moments are left from a later one on
+  pub fewer : (n : Moment) → IsCanonical n.at → IsEarlier w.upkeep.moment n → moments_left n < moments_left v.moment
+  fewer n canonical later = as_seen (λ x. moments_left n < moments_left x.moment) (moments_run_out w.upkeep.moment n sound_inside.in_order.canonical canonical later)
+
   -- where nothing fails up to the limit, it is sound there, too, and has moved
   module _ (limit : Moment) (canonical : IsCanonical limit.at) (later : ¬ (IsEarlier limit v.moment)) (none : NoneFailsUntil w.upkeep.table.live limit) where
     from : ¬ (IsEarlier limit w.upkeep.moment)
@@ -43,7 +47,7 @@ module _ (w : Inside) {v : World} (is : meaning (stage_of w.upkeep) w.whole ≡ 
 
     module _ (t : Stage) (frame : HasSameFrame (record (stage_of w.upkeep) { moment = m }) t) where
       pub passed_fewer : moments_left t.moment < moments_left v.moment
-      passed_fewer = as_seen (λ x. moments_left t.moment < moments_left x.moment) (subst (λ (s : Stage). moments_left s.moment < moments_left w.upkeep.moment) (sym frame) (least_fewer sound_inside m due.least))
+      passed_fewer = let first = least_fails sound_inside m due.least in subst (λ (s : Stage). moments_left s.moment < moments_left v.moment) (sym frame) (fewer m first.canonical first.later_is_later)
 
       pub passes : HasSettled w.upkeep.table t → (b : Block) → b.moment ≡ m → IsNextBlock (setting (stage_of w.upkeep)) w.upkeep.moment b → HasPassed limit b v (meaning t true)
       passes did b at next = as_seen (λ x. HasPassed limit b x (meaning t true)) (record {
@@ -55,9 +59,6 @@ module _ (w : Inside) {v : World} (is : meaning (stage_of w.upkeep) w.whole ≡ 
       })
 
     module _ {t : Stage} (landed : HasLanded m limit (stage_of w.upkeep) t) where
-      pub lands_fewer : moments_left t.moment < moments_left v.moment
-      lands_fewer = as_seen (λ x. moments_left t.moment < moments_left x.moment) (moments_run_out w.upkeep.moment t.moment sound_inside.in_order.canonical landed.settled.sound.in_order.canonical landed.later)
-
       pub leaves_behind : HasSameFrame (record (stage_of w.upkeep) { moment = t.moment }) t → HasLeftBehind limit v (meaning t true)
       leaves_behind frame = as_seen (λ x. HasLeftBehind limit x (meaning t true)) (record {
         due = fails_within sound_inside m due.least t.moment landed.past;

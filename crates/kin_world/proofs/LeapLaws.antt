@@ -61,13 +61,10 @@ module _ {s : Stage} (sound : IsSound s) (table : Facts) {given : List Owned} (o
 
   -- it has landed later, not before the moment that was due and not after the limit
   pub has_landed : {t : Stage} → IsLanding (scene_at s.motions) due limit given m → ¬ (IsEarlier limit due) → HasSameFrame (record s { moment = m; table = table }) t → HasSettled s.table t → HasLanded due limit s t
-  has_landed {t} landing within frame settled = at landing (ap (λ (x : Stage). x.moment) frame)
+  has_landed {t} landing within frame settled =
+      let lands = subst (λ (x : Moment). IsEarlier s.moment x × ¬ (IsEarlier x due) × ¬ (IsEarlier limit x)) (sym (ap (λ (x : Stage). x.moment) frame)) (at landing) in
+      record { later = lands.0; past = lands.1; within = lands.2; settled = settled }
     where
-      at : IsLanding (scene_at s.motions) due limit given m → t.moment ≡ m → HasLanded due limit s t
-      at (inl is) now = record { later = rw (now, is) first.later_is_later; past = rw (now, is) (never due first.canonical); within = rw (now, is) within; settled = settled }
-      at (inr beyond) now = record {
-        later = rw now (reached beyond).later;
-        past = rw now (λ e. never due first.canonical (through due m due first.canonical (reached beyond).canonical first.canonical (past_due beyond) e));
-        within = rw now beyond.within;
-        settled = settled;
-      }
+      at : IsLanding (scene_at s.motions) due limit given m → IsEarlier s.moment m × ¬ (IsEarlier m due) × ¬ (IsEarlier limit m)
+      at (inl is) = rw is (first.later_is_later, never due first.canonical, within)
+      at (inr beyond) = ((reached beyond).later, λ e. never due first.canonical (through due m due first.canonical (reached beyond).canonical first.canonical (past_due beyond) e), beyond.within)

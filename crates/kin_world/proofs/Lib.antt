@@ -1,5 +1,4 @@
 pub mod Vocabulary
-pub mod ApproachLaws
 pub mod StructureLaws
 pub mod InOrder
 pub mod SoundLaws

@@ -1,7 +1,8 @@
 -- A number comes or goes, and one structure after another carries the mark out. Going is coming turned round: the motions that have the number are then those before.
-use Rattle.kin_world.proofs.Vocabulary.{◌≡◌, inl, inr, refl, sym, ap, ◌∙◌, arith, ℕ, zero, suc, ◌<◌, ◌≤◌, ◌^◌, ◌⊎◌, true, false, List, [], ◌∷◌, length, slice_set, Option, Some, None, is_some, slice_get, Contains, get_or-set_same, set-set, set-get_or}
+use Rattle.kin_world.proofs.Vocabulary.{rules, ◌≡◌, inl, inr, refl, sym, ap, ◌∙◌, arith, ℕ, zero, suc, ◌<◌, ◌≤◌, ◌^◌, ◌⊎◌, true, false, List, [], ◌∷◌, length, slice_set, Option, Some, None, is_some, slice_get, Contains, get_or-set_same, set-set, set-get_or}
 use Rattle.kin_world.proofs.Vocabulary.{All-contains, slice_get_within, AreSlow, Course, is_live, live_of, motion_of, IsAskable, IsSmallKeep, owned_by, Holds, Scene, scene_at, Placed, Keep, Facts, LiveFact, IsTimed, placed_facts, AreLiveAfter}
 use Rattle.kin_world.proofs.Vocabulary.{HoldFor, IsSettledFor, HasGoneOn, HasGoneOver, HasOneMore, HasUpdated, IsCarriedOut, IsInOrder, IsInPlace, IsMarked, IsSound, Stage, sight, with_marked, Structure}
+use Rattle.std.proofs.lemmas.List.{get_or_past}
 use Rattle.kin_motion.proofs.MotionLaws.{slow-clear}
 use Rattle.kin_world.specs.declared.structure.Mark.{Mark}
 use Rattle.kin_world.specs.declared.structure.Mark.TheVariants.{Enters, Leaves}
@@ -17,23 +18,17 @@ motion_there (Some c) live = (c, refl)
 
 -- and is below the length
 pub live_within : (ms : List (Option Course)) (i : ℕ) → is_live ms i ≡ true → i < length ms
-live_within [] i live = absurd cc
-live_within (o ∷ ms) zero live = omega arith
-live_within (o ∷ ms) (suc i) live = let low = live_within ms i live in omega (arith, low)
+live_within ms i live = grind (arith, get_or_past)
 
 -- every live fact is seen as before, and the number may enter
 pub may_insert : {s : Stage} (sound : IsSound s) (entering : ℕ) (c : Course) (motions : List (Option Course)) → is_live s.motions entering ≡ false → entering < 2 ^ s.size → motions ≡ slice_set s.motions entering (Some c) → AreSlow motions
     → IsMarked (Enters entering) 0 s.motions (record s { motions = motions })
 may_insert {s} sound entering c motions free low written slow =
     let one : HasOneMore entering s.motions motions = record { free = free; motion = c; is = written } in
-    record {
-      in_order = seen_anew sound.in_order motions s.moment (same_room one) slow sound.in_order.canonical (λ j keep st there was. record { done = λ less. absurd (omega (arith, less)); ahead = λ more. was.fine })
-          (λ l there. timely_from_timed (scene_at motions) s.moment l ((timed_same one s.moment l (live_askable sound l there)).0 (timed sound.in_order sound.none_waits l there)));
-      none_waits = sound.none_waits;
-      room = low;
-      changed = one;
-      slow = slow;
-    }
+    let in_order : IsInOrder (HasGoneOver s.size 0 (sight s) (scene_at motions s.moment)) (record s { motions = motions }) =
+    seen_anew sound.in_order motions s.moment (same_room one) slow sound.in_order.canonical (λ j keep st there was. record { done = λ less. absurd (omega (arith, less)); ahead = λ more. was.fine })
+    (λ l there. timely_from_timed (scene_at motions) s.moment l ((timed_same one s.moment l (live_askable sound l there)).0 (timed sound.in_order sound.none_waits l there))) in
+    search rules
 
 -- the number may leave
 pub may_remove : {s : Stage} (sound : IsSound s) (leaving : ℕ) (motions : List (Option Course)) → is_live s.motions leaving ≡ true → leaving < 2 ^ s.size → motions ≡ slice_set s.motions leaving None

@@ -1,15 +1,14 @@
 -- What a sound world has: its live facts are those of the definition, and the table tells what comes next.
 use Rattle.std.proofs.Common.{◌≡◌, inl, inr, refl, sym, ap, ◌∙◌, subst, arith, ℕ, suc, ◌<◌, true, List, [], ◌∷◌, Option, Some, None, slice_set, get_or, slice_get, Contains, ◌↔◌}
-use Rattle.kin_world.proofs.Vocabulary.{All-contains, slice_get_read, slice_get_within, IsCanonical, moments_left, IsEarlier, Moment, never, through, total, Course, IsAskable, NothingFails, failures_at, Certificate, IsLiveFact, ListsLive}
+use Rattle.kin_world.proofs.Vocabulary.{All-contains, slice_get_read, slice_get_within, get_within, IsCanonical, IsEarlier, Moment, never, through, total, Course, IsAskable, NothingFails, failures_at, Certificate, IsLiveFact, ListsLive}
 use Rattle.kin_world.proofs.Vocabulary.{FailsFirst, IsReal, scene_at, AreDistinct, Placed, Keep, live_fits, real_at, contains_map, contains_mapped, distinct_cons, distinct_none, AreAlike, LiveFact, NoneAlike, IsLeastFailure, NoneFails}
 use Rattle.kin_world.proofs.Vocabulary.{NoneFailsUntil, IsTimed, certificates_of, IsInTime, earlier_still, fails_first, hold_before_least, later_start, nothing_fails, timed_holds, placed_facts, IsSettledFor, HasSameFrame, HasSettled}
 use Rattle.kin_world.proofs.Vocabulary.{IsSound, Stage, meaning, setting, sight, FailsWithin, HasInserted, HasMade, HasRemoved, IsNextMoment, IsWhole, with_facts_of, Structure}
-use Rattle.kin_num.proofs.Grains.{moments_run_out}
 use Rattle.kin_motion.specs.Agreements.{FitsSize}
 use Rattle.kin_motion.proofs.LiveFactLaws.{live_facts_agree}
 use Rattle.kin_cert.proofs.JournalExistence.{least_block}
 use Rattle.kin_world.proofs.Certificates.{at_its}
-use Rattle.kin_world.proofs.InOrder.{facts_hold, owner, seen_anew, standing, timed, timely_from_timed}
+use Rattle.kin_world.proofs.InOrder.{facts_hold, owner, seen_anew, timed, timely_from_timed}
 use Rattle.kin_world.proofs.StructureLaws.{settled_askable, settled_facts, settled_from_hold, settled_where_hold}
 
 -- no owner has a form twice, so no certificate stands twice
@@ -50,9 +49,9 @@ module _ {s : Stage} (sound : IsSound s) where
 
       from : (c : Certificate) → IsLiveFact s.size s.keeps (sight s) c → Contains (certificates_of s.table.live) c
       from c f =
-          let at = standing sound.in_order c.structure (rw sound.in_order.count (slice_get_within s.keeps c.structure f.keep f.kept)) in
-          let place = sound.in_order.each c.structure f.keep at.1 f.kept at.3 in
-          let l = (place.tabled c.placed).0 (((settled_facts s.size f.keep (sight s) at.1 place.fine).each c.placed).1 f.fact) in
+          let st = get_within s.structures c.structure (rw sound.in_order.count (slice_get_within s.keeps c.structure f.keep f.kept)) in
+          let place = sound.in_order.each c.structure f.keep st.0 f.kept st.1 in
+          let l = (place.tabled c.placed).0 (((settled_facts s.size f.keep (sight s) st.0 place.fine).each c.placed).1 f.fact) in
           subst (λ (x : Certificate). Contains (certificates_of s.table.live) x) l.2 (contains_map (λ (k : LiveFact). k.certificate) s.table.live l.0 l.1)
 
   is_live : (l : LiveFact) → Contains s.table.live l → IsLiveFact s.size s.keeps (sight s) l.certificate
@@ -98,10 +97,6 @@ module _ {s : Stage} (sound : IsSound s) where
   ]
 
   module _ (m : Moment) (least : IsLeastFailure s.table.live m) where
-    -- fewer moments are left from the least failure on
-    pub least_fewer : moments_left m < moments_left s.moment
-    least_fewer = let first = least_fails m least in moments_run_out s.moment m sound.in_order.canonical first.canonical first.later_is_later
-
     -- the least failure is the next moment
     pub next_moment : IsNextMoment (setting s) s.moment m
     next_moment =

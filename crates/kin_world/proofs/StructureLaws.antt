@@ -4,9 +4,9 @@ use Rattle.kin_world.proofs.Vocabulary.{IsSettledWhereAllHold, Structure}
 use Rattle.kin_motion.proofs.AskableLaws.{keep_fact_askable}
 use Rattle.kin_motion.proofs.LiveFactsHold.{keep_fact_holds}
 
--- what every fact of a list has all of them have
-all_from_each : {P : Placed → Type 0} (ps : List Placed) → ((p : Placed) → Contains ps p → P p) → All P ps
-all_from_each {P} ps each k d low = each _ (Contains-get_or ps k d low)
+-- what every item of a list has all of them have
+pub all_from_each : {A : Type 0} {P : A → Type 0} (xs : List A) → ((x : A) → Contains xs x → P x) → All P xs
+all_from_each {A} {P} xs each k d low = each _ (Contains-get_or xs k d low)
 
 -- its facts are those of its keep
 pub settled_facts : (size : ℕ) (kept : Keep) (s : Scene) (st : Structure) → IsSettledFor size kept s st → ListsExactly (placed_facts st) (IsKeepFact size s kept)

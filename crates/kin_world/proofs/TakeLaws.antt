@@ -1,5 +1,5 @@
 -- What fails at the least failure moment is taken out, and all else is seen from there.
-use Rattle.kin_world.proofs.Vocabulary.{◌≡◌, ◌≢◌, inl, inr, refl, sym, ap, ◌∙◌, subst, arith, false, List, get_or, map, Some, Contains, ◌↔◌, true, All, ℤ, Option, Contains-get_or, Contains-permutation, IsPermutation-sym, IsCanonical, IsEarlier}
+use Rattle.kin_world.proofs.Vocabulary.{◌≡◌, ◌≢◌, inl, inr, refl, sym, ap, ◌∙◌, subst, arith, false, List, map, Some, Contains, ◌↔◌, true, All, ℤ, Option, Contains-permutation, IsPermutation-sym, IsCanonical, IsEarlier}
 use Rattle.kin_world.proofs.Vocabulary.{Moment, total, live_of, IsAskable, Block, IsNextBlock, seen_in, Certificate, FailsFirst, HoldsAt, scene_at, real_at, exactly_in_words, Facts, LiveFact, NoneAlike, certificate_of, IsFirstFailure, HasGivenOut}
 use Rattle.kin_world.proofs.Vocabulary.{HasTaken, IsLeastFailure, certificate_rank, is_taken_before, IsTimed, Owned, later_start, next_block, AreWaiting, HasSettled, IsSound, IsUnderRepair, Stage, setting, sight}
 use Rattle.kin_motion.proofs.JournalLaws.{never_less_rank, less_rank_through}
@@ -7,7 +7,7 @@ use Rattle.kin_motion.proofs.ListChains.{chain_distinct}
 use Rattle.kin_world.proofs.Certificates.{HaveSameCertificates, same_listed}
 use Rattle.kin_world.proofs.InOrder.{retimed, timed}
 use Rattle.kin_world.proofs.SoundLaws.{failure_at, in_time, least_fails, live_askable, one_least, real}
-use Rattle.kin_world.proofs.StructureLaws.{settled_where_hold}
+use Rattle.kin_world.proofs.StructureLaws.{all_from_each, settled_where_hold}
 use Rattle.std.proofs.lemmas.List.Sorted.{IsPermutation-refl}
 
 -- what was taken out in the journal's order is as good as what was given out in any
@@ -73,9 +73,7 @@ module _ {s : Stage} (sound : IsSound s) (table : Facts) {given : List Owned} (o
 
   -- and may be asked for
   pub given_askable : All (λ (o : Owned). IsAskable (live_of s.motions) o.fact.form) given
-  given_askable i o low =
-      let l = (given_each (get_or given i o)).0 (Contains-get_or given i o low) in
-      subst (λ (c : Certificate). IsAskable (live_of s.motions) c.placed.fact.form) l.3 (live_askable sound l.0 l.1)
+  given_askable = all_from_each given (λ o there. let l = (given_each o).0 there in subst (λ (c : Certificate). IsAskable (live_of s.motions) c.placed.fact.form) l.3 (live_askable sound l.0 l.1))
 
   pub reached_under_repair : (m : Moment) → IsReached m → NoneAlike table.live → table.made ≡ s.table.made → IsUnderRepair (record s { moment = m; table = table })
   reached_under_repair m reached once made =

@@ -1,6 +1,6 @@
 -- A number turns: what is seen now is as before, so every structure stays settled, and the facts that don't name it fail as before.
 use Rattle.std.proofs.Common.{rules, ◌≡◌, inl, inr, refl, sym, ap, ◌∙◌, subst, arith, ℕ, ◌+◌, ◌-◌, ◌^◌, true, cond, List, [], ◌∷◌, length, slice_set, Result, Err, IfOk, Option, Some, ℤ, min, count_by, Contains, ◌↔◌, IsTrue, length-set}
-use Rattle.std.proofs.lemmas.List.Sums.{sum_by-cons}
+use Rattle.std.proofs.lemmas.List.Folds.{fold-map}
 use Rattle.std.proofs.lemmas.Result.{IfOk-weaker}
 use Rattle.kin_world.proofs.Vocabulary.{cases_Bool, same_Some, IsCanonical, Moment, After, At, AreSlow, Course, IsSlow, is_live, live_of, motion_of, IsAskable, Certificate, Holds, Scene, scene_at, IsNotWhole, IsOutOfBounds, TurnsTo}
 use Rattle.kin_world.proofs.Vocabulary.{NotWhole, OutOfBounds, Facts, LiveFact, NoneAlike, IsTimed, certificates_of, timed_holds, IsSettledFor, IsSound, Stage, meaning, sight, CanTurn, HasTurned, World, is_about, with_facts_of}
@@ -31,21 +31,10 @@ pub no_cause : (w : World) (n : ℕ) (u v : ℤ) (motion : Course) → CanTurn n
     → ((had : Course) → motion_of w.motions n ≡ Some had → (r ≡ Err NotWhole) ↔ IsNotWhole w.moment u v had)
     → ((had : Course) → motion_of w.motions n ≡ Some had → (r ≡ Err OutOfBounds) ↔ IsOutOfBounds w.moment u v had)
     → (e : TurnError) → r ≡ Err e → ⊥
-no_cause w n u v motion can canonical r not_whole outside NotWhole is = elim ((not_whole can.before can.had).0 is) [
-  | inl after ↦ let clash : At ≡ After = sym can.at ∙ after in absurd cc
-  | inr none ↦ none motion can.turns
-]
+no_cause w n u v motion can canonical r not_whole outside NotWhole is = search (rules, arith, can.turns)
 no_cause w n u v motion can canonical r not_whole outside OutOfBounds is =
     let far = (outside can.before can.had).0 is in
     far.1.2 (subst IsSlow (one_turn w.moment.at u v can.before motion far.1.0 canonical can.turns far.1.1) can.slow)
-
--- as many certificates are about a number as live facts name it
-same_count : (n : ℕ) (live : List LiveFact) → count_by (names_number n) live ≡ count_by (is_about n) (certificates_of live)
-same_count n [] = refl
-same_count n (l ∷ ls) =
-    sum_by-cons (λ (x : LiveFact). cond (names_number n x) 1 0) l ls
-    ∙ ap (λ k. cond (names_number n l) 1 0 + k) (same_count n ls)
-    ∙ sym (sum_by-cons (λ (c : Certificate). cond (is_about n c) 1 0) l.certificate (certificates_of ls))
 
 module _ {s : Stage} (sound : IsSound s) (n : ℕ) (u v : ℤ) (motion : Course) (can : CanTurn n u v (meaning s true) motion) (motions : List (Option Course)) (written : motions ≡ slice_set s.motions n (Some motion)) where
   -- what is seen now is as before
@@ -100,5 +89,5 @@ module _ {s : Stage} (sound : IsSound s) (n : ℕ) (u v : ℤ) (motion : Course)
       state = ap (λ (ms : List (Option Course)). with_facts_of (record (meaning s true) { motions = ms }) (meaning (record s { motions = motions; table = table }) true)) written;
       whole = whole sound_turned;
       stay = λ c. let both = same_listed same c in (both.1, both.0);
-      made = subst (λ k. table.made ≡ min (s.table.made + k) (2 ^ 64 - 1)) (same_count n s.table.live) remade.made;
+      made = rw fold-map remade.made;
     }

@@ -1,6 +1,18 @@
-use Rattle.std.proofs.Common.{refl}
-use Rattle.kin_world.proofs.ApproachLaws.{comes_within}
+use Rattle.kin_world.proofs.Vocabulary.{◌≡◌, ℕ, Option, Some, None, IfSome, refl, sym, ◌∙◌, IsCanonical, Moment, Course, Fact, IsFirstFailure, seen_by}
+use Rattle.kin_algebra.specs.declared.sign.Sign.TheVariants.{Plus}
+use Rattle.kin_num.proofs.MomentOrder.{not_earlier_itself, earlier_trans}
+use Rattle.kin_world.specs.Approach.{clearance, IsFirstWithin}
 use Rattle.kin_world.proofs.approach.first_within.Goals as goal
+
+-- two points come within a distance where being apart fails first
+comes_within : (d : ℕ) (p q : Course) (now : Moment) → IsCanonical now.at → (f : Fact) → f.sign ≡ Plus → (o : Option Moment) → IsFirstFailure (seen_by (clearance d p q)) now f o → IfSome o (IsFirstWithin d p q now)
+comes_within d p q now here f plus None h = tt
+comes_within d p q now here f plus (Some m) h = record {
+  canonical = h.canonical;
+  from = λ e. not_earlier_itself now (earlier_trans now m now here.form h.canonical.form here.form h.later_is_later e);
+  within = λ e. h.fails (e ∙ sym plus);
+  before = λ n k. h.holds_until n k ∙ plus;
+}
 
 pub returns-in-Plus-clause-some : goal.returns-in-Plus-clause-some
 returns-in-Plus-clause-some g c =

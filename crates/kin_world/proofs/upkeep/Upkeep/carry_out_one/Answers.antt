@@ -1,4 +1,4 @@
-use Rattle.kin_world.proofs.Vocabulary.{arith, from_two, scene_at, real_at, IsSettledFor, sight, stage_of}
+use Rattle.kin_world.proofs.Vocabulary.{rules, arith, from_two, real_at, IsSettledFor, sight, stage_of}
 use Rattle.kin_world.proofs.MarkLaws.{live_after, hold_for, carried_on}
 use Rattle.kin_world.proofs.InOrder.{standing_read, may_tell}
 use Rattle.kin_world.proofs.upkeep.Upkeep.carry_out_one.Goals as goal
@@ -8,13 +8,7 @@ carry_out-requires g c =
     let h = c.requires.marked in
     let s = standing_read h.1.in_order c.args.k c.index_mut.result.now c.requires.within c.index_mut.ensures.value in
     let was = s.3.fine.ahead (omega arith) in
-    record {
-      real = real_at c.args.self.now.motions c.args.self.now.moment h.1.in_order.canonical;
-      rest = was.rest;
-      room = (c.args.self.now.size, s.0, was.kind, h.1.room);
-      marked = (scene_at h.0 c.args.self.now.moment, was.members, was.settled, live_after c.args.mark h.1);
-      hold = hold_for c.args.mark h.1 s.0 c.index_mut.result.now s.3 s.1;
-    }
+    search (rules, real_at, live_after, hold_for c.args.mark h.1 s.0 c.index_mut.result.now s.3 s.1)
 
 pub tell-requires : goal.tell-requires
 tell-requires g c =

@@ -1,14 +1,10 @@
-use Rattle.kin_world.proofs.Vocabulary.{length, map, refl, sym, ap, ◌∙◌, length-map, length_permutation, Block, Failure, seen_in, scene_at, certificate_of, Owned}
+use Rattle.kin_world.proofs.Vocabulary.{rules, arith, length, map, refl, sym, ap, ◌∙◌, length-map, length_permutation, Block, Failure, seen_in, scene_at, certificate_of, Owned}
 use Rattle.kin_world.proofs.TakeLaws.{given_waiting, taken_under_repair, taken_block, settled_since}
 use Rattle.kin_world.proofs.upkeep.Upkeep.pass_unlisted.Goals as goal
 
 pub repair_each-requires : goal.repair_each-requires
 repair_each-requires g c =
-    let out = c.in_ok-give_failing.ensures.given in
-    record {
-      repair = taken_under_repair c.requires.sound c.give_failing.new.self out c.args.moment.now c.requires.failing c.in_ok-give_failing.ensures.once c.give_failing.ensures.made;
-      waiting = rw c.deref.ensures.value (given_waiting c.requires.sound c.give_failing.new.self out);
-    }
+    search (rules, arith, c.in_ok-give_failing.ensures.given, taken_under_repair, c.requires.sound, c.requires.failing, c.in_ok-give_failing.ensures.once, c.give_failing.ensures.made, c.deref.ensures.value, given_waiting)
 
 pub returns-clause-next : goal.returns-clause-next
 returns-clause-next g c =

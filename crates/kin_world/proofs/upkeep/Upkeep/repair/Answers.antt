@@ -1,4 +1,4 @@
-use Rattle.kin_world.proofs.Vocabulary.{from_two, real_at, placed_facts, IsSettledFor, sight, stage_of}
+use Rattle.kin_world.proofs.Vocabulary.{rules, from_two, real_at, placed_facts, IsSettledFor, sight, stage_of}
 use Rattle.kin_world.proofs.InOrder.{standing_read, may_tell}
 use Rattle.kin_world.proofs.RepairLaws.{waiting_fail, repaired}
 use Rattle.kin_world.proofs.upkeep.Upkeep.repair.Goals as goal
@@ -6,13 +6,7 @@ use Rattle.kin_world.proofs.upkeep.Upkeep.repair.Goals as goal
 pub settle-requires : goal.settle-requires
 settle-requires g c =
     let s = standing_read c.requires.repair c.args.k c.index_mut.result.now c.requires.within c.index_mut.ensures.value in
-    record {
-      real = real_at c.args.self.now.motions c.args.self.now.moment c.requires.repair.canonical;
-      rest = s.3.fine.rest;
-      members = s.3.fine.members;
-      failing = rw c.deref.ensures.value
-          (record { listed = waiting_fail c.requires.repair c.args.k (placed_facts c.index_mut.result.now) c.args.self.now.failed.items s.3.tabled c.requires.failed });
-    }
+    search (rules, real_at, c.deref.ensures.value, waiting_fail c.requires.repair c.args.k (placed_facts c.index_mut.result.now) c.args.self.now.failed.items s.3.tabled c.requires.failed)
 
 pub tell-requires : goal.tell-requires
 tell-requires g c =

@@ -1,5 +1,5 @@
 use Rattle.kin_world.proofs.Vocabulary.{on_err}
-use Rattle.kin_world.proofs.Inside.{sound_inside, rests_sound, has_rested, fails_seen, leaves_behind, lands_fewer}
+use Rattle.kin_world.proofs.Inside.{sound_inside, rests_sound, has_rested, fails_seen, leaves_behind, fewer}
 use Rattle.kin_world.proofs.world.World.leap.Goals as goal
 
 pub due_within-requires : goal.due_within-requires
@@ -18,4 +18,6 @@ pub returns-clause-leapt : goal.returns-clause-leapt
 returns-clause-leapt g c = leaves_behind c.self.inside c.self.view_is c.self.invariant c.requires.whole c.args.limit.now c.in-Some.moment c.in-Some.ensures c.in_ok-leap.ensures.landed c.leap.ensures.frame
 
 pub returns-clause-fewer : goal.returns-clause-fewer
-returns-clause-fewer g c = λ some. lands_fewer c.self.inside c.self.view_is c.self.invariant c.requires.whole c.args.limit.now c.in-Some.moment c.in-Some.ensures c.in_ok-leap.ensures.landed
+returns-clause-fewer g c = λ some.
+    let landed = c.in_ok-leap.ensures.landed in
+    fewer c.self.inside c.self.view_is c.self.invariant c.requires.whole _ landed.settled.sound.in_order.canonical landed.later

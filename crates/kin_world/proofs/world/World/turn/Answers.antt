@@ -1,4 +1,4 @@
-use Rattle.kin_world.proofs.Vocabulary.{w32, true, clean, meaning, stage_of, CanTurn, HasTurned}
+use Rattle.kin_world.proofs.Vocabulary.{rules, w32, true, clean, meaning, stage_of, CanTurn, HasTurned}
 use Rattle.kin_world.proofs.Inside.{sound_inside, as_seen, as_inside, whole_inside}
 use Rattle.kin_world.proofs.TurnLaws.{no_cause, askable_still, holds_still, sound_turned, has_turned}
 use Rattle.kin_world.proofs.world.World.turn.Goals as goal
@@ -14,10 +14,7 @@ pub remake-requires : goal.remake-requires
 remake-requires g c =
     let sound = sound_inside c.self.inside c.self.view_is c.self.invariant c.requires.whole in
     let can = as_inside c.self.inside c.self.view_is c.self.invariant c.requires.whole (λ v. CanTurn c.args.no c.args.u c.args.v v c.in-Ok.motion) (rw (clean w32 c.args.u c.ranges.u.sfits, clean w32 c.args.v c.ranges.v.sfits) at c.in-Ok.ensures.turns) in
-    record {
-      askable = askable_still sound c.args.no c.args.u c.args.v c.in-Ok.motion can c.set.new.self c.set.ensures.value;
-      holds = holds_still sound c.args.no c.args.u c.args.v c.in-Ok.motion can c.set.new.self c.set.ensures.value;
-    }
+    search (rules, askable_still, holds_still sound c.args.no c.args.u c.args.v c.in-Ok.motion can c.set.new.self c.set.ensures.value)
 
 pub invariant_of-self-2 : goal.invariant_of-self-2
 invariant_of-self-2 g c = λ _.
