@@ -1,5 +1,5 @@
 -- Every change, every deed, every input and every generated script has its outcome.
-use Rattle.std.proofs.Common.{◌≡◌, ◌⊎◌, inl, inr, ◌≤◌, true, false, ℤ, ℕ, Bool, List, [], ◌∷◌, unsigned_abs, Option, Some, None, refl, sym, ap, ◌∙◌, subst, arith, is_some, length-set, slice_set, ◌^◌, ◌++◌, Result, Ok, Err, All, zero, suc, ◌+◌}
+use Rattle.std.proofs.Common.{rules, ◌≡◌, ◌⊎◌, inl, inr, ◌≤◌, true, false, ℤ, ℕ, Bool, List, [], ◌∷◌, unsigned_abs, Option, Some, None, refl, sym, ap, ◌∙◌, subst, arith, is_some, length-set, slice_set, ◌^◌, ◌++◌, Result, Ok, Err, All, zero, suc, ◌+◌}
 use Rattle.kin_run.proofs.Vocabulary.{cases_lt, same_Some, IsCanonical, Quadratic, Moment, Shape, After, At, AreSlow, Course, IsSlow, motion_of, Block, Change, ChangesTo, IsChangeInRange, IsRefusedChange, IsRefusedTurn, enters, leaves, restarts, turns, Deed, asks, changes, goes_on, goes_to}
 use Rattle.kin_run.proofs.Vocabulary.{IsDeedInRange, IsNamedRoot, IsRefused, State, at, Step, Refusal, Absent, NoRoot, NotKept, NotWhole, OutOfBounds, Past, Taken, has_line, Passes, length-replicate, start_canonical, none_live, deed_of, IsGenerated, IsLeastSize, insertions, one_of_each, questions}
 use Rattle.kin_run.proofs.Vocabulary.{script_of, IsKeepInRange, IsCommandInRange, IsWithin, start, Ending, Text, bad_line, refused_line, Script, deed_in_range, small_keep, DemoTextsExist, demo_line, start_of, IsAnswer, IsTextOf, TextsExist, PassesInTurn, Status}
@@ -42,24 +42,14 @@ slow_some c slow d e = subst IsSlow (same_Some c d e) slow
 
 -- ---- a motion with a slow velocity is slow or not
 slow_or_not : (c : Course) → unsigned_abs c.u ≤ 4096 → unsigned_abs c.v ≤ 4096 → IsSlow c ⊎ ¬ (IsSlow c)
-slow_or_not c u v = elim (cases_lt 4096 (unsigned_abs c.x)) [
-  | inl far ↦ inr (λ slow. let near = slow.x_small in omega (arith, far, near))
-  | inr x ↦ elim (cases_lt 4096 (unsigned_abs c.y)) [
-    | inl far ↦ inr (λ slow. let near = slow.y_small in omega (arith, far, near))
-    | inr y ↦ inl (record { x_small = x; y_small = y; u_small = u; v_small = v })
-  ]
-]
+slow_or_not c u v = search (rules, arith, cases_lt)
 
 -- ---- turns
 module _ (m : Moment) (canonical : IsCanonical m.at) (u v : ℤ) (old : Course) where
   -- a turn to a slow motion is not refused
   pub allowed_turn : (now : Option Course) → now ≡ Some old → m.phase ≡ At → (new : Course) → TurnsTo m.at u v old new → IsSlow new → (r : Refusal) → ¬ (IsRefusedChange m now (turns u v) r)
   allowed_turn now had at new goes slow r (inl absent) = absurd (let clash : true ≡ false = ap is_some (sym had) ∙ absent.1 in cc)
-  allowed_turn now had at new goes slow r (inr (also, is, refused)) = elim (subst (λ (c : Course). IsRefusedTurn m u v c r) (same_Some also old (sym is ∙ had)) refused) [
-    | inl (word, inl after) ↦ absurd (let clash : At ≡ After = sym at ∙ after in cc)
-    | inl (word, inr none) ↦ none new goes
-    | inr (word, out) ↦ out.1.2 (subst IsSlow (one_turn m.at u v old new out.1.0 canonical goes out.1.1) slow)
-  ]
+  allowed_turn now had at new goes slow r (inr (also, is, refused)) = search (rules, arith, same_Some, one_turn)
 
   by_size : m.phase ≡ At → (new : Course) → TurnsTo m.at u v old new → IsSlow new ⊎ ¬ (IsSlow new) → IsDecided m (Some old) (turns u v)
   by_size at new goes (inl slow) = inr (record {
@@ -178,14 +168,7 @@ text_exists (c ∷ cs) s sound range =
 
 -- ---- the state at the start
 pub start_sound : (s : Script) → IsWithin s → IsSound (start s.size s.keeps s.journal)
-start_sound s within = record {
-  proper = record {
-    slow = record { each = λ i c e. absurd (let none = none_live (2 ^ s.size) i in cc) };
-    slots = length-replicate (2 ^ s.size) None;
-    small = All-weaker IsKeepInRange IsSmallKeep small_keep s.keeps within.keeps;
-  };
-  canonical = start_canonical;
-}
+start_sound s within = search (rules, arith, none_live, length-replicate, small_keep, start_canonical)
 
 -- ---- the answer
 pub texts_exist : TextsExist

@@ -1,5 +1,5 @@
 -- What a printer has gained.
-use Rattle.std.proofs.Common.{◌≡◌, ℕ, ◌+◌, List, [], ◌++◌, length, take, Option, refl, sym, ap, ◌∙◌, subst, append_assoc, append-nil, drop, take-append-drop}
+use Rattle.std.proofs.Common.{rules, arith, ◌≡◌, ℕ, ◌+◌, List, [], ◌++◌, length, take, Option, refl, sym, ap, ◌∙◌, subst, append_assoc, append-nil, drop, take-append-drop}
 use Rattle.std.proofs.Math.Seq.{take-append-add}
 use Rattle.kin_run.proofs.Vocabulary.{Appends, Appends-nil, Appends-trans, AppendsFront, BreaksOff, Gains, GainsSome, IsFront, LosesSome, Printer, Wrote, printer, Stop, Fault, NoMemory}
 
@@ -11,16 +11,10 @@ front_take k text = record { more = drop k text; joined = sym (take-append-drop 
 
 -- a front of a front
 pub front_through : (front middle text : List ℕ) → IsFront front middle → IsFront middle text → IsFront front text
-front_through front middle text p q = record {
-  more = p.more ++ q.more;
-  joined = q.joined ∙ ap (λ (t : List ℕ). t ++ q.more) p.joined ∙ append_assoc front p.more q.more;
-}
+front_through front middle text p q = search (rules, arith, p.joined, q.joined, append_assoc)
 
 pub front_after : (so_far front rest : List ℕ) → IsFront front rest → IsFront (so_far ++ front) (so_far ++ rest)
-front_after so_far front rest p = record {
-  more = p.more;
-  joined = ap (λ (t : List ℕ). so_far ++ t) p.joined ∙ sym (append_assoc so_far front p.more);
-}
+front_after so_far front rest p = search (rules, arith, p.joined, append_assoc)
 
 abbrev pub Bytes : Type 0
 Bytes = Option (List ℕ)

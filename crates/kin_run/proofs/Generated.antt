@@ -1,5 +1,5 @@
 -- The commands of a generated script are never refused, and a seed and a count have one text.
-use Rattle.std.proofs.Common.{◌≡◌, inl, inr, ℕ, zero, suc, ◌+◌, ◌*◌, ◌≤◌, ◌^◌, true, false, List, [], ◌∷◌, ◌++◌, Some, None, refl, sym, ap, ◌∙◌, subst, append_assoc, arith, pos, take, is_some, get_or-set_other}
+use Rattle.std.proofs.Common.{rules, ◌≡◌, inl, inr, ℕ, zero, suc, ◌+◌, ◌*◌, ◌≤◌, ◌^◌, true, false, List, [], ◌∷◌, ◌++◌, Some, None, refl, sym, ap, ◌∙◌, subst, append_assoc, arith, pos, take, is_some, get_or-set_other}
 use lib.IntN.{neg_ℤ}
 use Rattle.std.proofs.lemmas.Nat.Gcd.{IsGcd-from_zero, IsGcd-from_mod}
 use Rattle.kin_run.proofs.Vocabulary.{Appends, Appends-trans, ints, same_Some, line, sign_at_instant, IsEarlier, After, At, Shape, above_fraction, less_asym, start_canonical, is_live, Block, none_live, AppendsFront, Deed, asks}
@@ -27,11 +27,7 @@ EndWell first cs = (s : State) (text : List ℕ) (ending : Ending) → IsAwaitin
 
 insertion_ends_well : (seed first : ℕ) (cs : List Line) → EndWell (suc first) cs → EndWell first (insertion seed first ∷ cs)
 insertion_ends_well seed first cs more s text ending awaiting (inl e) = absurd (let free = awaiting.free first (omega arith) in let live = e.1.1 in cc)
-insertion_ends_well seed first cs more s text ending awaiting (inr g) = more g.2 g.1 ending (rw (g.3.leads.2, g.3.leads.1) (record {
-  free = λ number low. ap is_some (get_or-set_other s.motions first number (Some (course_behind (state_after (4 * first) seed))) None (λ e. absurd (omega (arith, e, low)))) ∙ awaiting.free number (omega (arith, low));
-  keeps = awaiting.keeps;
-  moment = awaiting.moment;
-})) g.4
+insertion_ends_well seed first cs more s text ending awaiting (inr g) = search (rules, arith, g.3.leads, get_or-set_other, awaiting.free)
 
 insertions_end_well : (seed count : ℕ) (cs : List Line) → EndWell count cs → EndWell 0 (insertions seed count ++ cs)
 insertions_end_well seed zero cs more = more
@@ -50,12 +46,7 @@ record EndWithKeeps (cs : List Line) : Type 0 where
   ends : (s : State) (text : List ℕ) (ending : Ending) → s.keeps ≡ one_of_each → Text s cs text ending → ending ≡ None
 
 asked_ends_well : (number : ℕ) (q : Command) (cs : List Line) → deed_of q ≡ asks q → ((s : State) → s.keeps ≡ one_of_each → IsProvided s q) → EndWithKeeps cs → EndWithKeeps ((number, q) ∷ cs)
-asked_ends_well number q cs is provided more = record {
-  ends = λ s text ending keeps t. elim t [
-    | inl e ↦ absurd ((subst (λ (d : Deed). IsRefused s d e.0) is e.1).1 (provided s keeps))
-    | inr g ↦ let same : g.2 ≡ s = subst (λ (d : Deed). LeadsTo s d g.2) is g.3.leads in more.ends g.2 g.1 ending (ap (λ (u : State). u.keeps) same ∙ keeps) g.4
-  ];
-}
+asked_ends_well number q cs is provided more = search (rules, arith, more.ends)
 
 abbrev around : Rect
 around = record { x1 = neg_ℤ (pos 100); x2 = pos 100; y1 = neg_ℤ (pos 100); y2 = pos 100 }
@@ -87,16 +78,11 @@ one_script seed count s t p q =
 
 pub one_demo_text : OneDemoText
 one_demo_text seed count x y p q =
-    let same = one_script seed count p.script q.script p.generated q.generated in
-    let body = one_text (start_of q.script) q.script.lines p.body q.body None None start_canonical (rw same at p.replays) q.replays in
-    let blocks = one_in_turn (start_of q.script) q.script.lines p.blocks q.blocks start_canonical (rw same at p.passed) q.passed in
-    p.joined ∙ ap (λ (w : List ℕ). w ++ demo_line p.blocks) body.0 ∙ ap (λ (bs : List Block). q.body ++ demo_line bs) blocks ∙ sym q.joined
+    search (rules, arith, one_script, p.generated, q.generated, one_text, start_canonical, p.replays, q.replays, one_in_turn, p.passed, q.passed, p.joined, q.joined)
 
 -- ---- a front of what the commands print is one of that text
 pub cut_of_body : (seed count : ℕ) (s : Script) (front : List ℕ) → IsGenerated seed count s → IsCutOfText (start_of s) s.lines front → IsFrontOfEach (IsDemoText seed count) front
-cut_of_body seed count s front is cut = λ text other.
-    let replays = subst (λ (t : Script). Text (start_of t) t.lines other.body None) (one_script seed count other.script s other.generated is) other.replays in
-    front_through front other.body text (cut other.body None replays) (record { more = demo_line other.blocks; joined = other.joined })
+cut_of_body seed count s front is cut = search (rules, arith, one_script, front_through)
 
 -- a run that was broken off has written such a front
 pub broken_demo : (seed count : ℕ) (stop : Stop) (front : List ℕ) → IsFrontOfEach (IsDemoText seed count) front → WritesDemo seed count (status_of_stop stop) front
@@ -107,15 +93,7 @@ broken_demo seed count NoMemory front cut = cut
 module _ (seed count : ℕ) (s : Script) (is : IsGenerated seed count s) (before played : Bytes) (body : Wrote before played (λ text. Text (start_of s) s.lines text None)) (t : Tally)
     (x : HasTallied (PassesInTurn (start_of s) s.lines) (Some (record { moments = 0; failures = 0 })) (Some t)) where
   whole_text : IsDemoText seed count (body.0 ++ tally_line t)
-  whole_text = record {
-    script = s;
-    generated = is;
-    body = body.0;
-    replays = body.2;
-    blocks = x.blocks;
-    passed = x.passed;
-    joined = ap (λ (u : Tally). body.0 ++ tally_line u) (same_Some _ _ (x.counted ∙ tallied_from_nothing x.blocks));
-  }
+  whole_text = search (rules, arith, x.passed, same_Some, x.counted, tallied_from_nothing)
 
   pub wrote_whole : (after : Bytes) → Appends played after (tally_line t) → Wrote before after (IsDemoText seed count)
   wrote_whole after told = (body.0 ++ tally_line t, Appends-trans before played after body.0 (tally_line t) body.1 told, whole_text)

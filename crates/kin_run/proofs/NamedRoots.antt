@@ -1,5 +1,5 @@
 -- The root that a line names: there is one where the discriminant is not negative, and no more than one.
-use Rattle.std.proofs.Common.{arith, to_z, of_z, w64, ◌≡◌, zero, suc, Bool, true, false, [], ◌∷◌, inl, inr, refl, sym, ap, ◌∙◌, subst, ℤ, pos, negsuc, ◌<ℤ◌, ◌*ℤ◌, ◌↔◌, if◌then◌else◌, ◌≢◌, ◌⊎◌, Some, None}
+use Rattle.std.proofs.Common.{rules, arith, to_z, of_z, w64, ◌≡◌, zero, suc, Bool, true, false, [], ◌∷◌, inl, inr, refl, sym, ap, ◌∙◌, subst, ℤ, pos, negsuc, ◌<ℤ◌, ◌*ℤ◌, ◌↔◌, if◌then◌else◌, ◌≢◌, ◌⊎◌, Some, None}
 use Rattle.kin_run.proofs.Vocabulary.{ints, to_z-of_z, opposite_of, product_of, sign_of, Sign, Minus, Plus, Zero, sign_in, sign_of-times, sign_out, IsCanonical, IsCanonicalForm, discriminant, line, sign_at_instant, IsLess, Quadratic, Shape, level_same, less_asym, not_less_itself, AreRootsOf}
 use Rattle.kin_run.proofs.Vocabulary.{HasRoot, IsFraction, count_by_signs, Roots, All, Nowhere, One, Two, IsAskedFor, IsRatioInRange, HasNoRoot, IsNamedRoot, IsRootOf, at}
 use lib.IntN.{neg_ℤ}
@@ -34,17 +34,11 @@ ratio_in_range n d r range same canonical = alone_named true (line n d) r canoni
 
 -- also where its parts were handed on
 pub handed_ratio : (n d : ℤ) (r : Shape) → IsRatioInRange n d → IsFraction (to_z w64 (of_z w64 n)) (to_z w64 (of_z w64 d)) r → IsCanonical r → IsNamedRoot true (line n d) r
-handed_ratio n d r range same canonical =
-    let n_is : to_z w64 (of_z w64 n) ≡ n = grind (arith, to_z-of_z, range.n_small) in
-    let d_is : to_z w64 (of_z w64 d) ≡ d = grind (arith, to_z-of_z, range.d_small) in
-    ratio_in_range n d r range (rw (n_is, d_is) at same) canonical
+handed_ratio n d r range same canonical = search (rules, arith, to_z-of_z, range.n_small, range.d_small, ratio_in_range)
 
 module _ (p : Quadratic) (r s : Shape) (canonical : IsCanonical r × IsCanonical s) (exact : IsExact p (Two r s)) (rising : IsLess r s) where
   none_beyond : (Beyond : Shape → Type 0) → ¬ (Beyond r) → ¬ (Beyond s) → (v : Shape) → IsRootOf p v → ¬ (Beyond v)
-  none_beyond Beyond not_r not_s v h beyond = elim ((exact v h.canonical.form).0 h.zero) [
-    | inl e ↦ not_r (subst Beyond e beyond)
-    | inr e ↦ not_s (subst Beyond e beyond)
-  ]
+  none_beyond Beyond not_r not_s v h beyond = search (rules, arith, h.canonical.form, h.zero)
 
   named : (upper : Bool) → IsNamedRoot upper p (if upper then s else r)
   named true = (record { canonical = canonical.1; zero = (exact s canonical.1.form).1 (inr refl) }, none_beyond (IsLess s) (less_asym r s canonical.0.form canonical.1.form rising) (not_less_itself s))

@@ -1,5 +1,5 @@
 -- An input has one text, and one status with it.
-use Rattle.std.proofs.Common.{◌≡◌, ℕ, ◌+◌, ◌≤◌, ◌^◌, Bool, List, [], ◌∷◌, ◌++◌, length, Option, Some, None, Ok, Err, refl, sym, ap, ◌∙◌, subst, arith, ◌⊎◌, inl, inr, length-append, append-nil, Result, take}
+use Rattle.std.proofs.Common.{rules, ◌≡◌, ℕ, ◌+◌, ◌≤◌, ◌^◌, Bool, List, [], ◌∷◌, ◌++◌, length, Option, Some, None, Ok, Err, refl, sym, ap, ◌∙◌, subst, arith, ◌⊎◌, inl, inr, length-append, append-nil, Result, take}
 use Rattle.kin_run.proofs.Vocabulary.{Consumes, IsCanonical, start_canonical, deed_of, script_of, State, start, Ending, Text, bad_line, Script, Answers, IsAnswer, IsBrokenOff, IsCut, OneAnswer, Outcome, TakesWhole, IsFront, Status}
 use Rattle.kin_run.proofs.Determined.{stays, one_step}
 use Rattle.kin_run.proofs.Gathering.{front_take}
@@ -64,11 +64,4 @@ module _ {left now : Option (List ℕ)} {ended : Bool} {before after : Option (L
 
   -- a known input has its own status, unless the run was broken off
   pub exact : (a : Status) (text : List ℕ) → length input ≤ 2 ^ 20 → IsAnswer input a text → (st ≡ a) ⊎ IsBrokenOff st
-  exact a text small q = elim (ends now ended p.input st p.written p.outcome) [
-    | inl broke ↦ inr broke
-    | inr (inl (whole, is)) ↦
-        let none : rest.0 ≡ [] = rw rest.1 at whole.nothing_left in
-        let same = rest.2 ∙ ap (λ (w : List ℕ). p.input ++ w) none ∙ append-nil p.input in
-        inl (one_answer input p.written text st a (subst (λ (i : List ℕ). IsAnswer i st p.written) (sym same) is) q).0
-    | inr (inr (too_long, much)) ↦ absurd (omega (arith, small, ap length rest.2, length-append p.input rest.0, much))
-  ]
+  exact a text small q = search (rules, arith, ends, p.outcome, append-nil, one_answer, length-append)

@@ -1,5 +1,5 @@
 -- The blocks passed so far, and those that are still to come: what `at` and `next` print is one, and so is what is told of the next block; and one turn of the loop that passes the failures up to an instant.
-use Rattle.std.proofs.Common.{◌≡◌, ℕ, Bool, true, false, List, [], ◌∷◌, ◌++◌, refl, sym, ap, ◌∙◌, subst, append_assoc, map, flat_map, append-nil, ◌≢◌, ◌⊎◌, inl, inr, Contains, if◌then◌else◌, length, Option, Some, None}
+use Rattle.std.proofs.Common.{rules, arith, ◌≡◌, ℕ, Bool, true, false, List, [], ◌∷◌, ◌++◌, refl, sym, ap, ◌∙◌, subst, append_assoc, map, flat_map, append-nil, ◌≢◌, ◌⊎◌, inl, inr, Contains, if◌then◌else◌, length, Option, Some, None}
 use Rattle.std.proofs.lemmas.List.Concat.{flat_map-append}
 use Rattle.std.proofs.lemmas.List.Folds.{flat_map-map}
 use Rattle.kin_run.proofs.Vocabulary.{IsCanonical, IsEarlier, Moment, Shape, Block, Failure, IsJournal, IsNextBlock, NothingFails, Setting, block_is_listed, journal_is_one, next_block_is_one, failure_of, block_lines, failure_line, journal_lines, none_line, now_line, State, at, state_setting}
@@ -104,15 +104,7 @@ no_lines false = refl
 no_lines true = refl
 
 pub sets_out : (journal : Bool) (start : World) (w : Shape) (p : Printer) (t : Option Tally) → IsWhole start → ¬ (IsEarlier (at w) start.moment) → IsOnTheWay journal start w start p p t t
-sets_out journal start w p t whole later =
-    let none : AreUpTo (state_of journal start) w start.moment [] = record { forth = λ more j. j; back = λ all j. (all, j, refl) } in
-    record {
-      state = refl;
-      printed = record { text = []; gained = gains_nothing p; is = ([], none, no_lines journal) };
-      counted = none_tallied (AreUpTo (state_of journal start) w start.moment) t none;
-      whole = whole;
-      later = later;
-    }
+sets_out journal start w p t whole later = search (rules, arith, gains_nothing, no_lines, none_tallied)
 
 -- a step that lists nothing has passed a block where it tells how many failures that held, and else has moved
 pub told_some : (limit : Moment) (old new : World) (count : Option ℕ) (failures : ℕ) → count ≡ Some failures → (block : Option Block) × HasStepped limit block old new × (count ≡ failure_count block)

@@ -1,5 +1,5 @@
 -- What came of a deed, from what came of its parts.
-use Rattle.std.proofs.Common.{◌≡◌, ◌≢◌, ℕ, Bool, List, ◌++◌, ◌∙◌, refl, sym, append-nil, subst, Result, Ok, Err, OnOk, OnErr, [], Option, Some, None, ap, set-set, slice_set}
+use Rattle.std.proofs.Common.{rules, arith, ◌≡◌, ◌≢◌, ℕ, Bool, List, ◌++◌, ◌∙◌, refl, sym, append-nil, subst, Result, Ok, Err, OnOk, OnErr, [], Option, Some, None, ap, set-set, slice_set}
 use Rattle.kin_run.proofs.Vocabulary.{IsCanonical, IsEarlier, Quadratic, Shape, Course, motion_of, Change, ChangesTo, asks, changes, goes_to, PutsFront, IsAllowed, IsNamedRoot, State, at, IsNextText, IsPassedText, Prints, Step}
 use Rattle.kin_run.proofs.Vocabulary.{Command, one_reply_line, HasReplaced, World, BreaksOff, IsFrontOfEach, IsReply, Performs, PutsLine, Replies, RepliesTo, state_of, GainsSome, Printer, printer, Halt, Broken, Refused, Stop, Fault, NoMemory}
 use Rattle.kin_print.specs.declared.reply.Reply.{Reply}
@@ -58,7 +58,4 @@ module _ (s : State) (number : ℕ) (c : Change) (p : Printer) (allowed : IsAllo
 
 -- what the replay sees of a replacement
 pub replaced : (journal : Bool) (n : ℕ) (m : Course) (old new : World) → HasReplaced n m old new → state_of journal new ≡ record (state_of journal old) { motions = slice_set old.motions n (Some m) }
-replaced journal n m old new e =
-    ap (state_of journal) e.inserted.state
-    ∙ ap (λ (w : World). record (state_of journal w) { motions = slice_set w.motions n (Some m) }) e.removed.state
-    ∙ ap (λ (ms : List (Option Course)). record (state_of journal old) { motions = ms }) (set-set old.motions n None (Some m))
+replaced journal n m old new e = search (rules, arith, e.inserted.state, e.removed.state, set-set)

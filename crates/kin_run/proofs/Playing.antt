@@ -1,5 +1,5 @@
 -- A run of commands: the text so far and the blocks passed so far, and the text and the blocks of what is left.
-use Rattle.std.proofs.Common.{◌≡◌, ℕ, List, [], ◌∷◌, ◌++◌, drop, suc, ◌+◌, ◌<◌, ◌≤◌, length, get_or, drop-cons, add-one, Some, None, refl, sym, ap, ◌∙◌, subst, append_assoc, inl, inr, append-nil, Option}
+use Rattle.std.proofs.Common.{rules, arith, ◌≡◌, ℕ, List, [], ◌∷◌, ◌++◌, drop, suc, ◌+◌, ◌<◌, ◌≤◌, length, get_or, drop-cons, add-one, Some, None, refl, sym, ap, ◌∙◌, subst, append_assoc, inl, inr, append-nil, Option}
 use Rattle.kin_run.proofs.Vocabulary.{drop_all, IsCanonical, Shape, Block, IsJournal, journal_is_one, AppendsFront, Deed, deed_of, goes_on, goes_to, IsAllowed, IsRefused, LeadsTo, State, at, state_setting, Ending, Prints}
 use Rattle.kin_run.proofs.Vocabulary.{Step, Text, refused_line, Command, Refusal, Passes, PassesInTurn, BreaksOff, IsCutOfText, IsFrontOfEach, HasTallied, Gains, GainsSome, IsFront, LosesSome, Printer, Tally, Stop}
 use Rattle.kin_run.proofs.Determined.{one_cause, one_step, stays, one_at_root, one_state}
@@ -84,10 +84,7 @@ pub record ArePassedSoFar (s : State) (all : List Line) (t : State) (left : List
 module _ {s : State} {all : List Line} {t : State} {old now : Option Tally} where
   pub counts_command : (i : ℕ) (c : Line) → HasTallied (ArePassedSoFar s all t (drop i all)) old now → i < length all → c ≡ get_or all i c
       → (u : State) (new : Option Tally) → IsAllowed t (deed_of c.1) → LeadsTo t (deed_of c.1) u → HasTallied (Passes t (deed_of c.1)) now new → HasTallied (ArePassedSoFar s all u (drop (i + 1) all)) old new
-  counts_command i c x low read u new allowed leads y = tallied_then (subst (λ (left : List Line). HasTallied (ArePassedSoFar s all t left) old now) (at_item all i c low read) x) y
-      (λ bs more is passed. record {
-        forth = λ rest q. subst (PassesInTurn s all) (sym (append_assoc bs more rest)) (is.forth (more ++ rest) (more, rest, u, allowed, passed, leads, q, refl));
-      })
+  counts_command i c x low read u new allowed leads y = search (rules, arith, tallied_then, at_item, append_assoc)
 
   pub counts_all : (i : ℕ) → HasTallied (ArePassedSoFar s all t (drop i all)) old now → length all ≤ i → HasTallied (PassesInTurn s all) old now
   counts_all i x none = tallied_is x (λ bs is. subst (PassesInTurn s all) (append-nil bs) (is.forth [] (subst (λ (left : List Line). PassesInTurn t left []) (sym (drop_all i all none)) refl)))

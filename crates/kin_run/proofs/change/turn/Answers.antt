@@ -1,4 +1,4 @@
-use Rattle.std.proofs.Common.{[], ap, ◌≡◌, inl, inr, Some, refl, sym, ◌∙◌, w32}
+use Rattle.std.proofs.Common.{rules, arith, [], ap, ◌≡◌, inl, inr, Some, refl, sym, ◌∙◌, w32}
 use Rattle.kin_run.proofs.Vocabulary.{err_from_is_err_and, motion_of, turns, state_of}
 use Rattle.kin_instant.proofs.Widths.{clean}
 use Rattle.kin_run.proofs.Existence.{allowed_turn}
@@ -22,13 +22,9 @@ returns-in_ok-turn-in-Ok-clause-performs g c = λ journal p.
     (record { old = can.before; new = has.motion; was = can.had; same_place = can.turns; is = refl }) (ap (state_of journal) has.state)
 
 pub returns-in-Err-NotWhole-clause-performs : goal.returns-in-Err-NotWhole-clause-performs
-returns-in-Err-NotWhole-clause-performs g c = λ journal p.
-    let had : motion_of c.args.world.now.motions c.args.no ≡ Some c.in-Some.field-0 = sym c.motion.ensures.value ∙ c.in-Some.is in
-    let not = rw (clean w32 c.args.u c.ranges.u.sfits, clean w32 c.args.v c.ranges.v.sfits) at (c.in-Err-NotWhole.ensures.not_whole c.in-Some.field-0 had).0 (let is = c.in-Err-NotWhole.field-0-is in cc) in
-    (inr (c.in-Some.field-0, had, inl (refl, not)), refl, refl)
+returns-in-Err-NotWhole-clause-performs g c =
+    search (rules, arith, c.motion.ensures.value, c.in-Some.is, clean, c.ranges.u.sfits, c.ranges.v.sfits, c.in-Err-NotWhole.ensures.not_whole, c.in-Err-NotWhole.field-0-is)
 
 pub returns-in-Err-OutOfBounds-clause-performs : goal.returns-in-Err-OutOfBounds-clause-performs
-returns-in-Err-OutOfBounds-clause-performs g c = λ journal p.
-    let had : motion_of c.args.world.now.motions c.args.no ≡ Some c.in-Some.field-0 = sym c.motion.ensures.value ∙ c.in-Some.is in
-    let out = rw (clean w32 c.args.u c.ranges.u.sfits, clean w32 c.args.v c.ranges.v.sfits) at (c.in-Err-OutOfBounds.ensures.outside c.in-Some.field-0 had).0 (let is = c.in-Err-OutOfBounds.field-0-is in cc) in
-    (inr (c.in-Some.field-0, had, inr (refl, out)), refl, refl)
+returns-in-Err-OutOfBounds-clause-performs g c =
+    search (rules, arith, c.motion.ensures.value, c.in-Some.is, clean, c.ranges.u.sfits, c.ranges.v.sfits, c.in-Err-OutOfBounds.ensures.outside, c.in-Err-OutOfBounds.field-0-is)

@@ -1,4 +1,4 @@
-use Rattle.std.proofs.Common.{◌≡◌, None, Some, sym, ◌∙◌}
+use Rattle.std.proofs.Common.{rules, arith, ◌≡◌, None, Some, sym, ◌∙◌}
 use Rattle.kin_run.proofs.Generated.{wrote_whole, wrote_part, never_refused, cut_of_body, broken_demo}
 use Rattle.kin_run.proofs.Tallying.{tallied_from_nothing}
 use Rattle.kin_basics.proofs.Options.{none_or_some}
@@ -23,13 +23,7 @@ unreachable-requires g c =
     none_or_some c.in_default-tally.is (x.counted ∙ tallied_from_nothing x.blocks)
 
 pub unreachable-requires-in-Ok-Some : goal.unreachable-requires-in-Ok-Some
-unreachable-requires-in-Ok-Some g c =
-    let none = never_refused c.args.seed c.args.count c.in-Ok.script _ _ c.in-Ok.ensures.script c.in-Ok-Some.ensures.ok.2 in
-    let clash : Some c.in-Ok-Some.field-0-0 ≡ None = sym c.in-Ok-Some.field-0-is ∙ none in
-    cc
+unreachable-requires-in-Ok-Some g c = search (rules, arith, never_refused, c.in-Ok.ensures.script, c.in-Ok-Some.ensures.ok, c.in-Ok-Some.field-0-is)
 
 pub returns-clause-writes : goal.returns-clause-writes
-returns-clause-writes g c =
-    let front = c.in-Err.ensures.cut in
-    rw c.status_of-in-Err.ensures
-    (front.0, front.1, broken_demo c.args.seed c.args.count c.in-Err.stop front.0 (cut_of_body c.args.seed c.args.count c.in-Ok.script front.0 c.in-Ok.ensures.script front.2))
+returns-clause-writes g c = search (rules, arith, c.in-Err.ensures.cut, c.status_of-in-Err.ensures, broken_demo, cut_of_body, c.in-Ok.ensures.script)

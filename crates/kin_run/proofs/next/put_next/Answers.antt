@@ -1,5 +1,5 @@
-use Rattle.std.proofs.Common.{[], ◌++◌, inl, inr, refl, sym, ap, append-nil}
-use Rattle.kin_run.proofs.Vocabulary.{err_from_is_err_and, on_err_weaker, on_ok, block_is_listed, nothing, none_line, now_line, HasMoved, HasPassed, printed_if, state_of}
+use Rattle.std.proofs.Common.{rules, arith, [], ◌++◌, inl, inr, refl, sym, ap, append-nil}
+use Rattle.kin_run.proofs.Vocabulary.{err_from_is_err_and, on_err_weaker, on_ok, block_is_listed, nothing, none_line, now_line, HasMoved, printed_if, state_of}
 use Rattle.kin_run.proofs.Tallying.{none_tallied, one_tallied}
 use Rattle.kin_run.proofs.Passing.{not_back}
 use Rattle.kin_run.proofs.Gathering.{front_nil}
@@ -29,15 +29,10 @@ returns-in_err-block-clause-line g c =
 
 pub returns-clause-line : goal.returns-clause-line
 returns-clause-line g c =
-    let b = c.in-Some-2.block in
-    let h : HasPassed c.in-Some.moment b c.args.world.now c.step.new.self = rw c.in-Some-2.is at c.in_ok-block.ensures.stepped in
-    puts_next (state_of c.args.journal c.args.world.now) c.requires.whole.canonical (printed_if c.args.journal b ++ now_line b.moment) (inl (b, h.next, refl)) c.put_passed.result c.args.out.now.items c.put_passed.new.out.items c.put_passed.ensures.ok c.put_passed.ensures.err
+    search (rules, arith, c.in-Some-2.is, c.in_ok-block.ensures.stepped, puts_next, c.requires.whole.canonical, c.put_passed.ensures.ok, c.put_passed.ensures.err)
 
 pub returns-clause-leads : goal.returns-clause-leads
-returns-clause-leads g c =
-    let b = c.in-Some-2.block in
-    let h : HasPassed c.in-Some.moment b c.args.world.now c.step.new.self = rw c.in-Some-2.is at c.in_ok-block.ensures.stepped in
-    on_ok c.put_passed.result (inl (b, h.next, ap (state_of c.args.journal) h.state))
+returns-clause-leads g c = search (rules, arith, c.in-Some-2.is, c.in_ok-block.ensures.stepped, on_ok)
 
 pub returns-in_default-clause-tallied : goal.returns-in_default-clause-tallied
 returns-in_default-clause-tallied g c =
@@ -45,7 +40,6 @@ returns-in_default-clause-tallied g c =
 
 pub returns-clause-tallied : goal.returns-clause-tallied
 returns-clause-tallied g c =
-    let b = c.in-Some-2.block in
-    let h : HasPassed c.in-Some.moment b c.args.world.now c.step.new.self = rw c.in-Some-2.is at c.in_ok-block.ensures.stepped in
+    let h = rw c.in-Some-2.is at c.in_ok-block.ensures.stepped in
     on_ok c.put_passed.result
-    (one_tallied _ b c.count_of.result c.args.tally.now c.count_on.new.tally c.count_of.ensures (inl (b, h.next, refl)) c.count_on.ensures)
+    (one_tallied _ c.in-Some-2.block c.count_of.result c.args.tally.now c.count_on.new.tally c.count_of.ensures (inl (c.in-Some-2.block, h.next, refl)) c.count_on.ensures)

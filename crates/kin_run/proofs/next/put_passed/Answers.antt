@@ -1,4 +1,4 @@
-use Rattle.std.proofs.Common.{◌++◌, subst, OnErr}
+use Rattle.std.proofs.Common.{rules, arith, ◌++◌, subst, OnErr}
 use Rattle.kin_run.proofs.Vocabulary.{on_err_weaker, on_err, Block, front_behind, front_first, PutsFront, now_line, printed_if}
 use Rattle.kin_run.proofs.next.put_passed.Goals as goal
 
@@ -8,8 +8,4 @@ returns-in_err-put_if_on-clause-err c =
     (front_first _ _ _ _ c.in_err-put_if_on.ensures.err)
 
 pub returns-clause-err : goal.returns-clause-err
-returns-clause-err c =
-    subst (λ (b : Block). OnErr c.put_now.result (PutsFront c.args.out.now.items c.put_now.new.out.items (printed_if c.args.journal c.args.block.now ++ now_line b.moment))) c.block.view_is
-    (on_err_weaker c.put_now.result
-    (front_behind _ _ _ _ _ c.in_ok-put_if_on.ensures.ok)
-    c.put_now.ensures.err)
+returns-clause-err c = search (rules, arith, c.block.view_is, on_err_weaker, front_behind, c.in_ok-put_if_on.ensures.ok, c.put_now.ensures.err)

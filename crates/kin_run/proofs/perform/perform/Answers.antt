@@ -1,4 +1,4 @@
-use Rattle.std.proofs.Common.{◌≡◌, refl, [], true, arith, to_z, of_z, w32, w64}
+use Rattle.std.proofs.Common.{rules, ◌≡◌, refl, [], true, arith, to_z, of_z, w32, w64}
 use Rattle.kin_run.proofs.Vocabulary.{to_z-of_z, err_from_is_err_and, on_ok, line, IsSlowVelocity, IsRootInRange, asks_otherwise, state_of, printer}
 use Rattle.kin_run.proofs.Tallying.{none_tallied}
 use Rattle.kin_run.proofs.Gathering.{gains_put}
@@ -31,11 +31,7 @@ returns-in_ok-put_next-in-Next-clause-performs g c =
     rw c.in-Next.is (record { text = put.0; gained = gains_put (g.K.Sink.held c.args.sink.now) c.args.out.now.items c.put_next.new.out.items put.0 put.1; is = record { allowed = λ r h. h; prints = put.2; leads = c.in_ok-put_next-in-Next.ensures.leads } })
 
 pub returns-in_default-clause-performs : goal.returns-in_default-clause-performs
-returns-in_default-clause-performs g c =
-    let d = c.in_default in
-    let q = c.args.command.now in
-    rw (asks_otherwise q d.not-Insert d.not-Remove d.not-Replace d.not-Turn d.not-AtRatio d.not-AtRoot d.not-Next)
-    (replied (state_of c.args.journal c.args.world.now) q c.put_reply_to.result (g.K.Sink.held c.args.sink.now) c.args.out.now.items c.put_reply_to.new.out.items (c.put_reply_to.ensures.line c.args.journal))
+returns-in_default-clause-performs g c = search (rules, arith, asks_otherwise, replied, c.put_reply_to.ensures.line)
 
 -- ---- the blocks that are passed
 pub returns-in-AtRatio-clause-tallied : goal.returns-in-AtRatio-clause-tallied
@@ -52,7 +48,4 @@ returns-in-Some-clause-tallied g c =
     rw q.is (c.move_to-in-Some.ensures.tallied q.upper (record { a = q.a; b = q.b; c = q.c }) (rw (a_is, b_is, c_is) at c.in-Some.ensures))
 
 pub returns-in_default-clause-tallied : goal.returns-in_default-clause-tallied
-returns-in_default-clause-tallied g c =
-    let d = c.in_default in
-    let asked = asks_otherwise c.args.command.now d.not-Insert d.not-Remove d.not-Replace d.not-Turn d.not-AtRatio d.not-AtRoot d.not-Next in
-    on_ok c.put_reply_to.result (rw asked (none_tallied (λ bs. bs ≡ []) c.args.tally.now refl))
+returns-in_default-clause-tallied g c = search (rules, arith, asks_otherwise, on_ok, none_tallied)
