@@ -1,8 +1,8 @@
 -- Every change, every deed, every input and every generated script has its outcome.
 use Rattle.std.proofs.Common.{rules, ◌≡◌, ◌⊎◌, inl, inr, ◌≤◌, true, false, ℤ, ℕ, Bool, List, [], ◌∷◌, unsigned_abs, Option, Some, None, refl, sym, ap, ◌∙◌, subst, arith, is_some, length-set, slice_set, ◌^◌, ◌++◌, Result, Ok, Err, All, zero, suc, ◌+◌}
-use Rattle.kin_run.proofs.Vocabulary.{cases_lt, same_Some, IsCanonical, Quadratic, Moment, Shape, After, At, AreSlow, Course, IsSlow, motion_of, Block, Change, ChangesTo, IsChangeInRange, IsRefusedChange, IsRefusedTurn, enters, leaves, restarts, turns, Deed, asks, changes, goes_on, goes_to}
+use Rattle.kin_run.proofs.Vocabulary.{cases_lt, same_Some, IsCanonical, Quadratic, Moment, Shape, After, At, AreSlow, Course, IsSlow, motion_of, Block, Change, ChangesTo, IsChangeInRange, IsRefusedChange, enters, leaves, restarts, turns, Deed, asks, changes, goes_on, goes_to}
 use Rattle.kin_run.proofs.Vocabulary.{IsDeedInRange, IsNamedRoot, IsRefused, State, at, Step, Refusal, Absent, NoRoot, NotKept, NotWhole, OutOfBounds, Past, Taken, has_line, Passes, length-replicate, start_canonical, none_live, deed_of, IsGenerated, IsLeastSize, insertions, one_of_each, questions}
-use Rattle.kin_run.proofs.Vocabulary.{script_of, IsKeepInRange, IsCommandInRange, IsWithin, start, Ending, Text, bad_line, refused_line, Script, deed_in_range, small_keep, DemoTextsExist, demo_line, start_of, IsAnswer, IsTextOf, TextsExist, PassesInTurn, Status}
+use Rattle.kin_run.proofs.Vocabulary.{script_of, IsCommandInRange, IsWithin, start, Ending, Text, bad_line, refused_line, Script, deed_in_range, small_keep, DemoTextsExist, demo_line, start_of, IsAnswer, IsTextOf, TextsExist, PassesInTurn, Status}
 use Rattle.kin_num.specs.declared.instant.Phase.{Phase}
 use Rattle.kin_motion.specs.Turning.{TurnsTo}
 use Rattle.kin_motion.proofs.MotionLaws.{slow-set, slow-clear}
@@ -15,8 +15,7 @@ use Rattle.kin_run.proofs.Determined.{goes_allowed, stays}
 use Rattle.kin_run.proofs.NamedRoots.{named_root_of, root_asked}
 use Rattle.kin_run.proofs.Passing.{lines_if, is_text}
 use Rattle.std.proofs.Math.Pow.{pow_mono}
-use Rattle.std.proofs.lemmas.List.Elements.{All-head, All-tail, All-weaker}
-use Rattle.kin_motion.specs.Live.{IsSmallKeep}
+use Rattle.std.proofs.lemmas.List.Elements.{All-head, All-tail}
 use Rattle.kin_script.proofs.ScriptRanges.{script_within}
 use Rattle.kin_run.proofs.Playing.{Line}
 use Rattle.kin_script.proofs.GeneratedRanges.{generated_in_range}

@@ -1,10 +1,10 @@
 -- The commands of a generated script are never refused, and a seed and a count have one text.
-use Rattle.std.proofs.Common.{rules, ◌≡◌, inl, inr, ℕ, zero, suc, ◌+◌, ◌*◌, ◌≤◌, ◌^◌, true, false, List, [], ◌∷◌, ◌++◌, Some, None, refl, sym, ap, ◌∙◌, subst, append_assoc, arith, pos, take, is_some, get_or-set_other}
+use Rattle.std.proofs.Common.{rules, ◌≡◌, inl, inr, ℕ, zero, suc, ◌+◌, ◌≤◌, ◌^◌, true, false, List, [], ◌∷◌, ◌++◌, Some, None, refl, sym, ap, ◌∙◌, subst, append_assoc, arith, pos, take, is_some, get_or-set_other}
 use lib.IntN.{neg_ℤ}
 use Rattle.std.proofs.lemmas.Nat.Gcd.{IsGcd-from_zero, IsGcd-from_mod}
-use Rattle.kin_run.proofs.Vocabulary.{Appends, Appends-trans, ints, same_Some, line, sign_at_instant, IsEarlier, After, At, Shape, above_fraction, less_asym, start_canonical, is_live, Block, none_live, AppendsFront, Deed, asks}
-use Rattle.kin_run.proofs.Vocabulary.{deed_of, IsGenerated, course_behind, insertion, insertions, one_of_each, questions, state_after, IsProvided, IsNamedRoot, IsRefused, LeadsTo, State, at, Ending, Text, Command, Script, IsDemoText}
-use Rattle.kin_run.proofs.Vocabulary.{OneDemoText, WritesDemo, demo_line, start_of, status_of_stop, PassesInTurn, IsCutOfText, IsFrontOfEach, HasTallied, tally_line, IsFront, Wrote, Tally, Stop, Fault, NoMemory}
+use Rattle.kin_run.proofs.Vocabulary.{Appends, Appends-trans, ints, same_Some, line, sign_at_instant, IsEarlier, After, At, Shape, above_fraction, less_asym, start_canonical, is_live, none_live, AppendsFront, asks}
+use Rattle.kin_run.proofs.Vocabulary.{deed_of, IsGenerated, insertion, insertions, one_of_each, questions, IsProvided, IsNamedRoot, State, at, Ending, Text, Command, Script, IsDemoText}
+use Rattle.kin_run.proofs.Vocabulary.{OneDemoText, WritesDemo, start_of, status_of_stop, PassesInTurn, IsCutOfText, IsFrontOfEach, HasTallied, tally_line, IsFront, Wrote, Tally, Stop, Fault, NoMemory}
 use Rattle.kin_num.specs.declared.instant.Shape.TheVariants.{Ratio}
 use Rattle.kin_num.proofs.FractionOrder.{fraction_itself, line_at_fraction}
 use Rattle.kin_motion.specs.declared.keep.Rect.{Rect}

@@ -1,5 +1,5 @@
 -- What came of a deed, from what came of its parts.
-use Rattle.std.proofs.Common.{rules, arith, ◌≡◌, ◌≢◌, ℕ, Bool, List, ◌++◌, ◌∙◌, refl, sym, append-nil, subst, Result, Ok, Err, OnOk, OnErr, [], Option, Some, None, ap, set-set, slice_set}
+use Rattle.std.proofs.Common.{rules, arith, ◌≡◌, ◌≢◌, ℕ, Bool, List, ◌++◌, ◌∙◌, refl, sym, append-nil, subst, Result, Ok, Err, OnOk, OnErr, [], Option, Some, set-set, slice_set}
 use Rattle.kin_run.proofs.Vocabulary.{IsCanonical, IsEarlier, Quadratic, Shape, Course, motion_of, Change, ChangesTo, asks, changes, goes_to, PutsFront, IsAllowed, IsNamedRoot, State, at, IsNextText, IsPassedText, Prints, Step}
 use Rattle.kin_run.proofs.Vocabulary.{Command, one_reply_line, HasReplaced, World, BreaksOff, IsFrontOfEach, IsReply, Performs, PutsLine, Replies, RepliesTo, state_of, GainsSome, Printer, printer, Halt, Broken, Refused, Stop, Fault, NoMemory}
 use Rattle.kin_print.specs.declared.reply.Reply.{Reply}

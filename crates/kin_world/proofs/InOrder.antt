@@ -8,7 +8,8 @@ use Rattle.kin_world.proofs.StructureLaws.{all_from_each, settled_holds, settled
 
 -- the live facts of the structure of this number hold, so all its facts hold
 pub facts_hold : (s : Scene) (live : List LiveFact) (j : ℕ) (facts : List Placed) → HasFactsOf live j facts → ((l : LiveFact) → Contains live l → Holds s l.certificate.placed.fact) → AllHold s facts
-facts_hold s live j facts tabled holds = all_from_each facts (λ p there. let l = (tabled p).0 there in subst (λ (c : Certificate). Holds s c.placed.fact) l.2 (holds l.0 l.1))
+facts_hold s live j facts tabled holds =
+    all_from_each facts (λ p there. let l = (tabled p).0 there in subst (λ (c : Certificate). Holds s c.placed.fact) l.2 (holds l.0 l.1))
 
 -- a fact with its first failure doesn't wait
 pub timely_from_timed : (scene : Moment → Scene) (m : Moment) (l : LiveFact) → IsTimed scene m l → IsTimedOrFailed scene m l

@@ -47,7 +47,9 @@ module _ (w : Inside) {v : World} (is : meaning (stage_of w.upkeep) w.whole ≡ 
 
     module _ (t : Stage) (frame : HasSameFrame (record (stage_of w.upkeep) { moment = m }) t) where
       pub passed_fewer : moments_left t.moment < moments_left v.moment
-      passed_fewer = let first = least_fails sound_inside m due.least in subst (λ (s : Stage). moments_left s.moment < moments_left v.moment) (sym frame) (fewer m first.canonical first.later_is_later)
+      passed_fewer =
+          let first = least_fails sound_inside m due.least in
+          subst (λ (s : Stage). moments_left s.moment < moments_left v.moment) (sym frame) (fewer m first.canonical first.later_is_later)
 
       pub passes : HasSettled w.upkeep.table t → (b : Block) → b.moment ≡ m → IsNextBlock (setting (stage_of w.upkeep)) w.upkeep.moment b → HasPassed limit b v (meaning t true)
       passes did b at next = as_seen (λ x. HasPassed limit b x (meaning t true)) (record {

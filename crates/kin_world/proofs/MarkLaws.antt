@@ -1,5 +1,5 @@
 -- A number comes or goes, and one structure after another carries the mark out. Going is coming turned round: the motions that have the number are then those before.
-use Rattle.kin_world.proofs.Vocabulary.{rules, ◌≡◌, inl, inr, refl, sym, ap, ◌∙◌, arith, ℕ, zero, suc, ◌<◌, ◌≤◌, ◌^◌, ◌⊎◌, true, false, List, [], ◌∷◌, length, slice_set, Option, Some, None, is_some, slice_get, Contains, get_or-set_same, set-set, set-get_or}
+use Rattle.kin_world.proofs.Vocabulary.{rules, ◌≡◌, inl, inr, refl, sym, ap, ◌∙◌, arith, ℕ, ◌<◌, ◌≤◌, ◌^◌, ◌⊎◌, true, false, List, length, slice_set, Option, Some, None, is_some, slice_get, Contains, get_or-set_same, set-set, set-get_or}
 use Rattle.kin_world.proofs.Vocabulary.{All-contains, slice_get_within, AreSlow, Course, is_live, live_of, motion_of, IsAskable, IsSmallKeep, owned_by, Holds, Scene, scene_at, Placed, Keep, Facts, LiveFact, IsTimed, placed_facts, AreLiveAfter}
 use Rattle.kin_world.proofs.Vocabulary.{HoldFor, IsSettledFor, HasGoneOn, HasGoneOver, HasOneMore, HasUpdated, IsCarriedOut, IsInOrder, IsInPlace, IsMarked, IsSound, Stage, sight, with_marked, Structure}
 use Rattle.std.proofs.lemmas.List.{get_or_past}

@@ -1,5 +1,5 @@
 -- What a sound world has: its live facts are those of the definition, and the table tells what comes next.
-use Rattle.std.proofs.Common.{◌≡◌, inl, inr, refl, sym, ap, ◌∙◌, subst, arith, ℕ, suc, ◌<◌, true, List, [], ◌∷◌, Option, Some, None, slice_set, get_or, slice_get, Contains, ◌↔◌}
+use Rattle.std.proofs.Common.{◌≡◌, inl, inr, refl, sym, ap, ◌∙◌, subst, arith, ℕ, suc, true, List, [], ◌∷◌, Option, Some, None, slice_set, get_or, slice_get, Contains, ◌↔◌}
 use Rattle.kin_world.proofs.Vocabulary.{All-contains, slice_get_read, slice_get_within, get_within, IsCanonical, IsEarlier, Moment, never, through, total, Course, IsAskable, NothingFails, failures_at, Certificate, IsLiveFact, ListsLive}
 use Rattle.kin_world.proofs.Vocabulary.{FailsFirst, IsReal, scene_at, AreDistinct, Placed, Keep, live_fits, real_at, contains_map, contains_mapped, distinct_cons, distinct_none, AreAlike, LiveFact, NoneAlike, IsLeastFailure, NoneFails}
 use Rattle.kin_world.proofs.Vocabulary.{NoneFailsUntil, IsTimed, certificates_of, IsInTime, earlier_still, fails_first, hold_before_least, later_start, nothing_fails, timed_holds, placed_facts, IsSettledFor, HasSameFrame, HasSettled}

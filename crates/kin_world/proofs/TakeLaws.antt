@@ -73,7 +73,8 @@ module _ {s : Stage} (sound : IsSound s) (table : Facts) {given : List Owned} (o
 
   -- and may be asked for
   pub given_askable : All (λ (o : Owned). IsAskable (live_of s.motions) o.fact.form) given
-  given_askable = all_from_each given (λ o there. let l = (given_each o).0 there in subst (λ (c : Certificate). IsAskable (live_of s.motions) c.placed.fact.form) l.3 (live_askable sound l.0 l.1))
+  given_askable =
+      all_from_each given (λ o there. let l = (given_each o).0 there in subst (λ (c : Certificate). IsAskable (live_of s.motions) c.placed.fact.form) l.3 (live_askable sound l.0 l.1))
 
   pub reached_under_repair : (m : Moment) → IsReached m → NoneAlike table.live → table.made ≡ s.table.made → IsUnderRepair (record s { moment = m; table = table })
   reached_under_repair m reached once made =

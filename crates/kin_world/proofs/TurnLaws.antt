@@ -1,9 +1,9 @@
 -- A number turns: what is seen now is as before, so every structure stays settled, and the facts that don't name it fail as before.
-use Rattle.std.proofs.Common.{rules, ◌≡◌, inl, inr, refl, sym, ap, ◌∙◌, subst, arith, ℕ, ◌+◌, ◌-◌, ◌^◌, true, cond, List, [], ◌∷◌, length, slice_set, Result, Err, IfOk, Option, Some, ℤ, min, count_by, Contains, ◌↔◌, IsTrue, length-set}
+use Rattle.std.proofs.Common.{rules, ◌≡◌, inl, inr, refl, sym, ap, ◌∙◌, subst, arith, ℕ, ◌-◌, true, List, length, slice_set, Result, Err, IfOk, Option, Some, ℤ, Contains, ◌↔◌, IsTrue, length-set}
 use Rattle.std.proofs.lemmas.List.Folds.{fold-map}
 use Rattle.std.proofs.lemmas.Result.{IfOk-weaker}
-use Rattle.kin_world.proofs.Vocabulary.{cases_Bool, same_Some, IsCanonical, Moment, After, At, AreSlow, Course, IsSlow, is_live, live_of, motion_of, IsAskable, Certificate, Holds, Scene, scene_at, IsNotWhole, IsOutOfBounds, TurnsTo}
-use Rattle.kin_world.proofs.Vocabulary.{NotWhole, OutOfBounds, Facts, LiveFact, NoneAlike, IsTimed, certificates_of, timed_holds, IsSettledFor, IsSound, Stage, meaning, sight, CanTurn, HasTurned, World, is_about, with_facts_of}
+use Rattle.kin_world.proofs.Vocabulary.{cases_Bool, same_Some, IsCanonical, Moment, At, AreSlow, Course, IsSlow, is_live, live_of, motion_of, IsAskable, Holds, Scene, scene_at, IsNotWhole, IsOutOfBounds, TurnsTo}
+use Rattle.kin_world.proofs.Vocabulary.{NotWhole, OutOfBounds, Facts, LiveFact, NoneAlike, IsTimed, timed_holds, IsSettledFor, IsSound, Stage, meaning, sight, CanTurn, HasTurned, World, with_facts_of}
 use Rattle.kin_motion.proofs.TurningLaws.{turn_keeps_scene, one_turn}
 use Rattle.kin_cert.specs.Remade.{HasRemade, names_number}
 use Rattle.kin_turn.specs.declared.turned.TurnError.{TurnError}

@@ -1,4 +1,4 @@
-use Rattle.std.proofs.Common.{rules, arith, [], ap, ◌≡◌, inl, inr, Some, refl, sym, ◌∙◌, w32}
+use Rattle.std.proofs.Common.{rules, arith, [], ap, Some, refl, w32}
 use Rattle.kin_run.proofs.Vocabulary.{err_from_is_err_and, motion_of, turns, state_of}
 use Rattle.kin_instant.proofs.Widths.{clean}
 use Rattle.kin_run.proofs.Existence.{allowed_turn}

@@ -1,4 +1,4 @@
-use Rattle.std.proofs.Common.{rules, arith, ◌≡◌, None, Some, sym, ◌∙◌}
+use Rattle.std.proofs.Common.{rules, arith, ◌∙◌}
 use Rattle.kin_run.proofs.Generated.{wrote_whole, wrote_part, never_refused, cut_of_body, broken_demo}
 use Rattle.kin_run.proofs.Tallying.{tallied_from_nothing}
 use Rattle.kin_basics.proofs.Options.{none_or_some}

@@ -1,5 +1,5 @@
-use Rattle.std.proofs.Common.{rules, arith, [], ◌++◌, inl, inr, refl, sym, ap, append-nil}
-use Rattle.kin_run.proofs.Vocabulary.{err_from_is_err_and, on_err_weaker, on_ok, block_is_listed, nothing, none_line, now_line, HasMoved, printed_if, state_of}
+use Rattle.std.proofs.Common.{rules, arith, [], inl, inr, refl, sym, append-nil}
+use Rattle.kin_run.proofs.Vocabulary.{err_from_is_err_and, on_err_weaker, on_ok, block_is_listed, nothing, none_line, HasMoved, state_of}
 use Rattle.kin_run.proofs.Tallying.{none_tallied, one_tallied}
 use Rattle.kin_run.proofs.Passing.{not_back}
 use Rattle.kin_run.proofs.Gathering.{front_nil}

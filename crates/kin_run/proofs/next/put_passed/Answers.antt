@@ -1,5 +1,5 @@
-use Rattle.std.proofs.Common.{rules, arith, ◌++◌, subst, OnErr}
-use Rattle.kin_run.proofs.Vocabulary.{on_err_weaker, on_err, Block, front_behind, front_first, PutsFront, now_line, printed_if}
+use Rattle.std.proofs.Common.{rules, arith}
+use Rattle.kin_run.proofs.Vocabulary.{on_err_weaker, on_err, front_behind, front_first}
 use Rattle.kin_run.proofs.next.put_passed.Goals as goal
 
 pub returns-in_err-put_if_on-clause-err : goal.returns-in_err-put_if_on-clause-err

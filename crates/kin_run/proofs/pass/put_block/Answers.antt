@@ -1,4 +1,4 @@
-use Rattle.std.proofs.Common.{rules, arith, ◌++◌, ◌∙◌, ap, subst, List, ℕ, flat_map, take_all}
+use Rattle.std.proofs.Common.{rules, arith, subst, take_all}
 use Rattle.kin_run.proofs.Vocabulary.{on_err, front_at, PutsFront}
 use Rattle.kin_run.proofs.Passing.{line_in, lines_in}
 use Rattle.kin_run.proofs.pass.put_block.Goals as goal
@@ -13,4 +13,5 @@ returns-in_err-put_failure-clause-err c =
     (front_at (line_in m) c.args.out.now.items c.loop-failure.out.items c.put_failure.new.out.items failures c.loop-failure.failure-index _ c.loop-failure-test.true c.loop-failure.invariant c.in_err-put_failure.ensures.err))
 
 pub returns-clause-ok : goal.returns-clause-ok
-returns-clause-ok c = search (rules, arith, lines_in, c.deref-failure-items.ensures.value, c.block.view_is, c.loop-failure.invariant, take_all, c.loop-failure-test.false)
+returns-clause-ok c =
+    search (rules, arith, lines_in, c.deref-failure-items.ensures.value, c.block.view_is, c.loop-failure.invariant, take_all, c.loop-failure-test.false)

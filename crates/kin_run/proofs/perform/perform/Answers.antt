@@ -1,5 +1,5 @@
-use Rattle.std.proofs.Common.{rules, ◌≡◌, refl, [], true, arith, to_z, of_z, w32, w64}
-use Rattle.kin_run.proofs.Vocabulary.{to_z-of_z, err_from_is_err_and, on_ok, line, IsSlowVelocity, IsRootInRange, asks_otherwise, state_of, printer}
+use Rattle.std.proofs.Common.{rules, ◌≡◌, true, arith, to_z, of_z, w32, w64}
+use Rattle.kin_run.proofs.Vocabulary.{to_z-of_z, err_from_is_err_and, on_ok, line, IsSlowVelocity, IsRootInRange, asks_otherwise, printer}
 use Rattle.kin_run.proofs.Tallying.{none_tallied}
 use Rattle.kin_run.proofs.Gathering.{gains_put}
 use Rattle.kin_run.proofs.Performing.{replied}

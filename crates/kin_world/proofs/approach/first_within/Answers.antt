@@ -5,7 +5,8 @@ use Rattle.kin_world.specs.Approach.{clearance, IsFirstWithin}
 use Rattle.kin_world.proofs.approach.first_within.Goals as goal
 
 -- two points come within a distance where being apart fails first
-comes_within : (d : ℕ) (p q : Course) (now : Moment) → IsCanonical now.at → (f : Fact) → f.sign ≡ Plus → (o : Option Moment) → IsFirstFailure (seen_by (clearance d p q)) now f o → IfSome o (IsFirstWithin d p q now)
+comes_within : (d : ℕ) (p q : Course) (now : Moment) → IsCanonical now.at
+    → (f : Fact) → f.sign ≡ Plus → (o : Option Moment) → IsFirstFailure (seen_by (clearance d p q)) now f o → IfSome o (IsFirstWithin d p q now)
 comes_within d p q now here f plus None h = tt
 comes_within d p q now here f plus (Some m) h = record {
   canonical = h.canonical;
