@@ -1,10 +1,12 @@
 -- A row follows the exchanges of its list.
-use Rattle.std.proofs.Common.{◌≡◌, refl, sym, ap, ◌∙◌, subst, arith, List, [], ◌∷◌, ℕ, zero, suc, ◌+◌, ◌<◌, ◌≤◌, true, length, drop, get_or, Some, Option, inl, inr, ◌⊎◌}
+use Rattle.std.proofs.Common.{◌≡◌, ◌≢◌, refl, sym, ap, ◌∙◌, subst, arith, List, [], ◌∷◌, ℕ, zero, suc, ◌+◌, ◌<◌, ◌≤◌, true, length, drop, get_or, Some, Option, inl, inr, ◌⊎◌}
 use Rattle.std.specs.Prelude.{slice_get}
 use Rattle.std.proofs.lemmas.List.{drop_more, drop_all}
-use Rattle.std.proofs.lemmas.Option.{slice_get_within, slice_get_read}
-use Rattle.kin_motion.specs.Numbers.{is_in}
+use Rattle.std.proofs.lemmas.Bool.{both_ways}
+use Rattle.std.proofs.lemmas.Option.{same_Some, slice_get_within, slice_get_read}
+use Rattle.kin_motion.specs.Numbers.{is_in, IsOnce}
 use Rattle.kin_list.specs.Rows.{exchange, exchanged}
+use Rattle.kin_list.proofs.ListLaws.{once-exchange}
 use Rattle.kin_list.proofs.RowLaws.{is_in-exchange, is_in_from_get}
 use Rattle.kin_wedge.specs.declared.touch.Touch.{Touch}
 use Rattle.kin_wedge.specs.Rows.{WereExchanged}
@@ -28,22 +30,33 @@ read_member xs p x l e = is_in_from_get xs p x (slice_get_read xs (length xs) p 
 pub read_there : (xs : List ℕ) (p x : ℕ) → p < length xs → x ≡ get_or xs p x → slice_get xs p ≡ Some x
 read_there xs p x l e = slice_get_read xs (length xs) p x refl l e
 
+-- neighbours in a list without repetition are different
+pub neighbours_apart : (xs : List ℕ) (p a b : ℕ) → IsOnce xs → slice_get xs p ≡ Some a → slice_get xs (suc p) ≡ Some b → a ≢ b
+neighbours_apart [] p a b o e f g = absurd cc
+neighbours_apart (x ∷ xs) zero a b o e f g =
+    let there = is_in_from_get xs 0 b f in
+    let here = same_Some x a e in
+    both_ways (is_in x xs) o.0 (ap (λ (y : ℕ). is_in y xs) (here ∙ g) ∙ there)
+neighbours_apart (x ∷ xs) (suc p) a b o e f g = neighbours_apart xs p a b o.1 e f g
+
 -- so many exchanges are made
 pub record IsFollowed (rows : List (List ℕ)) (candidates : List (Option ℕ)) (part : ℕ) (swaps start now : List ℕ) (first ts : List Touch) (i : ℕ) : Type 0 where
   pub row : exchanged (drop i swaps) now ≡ exchanged swaps start
   pub members : (x : ℕ) → is_in x now ≡ is_in x start
+  pub once : IsOnce start → IsOnce now
   pub offered : (a b : ℕ) → WereExchanged swaps start a b → WereExchanged (drop i swaps) now a b ⊎ HasOfferedBoth rows candidates part a b ts
   pub touched : HasTouched candidates first ts
 
 module _ (rows : List (List ℕ)) (candidates : List (Option ℕ)) (part : ℕ) (swaps start : List ℕ) (first : List Touch) where
   pub follow_first : IsFollowed rows candidates part swaps start start first first 0
-  follow_first = record { row = refl; members = λ x. refl; offered = λ a b h. inl h; touched = touched_none candidates first }
+  follow_first = record { row = refl; members = λ x. refl; once = λ o. o; offered = λ a b h. inl h; touched = touched_none candidates first }
 
   pub follow_more : (now next : List ℕ) (ts us : List Touch) (i : ℕ) → i < length swaps → IsFollowed rows candidates part swaps start now first ts i → next ≡ exchange (get_or swaps i 0) now
       → ((a b : ℕ) → slice_get now (get_or swaps i 0) ≡ Some a → slice_get now (suc (get_or swaps i 0)) ≡ Some b → HasOfferedBoth rows candidates part a b us) → HasTouched candidates ts us → IsFollowed rows candidates part swaps start next first us (i + 1)
   follow_more now next ts us i l f e o t = record {
     row = ap (exchanged (drop (i + 1) swaps)) e ∙ sym (ap (λ (ps : List ℕ). exchanged ps now) rest) ∙ f.row;
     members = λ x. ap (is_in x) e ∙ is_in-exchange (get_or swaps i 0) x now ∙ f.members x;
+    once = λ o'. subst IsOnce (sym e) (once-exchange (get_or swaps i 0) now (f.once o'));
     offered = λ a b h. at a b (f.offered a b h);
     touched = touched_through candidates first ts us f.touched t;
   }

@@ -1,7 +1,7 @@
 -- The first four orders bound the octants, and the last four rank their members.
 use Rattle.std.proofs.Common.{◌≡◌, refl, sym, ap, ◌∙◌, subst, arith, ℕ, zero, suc, ◌+◌, ◌%◌, ◌<◌, ◌≤◌, Some, true, false, inl, inr, ◌⊎◌}
 use Rattle.std.specs.Prelude.{slice_get}
-use Rattle.kin_motion.specs.Octants.{Octant, Reading, octants}
+use Rattle.kin_motion.specs.Octants.{Octant, Reading, forward, octants}
 use Rattle.kin_wedge.specs.Sides.{bounded_first, bounded_second}
 use Rattle.kin_wedge.specs.Touched.{IsBoundedAs}
 
@@ -27,6 +27,33 @@ split (suc (suc (suc (suc (suc zero))))) o e = same_split _ _ o (record { bounds
 split (suc (suc (suc (suc (suc (suc zero)))))) o e = same_split _ _ o (record { bounds = (omega arith, omega arith); third = omega arith; rank = refl; first = refl; second = refl; read = inr (refl, refl) }) e
 split (suc (suc (suc (suc (suc (suc (suc zero))))))) o e = same_split _ _ o (record { bounds = (omega arith, omega arith); third = omega arith; rank = refl; first = refl; second = refl; read = inr (refl, refl) }) e
 split (suc (suc (suc (suc (suc (suc (suc (suc w)))))))) o e = absurd cc
+
+-- the octant of which an order from the front is the first bound, or the second
+reads_first : (r : Reading) (a o : Octant) → a.first ≡ r → Some a ≡ Some o → o.first ≡ r
+reads_first r a o h e = let same : a ≡ o = cc in subst (λ (x : Octant). x.first ≡ r) same h
+
+reads_second : (r : Reading) (a o : Octant) → a.second ≡ r → Some a ≡ Some o → o.second ≡ r
+reads_second r a o h e = let same : a ≡ o = cc in subst (λ (x : Octant). x.second ≡ r) same h
+
+pub first_read : (part : ℕ) (o : Octant) → part < 4 → slice_get octants (bounded_first (forward part)) ≡ Some o → o.first ≡ forward part
+first_read zero o l e = reads_first _ _ o refl e
+first_read (suc zero) o l e = reads_first _ _ o refl e
+first_read (suc (suc zero)) o l e = reads_first _ _ o refl e
+first_read (suc (suc (suc zero))) o l e = reads_first _ _ o refl e
+first_read (suc (suc (suc (suc part)))) o l e = absurd (omega (arith, l))
+
+pub second_read : (part : ℕ) (o : Octant) → part < 4 → slice_get octants (bounded_second (forward part)) ≡ Some o → o.second ≡ forward part
+second_read zero o l e = reads_second _ _ o refl e
+second_read (suc zero) o l e = reads_second _ _ o refl e
+second_read (suc (suc zero)) o l e = reads_second _ _ o refl e
+second_read (suc (suc (suc zero))) o l e = reads_second _ _ o refl e
+second_read (suc (suc (suc (suc part)))) o l e = absurd (omega (arith, l))
+
+pub first_of : (w : ℕ) (o : Octant) → slice_get octants w ≡ Some o → bounded_first o.first ≡ w
+first_of w o e = (split w o e).first
+
+pub second_of : (w : ℕ) (o : Octant) → slice_get octants w ≡ Some o → bounded_second o.second ≡ w
+second_of w o e = (split w o e).second
 
 pub bounds_low : (w : ℕ) (o : Octant) → slice_get octants w ≡ Some o → (o.first.part < 4) × (o.second.part < 4)
 bounds_low w o e = (split w o e).bounds

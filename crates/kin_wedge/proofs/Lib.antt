@@ -8,6 +8,8 @@ pub mod StillThere
 pub mod Scanning
 pub mod Slots
 pub mod Halves
+pub mod Facing
+pub mod Passing
 pub mod Touching
 pub mod HitLists
 pub mod Lost

@@ -1,16 +1,18 @@
 -- Touches that are added.
 use Rattle.std.proofs.Common.{◌≡◌, ◌≢◌, ◌+◌, ◌*◌, ◌<◌, ◌≤◌, None, refl, sym, ap, ◌∙◌, ◌-◌, Bool, true, false, cond, not, subst, List, [], ◌∷◌, ◌++◌, ℕ, Some, Option, inl, inr, ◌⊎◌, arith}
 use Rattle.std.specs.Prelude.{Contains, slice_get}
-use Rattle.std.proofs.lemmas.Bool.{cases_eq}
+use Rattle.std.proofs.lemmas.Bool.{cases_eq, both_ways}
 use Rattle.std.proofs.lemmas.List.Elements.{Contains-append_left}
 use Rattle.kin_basics.proofs.Members.{contains_tail, contains_cases}
 use Rattle.kin_motion.specs.Octants.{Octant, Reading, forward, back, octants}
 use Rattle.kin_motion.specs.Changes.{stands_before}
+use Rattle.kin_motion.specs.Sets.{AreDistinct}
 use Rattle.kin_wedge.specs.declared.touch.Touch.{Touch}
 use Rattle.kin_wedge.specs.Rows.{row_of, stands_after}
 use Rattle.kin_wedge.specs.Sides.{bounded_first, bounded_second}
-use Rattle.kin_wedge.specs.Touched.{IsOffered, AreKnown, HasTouched, HasOfferedBoth, IsOfferedAgain, IsOfferedIn, IsBoundedAs, IsBoundedBy, IsLeftOut, ComesFirst, HasPassedBy}
+use Rattle.kin_wedge.specs.Touched.{IsOffered, AreKnown, HasTouched, HasOfferedBoth, IsOfferedAgain, IsOfferedIn, IsOfferedWithin, IsBoundedAs, IsBoundedBy, IsLeftOut, ComesFirst, HasPassedBy}
 use Rattle.kin_wedge.proofs.Halves.{bounded_as, bounds_low, read_by, third_high}
+use Rattle.kin_wedge.proofs.Passing.{turned_false}
 
 at_end : (xs : List Touch) (y : Touch) → Contains (xs ++ y ∷ []) y
 at_end [] y = (0, omega arith, refl)
@@ -82,15 +84,24 @@ again_in_both candidates first both r apex hit v w e f t in_first in_second n o 
         let same : w ≡ n = sym f ∙ k in
         subst (λ (x : ℕ). IsOffered both (8 * apex + x) (Some hit)) same (in_second (subst (λ (x : ℕ). slice_get candidates (8 * apex + x) ≡ Some (Some hit)) (sym same) held))
 
--- a number that goes is offered, whichever way its order is read
-pub gone_offered : (rows : List (List ℕ)) (candidates : List (Option ℕ)) (front both : List Touch) (part apex hit : ℕ) (behind before : Bool) → behind ≡ stands_before (row_of rows part) apex hit → before ≡ stands_before (row_of rows part) hit apex → HasTouched candidates front both
-    → (not behind ≡ true → IsOfferedAgain candidates front (forward part) apex hit) → (not before ≡ true → IsOfferedAgain candidates both (back part) apex hit)
-    → (w : ℕ) (o : Octant) → slice_get octants w ≡ Some o → IsLeftOut rows o part apex hit → slice_get candidates (8 * apex + w) ≡ Some (Some hit) → IsOffered both (8 * apex + w) (Some hit)
-gone_offered rows candidates front both part apex hit behind before e f t from_front from_end w o here left held = at left.from_end left.bound left.out
-  where
-    at : (b : Bool) → IsBoundedAs o (record { part = part; from_end = b }) → stands_after rows (record { part = part; from_end = b }) apex hit ≡ false → IsOffered both (8 * apex + w) (Some hit)
-    at true bound out = from_end (ap not (f ∙ out)) w o here bound held
-    at false bound out = t.keeps (8 * apex + w) (Some hit) (from_front (ap not (e ∙ out)) w o here bound held)
+-- of two members of which the second stands behind the first, either can have gone from the octants that read the order the other way
+module _ (rows : List (List ℕ)) (apart : (part : ℕ) → AreDistinct (row_of rows part)) (candidates : List (Option ℕ)) (ts : List Touch) (part p q : ℕ) (behind : stands_before (row_of rows part) p q ≡ true) where
+  before : stands_before (row_of rows part) q p ≡ false
+  before = turned_false (row_of rows part) (apart part) p q behind
+
+  pub gone_behind : IsOfferedAgain candidates ts (back part) p q → (w : ℕ) (o : Octant) → slice_get octants w ≡ Some o → IsLeftOut rows o part p q → slice_get candidates (8 * p + w) ≡ Some (Some q) → IsOffered ts (8 * p + w) (Some q)
+  gone_behind again w o here left held = at left.from_end left.bound left.out
+    where
+      at : (b : Bool) → IsBoundedAs o (record { part = part; from_end = b }) → stands_after rows (record { part = part; from_end = b }) p q ≡ false → IsOffered ts (8 * p + w) (Some q)
+      at true bound out = again w o here bound held
+      at false bound out = absurd (both_ways (stands_before (row_of rows part) p q) out behind)
+
+  pub gone_before : IsOfferedAgain candidates ts (forward part) q p → (w : ℕ) (o : Octant) → slice_get octants w ≡ Some o → IsLeftOut rows o part q p → slice_get candidates (8 * q + w) ≡ Some (Some p) → IsOffered ts (8 * q + w) (Some p)
+  gone_before again w o here left held = at left.from_end left.bound left.out
+    where
+      at : (b : Bool) → IsBoundedAs o (record { part = part; from_end = b }) → stands_after rows (record { part = part; from_end = b }) q p ≡ false → IsOffered ts (8 * q + w) (Some p)
+      at true bound out = absurd (both_ways (stands_before (row_of rows part) p q) out behind)
+      at false bound out = again w o here bound held
 
 -- what is offered of an exchange stays offered
 pub offered_stays : (rows : List (List ℕ)) (candidates : List (Option ℕ)) (now next : List Touch) (part a b : ℕ) → HasTouched candidates now next → HasOfferedBoth rows candidates part a b now → HasOfferedBoth rows candidates part a b next
@@ -98,11 +109,6 @@ offered_stays rows candidates now next part a b t h = (
   record { comes = λ w o e k m. t.keeps _ _ (h.0.comes w o e k m); goes = λ w o e k m. t.keeps _ _ (h.0.goes w o e k m); ranked = λ apex w o e p k m. t.keeps _ _ (h.0.ranked apex w o e p k m) },
   record { comes = λ w o e k m. t.keeps _ _ (h.1.comes w o e k m); goes = λ w o e k m. t.keeps _ _ (h.1.goes w o e k m); ranked = λ apex w o e p k m. t.keeps _ _ (h.1.ranked apex w o e p k m) },
 )
-
--- what is offered to the slots of a number
-pub record IsOfferedWithin (rows : List (List ℕ)) (candidates : List (Option ℕ)) (ts : List Touch) (part a b : ℕ) : Type 0 where
-  pub comes : (w : ℕ) (o : Octant) → slice_get octants w ≡ Some o → ComesFirst rows candidates o a w b → IsOffered ts (8 * a + w) (Some b)
-  pub goes : (w : ℕ) (o : Octant) → slice_get octants w ≡ Some o → IsLeftOut rows o part a b → slice_get candidates (8 * a + w) ≡ Some (Some b) → IsOffered ts (8 * a + w) (Some b)
 
 -- what is offered to the slots whose candidate a number is in the octants that an order ranks
 abbrev pub IsOfferedBeside : List (List ℕ) → List (Option ℕ) → List Touch → ℕ → ℕ → ℕ → Type 0
@@ -122,13 +128,6 @@ module _ (rows : List (List ℕ)) (candidates : List (Option ℕ)) (s t : List T
           h.keeps _ _ (subst (λ (n : ℕ). IsOfferedIn rows candidates s n a b) here (front (read false r.1)) apex o e k m.0)
       at (inr r) = subst (λ (n : ℕ). IsOfferedIn rows candidates t n a b) (sym (r.0 ∙ p)) (back (read true r.1)) apex o e k m.0
 
-  -- the first four orders rank no octant
-  pub both_within : part < 4 → IsOfferedWithin rows candidates s part a b → IsOfferedWithin rows candidates t part b a → HasOfferedBoth rows candidates part a b t
-  both_within small p q = (
-    record { comes = λ w o e k m. h.keeps _ _ (p.comes w o e m); goes = λ w o e k m. h.keeps _ _ (p.goes w o e k m); ranked = λ apex w o e r. absurd (let high = third_high w o e in omega (arith, small, high, r)) },
-    record { comes = λ w o e k m. q.comes w o e m; goes = q.goes; ranked = λ apex w o e r. absurd (let high = third_high w o e in omega (arith, small, high, r)) },
-  )
-
   -- the last four orders bound no octant
   pub both_beside : 4 ≤ part → IsOfferedBeside rows candidates s part a b → IsOfferedBeside rows candidates t part b a → HasOfferedBoth rows candidates part a b t
   both_beside large p q = (
@@ -143,3 +142,27 @@ module _ (rows : List (List ℕ)) (candidates : List (Option ℕ)) (s t : List T
       left_none : (w : ℕ) (o : Octant) (from_end : Bool) → slice_get octants w ≡ Some o → IsBoundedAs o (record { part = part; from_end = from_end }) → ⊥
       left_none w o b e (inl k) = bounds_none w o e (inl (ap (λ (r : Reading). r.part) k))
       left_none w o b e (inr k) = bounds_none w o e (inr (ap (λ (r : Reading). r.part) k))
+
+-- the first four orders rank no octant
+pub both_within : (rows : List (List ℕ)) (candidates : List (Option ℕ)) (ts : List Touch) (part a b : ℕ) → part < 4 → IsOfferedWithin rows candidates ts part a b → IsOfferedWithin rows candidates ts part b a
+    → ((w : ℕ) (o : Octant) → slice_get octants w ≡ Some o → IsLeftOut rows o part a b → slice_get candidates (8 * a + w) ≡ Some (Some b) → IsOffered ts (8 * a + w) (Some b))
+    → ((w : ℕ) (o : Octant) → slice_get octants w ≡ Some o → IsLeftOut rows o part b a → slice_get candidates (8 * b + w) ≡ Some (Some a) → IsOffered ts (8 * b + w) (Some a)) → HasOfferedBoth rows candidates part a b ts
+both_within rows candidates ts part a b small p q f g = (
+  record { comes = p; goes = f; ranked = λ apex w o e r. absurd (let high = third_high w o e in omega (arith, small, high, r)) },
+  record { comes = q; goes = g; ranked = λ apex w o e r. absurd (let high = third_high w o e in omega (arith, small, high, r)) },
+)
+
+-- of two members of which the second stands behind the first, either is offered to the slots of the other in the octant where it has passed it by
+pub both_past : (rows : List (List ℕ)) (apart : (part : ℕ) → AreDistinct (row_of rows part)) (candidates : List (Option ℕ)) (s t : List Touch) (part p q : ℕ) → stands_before (row_of rows part) p q ≡ true → HasTouched candidates s t → 4 ≤ part
+    → IsOfferedIn rows candidates s (part - 4) q p → IsOfferedIn rows candidates t part p q → HasOfferedBoth rows candidates part p q t
+both_past rows apart candidates s t part p q behind h large front back =
+    both_beside rows candidates t t part p q (touched_none candidates t) large
+    (both_read rows candidates t t part p q (touched_none candidates t) (λ f. absurd (both_ways (stands_before (row_of rows part) p q) f behind)) (λ f. back))
+    (both_read rows candidates s t part q p h (λ f. front) (λ f. absurd (both_ways (stands_before (row_of rows part) p q) f behind)))
+
+-- the two of an exchange either way round
+pub either_way : (rows : List (List ℕ)) (candidates : List (Option ℕ)) (ts : List Touch) (part a b p q : ℕ) → ((p ≡ a) × (q ≡ b)) ⊎ ((p ≡ b) × (q ≡ a)) → HasOfferedBoth rows candidates part p q ts → HasOfferedBoth rows candidates part a b ts
+either_way rows candidates ts part a b p q (inl e) h = subst (λ (x : ℕ). HasOfferedBoth rows candidates part a x ts) e.1 (subst (λ (x : ℕ). HasOfferedBoth rows candidates part x q ts) e.0 h)
+either_way rows candidates ts part a b p q (inr e) h =
+    let k : HasOfferedBoth rows candidates part b a ts = subst (λ (x : ℕ). HasOfferedBoth rows candidates part b x ts) e.1 (subst (λ (x : ℕ). HasOfferedBoth rows candidates part x q ts) e.0 h) in
+    (k.1, k.0)

@@ -67,9 +67,13 @@ IsOfferedIn rows candidates ts w a b = (apex : ℕ) (o : Octant) → slice_get o
 abbrev pub IsOfferedAgain : List (Option ℕ) → List Touch → Reading → ℕ → ℕ → Type 0
 IsOfferedAgain candidates ts r a b = (w : ℕ) (o : Octant) → slice_get octants w ≡ Some o → IsBoundedAs o r → slice_get candidates (8 * a + w) ≡ Some (Some b) → IsOffered ts (8 * a + w) (Some b)
 
+-- b is offered to the slots of a in the octants that an order bounds, where it comes first
+abbrev pub IsOfferedWithin : List (List ℕ) → List (Option ℕ) → List Touch → ℕ → ℕ → ℕ → Type 0
+IsOfferedWithin rows candidates ts part a b = (w : ℕ) (o : Octant) → slice_get octants w ≡ Some o → IsBoundedBy o part → ComesFirst rows candidates o a w b → IsOffered ts (8 * a + w) (Some b)
+
 -- of the exchange of a and b in an order, b is offered to those slots of a in the octants that the order bounds where it comes or goes, and to the slots whose candidate a is in the octants that it ranks where b has passed by
 pub record HasOffered (rows : List (List ℕ)) (candidates : List (Option ℕ)) (part a b : ℕ) (ts : List Touch) : Type 0 where
-  pub comes : (w : ℕ) (o : Octant) → slice_get octants w ≡ Some o → IsBoundedBy o part → ComesFirst rows candidates o a w b → IsOffered ts (8 * a + w) (Some b)
+  pub comes : IsOfferedWithin rows candidates ts part a b
   pub goes : (w : ℕ) (o : Octant) → slice_get octants w ≡ Some o → IsLeftOut rows o part a b → slice_get candidates (8 * a + w) ≡ Some (Some b) → IsOffered ts (8 * a + w) (Some b)
   pub ranked : (apex w : ℕ) (o : Octant) → slice_get octants w ≡ Some o → o.third.part ≡ part → slice_get candidates (8 * apex + w) ≡ Some (Some a) → HasPassedBy rows o apex a b → IsOffered ts (8 * apex + w) (Some b)
 

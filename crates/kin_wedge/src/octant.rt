@@ -37,7 +37,8 @@ impl Octant {
     }
 }
 
-fn forward(part: u32) -> Reading
+/// The order of a part from the front.
+pub fn forward(part: u32) -> Reading
     ensures { result ≡ record { part = part; from_end = false } }
 {
     Reading {
@@ -46,7 +47,8 @@ fn forward(part: u32) -> Reading
     }
 }
 
-fn back(part: u32) -> Reading
+/// The order of a part from the end.
+pub fn back(part: u32) -> Reading
     ensures { result ≡ record { part = part; from_end = true } }
 {
     Reading {

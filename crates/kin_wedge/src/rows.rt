@@ -1,7 +1,7 @@
 //! The rows of the eight orders as they were before a settle follow the exchanges.
 
 ghost use Rattle.std.specs.Prelude.{◌≡◌, ℕ, suc, ◌+◌, ◌*◌, ◌^◌, ◌<◌, Some, [], true, length, slice_get, IfOk, OnOk};
-ghost use Rattle.kin_motion.specs.Numbers.{is_in};
+ghost use Rattle.kin_motion.specs.Numbers.{is_in, IsOnce};
 ghost use Rattle.kin_list.specs.declared.mark.Mark.TheVariants.{Rest};
 ghost use Rattle.kin_list.specs.Listing.{staying, lasting, without};
 ghost use Rattle.kin_list.specs.Rows.{exchange, exchanged};
@@ -46,6 +46,7 @@ fn follow_one(
     requires members { HaveSlots (rows_of orders.now.lists.items) (length table.now) }
     requires part { part < 8 }
     requires still_there { (x : ℕ) → is_in x row.old.items ≡ true → is_in x (row_of (rows_of orders.now.lists.items) 0) ≡ true }
+    requires once { IsOnce row.old.items }
     requires small { length table.now < 2 ^ 32 }
     ensures row { OnOk result (row.new.items ≡ exchange place row.old.items) }
     ensures offered { OnOk result ((a b : ℕ) → slice_get row.old.items place ≡ Some a → slice_get row.old.items (suc place) ≡ Some b → HasOfferedBoth (rows_of orders.now.lists.items) table.now part a b touches.new.all.items) }
@@ -75,6 +76,7 @@ pub fn follow_row(
     requires members { HaveSlots (rows_of orders.now.lists.items) (length table.now) }
     requires part { part < 8 }
     requires still_there { (x : ℕ) → is_in x row.old.items ≡ true → is_in x (row_of (rows_of orders.now.lists.items) 0) ≡ true }
+    requires once { IsOnce row.old.items }
     requires small { length table.now < 2 ^ 32 }
     ensures row { OnOk result (row.new.items ≡ exchanged swaps.now row.old.items) }
     ensures offered { OnOk result ((a b : ℕ) → WereExchanged swaps.now row.old.items a b → HasOfferedBoth (rows_of orders.now.lists.items) table.now part a b touches.new.all.items) }

@@ -1,13 +1,15 @@
 //! On which sides of a point another one lies, and in which octant.
 
-ghost use Rattle.std.specs.Prelude.{◌≡◌, ◌<◌, ℕ, Some, true, slice_get};
+ghost use Rattle.std.specs.Prelude.{◌≡◌, ◌≢◌, ◌⊎◌, ◌<◌, ℕ, Some, IfSome, true, slice_get};
 ghost use Rattle.kin_motion.specs.Changes.{stands_before};
 ghost use Rattle.kin_motion.specs.Octants.{Octant as Bounds, octants};
 ghost use Rattle.kin_motion.specs.Numbers.{is_in};
 ghost use Rattle.kin_wedge.specs.Rows.{row_of, is_in_wedge, AreAlike, AreRows};
 ghost use Rattle.kin_wedge.specs.Seen.{rows_of};
 ghost use Rattle.kin_wedge.specs.Sides.{octant_by, AreParted, AreRanks, AreSides, IsSpot};
+ghost use Rattle.kin_wedge.specs.Touched.{IsBoundedBy};
 
+use crate::octant::{bounded_by, forward, orders_of};
 use crate::orders::Orders;
 
 /// Whether a number stands behind another in the orders of y, x - y, x and x + y, which bound the
@@ -49,17 +51,6 @@ pub struct Spot {
 }
 
 impl Orders {
-    /// Where a member stands in the orders that bound the octants.
-    #[inline(always)]
-    pub fn spot(&self, no: u32) -> Spot
-        requires rows { AreRows (rows_of self.now.lists.items) }
-        requires alike { AreAlike (rows_of self.now.lists.items) }
-        requires member { is_in no (row_of (rows_of self.now.lists.items) 0) ≡ true }
-        ensures { IsSpot (rows_of self.now.lists.items) no result }
-    {
-        self.spot_at(self.place_of_member(0, no), no)
-    }
-
     /// Where the member at a place of the first order stands.
     #[inline(always)]
     pub fn spot_at(&self, y: usize, no: u32) -> Spot
@@ -104,18 +95,45 @@ impl Orders {
         }
     }
 
-    /// Whether the first of two members stands before the second in one of these orders, by where they stand.
+    /// Two members as they stand in an order, the first one first.
     #[inline(always)]
-    pub fn spots_rise(&self, part: u32, first: Spot, second: Spot) -> bool
+    pub fn as_they_stand(&self, part: u32, a: u32, b: u32) -> (u32, u32)
         requires rows { AreRows (rows_of self.now.lists.items) }
-        requires part { part < 4 }
-        ensures { (p q : ℕ) → IsSpot (rows_of self.now.lists.items) p first → IsSpot (rows_of self.now.lists.items) q second → result ≡ stands_before (row_of (rows_of self.now.lists.items) part) p q }
+        requires part { part < 8 }
+        requires a { is_in a (row_of (rows_of self.now.lists.items) part) ≡ true }
+        requires b { is_in b (row_of (rows_of self.now.lists.items) part) ≡ true }
+        requires apart { a ≢ b }
+        ensures order { stands_before (row_of (rows_of self.now.lists.items) part) result.0 result.1 ≡ true }
+        ensures both { ((result.0 ≡ a) × (result.1 ≡ b)) ⊎ ((result.0 ≡ b) × (result.1 ≡ a)) }
     {
-        match part {
-            0 => self.rises(0, first.y, second.y),
-            1 => self.rises(1, first.difference, second.difference),
-            2 => self.rises(2, first.x, second.x),
-            _ => self.rises(3, first.sum, second.sum),
+        let place = self.place_of_member(part, a);
+        let other = self.place_of_member(part, b);
+        if self.rises(part, place, other) {
+            (a, b)
+        } else {
+            (b, a)
+        }
+    }
+
+    /// The octant of a member in which another one lies, if it lies in one of the two that an order bounds and
+    /// that read it from the front. The other stands behind the member in the order.
+    #[inline(always)]
+    pub fn octant_behind(&self, part: u32, apex: u32, no: u32) -> Option<u32>
+        requires rows { AreRows (rows_of self.now.lists.items) }
+        requires parted { AreParted (rows_of self.now.lists.items) }
+        requires part { part < 4 }
+        requires behind { stands_before (row_of (rows_of self.now.lists.items) part) apex no ≡ true }
+        ensures small { IfSome result (λ w. w < 8) }
+        ensures within { IfSome result (λ w. (o : Bounds) → slice_get octants w ≡ Some o → is_in_wedge (rows_of self.now.lists.items) o apex no ≡ true) }
+        ensures told { (w : ℕ) (o : Bounds) → slice_get octants w ≡ Some o → IsBoundedBy o part → is_in_wedge (rows_of self.now.lists.items) o apex no ≡ true → result ≡ Some w }
+    {
+        let (first, second) = bounded_by(forward(part));
+        if self.comes_after(orders_of(first).second, apex, no) {
+            Some(first)
+        } else if self.comes_after(orders_of(second).first, apex, no) {
+            Some(second)
+        } else {
+            None
         }
     }
 

@@ -1,18 +1,17 @@
 //! Slots whose candidate may change.
 
-ghost use Rattle.std.specs.Prelude.{◌≡◌, ℕ, ◌+◌, ◌*◌, ◌%◌, ◌<◌, ◌≤◌, ◌^◌, [], Option, Some, None, true, length, slice_get, OnOk};
+ghost use Rattle.std.specs.Prelude.{◌≡◌, ◌≢◌, ℕ, ◌+◌, ◌*◌, ◌%◌, ◌<◌, ◌≤◌, ◌^◌, [], Option, Some, None, true, length, slice_get, OnOk};
 ghost use Rattle.kin_motion.specs.Changes.{stands_before};
 ghost use Rattle.kin_motion.specs.Octants.{Octant as Bounds, octants};
 ghost use Rattle.kin_motion.specs.Numbers.{is_in};
 ghost use Rattle.kin_wedge.specs.Rows.{row_of, is_in_wedge, AreAlike, AreRows, HaveSlots};
 ghost use Rattle.kin_wedge.specs.Seen.{reading_seen, rows_of};
-ghost use Rattle.kin_wedge.specs.Sides.{AreParted, IsSpot};
-ghost use Rattle.kin_wedge.specs.Touched.{IsLeftOut, IsOffered, IsOfferedAgain, IsOfferedIn, ComesFirst, HasPassedBy, HasTouched, HasOfferedBoth};
+ghost use Rattle.kin_wedge.specs.Sides.{AreParted};
+ghost use Rattle.kin_wedge.specs.Touched.{IsOffered, IsOfferedAgain, IsOfferedIn, IsOfferedWithin, ComesFirst, HasTouched, HasOfferedBoth};
 
-use crate::octant::{Reading, bounded_by};
+use crate::octant::{Reading, back, bounded_by, forward};
 use crate::offer::{is_within, leads};
 use crate::orders::Orders;
-use crate::sides::Spot;
 use crate::table::Table;
 use kin_num::memory::NoMemory;
 use std::alloc::Global;
@@ -142,54 +141,27 @@ impl Touches {
         Ok(())
     }
 
-    /// The same, where it is wanted.
-    #[inline(always)]
-    fn offer_in_if(
-        &mut self,
-        is_wanted: bool,
-        orders: &Orders,
-        table: &Table,
-        w: u32,
-        of: u32,
-        no: u32,
-    ) -> Result<(), NoMemory>
-        requires rows { AreRows (rows_of orders.now.lists.items) }
-        requires octant { w < 8 }
-        requires small { length table.now < 2 ^ 32 }
-        ensures offered { OnOk result (is_wanted ≡ true → IsOfferedIn (rows_of orders.now.lists.items) table.now self.new.all.items w of no) }
-        ensures touched { OnOk result (HasTouched table.now self.old.all.items self.new.all.items) }
-    {
-        if is_wanted {
-            self.offer_in(orders, table, w, of, no)
-        } else {
-            Ok(())
-        }
-    }
-
-    /// Offers a number to the slots whose candidate another is, in the octants that an order ranks, where it
-    /// has passed the other by. Whether it is the first or the last of the two in the order is known.
-    fn offer_beside(
+    /// Offers two members to the slots whose candidate the other is, in the octants that an order ranks. The
+    /// second stands behind the first in the order.
+    fn offer_past(
         &mut self,
         orders: &Orders,
         table: &Table,
         part: u32,
-        of: u32,
-        no: u32,
-        is_first: bool,
-        is_last: bool,
+        first: u32,
+        second: u32,
     ) -> Result<(), NoMemory>
         requires rows { AreRows (rows_of orders.now.lists.items) }
         requires low { 4 ≤ part }
         requires high { part < 8 }
-        requires first { is_first ≡ stands_before (row_of (rows_of orders.now.lists.items) part) no of }
-        requires last { is_last ≡ stands_before (row_of (rows_of orders.now.lists.items) part) of no }
+        requires behind { stands_before (row_of (rows_of orders.now.lists.items) part) first second ≡ true }
         requires small { length table.now < 2 ^ 32 }
-        ensures offered { OnOk result ((apex w : ℕ) (o : Bounds) → slice_get octants w ≡ Some o → o.third.part ≡ part → slice_get table.now (8 * apex + w) ≡ Some (Some of) → HasPassedBy (rows_of orders.now.lists.items) o apex of no → IsOffered self.new.all.items (8 * apex + w) (Some no)) }
+        ensures offered { OnOk result (HasOfferedBoth (rows_of orders.now.lists.items) table.now part first second self.new.all.items) }
         ensures touched { OnOk result (HasTouched table.now self.old.all.items self.new.all.items) }
     {
         // Of the two octants that the order ranks, one reads it from the front and one from the end.
-        self.offer_in_if(!is_last, orders, table, part - 4, of, no)?;
-        self.offer_in_if(!is_first, orders, table, part, of, no)?;
+        self.offer_in(orders, table, part - 4, second, first)?;
+        self.offer_in(orders, table, part, first, second)?;
         Ok(())
     }
 
@@ -232,11 +204,10 @@ impl Touches {
     }
 
     /// Offers a number to the slots of an apex whose candidate it was, in the octants that an order as it
-    /// is read bounds, where that is wanted.
+    /// is read bounds.
     #[inline(always)]
-    fn offer_again_if(
+    fn offer_again(
         &mut self,
-        is_wanted: bool,
         reading: Reading,
         table: &Table,
         apex: u32,
@@ -245,61 +216,73 @@ impl Touches {
         requires part { reading.part < 4 }
         requires slot { 8 * apex + 7 < length table.now }
         requires small { length table.now < 2 ^ 32 }
-        ensures offered { OnOk result (is_wanted ≡ true → IsOfferedAgain table.now self.new.all.items (reading_seen reading) apex no) }
+        ensures offered { OnOk result (IsOfferedAgain table.now self.new.all.items (reading_seen reading) apex no) }
         ensures touched { OnOk result (HasTouched table.now self.old.all.items self.new.all.items) }
     {
-        if !is_wanted {
-            return Ok(());
-        }
         let (first, second) = bounded_by(reading);
         self.offer_at(table, apex, first, no)?;
         self.offer_at(table, apex, second, no)?;
         Ok(())
     }
 
-    /// Offers a member to the slots of another where it comes, or goes by an exchange in an order. Both
-    /// stand at these spots, and whether it is behind the other or before it in the order is known.
+    /// Offers two members to each other's slots in the octants that an order bounds, where they come. The
+    /// second stands behind the first in the order.
     #[inline(always)]
     fn offer_within(
         &mut self,
         orders: &Orders,
         table: &Table,
         part: u32,
-        apex: u32,
-        at: Spot,
-        no: u32,
-        spot: Spot,
-        is_behind: bool,
-        is_before: bool,
+        first: u32,
+        second: u32,
     ) -> Result<(), NoMemory>
         requires part { part < 4 }
-        requires behind { is_behind ≡ stands_before (row_of (rows_of orders.now.lists.items) part) apex no }
-        requires before { is_before ≡ stands_before (row_of (rows_of orders.now.lists.items) part) no apex }
+        requires behind { stands_before (row_of (rows_of orders.now.lists.items) part) first second ≡ true }
         requires rows { AreRows (rows_of orders.now.lists.items) }
         requires parted { AreParted (rows_of orders.now.lists.items) }
         requires alike { AreAlike (rows_of orders.now.lists.items) }
-        requires at { IsSpot (rows_of orders.now.lists.items) apex at }
-        requires spot { IsSpot (rows_of orders.now.lists.items) no spot }
-        requires slot { 8 * apex + 7 < length table.now }
+        requires members { HaveSlots (rows_of orders.now.lists.items) (length table.now) }
         requires small { length table.now < 2 ^ 32 }
-        ensures comes { OnOk result ((w : ℕ) (o : Bounds) → slice_get octants w ≡ Some o → ComesFirst (rows_of orders.now.lists.items) table.now o apex w no → IsOffered self.new.all.items (8 * apex + w) (Some no)) }
-        ensures goes { OnOk result ((w : ℕ) (o : Bounds) → slice_get octants w ≡ Some o → IsLeftOut (rows_of orders.now.lists.items) o part apex no → slice_get table.now (8 * apex + w) ≡ Some (Some no) → IsOffered self.new.all.items (8 * apex + w) (Some no)) }
+        ensures first { OnOk result (IsOfferedWithin (rows_of orders.now.lists.items) table.now self.new.all.items part first second) }
+        ensures second { OnOk result (IsOfferedWithin (rows_of orders.now.lists.items) table.now self.new.all.items part second first) }
         ensures touched { OnOk result (HasTouched table.now self.old.all.items self.new.all.items) }
     {
-        let w = orders.octant_of(at, spot);
-        let rank = orders.place_of_member(w % 4 + 4, no);
-        self.offer(orders, table, apex, w, no, rank)?;
-        // An octant that it has left reads the order the other way.
-        let front = Reading {
-            part,
-            from_end: false,
+        let Some(w) = orders.octant_behind(part, first, second) else {
+            return Ok(());
         };
-        let end = Reading {
-            part,
-            from_end: true,
-        };
-        self.offer_again_if(!is_behind, front, table, apex, no)?;
-        self.offer_again_if(!is_before, end, table, apex, no)?;
+        let rank = orders.place_of_member(w % 4 + 4, second);
+        self.offer(orders, table, first, w, second, rank)?;
+        // Around the second the first is in the opposite octant.
+        let v = (w + 4) % 8;
+        let rank = orders.place_of_member(v % 4 + 4, first);
+        self.offer(orders, table, second, v, first, rank)?;
+        Ok(())
+    }
+
+    /// Offers two members to each other's slots where they come or go by an exchange in an order that bounds
+    /// octants. The second stands behind the first in the order.
+    fn offer_across(
+        &mut self,
+        orders: &Orders,
+        table: &Table,
+        part: u32,
+        first: u32,
+        second: u32,
+    ) -> Result<(), NoMemory>
+        requires part { part < 4 }
+        requires behind { stands_before (row_of (rows_of orders.now.lists.items) part) first second ≡ true }
+        requires rows { AreRows (rows_of orders.now.lists.items) }
+        requires parted { AreParted (rows_of orders.now.lists.items) }
+        requires alike { AreAlike (rows_of orders.now.lists.items) }
+        requires members { HaveSlots (rows_of orders.now.lists.items) (length table.now) }
+        requires small { length table.now < 2 ^ 32 }
+        ensures offered { OnOk result (HasOfferedBoth (rows_of orders.now.lists.items) table.now part first second self.new.all.items) }
+        ensures touched { OnOk result (HasTouched table.now self.old.all.items self.new.all.items) }
+    {
+        self.offer_within(orders, table, part, first, second)?;
+        // An octant that one of them has left reads the order the other way.
+        self.offer_again(back(part), table, first, second)?;
+        self.offer_again(forward(part), table, second, first)?;
         Ok(())
     }
 
@@ -319,26 +302,17 @@ impl Touches {
         requires members { HaveSlots (rows_of orders.now.lists.items) (length table.now) }
         requires a { is_in a (row_of (rows_of orders.now.lists.items) 0) ≡ true }
         requires b { is_in b (row_of (rows_of orders.now.lists.items) 0) ≡ true }
+        requires apart { a ≢ b }
         requires part { part < 8 }
         requires small { length table.now < 2 ^ 32 }
         ensures offered { OnOk result (HasOfferedBoth (rows_of orders.now.lists.items) table.now part a b self.new.all.items) }
         ensures touched { OnOk result (HasTouched table.now self.old.all.items self.new.all.items) }
     {
+        let (first, second) = orders.as_they_stand(part, a, b);
         if part < 4 {
-            let at = orders.spot(a);
-            let spot = orders.spot(b);
-            let rises = orders.spots_rise(part, at, spot);
-            let falls = orders.spots_rise(part, spot, at);
-            self.offer_within(orders, table, part, a, at, b, spot, rises, falls)?;
-            self.offer_within(orders, table, part, b, spot, a, at, falls, rises)?;
-            return Ok(());
+            self.offer_across(orders, table, part, first, second)
+        } else {
+            self.offer_past(orders, table, part, first, second)
         }
-        let place = orders.place_of_member(part, a);
-        let other = orders.place_of_member(part, b);
-        let rises = orders.rises(part, place, other);
-        let falls = orders.rises(part, other, place);
-        self.offer_beside(orders, table, part, a, b, falls, rises)?;
-        self.offer_beside(orders, table, part, b, a, rises, falls)?;
-        Ok(())
     }
 }

@@ -5,7 +5,7 @@ use Rattle.kin_list.proofs.RowLaws.{exchange-is_swap}
 use Rattle.kin_wedge.specs.declared.touch.Touch.{Touch}
 use Rattle.kin_wedge.specs.Seen.{rows_of}
 use Rattle.kin_wedge.specs.Touched.{HasOfferedBoth}
-use Rattle.kin_wedge.proofs.Following.{past_end, none_past, read_member, read_there}
+use Rattle.kin_wedge.proofs.Following.{past_end, none_past, neighbours_apart, read_member, read_there}
 use Rattle.kin_wedge.proofs.rows.follow_one.Goals as goal
 
 -- the two numbers at the places that are read
@@ -37,3 +37,9 @@ returns-clause-row c = c.swap.ensures.items ∙ exchange-is_swap c.args.place c.
 pub returns-clause-offered : goal.returns-clause-offered
 returns-clause-offered c =
     offered_there (rows_of c.args.orders.now.lists.items) c.args.table.now c.args.part c.args.row.now.items c.args.place c.index.result.now c.index-2.result.now c.add_exchange.new.self.all.items (subst (λ (n : ℕ). c.args.place + 1 < n) (c.len.ensures ∙ c.args.row.now.ok.0) c.if-place-len.false) c.index.ensures c.index-2.ensures c.in_ok-add_exchange.ensures.offered
+
+pub add_exchange-requires-clause-apart : goal.add_exchange-requires-clause-apart
+add_exchange-requires-clause-apart c =
+    let l = (subst (λ (n : ℕ). c.args.place + 1 < n) (c.len.ensures ∙ c.args.row.now.ok.0) c.if-place-len.false) in
+    neighbours_apart c.args.row.now.items c.args.place c.index.result.now c.index-2.result.now c.requires.once (read_there c.args.row.now.items c.args.place c.index.result.now (omega (arith, l)) c.index.ensures)
+    (ap (slice_get c.args.row.now.items) (sym (add-one c.args.place)) ∙ read_there c.args.row.now.items (c.args.place + 1) c.index-2.result.now l c.index-2.ensures)

@@ -1,9 +1,14 @@
-use Rattle.std.proofs.Common.{sym, ap, ◌∙◌}
-use Rattle.kin_motion.specs.Numbers.{is_in}
-use Rattle.kin_wedge.proofs.Departing.{still_in}
+use Rattle.std.proofs.Common.{sym, ap, ◌∙◌, subst, List, ℕ}
+use Rattle.kin_motion.specs.Numbers.{is_in, IsOnce}
+use Rattle.kin_motion.specs.Sets.{AreDistinct}
+use Rattle.kin_wedge.proofs.Departing.{still_in, once_still}
 use Rattle.kin_wedge.proofs.rows.Row.follow.Goals as goal
 
 pub follow_row-requires-clause-still_there : goal.follow_row-requires-clause-still_there
 follow_row-requires-clause-still_there c = λ x h.
     let stays = sym (ap (is_in x) (c.self.view_is ∙ c.let_go.ensures)) ∙ h in
     sym (c.requires.alike c.args.part x c.requires.part) ∙ ap (is_in x) (sym c.requires.list) ∙ still_in c.args.mark c.args.list.now.swaps c.args.self.now c.args.list.now.items x c.requires.exchanges stays
+
+pub follow_row-requires-clause-once : goal.follow_row-requires-clause-once
+follow_row-requires-clause-once c =
+    subst IsOnce (sym (c.self.view_is ∙ c.let_go.ensures)) (once_still c.args.mark c.args.list.now.swaps c.args.self.now c.args.list.now.items c.requires.exchanges (subst AreDistinct (sym c.requires.list) (c.requires.rows.apart c.args.part)))
