@@ -1,7 +1,7 @@
 //! The candidate of a slot after a settle.
 
 ghost use Rattle.std.specs.Prelude.{◌≡◌, ◌<◌, ℕ, true, false, Some, None, ◌⊎◌};
-ghost use Rattle.kin_wedge.specs.Rows.{stands_after, is_in_wedge, AreRows, IsFirstAnswer};
+ghost use Rattle.kin_wedge.specs.Rows.{stands_after, is_in_wedge, AreAlike, AreRows, IsFirstAnswer};
 ghost use Rattle.kin_wedge.specs.Scans.{steps_in, step_to};
 ghost use Rattle.kin_wedge.specs.Seen.{octant_seen, rows_of, IsOfEight};
 ghost use Rattle.kin_wedge.specs.Touched.{IsRenewed};
@@ -36,6 +36,7 @@ impl Orders {
     #[inline(always)]
     fn scan(&self, octant: Octant, apex: u32) -> Option<u32>
         requires rows { AreRows (rows_of self.now.lists.items) }
+        requires alike { AreAlike (rows_of self.now.lists.items) }
         requires parts { IsOfEight (octant_seen octant) }
         requires behind { (q : ℕ) → is_in_wedge (rows_of self.now.lists.items) (octant_seen octant) apex q ≡ true → stands_after (rows_of self.now.lists.items) (octant_seen octant).third apex q ≡ true }
         ensures { IsFirstAnswer (rows_of self.now.lists.items) (octant_seen octant) apex result }
@@ -55,7 +56,7 @@ impl Orders {
         };
         for k in 0..steps_in(octant.third.from_end, place, items.len()) {
             let no = items[step_to(octant.third.from_end, place, k, items.len())];
-            if self.is_in_octant_of_places(octant, Some(first), Some(second), no) {
+            if self.is_in_octant_of_places(octant, first as usize, second as usize, no) {
                 return Some(no);
             }
         }
@@ -65,6 +66,7 @@ impl Orders {
     /// The first number of an octant in its third order.
     pub fn look_up(&self, octant: Octant, apex: u32) -> Option<u32>
         requires rows { AreRows (rows_of self.now.lists.items) }
+        requires alike { AreAlike (rows_of self.now.lists.items) }
         requires parts { IsOfEight (octant_seen octant) }
         requires behind { (q : ℕ) → is_in_wedge (rows_of self.now.lists.items) (octant_seen octant) apex q ≡ true → stands_after (rows_of self.now.lists.items) (octant_seen octant).third apex q ≡ true }
         ensures { IsFirstAnswer (rows_of self.now.lists.items) (octant_seen octant) apex result }
@@ -87,6 +89,7 @@ impl Orders {
         offer: Option<u32>,
     ) -> Option<u32>
         requires rows { AreRows (rows_of self.now.lists.items) }
+        requires alike { AreAlike (rows_of self.now.lists.items) }
         requires parts { IsOfEight (octant_seen octant) }
         requires behind { (q : ℕ) → is_in_wedge (rows_of self.now.lists.items) (octant_seen octant) apex q ≡ true → stands_after (rows_of self.now.lists.items) (octant_seen octant).third apex q ≡ true }
         ensures { IsRenewed (rows_of self.now.lists.items) (octant_seen octant) apex old offer result }

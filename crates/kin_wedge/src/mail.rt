@@ -67,8 +67,8 @@ pub struct Mail {
 }
 
 /// A fact, moved to part 0.
-fn own(placed: Placed) -> Placed
-    ensures { result ≡ in_part 0 placed }
+fn own(placed: &Placed) -> Placed
+    ensures { result ≡ in_part 0 placed.now }
 {
     Placed {
         part: 0,
@@ -106,8 +106,8 @@ impl Mail {
     }
 
     /// Tells the list of its part of a fact, if there is one.
-    fn tell(&mut self, placed: Placed) -> Result<(), NoMemory>
-        ensures told { OnOk result ((part : ℕ) → part < length self.old.boxes.items → told_to self.new.boxes.items part ≡ cond (is_of_part part placed) (told_to self.old.boxes.items part ++ in_part 0 placed ∷ []) (told_to self.old.boxes.items part)) }
+    fn tell(&mut self, placed: &Placed) -> Result<(), NoMemory>
+        ensures told { OnOk result ((part : ℕ) → part < length self.old.boxes.items → told_to self.new.boxes.items part ≡ cond (is_of_part part placed.now) (told_to self.old.boxes.items part ++ in_part 0 placed.now ∷ []) (told_to self.old.boxes.items part)) }
         ensures count { length self.new.boxes.items ≡ length self.old.boxes.items }
     {
         let part = placed.part as usize;
@@ -126,7 +126,7 @@ impl Mail {
     {
         self.clear();
         for placed in failed {
-            self.tell(*placed)?;
+            self.tell(placed)?;
         }
         Ok(())
     }

@@ -4,7 +4,7 @@ ghost use Rattle.std.specs.Prelude.{◌≡◌, ℕ, ◌<◌, ◌≤◌, ◌^◌,
 ghost use Rattle.kin_motion.specs.Changes.{stands_before};
 ghost use Rattle.kin_motion.specs.Numbers.{is_in};
 ghost use Rattle.kin_wedge.specs.Parts.{AreVacant, vacant_listing};
-ghost use Rattle.kin_wedge.specs.Rows.{row_of, stands_after, is_in_wedge, AreRows};
+ghost use Rattle.kin_wedge.specs.Rows.{row_of, stands_after, is_in_wedge, AreAlike, AreRows};
 ghost use Rattle.kin_wedge.specs.Seen.{octant_seen, reading_seen, rows_of, IsOfEight};
 ghost use Rattle.kin_wedge.specs.Sides.{IsPlace};
 
@@ -110,15 +110,6 @@ impl Orders {
         self.places_rise(part, self.place_in(part, first), place)
     }
 
-    /// Whether the number that has this place stands before another in the order of a part.
-    pub fn place_stands_before(&self, part: u32, place: Option<u32>, second: u32) -> bool
-        requires rows { AreRows (rows_of self.now.lists.items) }
-        requires part { part < 8 }
-        ensures { (first : ℕ) → IsPlace (row_of (rows_of self.now.lists.items) part) first place → result ≡ stands_before (row_of (rows_of self.now.lists.items) part) first second }
-    {
-        self.places_rise(part, place, self.place_in(part, second))
-    }
-
     /// Whether a number stands before another in the order of a part.
     pub fn stands_before(&self, part: u32, first: u32, second: u32) -> bool
         requires rows { AreRows (rows_of self.now.lists.items) }
@@ -159,33 +150,39 @@ impl Orders {
         }
     }
 
-    /// Whether q comes after the number that has this place, in an order as it is read.
-    pub fn comes_after_place(&self, reading: Reading, place: Option<u32>, q: u32) -> bool
+    /// Whether a member comes after the number that has this place, in an order as it is read.
+    #[inline(always)]
+    fn member_comes_after(&self, reading: Reading, place: usize, member: u32) -> bool
         requires rows { AreRows (rows_of self.now.lists.items) }
         requires part { reading.part < 8 }
-        ensures { (p : ℕ) → IsPlace (row_of (rows_of self.now.lists.items) reading.part) p place → result ≡ stands_after (rows_of self.now.lists.items) (reading_seen reading) p q }
+        requires member { is_in member (row_of (rows_of self.now.lists.items) reading.part) ≡ true }
+        ensures { (p : ℕ) → slice_get (row_of (rows_of self.now.lists.items) reading.part) place ≡ Some p → result ≡ stands_after (rows_of self.now.lists.items) (reading_seen reading) p member }
     {
+        let other = self.place_of_member(reading.part, member);
         if reading.from_end {
-            self.stands_before_place(reading.part, q, place)
+            self.rises(reading.part, other, place)
         } else {
-            self.place_stands_before(reading.part, place, q)
+            self.rises(reading.part, place, other)
         }
     }
 
-    /// Whether q is in an octant of the number that has these places in the two orders which bound it.
+    /// Whether a member is in an octant of the number that has these places in the two orders which bound it.
+    #[inline(always)]
     pub fn is_in_octant_of_places(
         &self,
         octant: Octant,
-        first: Option<u32>,
-        second: Option<u32>,
-        q: u32,
+        first: usize,
+        second: usize,
+        member: u32,
     ) -> bool
         requires rows { AreRows (rows_of self.now.lists.items) }
+        requires alike { AreAlike (rows_of self.now.lists.items) }
         requires parts { IsOfEight (octant_seen octant) }
-        ensures { (p : ℕ) → IsPlace (row_of (rows_of self.now.lists.items) octant.first.part) p first → IsPlace (row_of (rows_of self.now.lists.items) octant.second.part) p second → result ≡ is_in_wedge (rows_of self.now.lists.items) (octant_seen octant) p q }
+        requires member { is_in member (row_of (rows_of self.now.lists.items) 0) ≡ true }
+        ensures { (p : ℕ) → slice_get (row_of (rows_of self.now.lists.items) octant.first.part) first ≡ Some p → slice_get (row_of (rows_of self.now.lists.items) octant.second.part) second ≡ Some p → result ≡ is_in_wedge (rows_of self.now.lists.items) (octant_seen octant) p member }
     {
-        self.comes_after_place(octant.first, first, q)
-            && self.comes_after_place(octant.second, second, q)
+        self.member_comes_after(octant.first, first, member)
+            && self.member_comes_after(octant.second, second, member)
     }
 
     /// Whether q is in an octant of p.

@@ -2,7 +2,7 @@
 
 ghost use Rattle.std.specs.Prelude.{◌≡◌, ◌↔◌, ℕ, ◌/◌, ◌%◌, ◌<◌, IsTrue, Option, Some, length, slice_get, slice_set, Contains, [], OnOk};
 ghost use Rattle.kin_motion.specs.Octants.{Octant as Bounds, octants};
-ghost use Rattle.kin_wedge.specs.Rows.{AreRows, AreRanked, HaveSlots};
+ghost use Rattle.kin_wedge.specs.Rows.{AreAlike, AreRows, AreRanked, HaveSlots};
 ghost use Rattle.kin_wedge.specs.Seen.{rows_of};
 ghost use Rattle.kin_wedge.specs.Touched.{IsRenewed, IsOnItsWay, IsAnswered, offers_for};
 ghost use Rattle.kin_wedge.specs.declared.touch.Touch.{Touch as Touched};
@@ -27,6 +27,7 @@ pub fn is_same(old: Option<u32>, new: Option<u32>) -> bool
 /// Gives a touched slot its candidate after one offer.
 pub fn renew(orders: &Orders, table: &mut Table, touch: Touch) -> Result<(), NoMemory>
     requires rows { AreRows (rows_of orders.now.lists.items) }
+    requires alike { AreAlike (rows_of orders.now.lists.items) }
     requires ranked { AreRanked (rows_of orders.now.lists.items) }
     requires members { HaveSlots (rows_of orders.now.lists.items) (length table.old) }
     requires slot { touch.slot < length table.old }
@@ -46,6 +47,7 @@ pub fn renew(orders: &Orders, table: &mut Table, touch: Touch) -> Result<(), NoM
 /// Gives all touched slots their candidates.
 pub fn renew_all(orders: &Orders, table: &mut Table, touches: &[Touch]) -> Result<(), NoMemory>
     requires rows { AreRows (rows_of orders.now.lists.items) }
+    requires alike { AreAlike (rows_of orders.now.lists.items) }
     requires ranked { AreRanked (rows_of orders.now.lists.items) }
     requires members { HaveSlots (rows_of orders.now.lists.items) (length table.old) }
     requires slots { (t : Touched) → Contains touches.now t → t.slot < length table.old }

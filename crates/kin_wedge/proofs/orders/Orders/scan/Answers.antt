@@ -3,6 +3,7 @@ use Rattle.std.specs.Prelude.{slice_get}
 use Rattle.std.proofs.lemmas.Option.{slice_get_within, get_or_from_slice_get, slice_get-get_or}
 use Rattle.std.proofs.lemmas.Bool.{false_from_ne_true, and_parts}
 use Rattle.kin_motion.specs.Numbers.{is_in}
+use Rattle.kin_list.proofs.RowLaws.{is_in_from_get}
 use Rattle.kin_wedge.specs.Rows.{row_of, is_in_wedge}
 use Rattle.kin_wedge.specs.Sides.{IsPlace}
 use Rattle.kin_wedge.specs.Scans.{steps_in, step_to}
@@ -67,3 +68,9 @@ returns c = λ q. false_from_ne_true _ (λ m.
     let at-apex = ap (λ (xs : List ℕ). slice_get xs c.in-Some.place) c.items-items.ensures ∙ c.in-Some.ensures.some in
     ends c.args.octant.third.from_end c.in-Some.place t.0 (length c.items-items.result.now) c.loop-k.k (slice_get_within _ t.0 q here) (slice_get_within _ c.in-Some.place c.args.apex at-apex)
     (subst (λ (n : ℕ). n ≤ c.loop-k.k) c.steps_in-k-end.ensures c.loop-k-test.false) (c.loop-k.invariant q t.0 m here))
+
+pub is_in_octant_of_places-requires-clause-member : goal.is_in_octant_of_places-requires-clause-member
+is_in_octant_of_places-requires-clause-member c =
+    let row = c.items-items.ensures ∙ c.list-list.ensures.row in
+    let here = slice_get-get_or c.items-items.result.now c.step_to.result 0 c.step_to.ensures.within in
+    sym (c.requires.alike c.args.octant.third.part _ c.requires.parts.third) ∙ ap (is_in _) (sym row) ∙ is_in_from_get c.items-items.result.now c.step_to.result _ here
