@@ -56,7 +56,7 @@ module _ (rows : List (List ℕ)) (apart : (part : ℕ) → AreDistinct (row_of 
             over q (inl h) = h
             over q (inr (inl h)) = none_in _ h
             over q (inr (inr h)) = none_in _ h
-        at (inr f) = let h = a.lost c refl f in none_in h.0 h.1
+        at (inr f) = none_in _ (a.lost c refl f)
 
     -- one offer is taken
     pub awaited_step : (old new x : Option ℕ) (offers : List (Option ℕ)) → IsAwaited rows o p old (x ∷ offers) → IsRenewed rows o p old x new → IsAwaited rows o p new offers
@@ -97,8 +97,16 @@ module _ (rows : List (List ℕ)) (apart : (part : ℕ) → AreDistinct (row_of 
             other : (q : ℕ) → is_in_wedge rows o p q ≡ true → (n ≡ q) ⊎ (Contains offers (Some q) ⊎ Contains offers None) → Contains offers (Some q) ⊎ Contains offers None
             other q k (inl s) = absurd (let g : true ≡ false = sym k ∙ ap (is_in_wedge rows o p) (sym s) ∙ f in cc)
             other q k (inr h) = h
-    awaited_step (Some c) new (Some n) offers a r = by (cases_Bool (is_in_wedge rows o p c))
+    awaited_step (Some c) new (Some n) offers a r = by (cases_Bool (is_in_wedge rows o p n)) (cases_Bool (stands_after rows o.third n c))
       where
+        -- a look-up that was asked for is still to come
+        there : Contains (Some n ∷ offers) None → Contains offers None
+        there h = at (contains_cases _ _ _ h)
+          where
+            at : (Some n ≡ None) ⊎ Contains offers None → Contains offers None
+            at (inl e) = absurd cc
+            at (inr h) = h
+
         rest : is_in_wedge rows o p c ≡ true → (q : ℕ) → is_in_wedge rows o p q ≡ true → ((q ≡ c) ⊎ (stands_after rows o.third c q ≡ true)) ⊎ ((n ≡ q) ⊎ (Contains offers (Some q) ⊎ Contains offers None))
         rest m q k = both (a.good c q refl m k)
           where
@@ -106,32 +114,30 @@ module _ (rows : List (List ℕ)) (apart : (part : ℕ) → AreDistinct (row_of 
             here (inl e) = inl (same_Some n q e)
             here (inr h) = inr (inl h)
 
-            there : (Some n ≡ None) ⊎ Contains offers None → (n ≡ q) ⊎ (Contains offers (Some q) ⊎ Contains offers None)
-            there (inl e) = absurd cc
-            there (inr h) = inr (inr h)
-
             both : ((q ≡ c) ⊎ (stands_after rows o.third c q ≡ true)) ⊎ (Contains (Some n ∷ offers) (Some q) ⊎ Contains (Some n ∷ offers) None) → ((q ≡ c) ⊎ (stands_after rows o.third c q ≡ true)) ⊎ ((n ≡ q) ⊎ (Contains offers (Some q) ⊎ Contains offers None))
             both (inl h) = inl h
             both (inr (inl h)) = inr (here (contains_cases _ _ _ h))
-            both (inr (inr h)) = inr (there (contains_cases _ _ _ h))
+            both (inr (inr h)) = inr (inr (inr (there h)))
 
         -- the candidate stays
-        stays : is_in_wedge rows o p c ≡ true → new ≡ Some c → ((q : ℕ) → is_in_wedge rows o p q ≡ true → n ≡ q → (q ≡ c) ⊎ (stands_after rows o.third c q ≡ true)) → IsAwaited rows o p new offers
-        stays t e later = subst (λ (v : Option ℕ). IsAwaited rows o p v offers) (sym e) record {
-          good = λ d q f m k. subst (λ (x : ℕ). ((q ≡ x) ⊎ (stands_after rows o.third x q ≡ true)) ⊎ (Contains offers (Some q) ⊎ Contains offers None)) (same_Some c d f) (good q k (rest t q k));
-          lost = λ d f m. absurd (let g : true ≡ false = sym t ∙ ap (is_in_wedge rows o p) (same_Some c d f) ∙ m in cc);
+        stays : new ≡ Some c → ((q : ℕ) → is_in_wedge rows o p c ≡ true → is_in_wedge rows o p q ≡ true → n ≡ q → (q ≡ c) ⊎ (stands_after rows o.third c q ≡ true)) → IsAwaited rows o p new offers
+        stays e later = subst (λ (v : Option ℕ). IsAwaited rows o p v offers) (sym e) record {
+          good = λ d q f m k.
+              let t = ap (is_in_wedge rows o p) (same_Some c d f) ∙ m in
+              subst (λ (x : ℕ). ((q ≡ x) ⊎ (stands_after rows o.third x q ≡ true)) ⊎ (Contains offers (Some q) ⊎ Contains offers None)) (same_Some c d f) (good t q k (rest t q k));
+          lost = λ d f m. there (a.lost c refl (ap (is_in_wedge rows o p) (same_Some c d f) ∙ m));
           none = λ q f. absurd cc;
         }
           where
-            good : (q : ℕ) → is_in_wedge rows o p q ≡ true → ((q ≡ c) ⊎ (stands_after rows o.third c q ≡ true)) ⊎ ((n ≡ q) ⊎ (Contains offers (Some q) ⊎ Contains offers None)) → ((q ≡ c) ⊎ (stands_after rows o.third c q ≡ true)) ⊎ (Contains offers (Some q) ⊎ Contains offers None)
-            good q k (inl h) = inl h
-            good q k (inr (inl s)) = inl (later q k s)
-            good q k (inr (inr h)) = inr h
+            good : is_in_wedge rows o p c ≡ true → (q : ℕ) → is_in_wedge rows o p q ≡ true → ((q ≡ c) ⊎ (stands_after rows o.third c q ≡ true)) ⊎ ((n ≡ q) ⊎ (Contains offers (Some q) ⊎ Contains offers None)) → ((q ≡ c) ⊎ (stands_after rows o.third c q ≡ true)) ⊎ (Contains offers (Some q) ⊎ Contains offers None)
+            good t q k (inl h) = inl h
+            good t q k (inr (inl s)) = inl (later q t k s)
+            good t q k (inr (inr h)) = inr h
 
         -- the offered number is better
-        gives_way : is_in_wedge rows o p c ≡ true → is_in_wedge rows o p n ≡ true → stands_after rows o.third n c ≡ true → new ≡ Some n → IsAwaited rows o p new offers
-        gives_way t i b e = subst (λ (v : Option ℕ). IsAwaited rows o p v offers) (sym e) record {
-          good = λ d q f m k. subst (λ (x : ℕ). ((q ≡ x) ⊎ (stands_after rows o.third x q ≡ true)) ⊎ (Contains offers (Some q) ⊎ Contains offers None)) (same_Some n d f) (good q (rest t q k));
+        gives_way : is_in_wedge rows o p n ≡ true → stands_after rows o.third n c ≡ true → new ≡ Some n → IsAwaited rows o p new offers
+        gives_way i b e = subst (λ (v : Option ℕ). IsAwaited rows o p v offers) (sym e) record {
+          good = λ d q f m k. subst (λ (x : ℕ). ((q ≡ x) ⊎ (stands_after rows o.third x q ≡ true)) ⊎ (Contains offers (Some q) ⊎ Contains offers None)) (same_Some n d f) (was q k (cases_Bool (is_in_wedge rows o p c)));
           lost = λ d f m. absurd (let g : true ≡ false = sym i ∙ ap (is_in_wedge rows o p) (same_Some n d f) ∙ m in cc);
           none = λ q f. absurd cc;
         }
@@ -142,19 +148,16 @@ module _ (rows : List (List ℕ)) (apart : (part : ℕ) → AreDistinct (row_of 
             good q (inr (inl s)) = inl (inl (sym s))
             good q (inr (inr h)) = inr h
 
-        by : (is_in_wedge rows o p c ≡ true) ⊎ (is_in_wedge rows o p c ≡ false) → IsAwaited rows o p new offers
-        by (inr f) = first-exact new offers (r.lost c refl f)
-        by (inl t) = within (cases_Bool (is_in_wedge rows o p n))
+            was : (q : ℕ) → is_in_wedge rows o p q ≡ true → (is_in_wedge rows o p c ≡ true) ⊎ (is_in_wedge rows o p c ≡ false) → ((q ≡ n) ⊎ (stands_after rows o.third n q ≡ true)) ⊎ (Contains offers (Some q) ⊎ Contains offers None)
+            was q k (inl t) = good q (rest t q k)
+            was q k (inr f) = inr (inr (there (a.lost c refl f)))
+
+        by : (is_in_wedge rows o p n ≡ true) ⊎ (is_in_wedge rows o p n ≡ false) → (stands_after rows o.third n c ≡ true) ⊎ (stands_after rows o.third n c ≡ false) → IsAwaited rows o p new offers
+        by (inr f) w = stays (r.kept c n refl refl (inl f)) (λ q t k s. absurd (let g : true ≡ false = sym k ∙ ap (is_in_wedge rows o p) (sym s) ∙ f in cc))
+        by (inl i) (inl b) = gives_way i b (r.better c n refl refl i b)
+        by (inl i) (inr w) = stays (r.kept c n refl refl (inr w)) (λ q t k s. subst (λ (x : ℕ). (x ≡ c) ⊎ (stands_after rows o.third c x ≡ true)) s (behind (ranked n c i t)))
           where
-            within : (is_in_wedge rows o p n ≡ true) ⊎ (is_in_wedge rows o p n ≡ false) → IsAwaited rows o p new offers
-            within (inr f) = stays t (r.kept c n refl t refl (inl f)) (λ q k s. absurd (let g : true ≡ false = sym k ∙ ap (is_in_wedge rows o p) (sym s) ∙ f in cc))
-            within (inl i) = order (cases_Bool (stands_after rows o.third n c))
-              where
-                order : (stands_after rows o.third n c ≡ true) ⊎ (stands_after rows o.third n c ≡ false) → IsAwaited rows o p new offers
-                order (inl b) = gives_way t i b (r.better c n refl t refl i b)
-                order (inr w) = stays t (r.kept c n refl t refl (inr w)) (λ q k s. subst (λ (x : ℕ). (x ≡ c) ⊎ (stands_after rows o.third c x ≡ true)) s (behind (ranked n c i t)))
-                  where
-                    behind : (n ≡ c) ⊎ ((stands_after rows o.third n c ≡ true) ⊎ (stands_after rows o.third c n ≡ true)) → (n ≡ c) ⊎ (stands_after rows o.third c n ≡ true)
-                    behind (inl s) = inl s
-                    behind (inr (inl b)) = absurd (let g : true ≡ false = sym b ∙ w in cc)
-                    behind (inr (inr h)) = inr h
+            behind : (n ≡ c) ⊎ ((stands_after rows o.third n c ≡ true) ⊎ (stands_after rows o.third c n ≡ true)) → (n ≡ c) ⊎ (stands_after rows o.third c n ≡ true)
+            behind (inl s) = inl s
+            behind (inr (inl b)) = absurd (let g : true ≡ false = sym b ∙ w in cc)
+            behind (inr (inr h)) = inr h

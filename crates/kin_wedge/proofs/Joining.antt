@@ -214,7 +214,7 @@ module _ (mark : Mark) (swaps old new : List (List ℕ)) (h : IsPassage mark swa
       unfolding passed
       are_offered = record {
         comes = λ q x k first. by_bounds q x (k, λ c f. first c (same_Some now (Some c) (sym held ∙ f)));
-        goes = λ q r bound x out e. offer_among ts (8 * p + w) (Some q) ((exchange_offered r.part p q x).goes w o here (left_out q r bound out) (held ∙ ap (λ (v : Option ℕ). Some v) e));
+        goes = λ q r bound x out e. offer_among ts (8 * p + w) None ((exchange_offered r.part p q x).goes w o here (left_out q r bound out) (held ∙ ap (λ (v : Option ℕ). Some v) e));
         ranked = λ c q e x k. offer_among ts (8 * p + w) (Some q) ((exchange_offered o.third.part c q x).ranked p w o here refl (held ∙ ap (λ (v : Option ℕ). Some v) e) k);
         entered = λ q e k first. offer_among ts (8 * p + w) (Some q) (entered mark number q e (k, λ c f. first c (same_Some now (Some c) (sym held ∙ f))));
         apex = λ e. offer_among ts (8 * p + w) None (apex mark number e);

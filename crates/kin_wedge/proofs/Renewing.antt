@@ -1,5 +1,5 @@
 -- A candidate after an offer is in its octant.
-use Rattle.std.proofs.Common.{◌≡◌, refl, sym, ap, ◌∙◌, arith, ◌*◌, ◌<◌, List, ℕ, [], ◌∷◌, zero, suc, set, Bool, true, false, cond, Some, None, Option, inl, inr, ◌⊎◌}
+use Rattle.std.proofs.Common.{◌≡◌, ◌≢◌, refl, sym, ap, ◌∙◌, arith, ◌*◌, ◌<◌, List, ℕ, [], ◌∷◌, zero, suc, set, Bool, true, false, cond, Some, None, Option, inl, inr, ◌⊎◌}
 use Rattle.std.specs.Prelude.{slice_get}
 use Rattle.std.proofs.lemmas.Option.{same_Some}
 use Rattle.std.proofs.lemmas.Bool.{cases_Bool, and_parts}
@@ -15,29 +15,20 @@ module _ (rows : List (List ℕ)) (o : Octant) (p : ℕ) where
   answer_within None c h e = absurd cc
   answer_within (Some d) c h e = ap (is_in_wedge rows o p) (sym (same_Some d c e)) ∙ h.member
 
-  pub renewed_within : (old offer new : Option ℕ) (c : ℕ) → IsRenewed rows o p old offer new → new ≡ Some c → is_in_wedge rows o p c ≡ true
-  renewed_within old None new c r e = answer_within new c (r.looked_up refl) e
-  renewed_within None (Some q) new c r e = at (cases_Bool (is_in_wedge rows o p q))
+  -- a candidate that is another one than before
+  pub renewed_within : (old offer new : Option ℕ) (c : ℕ) → IsRenewed rows o p old offer new → old ≢ new → new ≡ Some c → is_in_wedge rows o p c ≡ true
+  renewed_within old None new c r n e = answer_within new c (r.looked_up refl) e
+  renewed_within None (Some q) new c r n e = at (cases_Bool (is_in_wedge rows o p q))
     where
       at : (is_in_wedge rows o p q ≡ true) ⊎ (is_in_wedge rows o p q ≡ false) → is_in_wedge rows o p c ≡ true
       at (inl t) = ap (is_in_wedge rows o p) (same_Some c q (sym e ∙ r.taken q refl refl t)) ∙ t
-      at (inr f) = absurd (let g : None ≡ Some c = sym (r.still_none q refl refl f) ∙ e in cc)
-  renewed_within (Some d) (Some q) new c r e = at (cases_Bool (is_in_wedge rows o p d))
+      at (inr f) = absurd (n (sym (r.still_none q refl refl f)))
+  renewed_within (Some d) (Some q) new c r n e = at (cases_Bool (is_in_wedge rows o p q)) (cases_Bool (stands_after rows o.third q d))
     where
-      kept : is_in_wedge rows o p d ≡ true → (is_in_wedge rows o p q ≡ false) ⊎ (stands_after rows o.third q d ≡ false) → is_in_wedge rows o p c ≡ true
-      kept t w = ap (is_in_wedge rows o p) (same_Some c d (sym e ∙ r.kept d q refl t refl w)) ∙ t
-
-      order : is_in_wedge rows o p d ≡ true → is_in_wedge rows o p q ≡ true → (stands_after rows o.third q d ≡ true) ⊎ (stands_after rows o.third q d ≡ false) → is_in_wedge rows o p c ≡ true
-      order t i (inl b) = ap (is_in_wedge rows o p) (same_Some c q (sym e ∙ r.better d q refl t refl i b)) ∙ i
-      order t i (inr w) = kept t (inr w)
-
-      offer : is_in_wedge rows o p d ≡ true → (is_in_wedge rows o p q ≡ true) ⊎ (is_in_wedge rows o p q ≡ false) → is_in_wedge rows o p c ≡ true
-      offer t (inl i) = order t i (cases_Bool (stands_after rows o.third q d))
-      offer t (inr f) = kept t (inl f)
-
-      at : (is_in_wedge rows o p d ≡ true) ⊎ (is_in_wedge rows o p d ≡ false) → is_in_wedge rows o p c ≡ true
-      at (inl t) = offer t (cases_Bool (is_in_wedge rows o p q))
-      at (inr f) = answer_within new c (r.lost d refl f) e
+      at : (is_in_wedge rows o p q ≡ true) ⊎ (is_in_wedge rows o p q ≡ false) → (stands_after rows o.third q d ≡ true) ⊎ (stands_after rows o.third q d ≡ false) → is_in_wedge rows o p c ≡ true
+      at (inl i) (inl b) = ap (is_in_wedge rows o p) (same_Some c q (sym e ∙ r.better d q refl refl i b)) ∙ i
+      at (inl i) (inr w) = absurd (n (sym (r.kept d q refl refl (inr w))))
+      at (inr f) w = absurd (n (sym (r.kept d q refl refl (inl f))))
 
   -- who is in an octant is in the lists, so it has slots
   pub within_slots : (n c : ℕ) → HaveSlots rows n → is_in_wedge rows o p c ≡ true → 8 * c < n

@@ -23,7 +23,7 @@ pub record HasPassed (old new : List (List ℕ)) : Type 1 where
 -- what is offered to the slot of p that had this candidate
 pub record AreOffered (old new : List (List ℕ)) (passed : HasPassed old new) (o : Octant) (p : ℕ) (now : Option ℕ) (offers : List (Option ℕ)) : Type 0 where
   pub comes : (q : ℕ) → passed.Exchanged o.first.part p q ⊎ passed.Exchanged o.second.part p q → is_in_wedge new o p q ≡ true → ((c : ℕ) → now ≡ Some c → stands_after new o.third c q ≡ false) → Contains offers (Some q)
-  pub goes : (q : ℕ) (r : Reading) → IsBoundedAs o r → passed.Exchanged r.part p q → stands_after new r p q ≡ false → now ≡ Some q → Contains offers (Some q)
+  pub goes : (q : ℕ) (r : Reading) → IsBoundedAs o r → passed.Exchanged r.part p q → stands_after new r p q ≡ false → now ≡ Some q → Contains offers None
   pub ranked : (c q : ℕ) → now ≡ Some c → passed.Exchanged o.third.part c q → HasPassedBy new o p c q → Contains offers (Some q)
   pub entered : (q : ℕ) → passed.Enters q → is_in_wedge new o p q ≡ true → ((c : ℕ) → now ≡ Some c → stands_after new o.third c q ≡ false) → Contains offers (Some q)
   pub apex : passed.Enters p ⊎ passed.Leaves p → Contains offers None
@@ -123,14 +123,14 @@ module _ (old new : List (List ℕ)) (passed : HasPassed old new) (o : Octant) (
       of_apex q k (inl a) = of_number q k a (passed.kind q)
       of_apex q k (inr a) = inr (inr (given.apex a))
 
-      lost_candidate : is_in_wedge new o p d ≡ false → passed.Stays p → passed.Stays d ⊎ (passed.Enters d ⊎ passed.Leaves d) → (x : Option ℕ) × Contains offers x
-      lost_candidate m a (inl s) = (Some d, out_of (left_by d a s first.member m))
+      lost_candidate : is_in_wedge new o p d ≡ false → passed.Stays p → passed.Stays d ⊎ (passed.Enters d ⊎ passed.Leaves d) → Contains offers None
+      lost_candidate m a (inl s) = out_of (left_by d a s first.member m)
         where
-          out_of : IsLeftBy d → Contains offers (Some d)
+          out_of : IsLeftBy d → Contains offers None
           out_of l = given.goes d l.reading l.bound l.exchanged l.out refl
       lost_candidate m a (inr (inl s)) = absurd (passed.new_second o.first p d s (and_parts _ _ first.member).0)
-      lost_candidate m a (inr (inr s)) = (None, given.left d refl s)
+      lost_candidate m a (inr (inr s)) = given.left d refl s
 
-      lost_apex : is_in_wedge new o p d ≡ false → passed.Stays p ⊎ (passed.Enters p ⊎ passed.Leaves p) → (x : Option ℕ) × Contains offers x
+      lost_apex : is_in_wedge new o p d ≡ false → passed.Stays p ⊎ (passed.Enters p ⊎ passed.Leaves p) → Contains offers None
       lost_apex m (inl a) = lost_candidate m a (passed.kind d)
-      lost_apex m (inr a) = (None, given.apex a)
+      lost_apex m (inr a) = given.apex a

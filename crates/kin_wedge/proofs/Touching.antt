@@ -10,7 +10,7 @@ use Rattle.kin_motion.specs.Sets.{AreDistinct}
 use Rattle.kin_wedge.specs.declared.touch.Touch.{Touch}
 use Rattle.kin_wedge.specs.Rows.{row_of, stands_after}
 use Rattle.kin_wedge.specs.Sides.{bounded_first, bounded_second}
-use Rattle.kin_wedge.specs.Touched.{IsOffered, AreKnown, HasTouched, HasOfferedBoth, IsOfferedAgain, IsOfferedIn, IsOfferedWithin, IsBoundedAs, IsBoundedBy, IsLeftOut, ComesFirst, HasPassedBy}
+use Rattle.kin_wedge.specs.Touched.{IsOffered, AreKnown, HasTouched, HasOfferedBoth, AreLeft, IsOfferedIn, IsOfferedWithin, IsBoundedAs, IsBoundedBy, IsLeftOut, ComesFirst, HasPassedBy}
 use Rattle.kin_wedge.proofs.Halves.{bounded_as, bounds_low, read_by, third_high}
 use Rattle.kin_wedge.proofs.Passing.{turned_false}
 
@@ -71,35 +71,35 @@ looked_up_more candidates first now next apex w a o t = record {
     at v (inl e) h = subst (λ (n : ℕ). IsOffered next (8 * apex + n) None) (sym e) o
     at v (inr n) h = t.keeps (8 * apex + v) None (a.offered v (omega (arith, h, n)))
 
--- a number is offered again to the two slots of an apex in the octants that an order as it is read bounds
-pub again_in_both : (candidates : List (Option ℕ)) (first both : List Touch) (r : Reading) (apex hit v w : ℕ) → bounded_first r ≡ v → bounded_second r ≡ w → HasTouched candidates first both
-    → (slice_get candidates (8 * apex + v) ≡ Some (Some hit) → IsOffered first (8 * apex + v) (Some hit)) → (slice_get candidates (8 * apex + w) ≡ Some (Some hit) → IsOffered both (8 * apex + w) (Some hit)) → IsOfferedAgain candidates both r apex hit
-again_in_both candidates first both r apex hit v w e f t in_first in_second n o here bound held = at (bounded_as n o r here bound)
+-- the two slots of an apex in the octants that an order as it is read bounds are looked up where a number was the candidate
+pub left_in_both : (candidates : List (Option ℕ)) (first both : List Touch) (r : Reading) (apex hit v w : ℕ) → bounded_first r ≡ v → bounded_second r ≡ w → HasTouched candidates first both
+    → (slice_get candidates (8 * apex + v) ≡ Some (Some hit) → IsOffered first (8 * apex + v) None) → (slice_get candidates (8 * apex + w) ≡ Some (Some hit) → IsOffered both (8 * apex + w) None) → AreLeft candidates both r apex hit
+left_in_both candidates first both r apex hit v w e f t in_first in_second n o here bound held = at (bounded_as n o r here bound)
   where
-    at : (bounded_first r ≡ n) ⊎ (bounded_second r ≡ n) → IsOffered both (8 * apex + n) (Some hit)
+    at : (bounded_first r ≡ n) ⊎ (bounded_second r ≡ n) → IsOffered both (8 * apex + n) None
     at (inl k) =
         let same : v ≡ n = sym e ∙ k in
-        subst (λ (x : ℕ). IsOffered both (8 * apex + x) (Some hit)) same (t.keeps (8 * apex + v) (Some hit) (in_first (subst (λ (x : ℕ). slice_get candidates (8 * apex + x) ≡ Some (Some hit)) (sym same) held)))
+        subst (λ (x : ℕ). IsOffered both (8 * apex + x) None) same (t.keeps (8 * apex + v) None (in_first (subst (λ (x : ℕ). slice_get candidates (8 * apex + x) ≡ Some (Some hit)) (sym same) held)))
     at (inr k) =
         let same : w ≡ n = sym f ∙ k in
-        subst (λ (x : ℕ). IsOffered both (8 * apex + x) (Some hit)) same (in_second (subst (λ (x : ℕ). slice_get candidates (8 * apex + x) ≡ Some (Some hit)) (sym same) held))
+        subst (λ (x : ℕ). IsOffered both (8 * apex + x) None) same (in_second (subst (λ (x : ℕ). slice_get candidates (8 * apex + x) ≡ Some (Some hit)) (sym same) held))
 
 -- of two members of which the second stands behind the first, either can have gone from the octants that read the order the other way
 module _ (rows : List (List ℕ)) (apart : (part : ℕ) → AreDistinct (row_of rows part)) (candidates : List (Option ℕ)) (ts : List Touch) (part p q : ℕ) (behind : stands_before (row_of rows part) p q ≡ true) where
   before : stands_before (row_of rows part) q p ≡ false
   before = turned_false (row_of rows part) (apart part) p q behind
 
-  pub gone_behind : IsOfferedAgain candidates ts (back part) p q → (w : ℕ) (o : Octant) → slice_get octants w ≡ Some o → IsLeftOut rows o part p q → slice_get candidates (8 * p + w) ≡ Some (Some q) → IsOffered ts (8 * p + w) (Some q)
+  pub gone_behind : AreLeft candidates ts (back part) p q → (w : ℕ) (o : Octant) → slice_get octants w ≡ Some o → IsLeftOut rows o part p q → slice_get candidates (8 * p + w) ≡ Some (Some q) → IsOffered ts (8 * p + w) None
   gone_behind again w o here left held = at left.from_end left.bound left.out
     where
-      at : (b : Bool) → IsBoundedAs o (record { part = part; from_end = b }) → stands_after rows (record { part = part; from_end = b }) p q ≡ false → IsOffered ts (8 * p + w) (Some q)
+      at : (b : Bool) → IsBoundedAs o (record { part = part; from_end = b }) → stands_after rows (record { part = part; from_end = b }) p q ≡ false → IsOffered ts (8 * p + w) None
       at true bound out = again w o here bound held
       at false bound out = absurd (both_ways (stands_before (row_of rows part) p q) out behind)
 
-  pub gone_before : IsOfferedAgain candidates ts (forward part) q p → (w : ℕ) (o : Octant) → slice_get octants w ≡ Some o → IsLeftOut rows o part q p → slice_get candidates (8 * q + w) ≡ Some (Some p) → IsOffered ts (8 * q + w) (Some p)
+  pub gone_before : AreLeft candidates ts (forward part) q p → (w : ℕ) (o : Octant) → slice_get octants w ≡ Some o → IsLeftOut rows o part q p → slice_get candidates (8 * q + w) ≡ Some (Some p) → IsOffered ts (8 * q + w) None
   gone_before again w o here left held = at left.from_end left.bound left.out
     where
-      at : (b : Bool) → IsBoundedAs o (record { part = part; from_end = b }) → stands_after rows (record { part = part; from_end = b }) q p ≡ false → IsOffered ts (8 * q + w) (Some p)
+      at : (b : Bool) → IsBoundedAs o (record { part = part; from_end = b }) → stands_after rows (record { part = part; from_end = b }) q p ≡ false → IsOffered ts (8 * q + w) None
       at true bound out = absurd (both_ways (stands_before (row_of rows part) p q) out behind)
       at false bound out = again w o here bound held
 
@@ -145,8 +145,8 @@ module _ (rows : List (List ℕ)) (candidates : List (Option ℕ)) (s t : List T
 
 -- the first four orders rank no octant
 pub both_within : (rows : List (List ℕ)) (candidates : List (Option ℕ)) (ts : List Touch) (part a b : ℕ) → part < 4 → IsOfferedWithin rows candidates ts part a b → IsOfferedWithin rows candidates ts part b a
-    → ((w : ℕ) (o : Octant) → slice_get octants w ≡ Some o → IsLeftOut rows o part a b → slice_get candidates (8 * a + w) ≡ Some (Some b) → IsOffered ts (8 * a + w) (Some b))
-    → ((w : ℕ) (o : Octant) → slice_get octants w ≡ Some o → IsLeftOut rows o part b a → slice_get candidates (8 * b + w) ≡ Some (Some a) → IsOffered ts (8 * b + w) (Some a)) → HasOfferedBoth rows candidates part a b ts
+    → ((w : ℕ) (o : Octant) → slice_get octants w ≡ Some o → IsLeftOut rows o part a b → slice_get candidates (8 * a + w) ≡ Some (Some b) → IsOffered ts (8 * a + w) None)
+    → ((w : ℕ) (o : Octant) → slice_get octants w ≡ Some o → IsLeftOut rows o part b a → slice_get candidates (8 * b + w) ≡ Some (Some a) → IsOffered ts (8 * b + w) None) → HasOfferedBoth rows candidates part a b ts
 both_within rows candidates ts part a b small p q f g = (
   record { comes = p; goes = f; ranked = λ apex w o e r. absurd (let high = third_high w o e in omega (arith, small, high, r)) },
   record { comes = q; goes = g; ranked = λ apex w o e r. absurd (let high = third_high w o e in omega (arith, small, high, r)) },

@@ -12,17 +12,16 @@ offers_for slot (t ∷ ts) = cond (nat_eq t.slot slot) (t.offer ∷ offers_for s
 -- the offers bring the candidate of the slot of p to the first of the octant
 pub record IsAwaited (rows : List (List ℕ)) (o : Octant) (p : ℕ) (now : Option ℕ) (offers : List (Option ℕ)) : Type 0 where
   pub good : (c q : ℕ) → now ≡ Some c → is_in_wedge rows o p c ≡ true → is_in_wedge rows o p q ≡ true → ((q ≡ c) ⊎ (stands_after rows o.third c q ≡ true)) ⊎ (Contains offers (Some q) ⊎ Contains offers None)
-  pub lost : (c : ℕ) → now ≡ Some c → is_in_wedge rows o p c ≡ false → (x : Option ℕ) × Contains offers x
+  pub lost : (c : ℕ) → now ≡ Some c → is_in_wedge rows o p c ≡ false → Contains offers None
   pub none : (q : ℕ) → now ≡ None → is_in_wedge rows o p q ≡ true → Contains offers (Some q) ⊎ Contains offers None
 
 -- what the slot of p has after an offer
 pub record IsRenewed (rows : List (List ℕ)) (o : Octant) (p : ℕ) (old offer new : Option ℕ) : Type 0 where
   pub looked_up : offer ≡ None → IsFirstAnswer rows o p new
-  pub lost : (c : ℕ) → old ≡ Some c → is_in_wedge rows o p c ≡ false → IsFirstAnswer rows o p new
   pub taken : (q : ℕ) → old ≡ None → offer ≡ Some q → is_in_wedge rows o p q ≡ true → new ≡ Some q
   pub still_none : (q : ℕ) → old ≡ None → offer ≡ Some q → is_in_wedge rows o p q ≡ false → new ≡ None
-  pub better : (c q : ℕ) → old ≡ Some c → is_in_wedge rows o p c ≡ true → offer ≡ Some q → is_in_wedge rows o p q ≡ true → stands_after rows o.third q c ≡ true → new ≡ Some q
-  pub kept : (c q : ℕ) → old ≡ Some c → is_in_wedge rows o p c ≡ true → offer ≡ Some q → (is_in_wedge rows o p q ≡ false) ⊎ (stands_after rows o.third q c ≡ false) → new ≡ Some c
+  pub better : (c q : ℕ) → old ≡ Some c → offer ≡ Some q → is_in_wedge rows o p q ≡ true → stands_after rows o.third q c ≡ true → new ≡ Some q
+  pub kept : (c q : ℕ) → old ≡ Some c → offer ≡ Some q → (is_in_wedge rows o p q ≡ false) ⊎ (stands_after rows o.third q c ≡ false) → new ≡ Some c
 
 -- a number or a look-up is offered to the slot
 abbrev pub IsOffered : List Touch → ℕ → Option ℕ → Type 0
@@ -63,18 +62,18 @@ HasPassedBy rows o p a b = (is_in_wedge rows o p b ≡ true) × (stands_after ro
 abbrev pub IsOfferedIn : List (List ℕ) → List (Option ℕ) → List Touch → ℕ → ℕ → ℕ → Type 0
 IsOfferedIn rows candidates ts w a b = (apex : ℕ) (o : Octant) → slice_get octants w ≡ Some o → slice_get candidates (8 * apex + w) ≡ Some (Some a) → is_in_wedge rows o apex b ≡ true → IsOffered ts (8 * apex + w) (Some b)
 
--- b is offered to the slots of a whose candidate it was, in the octants that an order as it is read bounds
-abbrev pub IsOfferedAgain : List (Option ℕ) → List Touch → Reading → ℕ → ℕ → Type 0
-IsOfferedAgain candidates ts r a b = (w : ℕ) (o : Octant) → slice_get octants w ≡ Some o → IsBoundedAs o r → slice_get candidates (8 * a + w) ≡ Some (Some b) → IsOffered ts (8 * a + w) (Some b)
+-- the slots of a whose candidate b was are looked up, in the octants that an order as it is read bounds
+abbrev pub AreLeft : List (Option ℕ) → List Touch → Reading → ℕ → ℕ → Type 0
+AreLeft candidates ts r a b = (w : ℕ) (o : Octant) → slice_get octants w ≡ Some o → IsBoundedAs o r → slice_get candidates (8 * a + w) ≡ Some (Some b) → IsOffered ts (8 * a + w) None
 
 -- b is offered to the slots of a in the octants that an order bounds, where it comes first
 abbrev pub IsOfferedWithin : List (List ℕ) → List (Option ℕ) → List Touch → ℕ → ℕ → ℕ → Type 0
 IsOfferedWithin rows candidates ts part a b = (w : ℕ) (o : Octant) → slice_get octants w ≡ Some o → IsBoundedBy o part → ComesFirst rows candidates o a w b → IsOffered ts (8 * a + w) (Some b)
 
--- of the exchange of a and b in an order, b is offered to those slots of a in the octants that the order bounds where it comes or goes, and to the slots whose candidate a is in the octants that it ranks where b has passed by
+-- of the exchange of a and b in an order, b is offered to those slots of a in the octants that the order bounds where it comes, and those from which it goes are looked up; and b is offered to the slots whose candidate a is in the octants that it ranks where b has passed by
 pub record HasOffered (rows : List (List ℕ)) (candidates : List (Option ℕ)) (part a b : ℕ) (ts : List Touch) : Type 0 where
   pub comes : IsOfferedWithin rows candidates ts part a b
-  pub goes : (w : ℕ) (o : Octant) → slice_get octants w ≡ Some o → IsLeftOut rows o part a b → slice_get candidates (8 * a + w) ≡ Some (Some b) → IsOffered ts (8 * a + w) (Some b)
+  pub goes : (w : ℕ) (o : Octant) → slice_get octants w ≡ Some o → IsLeftOut rows o part a b → slice_get candidates (8 * a + w) ≡ Some (Some b) → IsOffered ts (8 * a + w) None
   pub ranked : (apex w : ℕ) (o : Octant) → slice_get octants w ≡ Some o → o.third.part ≡ part → slice_get candidates (8 * apex + w) ≡ Some (Some a) → HasPassedBy rows o apex a b → IsOffered ts (8 * apex + w) (Some b)
 
 abbrev pub HasOfferedBoth : List (List ℕ) → List (Option ℕ) → ℕ → ℕ → ℕ → List Touch → Type 0

@@ -79,8 +79,8 @@ impl Orders {
         }
     }
 
-    /// The candidate of a slot after an offer. `None` asks for a look-up, and a candidate that isn't
-    /// in the octant any more is looked up too.
+    /// The candidate of a slot after an offer. `None` asks for a look-up. A candidate that isn't in the octant any
+    /// more may stay until its look-up comes.
     pub fn renewed(
         &self,
         octant: Octant,
@@ -97,13 +97,9 @@ impl Orders {
         let Some(no) = offer else {
             return self.look_up(octant, apex);
         };
-        let Some(best) = old else {
-            return self.only_within(octant, apex, no);
-        };
-        if self.is_in_octant(octant, apex, best) {
-            Some(self.better(octant, apex, best, no))
-        } else {
-            self.look_up(octant, apex)
+        match old {
+            Some(best) => Some(self.better(octant, apex, best, no)),
+            None => self.only_within(octant, apex, no),
         }
     }
 
@@ -128,7 +124,7 @@ impl Orders {
         ensures better { is_in_wedge (rows_of self.now.lists.items) (octant_seen octant) apex no ≡ true → stands_after (rows_of self.now.lists.items) (octant_seen octant).third no best ≡ true → result ≡ no }
         ensures kept { (is_in_wedge (rows_of self.now.lists.items) (octant_seen octant) apex no ≡ false) ⊎ (stands_after (rows_of self.now.lists.items) (octant_seen octant).third no best ≡ false) → result ≡ best }
     {
-        if self.is_in_octant(octant, apex, no) && self.comes_after(octant.third, no, best) {
+        if self.comes_after(octant.third, no, best) && self.is_in_octant(octant, apex, no) {
             no
         } else {
             best

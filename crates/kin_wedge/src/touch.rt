@@ -7,7 +7,7 @@ ghost use Rattle.kin_motion.specs.Numbers.{is_in};
 ghost use Rattle.kin_wedge.specs.Rows.{row_of, is_in_wedge, AreAlike, AreRows, HaveSlots};
 ghost use Rattle.kin_wedge.specs.Seen.{reading_seen, rows_of};
 ghost use Rattle.kin_wedge.specs.Sides.{AreParted};
-ghost use Rattle.kin_wedge.specs.Touched.{IsOffered, IsOfferedAgain, IsOfferedIn, IsOfferedWithin, ComesFirst, HasTouched, HasOfferedBoth};
+ghost use Rattle.kin_wedge.specs.Touched.{AreLeft, IsOffered, IsOfferedIn, IsOfferedWithin, ComesFirst, HasTouched, HasOfferedBoth};
 
 use crate::octant::{Reading, back, bounded_by, forward};
 use crate::offer::{is_within, leads};
@@ -191,22 +191,25 @@ impl Touches {
         Ok(())
     }
 
-    /// Offers a number to a slot of an apex, if it was the candidate there.
+    /// Has a slot of an apex looked up, if a number was the candidate there.
     #[inline(always)]
-    fn offer_at(&mut self, table: &Table, apex: u32, w: u32, no: u32) -> Result<(), NoMemory>
+    fn leave(&mut self, table: &Table, apex: u32, w: u32, no: u32) -> Result<(), NoMemory>
         requires slot { 8 * apex + w < length table.now }
         requires small { length table.now < 2 ^ 32 }
-        ensures offered { OnOk result (slice_get table.now (8 * apex + w) ≡ Some (Some no) → IsOffered self.new.all.items (8 * apex + w) (Some no)) }
+        ensures offered { OnOk result (slice_get table.now (8 * apex + w) ≡ Some (Some no) → IsOffered self.new.all.items (8 * apex + w) None) }
         ensures touched { OnOk result (HasTouched table.now self.old.all.items self.new.all.items) }
     {
-        let wanted = table.holds(8 * apex + w, no);
-        self.add_if(wanted, table, apex, w, no)
+        if table.holds(8 * apex + w, no) {
+            self.add(table, apex, w, None)
+        } else {
+            Ok(())
+        }
     }
 
-    /// Offers a number to the slots of an apex whose candidate it was, in the octants that an order as it
-    /// is read bounds.
+    /// Has the slots of an apex looked up whose candidate a number was, in the octants that an order as it is
+    /// read bounds.
     #[inline(always)]
-    fn offer_again(
+    fn leave_both(
         &mut self,
         reading: Reading,
         table: &Table,
@@ -216,12 +219,12 @@ impl Touches {
         requires part { reading.part < 4 }
         requires slot { 8 * apex + 7 < length table.now }
         requires small { length table.now < 2 ^ 32 }
-        ensures offered { OnOk result (IsOfferedAgain table.now self.new.all.items (reading_seen reading) apex no) }
+        ensures left { OnOk result (AreLeft table.now self.new.all.items (reading_seen reading) apex no) }
         ensures touched { OnOk result (HasTouched table.now self.old.all.items self.new.all.items) }
     {
         let (first, second) = bounded_by(reading);
-        self.offer_at(table, apex, first, no)?;
-        self.offer_at(table, apex, second, no)?;
+        self.leave(table, apex, first, no)?;
+        self.leave(table, apex, second, no)?;
         Ok(())
     }
 
@@ -259,8 +262,8 @@ impl Touches {
         Ok(())
     }
 
-    /// Offers two members to each other's slots where they come or go by an exchange in an order that bounds
-    /// octants. The second stands behind the first in the order.
+    /// Offers two members to each other's slots where they come by an exchange in an order that bounds octants,
+    /// and has those looked up from which they go. The second stands behind the first in the order.
     fn offer_across(
         &mut self,
         orders: &Orders,
@@ -281,8 +284,8 @@ impl Touches {
     {
         self.offer_within(orders, table, part, first, second)?;
         // An octant that one of them has left reads the order the other way.
-        self.offer_again(back(part), table, first, second)?;
-        self.offer_again(forward(part), table, second, first)?;
+        self.leave_both(back(part), table, first, second)?;
+        self.leave_both(forward(part), table, second, first)?;
         Ok(())
     }
 

@@ -1,4 +1,5 @@
 use Rattle.std.proofs.Common.{◌≡◌, ◌∙◌, sym, ap, subst, ℕ, ◌/◌, ◌%◌, Option, Some}
+use Rattle.std.proofs.lemmas.Bool.{both_ways}
 use Rattle.std.proofs.lemmas.Option.{same_Some}
 use Rattle.kin_motion.specs.Octants.{Octant}
 use Rattle.kin_wedge.specs.Seen.{octant_seen, rows_of}
@@ -12,7 +13,7 @@ renewed-new-requires-clause-behind c = λ q h. c.requires.ranked.behind (c.args.
 pub put-requires-clause-candidate : goal.put-requires-clause-candidate
 put-requires-clause-candidate c = λ k e.
     within_slots (rows_of c.args.orders.now.lists.items) (octant_seen c.orders_of-around.result) (c.args.touch.slot / 8) _ k c.requires.members
-    (renewed_within (rows_of c.args.orders.now.lists.items) (octant_seen c.orders_of-around.result) (c.args.touch.slot / 8) c.candidate-old.result c.args.touch.offer c.renewed-new.result k c.renewed-new.ensures e)
+    (renewed_within (rows_of c.args.orders.now.lists.items) (octant_seen c.orders_of-around.result) (c.args.touch.slot / 8) c.candidate-old.result c.args.touch.offer c.renewed-new.result k c.renewed-new.ensures (λ f. both_ways c.is_same.result c.if-is_same.false (c.is_same.ensures.1 f)) e)
 
 pub returns-then-is_same-clause-renewed : goal.returns-then-is_same-clause-renewed
 returns-then-is_same-clause-renewed c = λ o old e f.
