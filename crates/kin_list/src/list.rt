@@ -176,6 +176,15 @@ impl KinList {
         self.lineup.row.place_of(no)
     }
 
+    /// The place of a member.
+    #[inline(always)]
+    pub fn place_of_member(&self, no: u32) -> u32
+        requires { is_in no self.now.items ≡ true }
+        ensures { slice_get self.now.items result ≡ Some no }
+    {
+        self.lineup.row.place_of_member(no)
+    }
+
     /// The members in their order.
     pub fn items(&self) -> &[u32]
         ensures { result.now ≡ self.now.items }

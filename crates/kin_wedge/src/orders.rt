@@ -74,10 +74,7 @@ impl Orders {
         requires member { is_in no (row_of (rows_of self.now.lists.items) part) ≡ true }
         ensures { slice_get (row_of (rows_of self.now.lists.items) part) result ≡ Some no }
     {
-        match self.place_in(part, no) {
-            Some(place) => place as usize,
-            None => unreachable!(),
-        }
+        self.list(part).place_of_member(no) as usize
     }
 
     /// Whether the first of two places in the order of a part is before the second.
