@@ -26,6 +26,7 @@ pub fn leads(orders: &Orders, table: &Table, apex: u32, w: u32, rank: usize) -> 
 }
 
 /// Whether an octant is the one that is asked for, and a number is in it.
+#[inline(always)]
 pub fn is_within(orders: &Orders, apex: u32, v: u32, w: u32, no: u32) -> bool
     requires rows { AreRows (rows_of orders.now.lists.items) }
     requires octant { w < 8 }

@@ -119,7 +119,7 @@ impl Touches {
     }
 
     /// Offers a number to the slots of an octant whose candidate another is and that it is in.
-    #[inline(never)]
+    #[inline(always)]
     fn offer_in(
         &mut self,
         orders: &Orders,
@@ -143,6 +143,7 @@ impl Touches {
 
     /// Offers two members to the slots whose candidate the other is, in the octants that an order ranks. The
     /// second stands behind the first in the order.
+    #[inline(never)]
     fn offer_past(
         &mut self,
         orders: &Orders,
