@@ -1,5 +1,5 @@
 -- A number lies in an octant of another exactly where the other lies in the opposite octant of it.
-use Rattle.std.proofs.Common.{◌≡◌, refl, sym, ap, ◌∙◌, subst, List, ℕ, zero, suc, ◌+◌, ◌%◌, Some, inl, inr, ◌⊎◌}
+use Rattle.std.proofs.Common.{◌≡◌, refl, ◌∙◌, subst, List, ℕ, zero, suc, ◌+◌, ◌%◌, Some, inl, inr}
 use Rattle.std.specs.Prelude.{slice_get}
 use Rattle.kin_motion.specs.Octants.{Octant, octants}
 use Rattle.kin_wedge.specs.Rows.{is_in_wedge}

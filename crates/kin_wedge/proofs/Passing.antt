@@ -1,5 +1,5 @@
 -- Two members in an order that bounds octants, of which one stands behind the other.
-use Rattle.std.proofs.Common.{◌≡◌, ◌≢◌, refl, sym, ap, ◌∙◌, subst, arith, List, ℕ, ◌+◌, ◌%◌, ◌<◌, Bool, true, false, cond, Some, None, Option, inl, inr, ◌⊎◌}
+use Rattle.std.proofs.Common.{◌≡◌, ◌≢◌, refl, sym, ap, ◌∙◌, subst, arith, List, ℕ, ◌+◌, ◌%◌, ◌<◌, Bool, true, false, cond, Some, None, inl, inr, ◌⊎◌}
 use Rattle.std.specs.Prelude.{slice_get}
 use Rattle.std.proofs.lemmas.Bool.{and_parts, both_ways}
 use Rattle.std.proofs.lemmas.Option.{same_Some}
@@ -14,8 +14,7 @@ use Rattle.kin_wedge.specs.Sides.{bounded_first, bounded_second, AreParted, AreS
 use Rattle.kin_wedge.specs.Touched.{IsBoundedBy}
 use Rattle.kin_wedge.proofs.Facing.{facing, bounded_across}
 use Rattle.kin_wedge.proofs.Halves.{first_of, second_of, first_read, second_read}
-use Rattle.kin_wedge.proofs.Places.{before_through_list, never_before_self, one_before}
-use Rattle.kin_wedge.proofs.Slots.{below_eight}
+use Rattle.kin_wedge.proofs.Places.{before_through_list, never_before_self}
 
 -- never both ways round
 pub turned_false : (xs : List ℕ) → AreDistinct xs → (p q : ℕ) → stands_before xs p q ≡ true → stands_before xs q p ≡ false

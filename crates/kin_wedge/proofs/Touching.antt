@@ -1,5 +1,5 @@
 -- Touches that are added.
-use Rattle.std.proofs.Common.{◌≡◌, ◌≢◌, ◌+◌, ◌*◌, ◌<◌, ◌≤◌, None, refl, sym, ap, ◌∙◌, ◌-◌, Bool, true, false, cond, not, subst, List, [], ◌∷◌, ◌++◌, ℕ, Some, Option, inl, inr, ◌⊎◌, arith}
+use Rattle.std.proofs.Common.{◌≡◌, ◌≢◌, ◌+◌, ◌*◌, ◌<◌, ◌≤◌, None, refl, sym, ap, ◌∙◌, ◌-◌, Bool, true, false, cond, subst, List, [], ◌∷◌, ◌++◌, ℕ, Some, Option, inl, inr, ◌⊎◌, arith}
 use Rattle.std.specs.Prelude.{Contains, slice_get}
 use Rattle.std.proofs.lemmas.Bool.{cases_eq, both_ways}
 use Rattle.std.proofs.lemmas.List.Elements.{Contains-append_left}
@@ -10,7 +10,7 @@ use Rattle.kin_motion.specs.Sets.{AreDistinct}
 use Rattle.kin_wedge.specs.declared.touch.Touch.{Touch}
 use Rattle.kin_wedge.specs.Rows.{row_of, stands_after}
 use Rattle.kin_wedge.specs.Sides.{bounded_first, bounded_second}
-use Rattle.kin_wedge.specs.Touched.{IsOffered, AreKnown, HasTouched, HasOfferedBoth, AreLeft, IsOfferedIn, IsOfferedWithin, IsBoundedAs, IsBoundedBy, IsLeftOut, ComesFirst, HasPassedBy}
+use Rattle.kin_wedge.specs.Touched.{IsOffered, AreKnown, HasTouched, HasOfferedBoth, AreLeft, IsOfferedIn, IsOfferedWithin, IsBoundedAs, IsBoundedBy, IsLeftOut, HasPassedBy}
 use Rattle.kin_wedge.proofs.Halves.{bounded_as, bounds_low, read_by, third_high}
 use Rattle.kin_wedge.proofs.Passing.{turned_false}
 

@@ -3,7 +3,7 @@ use Rattle.kin_wedge.specs.declared.octant.Reading.{Reading}
 use Rattle.kin_wedge.specs.Seen.{reading_seen, rows_of}
 use Rattle.kin_wedge.specs.Touched.{AreLeft}
 use Rattle.kin_wedge.proofs.Places.{first_is_in, second_is_in}
-use Rattle.kin_wedge.proofs.Touching.{both_within, gone_behind, gone_before, touched_through}
+use Rattle.kin_wedge.proofs.Touching.{both_within, gone_behind, gone_before}
 use Rattle.kin_wedge.proofs.touch.Touches.offer_across.Goals as goal
 
 pub leave_both-requires-clause-slot : goal.leave_both-requires-clause-slot

@@ -1,9 +1,7 @@
-use Rattle.std.proofs.Common.{sym, ◌∙◌, arith, subst, Option, ℕ, None, Some, IfSome, ◌<◌}
-use Rattle.kin_wedge.specs.Rows.{row_of}
+use Rattle.std.proofs.Common.{sym, ◌∙◌, arith}
 use Rattle.kin_wedge.specs.Seen.{rows_of}
 use Rattle.kin_wedge.proofs.Passing.{in_each, none_across, only_here, only_across}
 use Rattle.kin_wedge.proofs.Places.{first_is_in, second_is_in}
-use Rattle.kin_wedge.proofs.Touching.{touched_through}
 use Rattle.kin_wedge.proofs.touch.Touches.offer_within.Goals as goal
 
 pub returns-in_default-clause-second : goal.returns-in_default-clause-second
