@@ -2,11 +2,11 @@
 
 ghost use Rattle.std.specs.Prelude.{◌≡◌, ◌↔◌, Some, is_some, IsTrue};
 ghost use Rattle.kin_cert.specs.Rank.{padded_rank};
-ghost use Rattle.kin_cert.specs.Layout.{entry_rank, owned_place, held, fresh, timed, waiting, queued_at};
+ghost use Rattle.kin_cert.specs.Layout.{entry_rank, owned_place, with_fact, held, fresh, timed, waiting, queued_at};
 
 use crate::owned::Owned;
 use crate::place::{Place, place};
-use kin_motion::fact::Placed;
+use kin_motion::fact::{Fact, Placed};
 use kin_motion::form::Form;
 use kin_num::{Instant, Moment, Phase, Shape};
 use std::marker::Model;
@@ -82,13 +82,11 @@ impl Entry {
         self.is_mortal && !self.is_waiting
     }
 
-    /// Puts another fact in its stead, which never fails as yet.
-    pub(crate) fn replace_with(&mut self, structure: u32, placed: &Placed)
-        ensures { self.new ≡ fresh (held structure placed.now) }
+    /// Puts another fact of its owner in its stead, which never fails as yet.
+    pub(crate) fn replace_with(&mut self, fact: &Fact)
+        ensures { self.new ≡ fresh (with_fact self.old.owned fact.now) }
     {
-        self.owned.structure = structure;
-        self.owned.part = placed.part;
-        self.owned.fact = placed.fact;
+        self.owned.fact = *fact;
         self.renew();
     }
 
@@ -133,8 +131,16 @@ fn are_same(x: &Form, y: &Form) -> bool
                 j: j2,
             },
         ) => dx == dx2 && dy == dy2 && off == off2 && i == i2 && j == j2,
-        _ => x.is(*y),
+        _ => is_one_form(x, y),
     }
+}
+
+// The same for forms of any kind, out of the way of lines.
+#[inline(never)]
+fn is_one_form(x: &Form, y: &Form) -> bool
+    ensures { IsTrue result ↔ (x.now ≡ y.now) }
+{
+    x.is(*y)
 }
 
 /// The id of a fact, and whether the queue has it.

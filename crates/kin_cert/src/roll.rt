@@ -172,7 +172,7 @@ impl Roll {
             unreachable!()
         };
         let is_queued = entry.is_queued();
-        entry.replace_with(structure, new);
+        entry.replace_with(&new.fact);
         Some(Seat { id, is_queued })
     }
 

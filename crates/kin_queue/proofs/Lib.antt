@@ -15,3 +15,4 @@ pub mod Costs
 pub mod Whole
 pub mod Known
 pub mod Noting
+pub mod Spans

@@ -1,5 +1,5 @@
 -- One step of a hole among tickets.
-use Rattle.std.proofs.Common.{◌≡◌, ◌≢◌, ◌⊎◌, ◌↔◌, inl, inr, ℕ, ◌+◌, ◌*◌, ◌<◌, List, length, get_or, set, sym, ap, subst, ◌∙◌, arith}
+use Rattle.std.proofs.Common.{◌≡◌, ◌≢◌, ◌⊎◌, ◌↔◌, inl, inr, ℕ, ◌+◌, ◌*◌, ◌<◌, ◌≤◌, List, length, get_or, set, sym, ap, subst, ◌∙◌, arith}
 use Rattle.std.proofs.lemmas.List.Elements.{All-set}
 use Rattle.std.proofs.lemmas.Bool.{cases_eq}
 use Rattle.kin_num.specs.declared.instant.Moment.{Moment}
@@ -9,7 +9,7 @@ use Rattle.kin_queue.specs.Tickets.{entry_of, entries_of, IsStamped, AreStamped}
 use Rattle.kin_queue.specs.Heap.{IsRightBelow, IsPlaceOf, MayStandAbove, IsHeap, IsKeyed}
 use Rattle.kin_queue.specs.Hole.{IsHollow, FitsAbove, FitsBelow, HasMoved, IsEarliestBelow, Stands, StandsOutside}
 use Rattle.kin_queue.proofs.Order.{AtInstant, earlier_above, above_itself}
-use Rattle.kin_queue.proofs.Tickets.{blank, entry_at, entries_set, entry_there}
+use Rattle.kin_queue.proofs.Tickets.{blank, entry_at, entries_length, entries_set, entry_there}
 use Rattle.kin_queue.proofs.Rising.{risen, fits_above_risen, fits_below_at}
 use Rattle.kin_queue.proofs.Sinking.{sunk, fits_below_sunk, fits_above_at}
 use Rattle.kin_queue.proofs.Filling.{filled, stands_filled}
@@ -41,6 +41,18 @@ module _ (es : List (ℕ × Moment)) (p : ℕ) (l r : ℕ × Moment) (inside : 2
       | inr n ↦ subst (MayStandAbove l) (sym (on_left c d b n)) (above_itself l)
     ]);
   }
+
+-- an entry that stands alone right below a place
+pub last_earliest : (es : List (ℕ × Moment)) (p : ℕ) → length es ≡ 2 * p + 2 → IsEarliestBelow es p (2 * p + 1)
+last_earliest es p n = record {
+  within = omega arith;
+  below = (omega arith, omega arith);
+  earliest = λ c d b lt. let s : 2 * p + 1 ≡ c = omega arith in subst (λ (i : ℕ). MayStandAbove (get_or es (2 * p + 1) d) (get_or es i d)) s (above_itself (get_or es (2 * p + 1) d));
+}
+
+-- there is no entry below a place
+pub fits_above_none : (ms : List Moment) (ts : List Ticket) (p : ℕ) (t : Ticket) → length ts ≤ 2 * p + 1 → FitsAbove (entries_of ms ts) p (entry_of ms t)
+fits_above_none ms ts p t n = λ c d b lt. absurd (let m = entries_length ms ts in omega arith)
 
 module _ (ms : List Moment) (ts : List Ticket) (ps : List ℕ) (h g : ℕ) (t : Ticket) (hollow : IsHollow (entries_of ms ts) ps h (entry_of ms t)) (inside : g < length ts) where
   abbrev es : List (ℕ × Moment)

@@ -4,7 +4,7 @@
 //! sinks to where an entry may stand, so that each other entry on its way moves once. An entry is a ticket of 16 bytes;
 //! the moments stand by id beside the heap, and are looked at only where two keys don't tell which one is earlier.
 
-ghost use Rattle.std.specs.Prelude.{◌≡◌, ◌≢◌, ◌⊎◌, ◌↔◌, ℕ, ◌+◌, ◌*◌, ◌<◌, ◌≤◌, length, slice_set, slice_index_or, None, IfSome, IfNone, IsTrue, vec_len, vec_capacity};
+ghost use Rattle.std.specs.Prelude.{◌≡◌, ◌≢◌, ◌⊎◌, ◌↔◌, ℕ, ◌+◌, ◌*◌, ◌<◌, ◌≤◌, length, slice_set, slice_index_or, None, IsTrue, vec_len, vec_capacity};
 ghost use Rattle.std.specs.FinMap.{get, insert, remove, from_entries};
 ghost use Rattle.std.specs.Ordering.{nat_cmp};
 ghost use Rattle.kin_num.specs.Order.{IsEarlier};
@@ -41,7 +41,27 @@ pub fn put_in<L: Ledger>(
 {
     let end = entries.len();
     entries.push_reserved(entry);
-    settle(entries, places, moments, end, &entry, steps);
+    lift(entries, places, moments, end, &entry, steps);
+}
+
+// Puts the last entry where it may stand.
+#[inline(never)]
+fn lift<L: Ledger>(
+    entries: &mut [Ticket],
+    places: &mut [usize],
+    moments: &[Moment],
+    end: usize,
+    entry: &Ticket,
+    steps: &mut Steps<L>,
+)
+    requires open { IsOpen moments.now entries.old places.old end entry.now }
+    requires last { length entries.old ≡ end + 1 }
+    ensures heap { IsKeyed moments.now entries.new places.new }
+    ensures stands { (e : ℕ × Time) → Stands (entries_of moments.now entries.new) e ↔ ((e ≡ entry_of moments.now entry.now) ⊎ StandsOutside (entries_of moments.now entries.old) end e) }
+    ensures cost { RisesWithin 1 (length entries.old * length entries.old) steps.old steps.new }
+{
+    let hole = rise(entries, places, moments, end, entry, steps);
+    put(entries, places, hole, *entry);
 }
 
 /// Takes the entry at a place out. The last entry comes into its stead and moves to where it may
@@ -67,6 +87,7 @@ pub fn take_out<L: Ledger>(
 }
 
 // Puts the entry where it may stand, beginning at a hole.
+#[inline(never)]
 fn settle<L: Ledger>(
     entries: &mut [Ticket],
     places: &mut [usize],
@@ -85,6 +106,7 @@ fn settle<L: Ledger>(
 }
 
 // Moves the hole to where the entry may stand.
+#[inline(always)]
 fn find_hole<L: Ledger>(
     entries: &mut [Ticket],
     places: &mut [usize],
@@ -108,6 +130,7 @@ fn find_hole<L: Ledger>(
 }
 
 // Moves the hole up past all later entries.
+#[inline(always)]
 fn rise<L: Ledger>(
     entries: &mut [Ticket],
     places: &mut [usize],
@@ -136,7 +159,8 @@ fn rise<L: Ledger>(
     hole
 }
 
-// Moves the hole down past all earlier entries, by way of the earlier one of two.
+// Moves the hole down past all earlier entries, by way of the earlier one of two. The last entry may stand alone below.
+#[inline(always)]
 fn sink<L: Ledger>(
     entries: &mut [Ticket],
     places: &mut [usize],
@@ -154,7 +178,8 @@ fn sink<L: Ledger>(
     ensures cost { RisesWithin ((start + 1) * (start + 1)) (length entries.old * length entries.old) steps.old steps.new }
 {
     let mut hole = start;
-    while let Some(child) = earliest_below(entries, moments, hole, steps) {
+    'levels: while 2 * hole + 2 < entries.len() {
+        let child = earlier_below(entries, moments, hole, steps);
         if !is_earlier(&entries[child], entry, moments, steps) {
             return hole;
         }
@@ -162,43 +187,65 @@ fn sink<L: Ledger>(
         put(entries, places, hole, below);
         hole = child;
     }
-    hole
+    let last = 2 * hole + 1;
+    if last >= entries.len() {
+        return hole;
+    }
+    if !is_earlier(&entries[last], entry, moments, steps) {
+        return hole;
+    }
+    let below = entries[last];
+    put(entries, places, hole, below);
+    last
 }
 
-// Where the earlier one of the entries right below a place stands, if there is one.
-fn earliest_below<L: Ledger>(
+// Where the earlier one of the two entries right below a place stands.
+#[inline(always)]
+fn earlier_below<L: Ledger>(
     entries: &[Ticket],
     moments: &[Moment],
     place: usize,
     steps: &mut Steps<L>,
-) -> Option<usize>
-    requires { AreStamped moments.now entries.now }
-    ensures none { IfNone result (length entries.now ≤ 2 * place + 1) }
-    ensures some { IfSome result (λ child. IsEarliestBelow (entries_of moments.now entries.now) place child) }
+) -> usize
+    requires stamped { AreStamped moments.now entries.now }
+    requires both { 2 * place + 2 < length entries.now }
+    ensures child { IsEarliestBelow (entries_of moments.now entries.now) place result }
     ensures low { steps.old ≤ steps.new }
     ensures high { steps.new ≤ steps.old + 1 }
-    ensures free { IfNone result (steps.new ≡ steps.old) }
 {
-    if place >= entries.len() / 2 {
-        return None;
-    }
     let left = 2 * place + 1;
-    let right = left + 1;
-    if right == entries.len() {
-        return Some(left);
-    }
     let below = &entries[left..];
     if is_earlier(&below[1], &below[0], moments, steps) {
-        Some(right)
+        left + 1
     } else {
-        Some(left)
+        left
     }
 }
 
-// Whether the moment of one ticket is earlier than that of the other one. It is made in line, since most pairs of keys
+// Whether the moment of one ticket is earlier than that of the other one. It is made in line, since most pairs of spans
 // differ.
 #[inline(always)]
 fn is_earlier<L: Ledger>(x: &Ticket, y: &Ticket, moments: &[Moment], steps: &mut Steps<L>) -> bool
+    requires left { IsStamped moments.now x.now }
+    requires right { IsStamped moments.now y.now }
+    ensures earlier { IsTrue result ↔ IsEarlier (moment_in moments.now x.now.id) (moment_in moments.now y.now.id) }
+    ensures low { steps.old ≤ steps.new }
+    ensures high { steps.new ≤ steps.old + 1 }
+{
+    if x.span != y.span {
+        return x.span < y.span;
+    }
+    is_earlier_in_span(x, y, moments, steps)
+}
+
+// The same by all that the keys tell.
+#[inline(always)]
+fn is_earlier_in_span<L: Ledger>(
+    x: &Ticket,
+    y: &Ticket,
+    moments: &[Moment],
+    steps: &mut Steps<L>,
+) -> bool
     requires left { IsStamped moments.now x.now }
     requires right { IsStamped moments.now y.now }
     ensures earlier { IsTrue result ↔ IsEarlier (moment_in moments.now x.now.id) (moment_in moments.now y.now.id) }

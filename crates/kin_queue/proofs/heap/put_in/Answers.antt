@@ -9,8 +9,8 @@ use Rattle.kin_queue.proofs.Contents.{heap_apart, moments_inserted}
 use Rattle.kin_queue.proofs.Whole.{take_whole}
 use Rattle.kin_queue.proofs.heap.put_in.Goals as goal
 
-pub settle-requires : goal.settle-requires
-settle-requires g c =
+pub lift-requires-clause-open : goal.lift-requires-clause-open
+lift-requires-clause-open g c =
     let ms = c.args.moments.now in
     let ts = c.args.entries.now.items in
     let end : c.len-end.result ≡ length c.args.entries.now.items = omega arith in
@@ -23,10 +23,10 @@ returns-clause-moments g c =
     let ts = c.args.entries.now.items in
     let t = c.args.entry in
     let end : c.len-end.result ≡ length c.args.entries.now.items = omega arith in
-    let stands : (e : ℕ × Moment) → Stands (entries_of c.args.moments.now c.settle.new.entries) e ↔ ((e ≡ entry_of c.args.moments.now c.args.entry) ⊎ StandsOutside (entries_of c.args.moments.now (c.args.entries.now.items ++ c.args.entry ∷ [])) (length c.args.entries.now.items) e) =
-    rw (c.deref_mut.ensures.value, c.push_reserved.ensures.items, end) at c.settle.ensures.stands in
-    rw (take_whole c.push_reserved.new.self.len c.settle.new.entries (drop (length c.settle.new.entries) c.push_reserved.new.self.items) (omega arith))
-    (moments_inserted (entries_of ms ts) (entries_of ms c.settle.new.entries) (entry_of ms t) (heap_apart (entries_of ms ts) c.args.places.now c.requires.heap.heap) (heap_apart (entries_of ms c.settle.new.entries) c.settle.new.places c.settle.ensures.heap.heap)
+    let stands : (e : ℕ × Moment) → Stands (entries_of c.args.moments.now c.lift.new.entries) e ↔ ((e ≡ entry_of c.args.moments.now c.args.entry) ⊎ StandsOutside (entries_of c.args.moments.now (c.args.entries.now.items ++ c.args.entry ∷ [])) (length c.args.entries.now.items) e) =
+    rw (c.deref_mut.ensures.value, c.push_reserved.ensures.items, end) at c.lift.ensures.stands in
+    rw (take_whole c.push_reserved.new.self.len c.lift.new.entries (drop (length c.lift.new.entries) c.push_reserved.new.self.items) (omega arith))
+    (moments_inserted (entries_of ms ts) (entries_of ms c.lift.new.entries) (entry_of ms t) (heap_apart (entries_of ms ts) c.args.places.now c.requires.heap.heap) (heap_apart (entries_of ms c.lift.new.entries) c.lift.new.places c.lift.ensures.heap.heap)
     (λ e. (
       λ s. elim ((stands e).0 s) [ inl u ↦ inl u | inr o ↦ inr ((outside_end ms ts t e).0 o) ],
       λ s. (stands e).1 (elim s [ inl u ↦ inl u | inr o ↦ inr ((outside_end ms ts t e).1 o) ]),

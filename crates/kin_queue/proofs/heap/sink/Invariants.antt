@@ -3,13 +3,13 @@ use Rattle.kin_queue.specs.Tickets.{entry_of, entries_of, AreStamped}
 use Rattle.kin_queue.specs.Hole.{RisesWithin, FitsBelow, HasMoved}
 use Rattle.kin_queue.proofs.heap.sink.Given as goal
 
-abbrev pub invariant-loop-child : goal.invariant-loop-child
-invariant-loop-child g l = record {
+abbrev pub invariant-levels : goal.invariant-levels
+invariant-levels g l = record {
   moved : HasMoved (entry_of l.moments l.entry) (entries_of l.moments l.initial.entries) l.start (entries_of l.moments l.entries) l.places l.hole;
   stamped : AreStamped l.moments l.entries;
   above : FitsBelow (entries_of l.moments l.entries) l.hole (entry_of l.moments l.entry);
   cost : RisesWithin ((l.start + 1) * (l.start + 1)) ((l.hole + 1) * (l.hole + 1)) l.initial.steps l.steps;
 }
 
-abbrev pub decreases-loop-child : goal.decreases-loop-child
-decreases-loop-child g l = length l.initial.entries - l.hole
+abbrev pub decreases-levels : goal.decreases-levels
+decreases-levels g l = length l.initial.entries - l.hole

@@ -2,20 +2,20 @@ use Rattle.std.proofs.Common.{◌≡◌, ◌+◌, ◌*◌, ◌<◌, true, false,
 use Rattle.kin_queue.specs.Tickets.{entry_of, entries_of}
 use Rattle.kin_queue.proofs.Tickets.{blank, entry_at, entry_there, first_from, second_from}
 use Rattle.kin_queue.proofs.Steps.{right_earliest, left_earliest}
-use Rattle.kin_queue.proofs.heap.earliest_below.Goals as goal
+use Rattle.kin_queue.proofs.heap.earlier_below.Goals as goal
 
-pub returns-then-is_earlier-clause-some : goal.returns-then-is_earlier-clause-some
-returns-then-is_earlier-clause-some g c =
+pub returns-then-is_earlier-clause-child : goal.returns-then-is_earlier-clause-child
+returns-then-is_earlier-clause-child g c =
     let ms = c.args.moments.now in
     let ts = c.args.entries.now in
     let p = c.args.place in
     let inside : 2 * c.args.place + 1 + 1 < length c.args.entries.now = omega arith in
     let low : 2 * c.args.place + 1 < length c.args.entries.now = omega arith in
     right_earliest (entries_of ms ts) p (entry_of ms (get_or ts (2 * p + 1) blank)) (entry_of ms (get_or ts (2 * p + 1 + 1) blank)) (entry_there ms ts (2 * p + 1 + 1) inside) (entry_at ms ts (2 * p + 1) low) (entry_at ms ts (2 * p + 1 + 1) inside)
-    (c.requires (2 * p + 1) blank low).canonical (c.requires (2 * p + 1 + 1) blank inside).canonical (rw (second_from ts (2 * p + 1) inside, first_from ts (2 * p + 1) low) at (c.is_earlier.ensures.earlier.0 c.if-is_earlier.true))
+    (c.requires.stamped (2 * p + 1) blank low).canonical (c.requires.stamped (2 * p + 1 + 1) blank inside).canonical (rw (second_from ts (2 * p + 1) inside, first_from ts (2 * p + 1) low) at (c.is_earlier.ensures.earlier.0 c.if-is_earlier.true))
 
-pub returns-else-is_earlier-clause-some : goal.returns-else-is_earlier-clause-some
-returns-else-is_earlier-clause-some g c =
+pub returns-else-is_earlier-clause-child : goal.returns-else-is_earlier-clause-child
+returns-else-is_earlier-clause-child g c =
     let ms = c.args.moments.now in
     let ts = c.args.entries.now in
     let p = c.args.place in
