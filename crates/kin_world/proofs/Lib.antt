@@ -6,7 +6,7 @@ pub mod TakeLaws
 pub mod LeapLaws
 pub mod RepairLaws
 pub mod Certificates
-pub mod GatherLaws
+pub mod MailLaws
 pub mod OneMore
 pub mod MarkLaws
 pub mod Inside

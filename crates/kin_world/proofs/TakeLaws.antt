@@ -1,5 +1,5 @@
 -- What fails at the least failure moment is taken out, and all else is seen from there.
-use Rattle.kin_world.proofs.Vocabulary.{◌≡◌, ◌≢◌, inl, inr, refl, sym, ap, ◌∙◌, subst, arith, false, List, map, Some, Contains, ◌↔◌, true, All, ℤ, Option, Contains-permutation, IsPermutation-sym, IsCanonical, IsEarlier}
+use Rattle.kin_world.proofs.Vocabulary.{◌≡◌, ◌≢◌, inl, inr, refl, sym, ap, ◌∙◌, subst, false, List, map, Some, Contains, ◌↔◌, true, All, ℤ, Option, Contains-permutation, IsPermutation-sym, IsCanonical, IsEarlier}
 use Rattle.kin_world.proofs.Vocabulary.{Moment, total, live_of, IsAskable, Block, IsNextBlock, seen_in, Certificate, FailsFirst, HoldsAt, scene_at, real_at, exactly_in_words, Facts, LiveFact, NoneAlike, certificate_of, IsFirstFailure, HasGivenOut}
 use Rattle.kin_world.proofs.Vocabulary.{HasTaken, IsLeastFailure, certificate_rank, is_taken_before, IsTimed, Owned, later_start, next_block, AreWaiting, HasSettled, IsSound, IsUnderRepair, Stage, setting, sight}
 use Rattle.kin_motion.proofs.JournalLaws.{never_less_rank, less_rank_through}
@@ -58,14 +58,14 @@ module _ {s : Stage} (sound : IsSound s) (table : Facts) {given : List Owned} (o
   }
 
   -- the facts that were taken out wait for the repair of their structures
-  pub given_waiting : AreWaiting 0 table.live given
+  pub given_waiting : AreWaiting table.live given
   given_waiting = record {
     once = out.once;
     each = λ l there waits.
         let was = has.only l there in
         let o : Owned = record { structure = was.0.certificate.structure; part = was.0.certificate.placed.part; fact = was.0.certificate.placed.fact } in
-        (o, (given_each o).1 (was.0, was.1, was.2.waits.0 waits, refl), omega arith, was.2.certificate);
-    only = λ o there _.
+        (o, (given_each o).1 (was.0, was.1, was.2.waits.0 waits, refl), was.2.certificate);
+    only = λ o there.
         let l = (given_each o).0 there in
         let k = has.stays l.0 l.1 in
         (k.0, k.1, k.2.waits.1 l.2, k.2.certificate ∙ l.3);

@@ -44,8 +44,8 @@ pub use Rattle.kin_cert.specs.declared.owned.Owned.{Owned}
 pub use Rattle.kin_cert.proofs.NextLaws.{IsInTime, earlier_still, fails_first, hold_before_least, later_start, next_block, nothing_fails, nothing_until, timed_holds}
 pub use Rattle.kin_world.specs.Kinds.{HasMembers, kinetic, placed_facts}
 pub use Rattle.kin_world.specs.Structures.{AreLiveAfter, AreVacant, HoldFor, IsSettledFor, IsSettledWhereAllHold, IsVacant}
-pub use Rattle.kin_world.specs.Upkeep.{AreLeft, AreWaiting, HasComeTo, HasGoneOn, HasGoneOver, HasLanded, HasOneMore, HasRepaired, HasSameFrame, HasSettled, HasTimedNew, HasUpdated, IsAtTurn, IsBeyond, IsCarriedOut, IsDueWithin, IsFit}
-pub use Rattle.kin_world.specs.Upkeep.{IsInOrder, IsInPlace, IsLanding, IsMarked, IsSooner, IsSound, IsTimedOrFailed, IsTurn, IsTurnBy, IsUnderRepair, ListsWaiting, Stage, gathered, is_line, is_of, meaning, placed_of, setting, sight}
-pub use Rattle.kin_world.specs.Upkeep.{stage_of, turns_left, with_marked}
+pub use Rattle.kin_world.specs.Upkeep.{AreLeft, AreTold, AreWaiting, HasComeTo, HasGoneOn, HasGoneOver, HasLanded, HasOneMore, HasRepaired, HasSameFrame, HasSettled, HasTimedNew, HasUpdated, IsBeyond, IsCarriedOut, IsDueWithin, IsFit}
+pub use Rattle.kin_world.specs.Upkeep.{IsInOrder, IsInPlace, IsLanding, IsMarked, IsRepairing, IsSound, IsTimedOrFailed, IsUnderRepair, ListsWaiting, Stage, gathered, is_line, is_of, meaning, placed_of, setting, sight}
+pub use Rattle.kin_world.specs.Upkeep.{stage_of, told_to, with_marked}
 pub use Rattle.kin_world.specs.Worlds.{CanTurn, FailsWithin, HasInserted, HasLeftBehind, HasMade, HasMoved, HasPassed, HasRemoved, HasTurned, IsNextMoment, IsWhole, World, certificate, is_about, with_facts_of, world_setting}
 pub use Rattle.kin_world.specs.declared.structure.Structure.{Structure}

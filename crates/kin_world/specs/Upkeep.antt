@@ -1,5 +1,5 @@
 -- All that a world is made of, in one piece: what is true of it between two calls, and while it is repaired. No public clause of the world cites this module.
-use Rattle.std.specs.Prelude.{◌≡◌, ◌≢◌, ℕ, ◌+◌, ◌<◌, ◌≤◌, ◌^◌, ◌-◌, ◌⊎◌, min, true, false, Bool, List, map, length, slice_get, slice_set, Option, Some, None, filter, nat_eq, Contains, ◌↔◌, IsTrue}
+use Rattle.std.specs.Prelude.{◌≡◌, ◌≢◌, ℕ, ◌+◌, ◌<◌, ◌≤◌, ◌^◌, ◌-◌, ◌⊎◌, min, true, false, Bool, List, map, length, slice_get, slice_index_or, slice_set, [], Option, Some, filter, nat_eq, Contains, ◌↔◌, IsTrue}
 use Rattle.std.specs.List.{All}
 use Rattle.kin_num.specs.declared.instant.Moment.{Moment}
 use Rattle.kin_num.specs.declared.instant.Phase.TheVariants.{At, After}
@@ -132,11 +132,11 @@ IsCarriedOut mark k s = (before : List (Option Course)) × IsMarked mark k befor
 abbrev pub ListsWaiting : ℕ → List LiveFact → List Placed → Type 0
 ListsWaiting k live failed = ListsExactly failed (λ p. (l : LiveFact) × Contains live l × IsTrue l.waits × (l.certificate ≡ owned_by k p))
 
--- the certificates given out, but those of structures below k, are those of the facts that wait, each once
-pub record AreWaiting (k : ℕ) (live : List LiveFact) (taken : List Owned) : Type 0 where
+-- the certificates given out are those of the facts that wait, each once
+pub record AreWaiting (live : List LiveFact) (taken : List Owned) : Type 0 where
   pub once : AreDistinct taken
-  pub each : (l : LiveFact) → Contains live l → IsTrue l.waits → (o : Owned) × Contains taken o × (k ≤ o.structure) × (l.certificate ≡ certificate_of o)
-  pub only : (o : Owned) → Contains taken o → k ≤ o.structure → (l : LiveFact) × Contains live l × IsTrue l.waits × (l.certificate ≡ certificate_of o)
+  pub each : (l : LiveFact) → Contains live l → IsTrue l.waits → (o : Owned) × Contains taken o × (l.certificate ≡ certificate_of o)
+  pub only : (o : Owned) → Contains taken o → (l : LiveFact) × Contains live l × IsTrue l.waits × (l.certificate ≡ certificate_of o)
 
 -- a fact that was given out, in its part
 abbrev pub placed_of : Owned → Placed
@@ -149,21 +149,14 @@ is_of k o = nat_eq o.structure k
 abbrev pub gathered : ℕ → List Owned → List Placed
 gathered k taken = map placed_of (filter (is_of k) taken)
 
--- it is the turn of a structure, and of none behind the n-th
-abbrev pub IsTurnBy : Option ℕ → ℕ → Type 0
-IsTurnBy None n = ⊥
-IsTurnBy (Some j) n = j ≤ n
+-- what the structure k is told
+abbrev pub told_to : List (List Placed) → ℕ → List Placed
+told_to boxes k = slice_index_or boxes k []
 
--- whose turn it is: the least structure from k on that one of these is of, if there is any
-pub record IsTurn (k : ℕ) (taken : List Owned) (turn : Option ℕ) : Type 0 where
-  pub some : (j : ℕ) → turn ≡ Some j → (k ≤ j) × (o : Owned) × Contains taken o × (o.structure ≡ j)
-  pub least : (o : Owned) → Contains taken o → k ≤ o.structure → IsTurnBy turn o.structure
-
--- whose turn it is once the structure s is looked at, too
-pub record IsSooner (k s : ℕ) (turn turn' : Option ℕ) : Type 0 where
-  pub from : (turn' ≡ turn) ⊎ ((k ≤ s) × (turn' ≡ Some s))
-  pub no_later : (n : ℕ) → IsTurnBy turn n → IsTurnBy turn' n
-  pub not_behind : k ≤ s → IsTurnBy turn' s
+-- each structure from k on is told of its facts that wait, and none of those below waits
+pub record AreTold (k : ℕ) (s : Stage) (boxes : List (List Placed)) : Type 0 where
+  pub told : (j : ℕ) → k ≤ j → j < length s.structures → ListsWaiting j s.table.live (told_to boxes j)
+  pub none_below : (l : LiveFact) → Contains s.table.live l → l.certificate.structure < k → l.waits ≡ false
 
 -- some certificates are new, and as many failure moments were made
 pub record HasTimedNew (old new : Facts) : Type 0 where
@@ -203,23 +196,12 @@ pub record HasComeTo (k : ℕ) (start now : Facts) : Type 0 where
   pub made : HasTimedNew start now
   pub ahead : (c : Certificate) → k ≤ c.structure → Contains (certificates_of start.live) c ↔ Contains (certificates_of now.live) c
 
--- the structures from the one reached on aren't repaired yet, and nothing has changed of them
-pub record IsRepairing (start s : Stage) (reached : ℕ) (taken : List Owned) : Type 0 where
+-- the structures below k are repaired, and nothing has changed of the others
+pub record IsRepairing (start s : Stage) (k : ℕ) (boxes : List (List Placed)) : Type 0 where
   pub repair : IsUnderRepair s
-  pub waiting : AreWaiting reached s.table.live taken
-  pub come : HasComeTo reached start.table s.table
+  pub told : AreTold k s boxes
+  pub come : HasComeTo k start.table s.table
   pub frame : HasSameFrame start s
-
--- repair has reached some structure, and it is known whose turn it is
-pub record IsAtTurn (start s : Stage) (taken : List Owned) (turn : Option ℕ) : Type 0 where
-  pub reached : ℕ
-  pub repairing : IsRepairing start s reached taken
-  pub turn_is : IsTurn reached taken turn
-
--- how many structures may still have their turn
-abbrev pub turns_left : ℕ → Option ℕ → ℕ
-turns_left n None = 0
-turns_left n (Some k) = n - k
 
 -- the world is sound, and as many failure moments were made as certificates are new
 pub record HasSettled (before : Facts) (s : Stage) : Type 0 where

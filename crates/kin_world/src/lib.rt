@@ -32,6 +32,7 @@ mod failures;
 pub mod laws;
 #[cfg(test)]
 mod leaping;
+mod mail;
 mod places;
 #[cfg(test)]
 mod scripts;

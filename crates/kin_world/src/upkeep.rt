@@ -5,12 +5,13 @@ ghost use Rattle.kin_motion.specs.Journal.{Block as Listed, IsNextBlock};
 ghost use Rattle.kin_cert.specs.Taken.{IsLeastFailure};
 ghost use Rattle.kin_world.specs.Structures.{AreVacant};
 ghost use Rattle.kin_world.specs.Worlds.{AreKeepable, empty};
-ghost use Rattle.kin_world.specs.Upkeep.{stage_of, meaning, setting, HasSameFrame, IsSound, IsUnderRepair, IsCarriedOut, ListsWaiting, AreWaiting, gathered, IsTurn, IsSooner, HasTimedNew, HasRepaired, HasGoneOn, HasSettled};
+ghost use Rattle.kin_world.specs.Upkeep.{stage_of, meaning, setting, HasSameFrame, IsSound, IsUnderRepair, IsCarriedOut, ListsWaiting, AreWaiting, HasTimedNew, HasRepaired, HasGoneOn, HasSettled, told_to};
 
 use crate::failures::block_of;
+use crate::mail::Mail;
 use crate::structure::{Mark, Structure};
 use kin_cert::{Block, Now, Owned, Table};
-use kin_motion::{Delta, Keep, Motions, Placed};
+use kin_motion::{Delta, Keep, Motions};
 use kin_num::{Instant, Moment, NoMemory, Phase, Shape, Steps};
 use std::alloc::Global;
 use std::mem::replace;
@@ -30,8 +31,8 @@ pub struct Upkeep {
     pub moment: Moment,
     /// What a structure reports; kept for the next one.
     delta: Delta,
-    /// The failed facts of one structure; kept for the next one.
-    failed: Vec<Placed>,
+    /// The facts that fail at one moment, by structure; kept for the next one.
+    mail: Mail,
     /// The facts that fail at one moment; kept for the next one.
     given: Vec<Owned>,
 }
@@ -63,25 +64,31 @@ impl Upkeep {
             motions,
             moment,
             delta: Delta::new(alloc),
-            failed: Vec::new(alloc),
+            mail: Mail::new(alloc),
             given: Vec::new(alloc),
         })
     }
 
-    // Repairs the structure `k`, whose failed facts are gathered.
+    // Repairs the structure `k`, if it is told of failed facts.
     fn repair<L: Ledger>(&mut self, k: u32, steps: &mut Steps<L>) -> Result<(), NoMemory>
         requires within { k < length self.old.structures.items }
+        requires told { k < length self.old.mail }
         requires repair { IsUnderRepair (stage_of self.old) }
-        requires failed { ListsWaiting k self.old.table.live self.old.failed.items }
+        requires failed { ListsWaiting k self.old.table.live (told_to self.old.mail k) }
         ensures repaired { OnOk result (HasRepaired k (stage_of self.old) (stage_of self.new)) }
         ensures frame { HasSameFrame (stage_of self.old) (stage_of self.new) }
+        ensures mail { self.new.mail ≡ self.old.mail }
     {
+        let failed = self.mail.told(k);
+        if failed.is_empty() {
+            return Ok(());
+        }
         let now = Now {
             motions: &self.motions,
             moment: &self.moment,
         };
         self.delta.clear();
-        self.structures[k as usize].settle(&now, &self.failed, &mut self.delta, steps)?;
+        self.structures[k as usize].settle(&now, failed, &mut self.delta, steps)?;
         self.table
             .tell(k, &self.delta, &self.motions, &self.moment, steps)
     }
@@ -93,16 +100,14 @@ impl Upkeep {
         steps: &mut Steps<L>,
     ) -> Result<(), NoMemory>
         requires repair { IsUnderRepair (stage_of self.old) }
-        requires waiting { AreWaiting 0 self.old.table.live taken.now }
+        requires waiting { AreWaiting self.old.table.live taken.now }
         ensures settled { OnOk result (HasSettled self.old.table (stage_of self.new)) }
         ensures frame { HasSameFrame (stage_of self.old) (stage_of self.new) }
     {
-        let mut turn = next_structure(taken, 0);
-        while let Some(k) = turn {
-            gather(&mut self.failed, k, taken)?;
-            let own = self.failed.len();
-            self.repair(k, steps)?;
-            turn = next_behind(taken, k, own);
+        let count = self.structures.len();
+        self.mail.sort(count, taken)?;
+        for k in 0..count {
+            self.repair(k as u32, steps)?;
         }
         Ok(())
     }
@@ -226,62 +231,4 @@ fn count_of(taken: &[Owned]) -> usize
     ensures { result ≡ length taken.now }
 {
     taken.len()
-}
-
-// The least structure from `k` on that one of these facts is of.
-fn next_structure(taken: &[Owned], k: u32) -> Option<u32>
-    ensures { IsTurn k taken.now result }
-{
-    let mut turn = None;
-    let mut rest = taken;
-    while let Some((owned, tail)) = rest.split_first() {
-        turn = sooner(k, owned.structure, turn);
-        rest = tail;
-    }
-    turn
-}
-
-// The least structure behind `k` that one of these facts is of, where so many of them are of `k`.
-fn next_behind(taken: &[Owned], k: u32, own: usize) -> Option<u32>
-    requires own { own ≡ length (gathered k taken.now) }
-    requires small { k + 1 < 2 ^ 32 }
-    ensures { IsTurn (k + 1) taken.now result }
-{
-    if own == taken.len() {
-        return None;
-    }
-    next_structure(taken, k + 1)
-}
-
-// The lesser one of two structures from `k` on.
-fn sooner(k: u32, s: u32, turn: Option<u32>) -> Option<u32>
-    ensures { IsSooner k s turn result }
-{
-    if s < k {
-        return turn;
-    }
-    let Some(j) = turn else {
-        return Some(s);
-    };
-    if s < j { Some(s) } else { turn }
-}
-
-// Gathers the facts of the structure `k`.
-fn gather(failed: &mut Vec<Placed>, k: u32, taken: &[Owned]) -> Result<(), NoMemory>
-    ensures { OnOk result (failed.new.items ≡ gathered k taken.now) }
-{
-    failed.clear();
-    failed.reserve(taken.len())?;
-    let mut rest = taken;
-    while let Some((owned, tail)) = rest.split_first() {
-        if owned.structure == k {
-            let placed = Placed {
-                part: owned.part,
-                fact: owned.fact,
-            };
-            failed.push_reserved(placed);
-        }
-        rest = tail;
-    }
-    Ok(())
 }

@@ -1,6 +1,6 @@
 use Rattle.kin_world.proofs.Vocabulary.{rules, sym, ap, ◌∙◌, arith, length, few_at_most, Stage}
 use Rattle.kin_world.proofs.MarkLaws.{carried_out_all}
-use Rattle.kin_world.proofs.GatherLaws.{frame_through}
+use Rattle.kin_world.proofs.MailLaws.{frame_through}
 use Rattle.kin_world.proofs.Certificates.{come_on}
 use Rattle.kin_world.proofs.upkeep.Upkeep.carry_out_each.Goals as goal
 

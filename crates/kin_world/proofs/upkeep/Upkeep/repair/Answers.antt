@@ -1,12 +1,16 @@
-use Rattle.kin_world.proofs.Vocabulary.{rules, from_two, real_at, placed_facts, IsSettledFor, sight, stage_of}
+use Rattle.kin_world.proofs.Vocabulary.{rules, sym, ◌∙◌, from_two, real_at, placed_facts, IsSettledFor, sight, stage_of, told_to}
 use Rattle.kin_world.proofs.InOrder.{standing_read, may_tell}
+use Rattle.kin_world.proofs.MailLaws.{none_told}
 use Rattle.kin_world.proofs.RepairLaws.{waiting_fail, repaired}
 use Rattle.kin_world.proofs.upkeep.Upkeep.repair.Goals as goal
 
 pub settle-requires : goal.settle-requires
 settle-requires g c =
     let s = standing_read c.requires.repair c.args.k c.index_mut.result.now c.requires.within c.index_mut.ensures.value in
-    search (rules, real_at, c.deref.ensures.value, waiting_fail c.requires.repair c.args.k (placed_facts c.index_mut.result.now) c.args.self.now.failed.items s.3.tabled c.requires.failed)
+    search (rules, real_at, c.told-failed.ensures, waiting_fail c.requires.repair c.args.k (placed_facts c.index_mut.result.now) (told_to c.args.self.now.mail c.args.k) s.3.tabled c.requires.failed)
+
+pub returns-then-is_empty-clause-repaired : goal.returns-then-is_empty-clause-repaired
+returns-then-is_empty-clause-repaired g c = none_told c.requires.repair c.args.k c.told-failed.result.now (sym c.is_empty.ensures ∙ c.if-is_empty.true) (rw c.told-failed.ensures c.requires.failed)
 
 pub tell-requires : goal.tell-requires
 tell-requires g c =

@@ -1,8 +1,9 @@
-use Rattle.kin_world.proofs.Vocabulary.{length, IsAtTurn, stage_of, turns_left}
+use Rattle.kin_world.proofs.Vocabulary.{◌≡◌, ◌≤◌, length, IsRepairing, stage_of}
 use Rattle.kin_world.proofs.upkeep.Upkeep.repair_each.Given as goal
 
-abbrev pub invariant-loop-turn : goal.invariant-loop-turn
-invariant-loop-turn g l = IsAtTurn (stage_of l.fn.self) (stage_of l.self) l.taken l.turn
-
-abbrev pub decreases-loop-turn : goal.decreases-loop-turn
-decreases-loop-turn g l = turns_left (length l.self.structures.items) l.turn
+abbrev pub invariant-loop-k : goal.invariant-loop-k
+invariant-loop-k g l = record {
+  repairing : IsRepairing (stage_of l.initial.self) (stage_of l.self) l.k l.self.mail;
+  boxes : l.count ≤ length l.self.mail;
+  all : l.count ≡ length l.self.structures.items;
+}
