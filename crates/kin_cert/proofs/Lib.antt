@@ -2,6 +2,7 @@ pub mod Changes
 pub mod Dues
 pub mod Failing
 pub mod Giving
+pub mod Posting
 pub mod Ranks
 pub mod Places
 pub mod Rolls

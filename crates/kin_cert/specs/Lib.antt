@@ -14,3 +14,4 @@ pub mod Remade
 pub mod Schedules
 pub mod Names
 pub mod Cost
+pub mod Mails

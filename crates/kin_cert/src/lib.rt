@@ -7,6 +7,7 @@
 //! each with its owner and its failure moment (`specs/Facts`).
 #![tactic(auto)]
 
+pub use mail::Mail;
 pub use now::Now;
 pub use owned::{Block, Failure, Owned};
 pub use table::Table;
@@ -18,6 +19,7 @@ mod guesses;
 mod holder;
 mod index;
 pub mod laws;
+pub mod mail;
 mod names;
 pub mod now;
 pub mod owned;

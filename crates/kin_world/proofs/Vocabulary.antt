@@ -38,6 +38,7 @@ pub use Rattle.kin_motion.proofs.SetLaws.{contains_map, contains_mapped, distinc
 pub use Rattle.kin_turn.specs.declared.turned.TurnError.TheVariants.{NotWhole, OutOfBounds}
 pub use Rattle.kin_cert.specs.Facts.{AreAlike, Facts, IsAt, LiveFact, NoneAlike, certificate_of}
 pub use Rattle.kin_cert.specs.Failures.{IsFirstFailure, seen_by}
+pub use Rattle.kin_cert.specs.Mails.{HasPosted, gathered, is_of, placed_of, told_to}
 pub use Rattle.kin_cert.specs.Taken.{HasGivenOut, HasTaken, IsLeastFailure, NoneFails, NoneFailsUntil, NoneWaits, certificate_rank, is_taken_before}
 pub use Rattle.kin_cert.specs.Told.{HasFactsOf, IsTimed, MayTell, certificates_of, nothing}
 pub use Rattle.kin_cert.specs.declared.owned.Owned.{Owned}
@@ -45,7 +46,7 @@ pub use Rattle.kin_cert.proofs.NextLaws.{IsInTime, earlier_still, fails_first, h
 pub use Rattle.kin_world.specs.Kinds.{HasMembers, kinetic, placed_facts}
 pub use Rattle.kin_world.specs.Structures.{AreLiveAfter, AreVacant, HoldFor, IsSettledFor, IsSettledWhereAllHold, IsVacant}
 pub use Rattle.kin_world.specs.Upkeep.{AreLeft, AreTold, AreWaiting, HasComeTo, HasGoneOn, HasGoneOver, HasLanded, HasOneMore, HasRepaired, HasSameFrame, HasSettled, HasTimedNew, HasUpdated, IsBeyond, IsCarriedOut, IsDueWithin, IsFit}
-pub use Rattle.kin_world.specs.Upkeep.{IsInOrder, IsInPlace, IsLanding, IsMarked, IsRepairing, IsSound, IsTimedOrFailed, IsUnderRepair, ListsWaiting, Stage, gathered, is_line, is_of, meaning, placed_of, setting, sight}
-pub use Rattle.kin_world.specs.Upkeep.{stage_of, told_to, with_marked}
+pub use Rattle.kin_world.specs.Upkeep.{IsInOrder, IsInPlace, IsLanding, IsMarked, IsRepairing, IsSound, IsTimedOrFailed, IsUnderRepair, ListsWaiting, Stage, is_line, meaning, setting, sight}
+pub use Rattle.kin_world.specs.Upkeep.{stage_of, with_marked}
 pub use Rattle.kin_world.specs.Worlds.{CanTurn, FailsWithin, HasInserted, HasLeftBehind, HasMade, HasMoved, HasPassed, HasRemoved, HasTurned, IsNextMoment, IsWhole, World, certificate, is_about, with_facts_of, world_setting}
 pub use Rattle.kin_world.specs.declared.structure.Structure.{Structure}

@@ -19,6 +19,7 @@ use Rattle.kin_motion.specs.Scene.{Scene, scene_at}
 use Rattle.kin_motion.specs.Sets.{AreDistinct, ListsExactly}
 use Rattle.kin_cert.specs.declared.owned.Owned.{Owned}
 use Rattle.kin_cert.specs.Facts.{LiveFact, Facts, NoneAlike, certificate_of}
+use Rattle.kin_cert.specs.Mails.{told_to}
 use Rattle.kin_cert.specs.Taken.{NoneWaits, IsLeastFailure}
 use Rattle.kin_cert.specs.Told.{HasFactsOf, IsTimed, IsTold, AreNew, certificates_of, nothing}
 use Rattle.kin_world.specs.declared.structure.Mark.{Mark}
@@ -137,21 +138,6 @@ pub record AreWaiting (live : List LiveFact) (taken : List Owned) : Type 0 where
   pub once : AreDistinct taken
   pub each : (l : LiveFact) → Contains live l → IsTrue l.waits → (o : Owned) × Contains taken o × (l.certificate ≡ certificate_of o)
   pub only : (o : Owned) → Contains taken o → (l : LiveFact) × Contains live l × IsTrue l.waits × (l.certificate ≡ certificate_of o)
-
--- a fact that was given out, in its part
-abbrev pub placed_of : Owned → Placed
-placed_of o = record { part = o.part; fact = o.fact }
-
-abbrev pub is_of : ℕ → Owned → Bool
-is_of k o = nat_eq o.structure k
-
--- those of the structure k
-abbrev pub gathered : ℕ → List Owned → List Placed
-gathered k taken = map placed_of (filter (is_of k) taken)
-
--- what the structure k is told
-abbrev pub told_to : List (List Placed) → ℕ → List Placed
-told_to boxes k = slice_index_or boxes k []
 
 -- each structure from k on is told of its facts that wait, and none of those below waits
 pub record AreTold (k : ℕ) (s : Stage) (boxes : List (List Placed)) : Type 0 where

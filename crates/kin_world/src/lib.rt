@@ -32,7 +32,6 @@ mod failures;
 pub mod laws;
 #[cfg(test)]
 mod leaping;
-mod mail;
 mod places;
 #[cfg(test)]
 mod scripts;

@@ -2,15 +2,15 @@
 
 ghost use Rattle.std.specs.Prelude.{◌≡◌, ◌<◌, ◌≤◌, ◌+◌, ◌^◌, ℕ, true, length, All, OnOk, IfOk};
 ghost use Rattle.kin_motion.specs.Journal.{Block as Listed, IsNextBlock};
+ghost use Rattle.kin_cert.specs.Mails.{told_to};
 ghost use Rattle.kin_cert.specs.Taken.{IsLeastFailure};
 ghost use Rattle.kin_world.specs.Structures.{AreVacant};
 ghost use Rattle.kin_world.specs.Worlds.{AreKeepable, empty};
-ghost use Rattle.kin_world.specs.Upkeep.{stage_of, meaning, setting, HasSameFrame, IsSound, IsUnderRepair, IsCarriedOut, ListsWaiting, AreWaiting, HasTimedNew, HasRepaired, HasGoneOn, HasSettled, told_to};
+ghost use Rattle.kin_world.specs.Upkeep.{stage_of, meaning, setting, HasSameFrame, IsSound, IsUnderRepair, IsCarriedOut, ListsWaiting, AreWaiting, HasTimedNew, HasRepaired, HasGoneOn, HasSettled, AreTold};
 
 use crate::failures::block_of;
-use crate::mail::Mail;
 use crate::structure::{Mark, Structure};
-use kin_cert::{Block, Now, Owned, Table};
+use kin_cert::{Block, Mail, Now, Owned, Table};
 use kin_motion::{Delta, Keep, Motions};
 use kin_num::{Instant, Moment, NoMemory, Phase, Shape, Steps};
 use std::alloc::Global;
@@ -93,6 +93,21 @@ impl Upkeep {
             .tell(k, &self.delta, &self.motions, &self.moment, steps)
     }
 
+    // Repairs each structure that is told of failed facts.
+    fn repair_told<L: Ledger>(&mut self, steps: &mut Steps<L>) -> Result<(), NoMemory>
+        requires repair { IsUnderRepair (stage_of self.old) }
+        requires told { AreTold 0 (stage_of self.old) self.old.mail }
+        requires boxes { length self.old.structures.items ≤ length self.old.mail }
+        ensures settled { OnOk result (HasSettled self.old.table (stage_of self.new)) }
+        ensures frame { HasSameFrame (stage_of self.old) (stage_of self.new) }
+    {
+        let count = self.structures.len();
+        for k in 0..count {
+            self.repair(k as u32, steps)?;
+        }
+        Ok(())
+    }
+
     // Repairs each structure of which facts were given out, which `taken` lists in any order.
     fn repair_each<L: Ledger>(
         &mut self,
@@ -104,12 +119,8 @@ impl Upkeep {
         ensures settled { OnOk result (HasSettled self.old.table (stage_of self.new)) }
         ensures frame { HasSameFrame (stage_of self.old) (stage_of self.new) }
     {
-        let count = self.structures.len();
-        self.mail.sort(count, taken)?;
-        for k in 0..count {
-            self.repair(k as u32, steps)?;
-        }
-        Ok(())
+        self.mail.sort(self.structures.len(), taken)?;
+        self.repair_told(steps)
     }
 
     /// Moves to the least failure moment, repairs all structures there, and answers what has failed.
@@ -141,7 +152,6 @@ impl Upkeep {
     /// answers how many there were.
     pub fn pass_unlisted<L: Ledger>(
         &mut self,
-        alloc: Global,
         moment: &Moment,
         steps: &mut Steps<L>,
     ) -> Result<usize, NoMemory>
@@ -152,11 +162,11 @@ impl Upkeep {
         ensures frame { HasSameFrame (record (stage_of self.old) { moment = moment.now }) (stage_of self.new) }
     {
         self.moment = *moment;
-        let mut given = replace(&mut self.given, Vec::new(alloc));
-        self.table.give_failing(moment, &mut given, steps)?;
-        self.repair_each(&given, steps)?;
-        let count = count_of(&given);
-        self.given = given;
+        let structures = self.structures.len();
+        let count = self
+            .table
+            .post_failing(moment, structures, &mut self.mail, steps)?;
+        self.repair_told(steps)?;
         Ok(count)
     }
 
@@ -225,10 +235,4 @@ fn room_for_facts(size: u32, keeps: &[Keep]) -> usize
         room = room.saturating_add(keep.facts_of_a_point() << size);
     }
     room
-}
-
-fn count_of(taken: &[Owned]) -> usize
-    ensures { result ≡ length taken.now }
-{
-    taken.len()
 }

@@ -248,7 +248,7 @@ impl World {
             return Ok(None);
         };
         self.whole = false;
-        let count = self.upkeep.pass_unlisted(self.alloc, &moment, steps)?;
+        let count = self.upkeep.pass_unlisted(&moment, steps)?;
         self.whole = true;
         Ok(Some(count))
     }

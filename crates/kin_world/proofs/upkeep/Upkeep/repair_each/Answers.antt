@@ -1,28 +1,9 @@
-use Rattle.kin_world.proofs.Vocabulary.{rules, ◌≡◌, sym, ◌∙◌, arith, length, few_at_most}
-use Rattle.kin_world.proofs.MailLaws.{told_first, repairing_none, repairing_on, repaired_all, same_count}
+use Rattle.kin_world.proofs.Vocabulary.{rules, ◌≡◌, length}
+use Rattle.kin_world.proofs.MailLaws.{told_first}
 use Rattle.kin_world.proofs.upkeep.Upkeep.repair_each.Goals as goal
 
-pub loop-k-init : goal.loop-k-init
-loop-k-init g c =
+pub repair_told-requires : goal.repair_told-requires
+repair_told-requires g c =
+    let count : c.len.result ≡ length c.args.self.now.structures.items = search rules in
     let out = c.in_ok-sort.ensures in
-    let count : c.len-count.result ≡ length c.args.self.now.structures.items = search rules in
-    record { repairing = repairing_none c.requires.repair (told_first c.requires.waiting c.sort.new.self (λ k within. out.told k (rw count within))); boxes = out.count; all = count }
-
-pub overflow_cast-k : goal.overflow_cast-k
-overflow_cast-k g c =
-    let h = c.loop-k.invariant in
-    let few = few_at_most c.loop-k.self.keeps.items h.repairing.repair.fit.keepable.few in
-    omega (arith, few, h.repairing.repair.count, h.all, c.loop-k-test.true)
-
-pub repair-requires-clause-failed : goal.repair-requires-clause-failed
-repair-requires-clause-failed g c = let h = c.loop-k.invariant in h.repairing.told.told c.loop-k.k (omega arith) (omega (arith, h.all, c.loop-k-test.true))
-
-pub loop-k-preserved : goal.loop-k-preserved
-loop-k-preserved g c =
-    let h = c.loop-k.invariant in
-    let did = c.in_ok-repair.ensures.repaired in
-    let frame = c.repair.ensures.frame in
-    record { repairing = rw c.repair.ensures.mail (repairing_on h.repairing did frame); boxes = rw c.repair.ensures.mail h.boxes; all = h.all ∙ sym (same_count h.repairing did frame) }
-
-pub returns-clause-settled : goal.returns-clause-settled
-returns-clause-settled g c = let h = c.loop-k.invariant in repaired_all h.repairing (omega (arith, h.all, c.loop-k-test.false))
+    record { repair = c.requires.repair; told = told_first c.requires.waiting c.sort.new.self (λ k within. out.told k (rw count within)); boxes = rw count at out.count }

@@ -1,5 +1,6 @@
-use Rattle.kin_world.proofs.Vocabulary.{◌≡◌, ℕ, ◌<◌, ◌≤◌, ◌++◌, length, gathered, told_to}
-use Rattle.kin_world.proofs.mail.Mail.sort.Given as goal
+use Rattle.std.proofs.Common.{◌≡◌, ℕ, ◌<◌, ◌≤◌, ◌++◌, length}
+use Rattle.kin_cert.specs.Mails.{gathered, told_to}
+use Rattle.kin_cert.proofs.mail.Mail.sort.Given as goal
 
 abbrev pub invariant-loop-owned : goal.invariant-loop-owned
 invariant-loop-owned l = record {

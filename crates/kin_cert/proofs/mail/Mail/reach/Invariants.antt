@@ -1,5 +1,6 @@
-use Rattle.kin_world.proofs.Vocabulary.{◌≡◌, ℕ, ◌≤◌, [], length, told_to}
-use Rattle.kin_world.proofs.mail.Mail.reach.Given as goal
+use Rattle.std.proofs.Common.{◌≡◌, ℕ, ◌≤◌, [], length}
+use Rattle.kin_cert.specs.Mails.{told_to}
+use Rattle.kin_cert.proofs.mail.Mail.reach.Given as goal
 
 abbrev pub invariant-loop : goal.invariant-loop
 invariant-loop l = record {

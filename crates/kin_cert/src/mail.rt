@@ -1,10 +1,10 @@
 //! Which failed facts each structure is told of.
 
 ghost use Rattle.std.specs.Prelude.{◌≡◌, ℕ, ◌<◌, ◌≤◌, [], ◌∷◌, ◌++◌, cond, length, OnOk};
-ghost use Rattle.kin_world.specs.Upkeep.{gathered, is_of, placed_of, told_to};
+ghost use Rattle.kin_cert.specs.Mails.{gathered, is_of, placed_of, told_to};
 
-use kin_cert::Owned;
-use kin_motion::Placed;
+use crate::owned::Owned;
+use kin_motion::fact::Placed;
 use kin_num::NoMemory;
 use std::alloc::Global;
 use std::marker::Model;
@@ -39,10 +39,17 @@ impl Letters {
         self.facts.clear();
     }
 
-    fn add(&mut self, fact: Placed) -> Result<(), NoMemory>
-        ensures { OnOk result (self.new ≡ self.old ++ fact ∷ []) }
+    #[inline(always)]
+    fn add(&mut self, owned: &Owned) -> Result<(), NoMemory>
+        ensures { OnOk result (self.new ≡ self.old ++ placed_of owned.now ∷ []) }
     {
-        self.facts.push(fact).map_err(|_| NoMemory)
+        // Room comes before what it is for, so that a fact is copied once.
+        self.facts.reserve(1)?;
+        self.facts.push_reserved(Placed {
+            part: owned.part,
+            fact: owned.fact,
+        });
+        Ok(())
     }
 
     fn facts(&self) -> &[Placed]
@@ -101,8 +108,18 @@ impl Mail {
         Ok(())
     }
 
+    // Takes all facts out, and makes so many boxes at least.
+    pub(crate) fn empty(&mut self, count: usize) -> Result<(), NoMemory>
+        ensures empty { OnOk result ((k : ℕ) → told_to self.new k ≡ []) }
+        ensures count { OnOk result (count ≤ length self.new) }
+    {
+        self.clear();
+        self.reach(count)
+    }
+
     // Tells a structure of a fact of its own, if it has a box.
-    fn tell(&mut self, owned: &Owned) -> Result<(), NoMemory>
+    #[inline(always)]
+    pub(crate) fn tell(&mut self, owned: &Owned) -> Result<(), NoMemory>
         ensures told { OnOk result ((k : ℕ) → k < length self.old → told_to self.new k ≡ cond (is_of k owned.now) (told_to self.old k ++ placed_of owned.now ∷ []) (told_to self.old k)) }
         ensures count { length self.new ≡ length self.old }
     {
@@ -110,10 +127,7 @@ impl Mail {
         if k >= self.boxes.len() {
             return Ok(());
         }
-        self.boxes[k].add(Placed {
-            part: owned.part,
-            fact: owned.fact,
-        })
+        self.boxes[k].add(owned)
     }
 
     /// Sorts failed facts out: each of so many structures is told of its own.
@@ -121,8 +135,7 @@ impl Mail {
         ensures told { OnOk result ((k : ℕ) → k < count → told_to self.new k ≡ gathered k taken.now) }
         ensures count { OnOk result (count ≤ length self.new) }
     {
-        self.clear();
-        self.reach(count)?;
+        self.empty(count)?;
         let mut rest = taken;
         while let Some((owned, tail)) = rest.split_first() {
             self.tell(owned)?;

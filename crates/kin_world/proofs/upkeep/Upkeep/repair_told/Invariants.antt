@@ -1,5 +1,5 @@
 use Rattle.kin_world.proofs.Vocabulary.{◌≡◌, ◌≤◌, length, IsRepairing, stage_of}
-use Rattle.kin_world.proofs.upkeep.Upkeep.repair_each.Given as goal
+use Rattle.kin_world.proofs.upkeep.Upkeep.repair_told.Given as goal
 
 abbrev pub invariant-loop-k : goal.invariant-loop-k
 invariant-loop-k g l = record {
