@@ -31,9 +31,8 @@ pub fn place_of_line(row: &Row, form: Form) -> Option<u32>
     let Form::Line { i, .. } = form else {
         return None;
     };
-    let place = row.place_of(i)?;
-    if place as usize + 1 < row.len() {
-        Some(place)
+    if (i as usize) < row.room() {
+        row.place_of_left(i)
     } else {
         None
     }
@@ -63,10 +62,7 @@ impl Lineup {
         ensures room { self.new.row.room ≡ self.old.row.room }
     {
         self.touched.push(no)?;
-        let Some(place) = self.row.place_of(no) else {
-            return Ok(());
-        };
-        let place = place as usize;
+        let place = self.row.place_of_member(no) as usize;
         self.row.take_out(place);
         if place == 0 {
             return Ok(());

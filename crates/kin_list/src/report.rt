@@ -24,12 +24,8 @@ fn right_of(row: &Row, no: u32) -> Option<u32>
     requires within { no < row.now.room }
     ensures { (signs : List Signum) → linked result (slice_get signs no) ≡ link_for row.now.items signs no }
 {
-    let place = row.place_within(no)? as usize;
-    if place + 1 < row.len() {
-        Some(row.at(place + 1))
-    } else {
-        None
-    }
+    let place = row.place_of_left(no)? as usize;
+    Some(row.at(place + 1))
 }
 
 /// Gives the fact of a line another right number and another sign, where it stands.
