@@ -86,19 +86,22 @@ impl<I: Copy> Tree<I> {
         ensures reported { OnOk result (IsReported node (fact_in self.old.facts node) (fact_in self.new.facts node) out.old out.new) }
         ensures cost { steps.new ≤ steps.old + asked_for known }
     {
-        match (self.entry(2 * node), self.entry(2 * node + 1)) {
-            (Some(left), Some(right)) => self.meet(node, left, right, known, key, now, out, steps),
-            (Some(left), None) => {
+        // One half after the other, so that an empty one leaves the way at once.
+        match self.entry(2 * node) {
+            Some(left) => match self.entry(2 * node + 1) {
+                Some(right) => self.meet(node, left, right, known, key, now, out, steps),
+                None => {
+                    untell(&mut self.facts, node, out)?;
+                    Ok(Some(left.slot))
+                }
+            },
+            None => {
+                let right = self.entry(2 * node + 1);
                 untell(&mut self.facts, node, out)?;
-                Ok(Some(left.slot))
-            }
-            (None, Some(right)) => {
-                untell(&mut self.facts, node, out)?;
-                Ok(Some(right.slot))
-            }
-            (None, None) => {
-                untell(&mut self.facts, node, out)?;
-                Ok(None)
+                match right {
+                    Some(right) => Ok(Some(right.slot)),
+                    None => Ok(None),
+                }
             }
         }
     }

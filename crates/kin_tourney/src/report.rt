@@ -29,16 +29,19 @@ pub fn tell(
     ensures reported { OnOk result (IsReported node (fact_in facts.old.items node) (Some fact) out.old out.new) }
 {
     let part = node as u32;
-    if let Some(old) = &facts[node] {
+    let told = &mut facts[node];
+    // Where room is reserved first, a fact is copied once, from where it stands.
+    if let Some(old) = told {
         if is_same(old, &fact) {
             return Ok(());
         }
-        out.report_dropped(Placed { part, fact: *old })?;
+        out.dropped.reserve(1)?;
+        out.dropped.push_reserved(Placed { part, fact: *old });
     }
-    facts[node] = Some(fact);
-    // What is reported is copied from where it was written, whole.
-    if let Some(fact) = facts[node] {
-        out.report_born(Placed { part, fact })?;
+    out.born.reserve(1)?;
+    *told = Some(fact);
+    if let Some(fact) = told {
+        out.born.push_reserved(Placed { part, fact: *fact });
     }
     Ok(())
 }
