@@ -1,6 +1,6 @@
 //! The way of a repair: from node to node in doubt, each after its halves.
 
-ghost use Rattle.std.specs.Prelude.{◌≡◌, ◌≢◌, ℕ, ◌*◌, ◌/◌, ◌<◌, true, length, MatchOption};
+ghost use Rattle.std.specs.Prelude.{◌≡◌, ◌≢◌, ℕ, ◌+◌, ◌*◌, ◌/◌, ◌<◌, true, length, MatchOption};
 ghost use Rattle.kin_tourney.specs.Standings.{doubt_in, IsClosed};
 ghost use Rattle.kin_tourney.specs.Repairs.{IsPerfect, IsLowest, IsDone, IsPassage, HasClimbed};
 
@@ -61,6 +61,14 @@ pub fn first_doubt(doubts: &[Doubt], near: usize) -> usize
     }
 }
 
+/// The other half of the node above this one. The halves of a node are its double and the number
+/// behind that.
+fn other_half(node: usize) -> usize
+    ensures { result + node ≡ 4 * (node / 2) + 1 }
+{
+    node ^ 1
+}
+
 /// Where a repair goes on after a node that is clear again, or 0 after the root. The node above
 /// is next, unless its other half is in doubt.
 #[inline(always)]
@@ -74,8 +82,7 @@ pub fn next_doubt(doubts: &[Doubt], node: usize) -> usize
     if above == 0 {
         return 0;
     }
-    // The halves of a node are its double and the number behind that.
-    let other = 4 * above + 1 - node;
+    let other = other_half(node);
     if doubts[other].is_clear() {
         above
     } else {
@@ -93,7 +100,7 @@ fn is_passage(doubts: &[Doubt], node: usize) -> bool
     if above == 0 {
         return false;
     }
-    doubts[above].is_below() && doubts[4 * above + 1 - node].is_clear()
+    doubts[above].is_below() && doubts[other_half(node)].is_clear()
 }
 
 /// Clears the nodes above one that is clear as far as only the way leads through them, and answers the
