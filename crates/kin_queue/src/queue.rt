@@ -154,8 +154,7 @@ impl Queue {
 fn reaching(id: usize, len: usize) -> Option<usize>
     ensures { IfSome result (λ count. id < count) }
 {
-    let count = id.checked_add(1)?;
-    Some(count.max(len.saturating_mul(2)))
+    Some(id.checked_add(1)?.max(len.saturating_mul(2)))
 }
 
 // Makes the places reach the id.
@@ -174,7 +173,7 @@ fn reach(places: &mut Vec<usize>, id: usize) -> Result<(), NoMemory>
     Ok(())
 }
 
-// Writes the moment of an id down. It is made in line, so that the moment is written once.
+// Writes the moment of an id down. In line, so that it is written once, and by its parts, so that no gap is copied.
 #[inline(always)]
 fn note(moments: &mut Vec<Moment>, id: usize, at: &Moment) -> Result<(), NoMemory>
     ensures noted { OnOk result (IsNoted moments.old.items id at.now moments.new.items) }
@@ -186,7 +185,8 @@ fn note(moments: &mut Vec<Moment>, id: usize, at: &Moment) -> Result<(), NoMemor
         };
         moments.resize(count, *at)?;
     }
-    moments[id] = *at;
+    let (at, phase) = (at.at, at.phase);
+    moments[id] = Moment { at, phase };
     Ok(())
 }
 

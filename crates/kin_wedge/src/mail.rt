@@ -39,10 +39,14 @@ impl Letters {
         self.facts.clear();
     }
 
-    fn add(&mut self, fact: Placed) -> Result<(), NoMemory>
-        ensures { OnOk result (self.new ≡ self.old ++ fact ∷ []) }
+    #[inline(always)]
+    fn add(&mut self, placed: &Placed) -> Result<(), NoMemory>
+        ensures { OnOk result (self.new ≡ self.old ++ in_part 0 placed.now ∷ []) }
     {
-        push(&mut self.facts, fact)
+        // Room comes before what it is for, so that a fact is copied once.
+        self.facts.reserve(1)?;
+        self.facts.push_reserved(own(placed));
+        Ok(())
     }
 
     fn facts(&self) -> &[Placed]
@@ -116,7 +120,7 @@ impl Mail {
         }
         self.from = self.from.min(part);
         self.end = self.end.max(part + 1);
-        self.boxes[part].add(own(placed))
+        self.boxes[part].add(placed)
     }
 
     /// Sorts failed facts out: each list is told those of its part.
