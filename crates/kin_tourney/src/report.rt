@@ -30,7 +30,7 @@ pub fn tell(
 {
     let part = node as u32;
     let told = &mut facts[node];
-    // Where room is reserved first, a fact is copied once, from where it stands.
+    // Room is reserved first, so that what is told is written straight to its place.
     if let Some(old) = told {
         if is_same(old, &fact) {
             return Ok(());
@@ -39,10 +39,8 @@ pub fn tell(
         out.dropped.push_reserved(Placed { part, fact: *old });
     }
     out.born.reserve(1)?;
+    out.born.push_reserved(Placed { part, fact });
     *told = Some(fact);
-    if let Some(fact) = told {
-        out.born.push_reserved(Placed { part, fact: *fact });
-    }
     Ok(())
 }
 
