@@ -11,6 +11,7 @@ use Rattle.kin_cert.specs.Taken.{HasGivenOut}
 abbrev pub placed_of : Owned → Placed
 placed_of o = record { part = o.part; fact = o.fact }
 
+-- whether it is the structure k's
 abbrev pub is_of : ℕ → Owned → Bool
 is_of k o = nat_eq o.structure k
 
