@@ -98,7 +98,8 @@ impl Schedule {
         Ok(())
     }
 
-    /// Takes an id out, which is there.
+    /// Takes an id out, which is there. In line, since it mostly is one call of the queue.
+    #[inline(always)]
     pub(crate) fn remove<L: Ledger>(&mut self, id: usize, steps: &mut Steps<L>)
         requires present { IsSome (get self.old id) }
         ensures rest { self.new ≡ remove self.old id }
