@@ -4,35 +4,17 @@ ghost use Rattle.std.specs.Prelude.{◌≡◌, ◌≢◌, ◌+◌, ◌^◌, ◌<
 ghost use Rattle.kin_motion.specs.Tournaments.{item_in};
 
 use crate::ask::is_live;
-use crate::driver::{Driver, Steady};
+use crate::driver::Driver;
 use crate::fault::Fault;
 use crate::spares::SparesAbove;
 use crate::watch::{Tally, Watch};
 use kin_cert::Now;
-use kin_motion::kept::Kept;
-use kin_motion::signs::Signs;
-use kin_motion::{Delta, Motions, Placed};
-use kin_num::{Moment, NoMemory, Steps};
+use kin_motion::{Motions, Placed};
+use kin_num::{Moment, Steps};
 use kin_tourney::{Along, Tourney};
 use std::alloc::Global;
 use std::marker::Model;
 use std::sync::ledger::Ledger;
-
-impl Steady for Tourney<Along> {
-    ghost use Rattle.kin_tourney.specs.Points.{StaysTournament};
-
-    ghost stays = { StaysTournament };
-
-    fn repair<O: Signs, L: Ledger>(
-        &mut self,
-        now: &O,
-        failed: &[Placed],
-        out: &mut Delta,
-        steps: &mut Steps<L>,
-    ) -> Result<(), NoMemory> {
-        self.settle_steadily(now, failed, out, steps)
-    }
-}
 
 impl Driver<Tourney<Along>> {
     fn set(&mut self, slot: u32, item: u32)

@@ -1,9 +1,8 @@
 //! A structure with its live facts.
 
-ghost use Rattle.std.specs.Prelude.{◌≡◌, [], IfOk, OnOk};
+ghost use Rattle.std.specs.Prelude.{◌≡◌, [], IfOk};
 ghost use Rattle.kin_motion.specs.declared.fact.Placed.{Placed as Put};
-ghost use Rattle.kin_motion.specs.Kinetics.{ListsFailing, HasChanged};
-ghost use Rattle.kin_motion.specs.Scene.{IsReal, scene_at};
+ghost use Rattle.kin_motion.specs.Scene.{scene_at};
 ghost use Rattle.kin_motion.specs.Sets.{AreDistinct};
 
 use crate::failing::{after, failing_at};
@@ -12,33 +11,11 @@ use crate::spares::Spares;
 use crate::watch::Watch;
 use kin_motion::fact::{Delta, Placed};
 use kin_motion::kinetic::Kinetic;
-use kin_motion::signs::Signs;
-use kin_num::{NoMemory, Steps};
+use kin_motion::steady::Steady;
+use kin_num::Steps;
 use std::alloc::Global;
 use std::marker::Model;
 use std::sync::ledger::Ledger;
-
-/// A structure of which it is known what a settle leaves as it is.
-pub trait Steady: Kinetic + Drop {
-    /// What a settle leaves as it is.
-    ghost stays: { Self → Self → Type 0 };
-
-    /// `settle`, with what stays.
-    fn repair<O: Signs, L: Ledger>(
-        &mut self,
-        now: &O,
-        failed: &[Placed],
-        out: &mut Delta,
-        steps: &mut Steps<L>,
-    ) -> Result<(), NoMemory>
-        requires real { IsReal (O.scene now.now) }
-        requires ready { Self.ready self.old (O.scene now.now) }
-        requires failing { ListsFailing (Self.facts self.old) (Self.is_spared self.old) (O.scene now.now) failed.now }
-        ensures rest { OnOk result (Self.at_rest self.new) }
-        ensures settled { OnOk result (Self.settled self.new (O.scene now.now)) }
-        ensures delta { OnOk result (HasChanged (Self.facts self.old) (Self.facts self.new) out.old out.new) }
-        ensures stays { OnOk result (stays self.old self.new) };
-}
 
 /// A structure with the list of its live facts, which is kept by its reports alone. A contract sees
 /// it as its structure.
@@ -109,7 +86,7 @@ impl<K: Steady> Driver<K> {
         } = self;
         let failed = failing_at(alloc, &facts, now, spares)?;
         let mut out = Delta::new(alloc);
-        structure.repair(now, &failed, &mut out, steps)?;
+        structure.settle_steadily(now, &failed, &mut out, steps)?;
         let facts = after(alloc, &facts, &out)?;
         Ok(Driver {
             alloc,

@@ -5,35 +5,17 @@ ghost use Rattle.kin_env.specs.Walks.{slot_in};
 
 use crate::ask::is_live;
 use crate::chains::has_number;
-use crate::driver::{Driver, Steady};
+use crate::driver::Driver;
 use crate::fault::Fault;
 use crate::spares::SparesNamed;
 use crate::watch::{Tally, Watch};
 use kin_cert::Now;
 use kin_env::EnvTree;
-use kin_motion::kinetic::Kinetic;
-use kin_motion::signs::Signs;
-use kin_motion::{Delta, Motion, Motions, Placed};
-use kin_num::{Moment, NoMemory, Steps};
+use kin_motion::{Motion, Motions, Placed};
+use kin_num::{Moment, Steps};
 use std::alloc::Global;
 use std::marker::Model;
 use std::sync::ledger::Ledger;
-
-impl Steady for EnvTree {
-    ghost use Rattle.std.specs.Prelude.{◌≡◌};
-
-    ghost stays = { λ old new. new ≡ record old { chains = new.chains; facts = new.facts } };
-
-    fn repair<O: Signs, L: Ledger>(
-        &mut self,
-        now: &O,
-        failed: &[Placed],
-        out: &mut Delta,
-        steps: &mut Steps<L>,
-    ) -> Result<(), NoMemory> {
-        self.settle(now, failed, out, steps)
-    }
-}
 
 impl Driver<EnvTree> {
     fn set(&mut self, slot: u32)

@@ -6,36 +6,18 @@ ghost use Rattle.kin_list.specs.declared.mark.Mark.TheVariants.{Rest, Enters, Le
 ghost use Rattle.kin_wedge.specs.Wedging.{members_of};
 
 use crate::ask::is_live;
-use crate::driver::{Driver, Steady};
+use crate::driver::Driver;
 use crate::fault::Fault;
 use crate::spares::SparesLeaving;
 use crate::watch::{Tally, Watch};
 use kin_cert::Now;
 use kin_list::Mark;
-use kin_motion::kinetic::Kinetic;
-use kin_motion::signs::Signs;
-use kin_motion::{Delta, Motion, Motions, Placed};
-use kin_num::{Moment, NoMemory, Steps};
+use kin_motion::{Motion, Motions, Placed};
+use kin_num::{Moment, Steps};
 use kin_wedge::Wedges;
 use std::alloc::Global;
 use std::marker::Model;
 use std::sync::ledger::Ledger;
-
-impl Steady for Wedges {
-    ghost use Rattle.std.specs.Prelude.{◌≡◌};
-
-    ghost stays = { λ old new. new.size ≡ old.size };
-
-    fn repair<O: Signs, L: Ledger>(
-        &mut self,
-        now: &O,
-        failed: &[Placed],
-        out: &mut Delta,
-        steps: &mut Steps<L>,
-    ) -> Result<(), NoMemory> {
-        self.settle(now, failed, out, steps)
-    }
-}
 
 impl Driver<Wedges> {
     /// Marks a number as entering.

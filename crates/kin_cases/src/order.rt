@@ -4,35 +4,17 @@ ghost use Rattle.std.specs.Prelude.{◌≡◌, ◌≤◌, ◌<◌, false, OnOk};
 ghost use Rattle.kin_motion.specs.Numbers.{is_in};
 ghost use Rattle.kin_list.specs.declared.mark.Mark.TheVariants.{Rest, Enters};
 
-use crate::driver::{Driver, Steady};
+use crate::driver::Driver;
 use crate::fault::Fault;
 use crate::spares::SparesNone;
 use crate::watch::{Tally, Watch};
 use kin_cert::Now;
 use kin_list::KinList;
-use kin_motion::kept::Kept;
-use kin_motion::signs::Signs;
-use kin_motion::{Delta, Motion, Motions, Placed};
+use kin_motion::{Motion, Motions, Placed};
 use kin_num::{Moment, NoMemory, Steps};
 use std::alloc::Global;
 use std::marker::Model;
 use std::sync::ledger::Ledger;
-
-impl Steady for KinList {
-    ghost use Rattle.kin_list.specs.Keeping.{StaysList};
-
-    ghost stays = { StaysList };
-
-    fn repair<O: Signs, L: Ledger>(
-        &mut self,
-        now: &O,
-        failed: &[Placed],
-        out: &mut Delta,
-        steps: &mut Steps<L>,
-    ) -> Result<(), NoMemory> {
-        self.settle_steadily(now, failed, out, steps)
-    }
-}
 
 impl Driver<KinList> {
     /// Marks a number as entering.

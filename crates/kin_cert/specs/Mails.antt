@@ -1,7 +1,8 @@
 -- What each structure is told of the facts that fail at one moment.
-use Rattle.std.specs.Prelude.{◌≡◌, ℕ, ◌<◌, ◌≤◌, Bool, List, [], map, filter, nat_eq, length, slice_index_or}
+use Rattle.std.specs.Prelude.{◌≡◌, ℕ, ◌<◌, ◌≤◌, Bool, List, [], map, filter, nat_eq, length}
 use Rattle.kin_num.specs.declared.instant.Moment.{Moment}
 use Rattle.kin_motion.specs.declared.fact.Placed.{Placed}
+pub use Rattle.kin_motion.specs.Letters.{told_to}
 use Rattle.kin_cert.specs.declared.owned.Owned.{Owned}
 use Rattle.kin_cert.specs.Facts.{LiveFact}
 use Rattle.kin_cert.specs.Layout.{IsGivenUpTo}
@@ -18,10 +19,6 @@ is_of k o = nat_eq o.structure k
 -- those of the structure k
 abbrev pub gathered : ℕ → List Owned → List Placed
 gathered k taken = map placed_of (filter (is_of k) taken)
-
--- what the structure k is told
-abbrev pub told_to : List (List Placed) → ℕ → List Placed
-told_to boxes k = slice_index_or boxes k []
 
 -- so many facts that are due at the moment were given out so far, and each was told to its structure
 pub record IsPostedUpTo (m : Moment) (old new : List LiveFact) (boxes : List (List Placed)) (n : ℕ) : Type 0 where

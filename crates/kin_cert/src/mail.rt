@@ -4,60 +4,10 @@ ghost use Rattle.std.specs.Prelude.{◌≡◌, ℕ, ◌<◌, ◌≤◌, [], ◌�
 ghost use Rattle.kin_cert.specs.Mails.{gathered, is_of, placed_of, told_to};
 
 use crate::owned::Owned;
-use kin_motion::fact::Placed;
+use kin_motion::{Letters, Placed};
 use kin_num::NoMemory;
 use std::alloc::Global;
 use std::marker::Model;
-
-/// The failed facts that one structure is told of.
-#[derive(Drop)]
-pub struct Letters {
-    facts: Vec<Placed>,
-}
-
-impl Model for Letters {
-    ghost use Rattle.std.specs.Prelude.{List};
-    ghost use Rattle.kin_motion.specs.declared.fact.Placed.{Placed as Put};
-
-    ghost Value = { List Put };
-
-    ghost view = { λ l. l.facts.items };
-}
-
-impl Letters {
-    fn new(alloc: Global) -> Letters
-        ensures { result ≡ [] }
-    {
-        Letters {
-            facts: Vec::new(alloc),
-        }
-    }
-
-    fn clear(&mut self)
-        ensures { self.new ≡ [] }
-    {
-        self.facts.clear();
-    }
-
-    #[inline(always)]
-    fn add(&mut self, owned: &Owned) -> Result<(), NoMemory>
-        ensures { OnOk result (self.new ≡ self.old ++ placed_of owned.now ∷ []) }
-    {
-        // Room comes before what it is for, so that a fact is copied once.
-        self.facts.reserve(1)?;
-        self.facts.push_reserved(Placed {
-            part: owned.part,
-            fact: owned.fact,
-        });
-        Ok(())
-    }
-
-    fn facts(&self) -> &[Placed]
-        ensures { result.now ≡ self.now }
-    {
-        &self.facts
-    }
-}
 
 /// What each structure is told. The memory is kept from moment to moment.
 #[derive(Drop)]
@@ -127,7 +77,7 @@ impl Mail {
         if k >= self.boxes.len() {
             return Ok(());
         }
-        self.boxes[k].add(owned)
+        self.boxes[k].add(owned.part, &owned.fact)
     }
 
     /// Sorts failed facts out: each of so many structures is told of its own.

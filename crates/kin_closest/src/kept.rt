@@ -12,13 +12,30 @@ use kin_motion::keep::Keep;
 use kin_motion::kept::Kept;
 use kin_motion::kinetic::Kinetic;
 use kin_motion::signs::Signs;
+use kin_motion::steady::Steady;
 use kin_num::memory::NoMemory;
 use kin_num::steps::Steps;
 use std::alloc::Global;
 use std::sync::ledger::Ledger;
 
+impl Steady for KinClosest {
+    ghost use Rattle.kin_closest.specs.Closing.{StaysClosing};
+
+    ghost stays = { StaysClosing };
+
+    fn settle_steadily<O: Signs, L: Ledger>(
+        &mut self,
+        now: &O,
+        failed: &[Placed],
+        out: &mut Delta,
+        steps: &mut Steps<L>,
+    ) -> Result<(), NoMemory> {
+        self.settle(now, failed, out, steps)
+    }
+}
+
 impl Kept for KinClosest {
-    ghost use Rattle.kin_closest.specs.Closing.{IsClosingFor, IsClosestKeep, HasMembers, StaysClosing};
+    ghost use Rattle.kin_closest.specs.Closing.{IsClosingFor, IsClosestKeep, HasMembers};
     ghost use Rattle.kin_closest.specs.ClosingLaws.{closing_ready, closing_spares_none, closing_kind_stays, closing_members_stay, closing_exact};
 
     ghost is_for = { IsClosingFor };
@@ -26,8 +43,6 @@ impl Kept for KinClosest {
     ghost serves = { IsClosestKeep };
 
     ghost has_members = { HasMembers };
-
-    ghost stays = { StaysClosing };
 
     ghost ready_over = { closing_ready };
 
@@ -52,15 +67,5 @@ impl Kept for KinClosest {
 
     fn mark_leaving(&mut self, no: u32) {
         self.remove(no);
-    }
-
-    fn settle_steadily<O: Signs, L: Ledger>(
-        &mut self,
-        now: &O,
-        failed: &[Placed],
-        out: &mut Delta,
-        steps: &mut Steps<L>,
-    ) -> Result<(), NoMemory> {
-        self.settle(now, failed, out, steps)
     }
 }

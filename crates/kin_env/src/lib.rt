@@ -16,4 +16,5 @@ pub use tree::EnvTree;
 
 pub mod branches;
 pub mod node;
+mod steady;
 pub mod tree;

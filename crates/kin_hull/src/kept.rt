@@ -12,13 +12,30 @@ use kin_motion::keep::Keep;
 use kin_motion::kept::Kept;
 use kin_motion::kinetic::Kinetic;
 use kin_motion::signs::Signs;
+use kin_motion::steady::Steady;
 use kin_num::memory::NoMemory;
 use kin_num::steps::Steps;
 use std::alloc::Global;
 use std::sync::ledger::Ledger;
 
+impl Steady for KinHull {
+    ghost use Rattle.kin_hull.specs.Hulls.{StaysHull};
+
+    ghost stays = { StaysHull };
+
+    fn settle_steadily<O: Signs, L: Ledger>(
+        &mut self,
+        now: &O,
+        failed: &[Placed],
+        out: &mut Delta,
+        steps: &mut Steps<L>,
+    ) -> Result<(), NoMemory> {
+        self.settle(now, failed, out, steps)
+    }
+}
+
 impl Kept for KinHull {
-    ghost use Rattle.kin_hull.specs.Hulls.{IsHullFor, IsHullKeep, HasMembers, StaysHull};
+    ghost use Rattle.kin_hull.specs.Hulls.{IsHullFor, IsHullKeep, HasMembers};
     ghost use Rattle.kin_hull.specs.HullLaws.{hull_spares_none, hull_kind_stays, hull_members_stay, hull_exact};
 
     ghost is_for = { IsHullFor };
@@ -26,8 +43,6 @@ impl Kept for KinHull {
     ghost serves = { IsHullKeep };
 
     ghost has_members = { HasMembers };
-
-    ghost stays = { StaysHull };
 
     ghost ready_over = { λ k s members. members };
 
@@ -52,15 +67,5 @@ impl Kept for KinHull {
 
     fn mark_leaving(&mut self, no: u32) {
         self.remove(no);
-    }
-
-    fn settle_steadily<O: Signs, L: Ledger>(
-        &mut self,
-        now: &O,
-        failed: &[Placed],
-        out: &mut Delta,
-        steps: &mut Steps<L>,
-    ) -> Result<(), NoMemory> {
-        self.settle(now, failed, out, steps)
     }
 }

@@ -18,6 +18,7 @@ pub(crate) fn exact_quotient(x: i64, divisor: i64) -> i64
 }
 
 /// The numerator and the denominator of `n / d` in lowest terms.
+#[inline(always)]
 fn lowest(n: i64, d: i64) -> (i64, i64)
     requires n_small { unsigned_abs n < 2 ^ 63 }
     requires d_small { unsigned_abs d < 2 ^ 63 }
@@ -31,7 +32,8 @@ fn lowest(n: i64, d: i64) -> (i64, i64)
     (exact_quotient(n, divisor), exact_quotient(d, divisor))
 }
 
-/// The instant `n / d`, for `|n| < 2^31` and `1 <= d < 2^31`.
+/// The instant `n / d`, for `|n| < 2^31` and `1 <= d < 2^31`. In line, since each line that comes to 0 has one.
+#[inline(always)]
 pub fn ratio(n: i64, d: i64) -> Instant
     requires n_small { unsigned_abs n < 2 ^ 31 }
     requires d_small { unsigned_abs d < 2 ^ 31 }

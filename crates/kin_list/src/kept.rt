@@ -12,13 +12,30 @@ use kin_motion::keep::Keep;
 use kin_motion::kept::Kept;
 use kin_motion::kinetic::Kinetic;
 use kin_motion::signs::Signs;
+use kin_motion::steady::Steady;
 use kin_num::memory::NoMemory;
 use kin_num::steps::Steps;
 use std::alloc::Global;
 use std::sync::ledger::Ledger;
 
+impl Steady for KinList {
+    ghost use Rattle.kin_list.specs.Keeping.{StaysList};
+
+    ghost stays = { StaysList };
+
+    fn settle_steadily<O: Signs, L: Ledger>(
+        &mut self,
+        now: &O,
+        failed: &[Placed],
+        out: &mut Delta,
+        steps: &mut Steps<L>,
+    ) -> Result<(), NoMemory> {
+        self.settle(now, failed, out, steps)
+    }
+}
+
 impl Kept for KinList {
-    ghost use Rattle.kin_list.specs.Keeping.{IsListFor, IsOrderKeep, HasMembers, StaysList};
+    ghost use Rattle.kin_list.specs.Keeping.{IsListFor, IsOrderKeep, HasMembers};
     ghost use Rattle.kin_list.specs.KeepingLaws.{list_spares_none, list_kind_stays, list_members_stay, list_exact};
 
     ghost is_for = { IsListFor };
@@ -26,8 +43,6 @@ impl Kept for KinList {
     ghost serves = { IsOrderKeep };
 
     ghost has_members = { HasMembers };
-
-    ghost stays = { StaysList };
 
     ghost ready_over = { λ k s members. members };
 
@@ -54,15 +69,5 @@ impl Kept for KinList {
 
     fn mark_leaving(&mut self, no: u32) {
         self.remove(no);
-    }
-
-    fn settle_steadily<O: Signs, L: Ledger>(
-        &mut self,
-        now: &O,
-        failed: &[Placed],
-        out: &mut Delta,
-        steps: &mut Steps<L>,
-    ) -> Result<(), NoMemory> {
-        self.settle(now, failed, out, steps)
     }
 }

@@ -4,7 +4,7 @@ ghost use Rattle.std.specs.Prelude.{◌≡◌, ◌≤◌, ◌<◌, ◌^◌, ℕ,
 ghost use Rattle.kin_motion.specs.declared.fact.Placed.{Placed as Put};
 ghost use Rattle.kin_motion.specs.declared.keep.Keep.{Keep as Kind};
 ghost use Rattle.kin_motion.specs.Forms.{names};
-ghost use Rattle.kin_motion.specs.Kinetics.{AllHold, ListsFailing, HasChanged};
+ghost use Rattle.kin_motion.specs.Kinetics.{AllHold, HasChanged};
 ghost use Rattle.kin_motion.specs.Live.{IsKeepFact, IsSmallKeep};
 ghost use Rattle.kin_motion.specs.Numbers.{is_in, HasEntered};
 ghost use Rattle.kin_motion.specs.Scene.{Scene, IsReal, Holds};
@@ -12,15 +12,15 @@ ghost use Rattle.kin_motion.specs.Sets.{ListsExactly};
 
 use crate::fact::{Delta, Placed};
 use crate::keep::Keep;
-use crate::kinetic::Kinetic;
 use crate::signs::Signs;
+use crate::steady::Steady;
 use kin_num::memory::NoMemory;
 use kin_num::steps::Steps;
 use std::alloc::Global;
 use std::sync::ledger::Ledger;
 
 /// A kinetic structure of a keep over numbers below `2^size`, which enter and leave one at a time.
-pub trait Kept: Kinetic + Drop {
+pub trait Kept: Steady {
     /// It is the structure of this keep, for the numbers below `2^size`.
     ghost is_for: { Self → ℕ → Kind → Type 0 };
 
@@ -29,9 +29,6 @@ pub trait Kept: Kinetic + Drop {
 
     /// These numbers are its members, once the mark is carried out.
     ghost has_members: { Self → List ℕ → Type 0 };
-
-    /// What a settle leaves as it is.
-    ghost stays: { Self → Self → Type 0 };
 
     /// The structure of a keep, without members and without facts.
     fn vacant(alloc: Global, keep: &Keep, size: u32) -> Result<Self, NoMemory>
@@ -64,22 +61,6 @@ pub trait Kept: Kinetic + Drop {
         ensures facts { Self.facts self.new ≡ Self.facts self.old }
         ensures spares { (p : Put) → Contains (Self.facts self.old) p → Self.is_spared self.new p ≡ false → names p.fact.form no ≡ false };
 
-    /// `settle`, with what stays.
-    fn settle_steadily<O: Signs, L: Ledger>(
-        &mut self,
-        now: &O,
-        failed: &[Placed],
-        out: &mut Delta,
-        steps: &mut Steps<L>,
-    ) -> Result<(), NoMemory>
-        requires real { IsReal (O.scene now.now) }
-        requires ready { Self.ready self.old (O.scene now.now) }
-        requires failing { ListsFailing (Self.facts self.old) (Self.is_spared self.old) (O.scene now.now) failed.now }
-        ensures rest { OnOk result (Self.at_rest self.new) }
-        ensures settled { OnOk result (Self.settled self.new (O.scene now.now)) }
-        ensures delta { OnOk result (HasChanged (Self.facts self.old) (Self.facts self.new) out.old out.new) }
-        ensures stays { OnOk result (stays self.old self.new) };
-
     /// Over the live numbers it may settle.
     ghost ready_over: { (k : Self) (s : Scene) → has_members k s.live → Self.ready k s };
 
@@ -87,10 +68,10 @@ pub trait Kept: Kinetic + Drop {
     ghost spares_none: { (k : Self) (p : Put) → Self.at_rest k → Self.is_spared k p ≡ false };
 
     /// A settle leaves the keep as it is.
-    ghost kind_stays: { (old new : Self) (size : ℕ) (keep : Kind) → stays old new → is_for old size keep → is_for new size keep };
+    ghost kind_stays: { (old new : Self) (size : ℕ) (keep : Kind) → Self.stays old new → is_for old size keep → is_for new size keep };
 
     /// After a settle over the live numbers they are its members.
-    ghost members_stay: { (old new : Self) (s : Scene) → has_members old s.live → stays old new → Self.at_rest new → Self.settled new s → has_members new s.live };
+    ghost members_stay: { (old new : Self) (s : Scene) → has_members old s.live → Self.stays old new → Self.at_rest new → Self.settled new s → has_members new s.live };
 
     /// Settled over the live numbers, it has the facts of its keep.
     ghost exact: { (k : Self) (size : ℕ) (keep : Kind) (s : Scene) → is_for k size keep → has_members k s.live → Self.settled k s → ListsExactly (Self.facts k) (IsKeepFact size s keep) };

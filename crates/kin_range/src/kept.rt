@@ -12,13 +12,30 @@ use kin_motion::keep::Keep;
 use kin_motion::kept::Kept;
 use kin_motion::kinetic::Kinetic;
 use kin_motion::signs::Signs;
+use kin_motion::steady::Steady;
 use kin_num::memory::NoMemory;
 use kin_num::steps::Steps;
 use std::alloc::Global;
 use std::sync::ledger::Ledger;
 
+impl Steady for KinRange {
+    ghost use Rattle.kin_range.specs.Ranging.{StaysRanging};
+
+    ghost stays = { StaysRanging };
+
+    fn settle_steadily<O: Signs, L: Ledger>(
+        &mut self,
+        now: &O,
+        failed: &[Placed],
+        out: &mut Delta,
+        steps: &mut Steps<L>,
+    ) -> Result<(), NoMemory> {
+        self.settle(now, failed, out, steps)
+    }
+}
+
 impl Kept for KinRange {
-    ghost use Rattle.kin_range.specs.Ranging.{IsRangingFor, IsRangeKeep, HasMembers, StaysRanging};
+    ghost use Rattle.kin_range.specs.Ranging.{IsRangingFor, IsRangeKeep, HasMembers};
     ghost use Rattle.kin_range.specs.RangingLaws.{range_spares_none, range_kind_stays, range_members_stay, range_exact};
 
     ghost is_for = { IsRangingFor };
@@ -26,8 +43,6 @@ impl Kept for KinRange {
     ghost serves = { IsRangeKeep };
 
     ghost has_members = { HasMembers };
-
-    ghost stays = { StaysRanging };
 
     ghost ready_over = { λ r s members. members };
 
@@ -52,15 +67,5 @@ impl Kept for KinRange {
 
     fn mark_leaving(&mut self, no: u32) {
         self.remove(no);
-    }
-
-    fn settle_steadily<O: Signs, L: Ledger>(
-        &mut self,
-        now: &O,
-        failed: &[Placed],
-        out: &mut Delta,
-        steps: &mut Steps<L>,
-    ) -> Result<(), NoMemory> {
-        self.settle(now, failed, out, steps)
     }
 }

@@ -17,6 +17,7 @@ use kin_motion::keep::Keep;
 use kin_motion::kept::Kept;
 use kin_motion::kinetic::Kinetic;
 use kin_motion::signs::Signs;
+use kin_motion::steady::Steady;
 use kin_num::memory::NoMemory;
 use kin_num::steps::Steps;
 use std::alloc::Global;
@@ -33,8 +34,24 @@ impl Tourney<Along> {
     }
 }
 
+impl Steady for Tourney<Along> {
+    ghost use Rattle.kin_tourney.specs.Points.{StaysTournament};
+
+    ghost stays = { StaysTournament };
+
+    fn settle_steadily<O: Signs, L: Ledger>(
+        &mut self,
+        now: &O,
+        failed: &[Placed],
+        out: &mut Delta,
+        steps: &mut Steps<L>,
+    ) -> Result<(), NoMemory> {
+        self.settle(now, failed, out, steps)
+    }
+}
+
 impl Kept for Tourney<Along> {
-    ghost use Rattle.kin_tourney.specs.Points.{IsTournamentFor, IsExtremeKeep, HasPoints, StaysTournament};
+    ghost use Rattle.kin_tourney.specs.Points.{IsTournamentFor, IsExtremeKeep, HasPoints};
     ghost use Rattle.kin_tourney.specs.PointLaws.{points_ready, points_spare_none, points_kind_stays, points_stay, points_exact};
 
     ghost is_for = { IsTournamentFor };
@@ -42,8 +59,6 @@ impl Kept for Tourney<Along> {
     ghost serves = { IsExtremeKeep };
 
     ghost has_members = { HasPoints };
-
-    ghost stays = { StaysTournament };
 
     ghost ready_over = { points_ready };
 
@@ -71,15 +86,5 @@ impl Kept for Tourney<Along> {
 
     fn mark_leaving(&mut self, no: u32) {
         self.clear(no);
-    }
-
-    fn settle_steadily<O: Signs, L: Ledger>(
-        &mut self,
-        now: &O,
-        failed: &[Placed],
-        out: &mut Delta,
-        steps: &mut Steps<L>,
-    ) -> Result<(), NoMemory> {
-        self.settle(now, failed, out, steps)
     }
 }

@@ -1,7 +1,8 @@
 -- The eight kinetic lists, each in a part of its own.
-use Rattle.std.specs.Prelude.{◌≡◌, ℕ, ◌+◌, ◌^◌, List, [], ◌++◌, ◌∷◌, map, length, Some, slice_get, slice_index_or, Contains, Bool, nat_eq}
+use Rattle.std.specs.Prelude.{◌≡◌, ℕ, ◌+◌, ◌^◌, List, [], ◌++◌, ◌∷◌, map, length, Some, slice_get, Contains, Bool, nat_eq}
 use Rattle.kin_motion.specs.declared.fact.Placed.{Placed}
 use Rattle.kin_motion.specs.Kinetics.{ListsFailing}
+pub use Rattle.kin_motion.specs.Letters.{told_to}
 use Rattle.kin_motion.specs.Octants.{direction_of}
 use Rattle.kin_motion.specs.Parts.{moved_by}
 use Rattle.kin_motion.specs.Scene.{Scene, IsReal}
@@ -43,10 +44,6 @@ in_part part p = record { part = part; fact = p.fact }
 
 abbrev pub is_of_part : ℕ → Placed → Bool
 is_of_part part p = nat_eq p.part part
-
--- what the list of a part is told
-abbrev pub told_to : List (List Placed) → ℕ → List Placed
-told_to boxes part = slice_index_or boxes part []
 
 -- each list's own facts are in part 0
 abbrev pub AreAtNought : List Placed → Type 0

@@ -28,6 +28,7 @@ mod renew;
 mod rows;
 mod settle;
 mod sides;
+mod steady;
 mod table;
 mod touch;
 pub mod wedges;

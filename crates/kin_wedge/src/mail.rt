@@ -4,57 +4,10 @@ ghost use Rattle.std.specs.Prelude.{◌≡◌, ℕ, ◌<◌, ◌≤◌, [], ◌�
 ghost use Rattle.kin_wedge.specs.Parts.{in_part, is_of_part, told_to};
 
 use crate::push::push;
-use kin_motion::fact::Placed;
+use kin_motion::{Letters, Placed};
 use kin_num::memory::NoMemory;
 use std::alloc::Global;
 use std::marker::Model;
-
-/// The failed facts of one list, in its own part 0.
-#[derive(Drop)]
-pub struct Letters {
-    facts: Vec<Placed>,
-}
-
-impl Model for Letters {
-    ghost use Rattle.std.specs.Prelude.{List};
-    ghost use Rattle.kin_motion.specs.declared.fact.Placed.{Placed as Put};
-
-    ghost Value = { List Put };
-
-    ghost view = { λ l. l.facts.items };
-}
-
-impl Letters {
-    fn new(alloc: Global) -> Letters
-        ensures { result ≡ [] }
-    {
-        Letters {
-            facts: Vec::new(alloc),
-        }
-    }
-
-    fn clear(&mut self)
-        ensures { self.new ≡ [] }
-    {
-        self.facts.clear();
-    }
-
-    #[inline(always)]
-    fn add(&mut self, placed: &Placed) -> Result<(), NoMemory>
-        ensures { OnOk result (self.new ≡ self.old ++ in_part 0 placed.now ∷ []) }
-    {
-        // Room comes before what it is for, so that a fact is copied once.
-        self.facts.reserve(1)?;
-        self.facts.push_reserved(own(placed));
-        Ok(())
-    }
-
-    fn facts(&self) -> &[Placed]
-        ensures { result.now ≡ self.now }
-    {
-        &self.facts
-    }
-}
 
 /// What each list of a structure is told. The memory is kept from settle to settle.
 #[derive(Drop)]
@@ -68,16 +21,6 @@ pub struct Mail {
     ghost end_within: { end ≤ length boxes.items },
     ghost before: { (part : ℕ) → part < from → told_to boxes.items part ≡ [] },
     ghost behind: { (part : ℕ) → end ≤ part → told_to boxes.items part ≡ [] },
-}
-
-/// A fact, moved to part 0.
-fn own(placed: &Placed) -> Placed
-    ensures { result ≡ in_part 0 placed.now }
-{
-    Placed {
-        part: 0,
-        fact: placed.fact,
-    }
 }
 
 impl Mail {
@@ -120,7 +63,7 @@ impl Mail {
         }
         self.from = self.from.min(part);
         self.end = self.end.max(part + 1);
-        self.boxes[part].add(placed)
+        self.boxes[part].add(0, &placed.fact)
     }
 
     /// Sorts failed facts out: each list is told those of its part.

@@ -6,8 +6,8 @@ use Rattle.kin_motion.specs.Scene.{scene_at}
 use Rattle.kin_motion.specs.Sets.{ListsExactly}
 use Rattle.kin_cases.proofs.driver.Driver.settle.Goals as goal
 
-pub repair-requires-clause-failing : goal.repair-requires-clause-failing
-repair-requires-clause-failing g c =
+pub settle_steadily-requires-clause-failing : goal.settle_steadily-requires-clause-failing
+settle_steadily-requires-clause-failing g c =
     let structure = c.self.inside.structure in
     subst (λ (fs : List Placed). ListsFailing (g.K.Kinetic.facts structure) (g.K.Kinetic.is_spared structure) (scene_at c.args.now.now.motions.now c.args.now.now.moment.now) fs) (sym c.deref-2.ensures.value)
     (c.in_ok-failed.ensures.failing (g.K.Kinetic.facts structure) (g.K.Kinetic.is_spared structure)

@@ -1,0 +1,26 @@
+//! What a settle leaves as it is.
+
+use crate::tree::EnvTree;
+use kin_motion::fact::{Delta, Placed};
+use kin_motion::kinetic::Kinetic;
+use kin_motion::signs::Signs;
+use kin_motion::steady::Steady;
+use kin_num::memory::NoMemory;
+use kin_num::steps::Steps;
+use std::sync::ledger::Ledger;
+
+impl Steady for EnvTree {
+    ghost use Rattle.std.specs.Prelude.{◌≡◌};
+
+    ghost stays = { λ old new. new ≡ record old { chains = new.chains; facts = new.facts } };
+
+    fn settle_steadily<O: Signs, L: Ledger>(
+        &mut self,
+        now: &O,
+        failed: &[Placed],
+        out: &mut Delta,
+        steps: &mut Steps<L>,
+    ) -> Result<(), NoMemory> {
+        self.settle(now, failed, out, steps)
+    }
+}

@@ -1,0 +1,34 @@
+//! Structures of which it is known what a settle leaves as it is.
+
+ghost use Rattle.std.specs.Prelude.{OnOk};
+ghost use Rattle.kin_motion.specs.Kinetics.{ListsFailing, HasChanged};
+ghost use Rattle.kin_motion.specs.Scene.{IsReal};
+
+use crate::fact::{Delta, Placed};
+use crate::kinetic::Kinetic;
+use crate::signs::Signs;
+use kin_num::memory::NoMemory;
+use kin_num::steps::Steps;
+use std::sync::ledger::Ledger;
+
+/// A kinetic structure whose settle leaves something as it is: its size, say, or what it is of.
+pub trait Steady: Kinetic + Drop {
+    /// What a settle leaves as it is.
+    ghost stays: { Self → Self → Type 0 };
+
+    /// `settle`, with what stays.
+    fn settle_steadily<O: Signs, L: Ledger>(
+        &mut self,
+        now: &O,
+        failed: &[Placed],
+        out: &mut Delta,
+        steps: &mut Steps<L>,
+    ) -> Result<(), NoMemory>
+        requires real { IsReal (O.scene now.now) }
+        requires ready { Self.ready self.old (O.scene now.now) }
+        requires failing { ListsFailing (Self.facts self.old) (Self.is_spared self.old) (O.scene now.now) failed.now }
+        ensures rest { OnOk result (Self.at_rest self.new) }
+        ensures settled { OnOk result (Self.settled self.new (O.scene now.now)) }
+        ensures delta { OnOk result (HasChanged (Self.facts self.old) (Self.facts self.new) out.old out.new) }
+        ensures stays { OnOk result (stays self.old self.new) };
+}
