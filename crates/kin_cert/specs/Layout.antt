@@ -13,12 +13,12 @@ use Rattle.kin_motion.specs.Scene.{Scene}
 use Rattle.kin_cert.specs.Entries.{Entry}
 use Rattle.kin_cert.specs.declared.entry.Seat.{Seat}
 use Rattle.kin_cert.specs.declared.owned.Owned.{Owned}
-use Rattle.kin_cert.specs.Facts.{LiveFact, NoneAlike, certificate_of}
+use Rattle.kin_cert.specs.Facts.{Facts, LiveFact, NoneAlike, certificate_of}
 use Rattle.kin_cert.specs.declared.change.Pending.{Pending}
 use Rattle.kin_motion.specs.Deltas.{Change}
 use Rattle.kin_cert.specs.Failures.{IsFirstFailure}
 use Rattle.kin_cert.specs.Applied.{IsBorn, IsOf, HasApplied}
-use Rattle.kin_cert.specs.Cost.{IsEnough}
+use Rattle.kin_cert.specs.Cost.{IsEnough, TakesAtMost, is_ungiven}
 use Rattle.kin_cert.specs.Place.{place_of}
 use Rattle.kin_cert.specs.Rank.{padded_rank}
 
@@ -147,6 +147,14 @@ pub record HasReplaced (structure : ℕ) (scene : Moment → Scene) (now : Momen
   pub exactly : (l : LiveFact) → Contains new l ↔ ((Contains old l × ¬ (IsOf structure dropped l)) ⊎ (l ≡ fact))
   pub count : length new ≡ length old
   pub once : NoneAlike old
+
+-- a born fact stands in the stead of a dropped one, or nothing was done; the counter stood at these two numbers
+pub record HasTriedToReplace (structure : ℕ) (scene : Moment → Scene) (now : Moment) (dropped born : Placed) (is : Bool) (old new : Facts) (old_steps new_steps : ℕ) : Type 0 where
+  pub yes : IsTrue is → HasReplaced structure scene now dropped born old.live new.live
+  pub no : ¬ (IsTrue is) → new ≡ old
+  pub made : new.made ≡ old.made
+  pub cost : IsTrue is → TakesAtMost (length old.live) (λ r. cond (is_ungiven structure old.live dropped) r 0 + (r + 1)) old_steps new_steps
+  pub idle : ¬ (IsTrue is) → new_steps ≡ old_steps
 
 -- the first failure of a new fact is noted, and the queue has it
 pub record IsTimed (scene : Moment → Scene) (now : Moment) (o : Owned) (id : ℕ) (slots : List (Option Entry)) (moments : FinMap nat_cmp Moment) (slots' : List (Option Entry)) (moments' : FinMap nat_cmp Moment) : Type 0 where

@@ -10,7 +10,7 @@ ghost use Rattle.kin_motion.specs.Kinetics.{AreDistinct};
 ghost use Rattle.kin_cert.specs.Facts.{LiveFact, NoneAlike};
 ghost use Rattle.kin_cert.specs.Applied.{IsOf, IsLiveIn, IsAmong, AreUnlike, MayApply, IsBorn, HasApplied};
 ghost use Rattle.kin_cert.specs.Cost.{TakesAtMost, is_ungiven, ungiven, change_cost};
-ghost use Rattle.kin_cert.specs.Layout.{HasBorn, HasReplaced, IsLeftToApply, AreCounted, IsPaid, change_of};
+ghost use Rattle.kin_cert.specs.Layout.{HasBorn, HasTriedToReplace, IsLeftToApply, AreCounted, IsPaid, change_of};
 
 use crate::index::have_one_place;
 use crate::table::Table;
@@ -85,7 +85,13 @@ impl Table {
             let Some((born, later_born)) = rest.born.split_first() else {
                 return Ok(rest);
             };
-            if self.replace(structure, dropped, born, motions, now, steps)? {
+            // Only lines are exchanged in line.
+            let is_replaced = if is_line(dropped) && is_line(born) {
+                self.replace(structure, dropped, born, motions, now, steps)?
+            } else {
+                self.replace_curve(structure, dropped, born, motions, now, steps)?
+            };
+            if is_replaced {
                 rest = Pending {
                     dropped: later_dropped,
                     born: later_born,
@@ -101,7 +107,8 @@ impl Table {
         Ok(rest)
     }
 
-    // Puts a born fact in the stead of a dropped one, if the roll can do so. For lines it is made in line.
+    // Puts a born fact in the stead of a dropped one, if the roll can do so. It is made in line, so that who knows the kinds of
+    // both forms doesn't ask for them again.
     #[inline(always)]
     fn replace<L: Ledger>(
         &mut self,
@@ -114,59 +121,7 @@ impl Table {
     ) -> Result<bool, NoMemory>
         requires askable { IsAskable (live_of motions.now) born.now.fact.form }
         requires holds { Holds (scene_at motions.now now.now) born.now.fact }
-        ensures yes { IfOk result (λ is. IsTrue is → HasReplaced structure (scene_at motions.now) now.now dropped.now born.now self.old.live self.new.live) }
-        ensures no { IfOk result (λ is. ¬ (IsTrue is) → self.new ≡ self.old) }
-        ensures made { self.new.made ≡ self.old.made }
-        ensures cost { IfOk result (λ is. IsTrue is → TakesAtMost (length self.old.live) (λ r. cond (is_ungiven structure self.old.live dropped.now) r 0 + (r + 1)) steps.old steps.new) }
-        ensures idle { IfOk result (λ is. ¬ (IsTrue is) → steps.new ≡ steps.old) }
-    {
-        if is_line(dropped) && is_line(born) {
-            self.put_in_stead(structure, dropped, born, motions, now, steps)
-        } else {
-            self.replace_curve(structure, dropped, born, motions, now, steps)
-        }
-    }
-
-    // The same for forms of any kind, out of the way of lines.
-    #[inline(never)]
-    fn replace_curve<L: Ledger>(
-        &mut self,
-        structure: u32,
-        dropped: &Placed,
-        born: &Placed,
-        motions: &Motions,
-        now: &Moment,
-        steps: &mut Steps<L>,
-    ) -> Result<bool, NoMemory>
-        requires askable { IsAskable (live_of motions.now) born.now.fact.form }
-        requires holds { Holds (scene_at motions.now now.now) born.now.fact }
-        ensures yes { IfOk result (λ is. IsTrue is → HasReplaced structure (scene_at motions.now) now.now dropped.now born.now self.old.live self.new.live) }
-        ensures no { IfOk result (λ is. ¬ (IsTrue is) → self.new ≡ self.old) }
-        ensures made { self.new.made ≡ self.old.made }
-        ensures cost { IfOk result (λ is. IsTrue is → TakesAtMost (length self.old.live) (λ r. cond (is_ungiven structure self.old.live dropped.now) r 0 + (r + 1)) steps.old steps.new) }
-        ensures idle { IfOk result (λ is. ¬ (IsTrue is) → steps.new ≡ steps.old) }
-    {
-        self.put_in_stead(structure, dropped, born, motions, now, steps)
-    }
-
-    // The same. It is made in line, so that who knows the kinds of both forms doesn't ask for them again.
-    #[inline(always)]
-    fn put_in_stead<L: Ledger>(
-        &mut self,
-        structure: u32,
-        dropped: &Placed,
-        born: &Placed,
-        motions: &Motions,
-        now: &Moment,
-        steps: &mut Steps<L>,
-    ) -> Result<bool, NoMemory>
-        requires askable { IsAskable (live_of motions.now) born.now.fact.form }
-        requires holds { Holds (scene_at motions.now now.now) born.now.fact }
-        ensures yes { IfOk result (λ is. IsTrue is → HasReplaced structure (scene_at motions.now) now.now dropped.now born.now self.old.live self.new.live) }
-        ensures no { IfOk result (λ is. ¬ (IsTrue is) → self.new ≡ self.old) }
-        ensures made { self.new.made ≡ self.old.made }
-        ensures cost { IfOk result (λ is. IsTrue is → TakesAtMost (length self.old.live) (λ r. cond (is_ungiven structure self.old.live dropped.now) r 0 + (r + 1)) steps.old steps.new) }
-        ensures idle { IfOk result (λ is. ¬ (IsTrue is) → steps.new ≡ steps.old) }
+        ensures { IfOk result (λ is. HasTriedToReplace structure (scene_at motions.now) now.now dropped.now born.now is self.old self.new steps.old steps.new) }
     {
         let Some(seat) = self.roll.take_over(structure, dropped, born) else {
             return Ok(false);
@@ -183,6 +138,24 @@ impl Table {
             steps,
         )?;
         Ok(true)
+    }
+
+    // The same for forms of any kind, out of the way of lines.
+    #[inline(never)]
+    fn replace_curve<L: Ledger>(
+        &mut self,
+        structure: u32,
+        dropped: &Placed,
+        born: &Placed,
+        motions: &Motions,
+        now: &Moment,
+        steps: &mut Steps<L>,
+    ) -> Result<bool, NoMemory>
+        requires askable { IsAskable (live_of motions.now) born.now.fact.form }
+        requires holds { Holds (scene_at motions.now now.now) born.now.fact }
+        ensures { IfOk result (λ is. HasTriedToReplace structure (scene_at motions.now) now.now dropped.now born.now is self.old self.new steps.old steps.new) }
+    {
+        self.replace(structure, dropped, born, motions, now, steps)
     }
 
     // Whether no live fact has the owner and the form of a born one, as one that is still to be dropped may have.

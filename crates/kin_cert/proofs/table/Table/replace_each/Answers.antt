@@ -11,25 +11,42 @@ use Rattle.kin_cert.specs.Facts.{Facts}
 use Rattle.kin_cert.proofs.Alone.{dropped-may, dropped-did, dropped-paid, born-may, born-did, born-paid}
 use Rattle.kin_cert.proofs.Replacing.{rest-may, rest-did}
 use Rattle.kin_cert.specs.Cost.{change_cost}
-use Rattle.kin_cert.specs.Layout.{change_of, IsPaid}
+use Rattle.kin_cert.specs.Layout.{change_of, IsPaid, HasTriedToReplace}
 use Rattle.kin_cert.proofs.Paying.{rest-paid}
+use Rattle.kin_cert.proofs.table.Table.replace_each.Given as given
 use Rattle.kin_cert.proofs.table.Table.replace_each.Goals as goal
+use Rattle.kin_cert.proofs.table.Table.replace_each.Goals.{In-Some-split_first, Joined-is_line, then-is_line+then-is_line-2+in_ok-is_replaced, else-is_line+in_ok-is_replaced-2}
 
 is_not : (b : Bool) → b ≡ false → ¬ (IsTrue b)
 is_not b f t = cc
 
-pub replace-requires-clause-askable : goal.replace-requires-clause-askable
-replace-requires-clause-askable g c =
+-- the first born fact may be asked for, and holds
+askable : (g : given.Over) (c : In-Some-split_first g) → IsAskable (live_of c.args.motions.now) c.in-Some-split_first.born.now.fact.form
+askable g c =
     let b_is = c.in-Some-split_first.ensures.cases.0 in
     All-head (λ (p : Placed). IsAskable (live_of c.args.motions.now) p.fact.form) _ _ (subst (λ (xs : List Placed). All (λ (p : Placed). IsAskable (live_of c.args.motions.now) p.fact.form) xs) b_is c.loop-dropped.invariant.askable)
 
-pub replace-requires-clause-holds : goal.replace-requires-clause-holds
-replace-requires-clause-holds g c =
+holding : (g : given.Over) (c : In-Some-split_first g) → Holds (scene_at c.args.motions.now c.args.now.now) c.in-Some-split_first.born.now.fact
+holding g c =
     let b_is = c.in-Some-split_first.ensures.cases.0 in
     All-head (λ (p : Placed). Holds (scene_at c.args.motions.now c.args.now.now) p.fact) _ _ (subst (λ (xs : List Placed). All (λ (p : Placed). Holds (scene_at c.args.motions.now c.args.now.now) p.fact) xs) b_is c.loop-dropped.invariant.holds)
 
-pub loop-dropped-preserved-then-branch : goal.loop-dropped-preserved-then-branch
-loop-dropped-preserved-then-branch g c =
+-- what either call did
+tried : (g : given.Over) (c : Joined-is_line g) → HasTriedToReplace c.args.structure (scene_at c.args.motions.now) c.args.now.now c.in-Some.dropped.now c.in-Some-split_first.born.now c.if-is_line.is_replaced c.loop-dropped.self c.if-is_line.self c.loop-dropped.steps c.if-is_line.steps
+tried g c = elim c.if-is_line.branch [
+  | then-is_line+then-is_line-2+in_ok-is_replaced w ↦ rw (w.is_replaced-is, w.self-is, w.steps-is) w.in_ok-is_replaced.ensures
+  | else-is_line+in_ok-is_replaced-2 w ↦ rw (w.is_replaced-is, w.self-is, w.steps-is) w.in_ok-is_replaced-2.ensures
+]
+
+pub replace-requires : goal.replace-requires
+replace-requires g c = let b = (goal.at.replace-requires g c).In-Some-split_first in record { askable = askable g b; holds = holding g b }
+
+pub replace_curve-requires : goal.replace_curve-requires
+replace_curve-requires g c = let b = (goal.at.replace_curve-requires g c).In-Some-split_first in record { askable = askable g b; holds = holding g b }
+
+pub loop-dropped-preserved-then-is_replaced : goal.loop-dropped-preserved-then-is_replaced
+loop-dropped-preserved-then-is_replaced g c =
+    let t = tried g (goal.at.loop-dropped-preserved-then-is_replaced g c).Joined-is_line in
     let s = c.args.structure in
     let scene = scene_at c.args.motions.now in
     let inv = c.loop-dropped.invariant in
@@ -43,32 +60,33 @@ loop-dropped-preserved-then-branch g c =
     subst (λ (xs : List Placed). MayApply s (record { dropped = xs; born = b ∷ bs }) c.loop-dropped.self.live) d_is
     (subst (λ (ys : List Placed). MayApply s (record { dropped = c.loop-dropped.rest.dropped.now; born = ys }) c.loop-dropped.self.live) b_is inv.may) in
     let all : ℕ → ℕ = change_cost s (change_of c.args.all) c.args.self.now.live in
-    let did = c.in_ok-replace.ensures.yes c.if-branch.true in
+    let did = t.yes c.if-is_replaced.true in
     record {
-      may = rest-may s scene c.args.now.now d b ds bs c.loop-dropped.self.live c.replace.new.self.live may did;
+      may = rest-may s scene c.args.now.now d b ds bs c.loop-dropped.self.live c.if-is_line.self.live may did;
       did = λ after app.
           inv.did after
           (subst (λ (xs : List Placed). HasApplied s (record { dropped = xs; born = c.loop-dropped.rest.born.now }) scene c.args.now.now c.loop-dropped.self.live after) (sym d_is)
           (subst (λ (ys : List Placed). HasApplied s (record { dropped = d ∷ ds; born = ys }) scene c.args.now.now c.loop-dropped.self.live after) (sym b_is)
-          (rest-did s scene c.args.now.now d b ds bs c.loop-dropped.self.live c.replace.new.self.live may did after app)));
+          (rest-did s scene c.args.now.now d b ds bs c.loop-dropped.self.live c.if-is_line.self.live may did after app)));
       askable = All-tail (λ (p : Placed). IsAskable (live_of c.args.motions.now) p.fact.form) b bs (subst (λ (xs : List Placed). All (λ (p : Placed). IsAskable (live_of c.args.motions.now) p.fact.form) xs) b_is inv.askable);
       holds = All-tail (λ (p : Placed). Holds (scene c.args.now.now) p.fact) b bs (subst (λ (xs : List Placed). All (λ (p : Placed). Holds (scene c.args.now.now) p.fact) xs) b_is inv.holds);
-      made = c.in_ok-replace.ensures.made ∙ inv.made;
+      made = t.made ∙ inv.made;
       count =
           let live = inv.count.live in
           let fewer = inv.count.fewer in
           record { live = omega (arith, live, did.count, ap length d_is, ap length b_is); fewer = omega (arith, fewer, ap length d_is) };
-      cost = rest-paid s scene c.args.now.now d b ds bs c.loop-dropped.self.live c.replace.new.self.live may did _ _ _ _ _ (omega (arith, inv.count.live, inv.count.fewer))
+      cost = rest-paid s scene c.args.now.now d b ds bs c.loop-dropped.self.live c.if-is_line.self.live may did _ _ _ _ _ (omega (arith, inv.count.live, inv.count.fewer))
           (subst (λ (xs : List Placed). IsPaid (length c.args.self.now.live + length c.args.all.born.now) all (change_cost s (record { dropped = xs; born = b ∷ bs }) c.loop-dropped.self.live) c.args.steps.now c.loop-dropped.steps) d_is
           (subst (λ (ys : List Placed). IsPaid (length c.args.self.now.live + length c.args.all.born.now) all (change_cost s (record { dropped = c.loop-dropped.rest.dropped.now; born = ys }) c.loop-dropped.self.live) c.args.steps.now c.loop-dropped.steps) b_is inv.cost))
-          (c.in_ok-replace.ensures.cost c.if-branch.true);
+          (t.cost c.if-is_replaced.true);
     }
 
 pub drop_one-requires : goal.drop_one-requires
 drop_one-requires g c =
+    let t = tried g (goal.at.drop_one-requires g c).Joined-is_line in
     let s = c.args.structure in
     let d_is = c.in-Some.ensures.cases.0 in
-    let same = c.in_ok-replace.ensures.no (is_not _ c.if-branch.false) in
+    let same = t.no (is_not _ c.if-is_replaced.false) in
     record {
       live = subst (λ (t : Facts). IsLiveIn t.live s c.in-Some.dropped.now) (sym same)
           ((subst (λ (xs : List Placed). All (IsLiveIn c.loop-dropped.self.live s) xs) d_is c.loop-dropped.invariant.may.dropped_live) 0 c.in-Some.dropped.now (omega arith));
@@ -76,6 +94,7 @@ drop_one-requires g c =
 
 pub loop-dropped-preserved : goal.loop-dropped-preserved
 loop-dropped-preserved g c =
+    let t = tried g (goal.at.loop-dropped-preserved g c).Joined-is_line in
     let s = c.args.structure in
     let scene = scene_at c.args.motions.now in
     let now = c.args.now.now in
@@ -83,11 +102,11 @@ loop-dropped-preserved g c =
     let d = c.in-Some.dropped.now in
     let ds = c.in-Some.later_dropped.now in
     let bs = c.loop-dropped.rest.born.now in
-    let mid = c.replace.new.self.live in
+    let mid = c.if-is_line.self.live in
     let new = c.drop_one.new.self.live in
     let d_is : c.loop-dropped.rest.dropped.now ≡ d ∷ ds = c.in-Some.ensures.cases.0 in
-    let same : c.replace.new.self ≡ c.loop-dropped.self = c.in_ok-replace.ensures.no (is_not _ c.if-branch.false) in
-    let idle : c.replace.new.steps ≡ c.loop-dropped.steps = c.in_ok-replace.ensures.idle (is_not _ c.if-branch.false) in
+    let same : c.if-is_line.self ≡ c.loop-dropped.self = t.no (is_not _ c.if-is_replaced.false) in
+    let idle : c.if-is_line.steps ≡ c.loop-dropped.steps = t.idle (is_not _ c.if-is_replaced.false) in
     let may : MayApply s (record { dropped = d ∷ ds; born = bs }) mid =
     subst (λ (t : Facts). MayApply s (record { dropped = d ∷ ds; born = bs }) t.live) (sym same) (subst (λ (xs : List Placed). MayApply s (record { dropped = xs; born = bs }) c.loop-dropped.self.live) d_is inv.may) in
     let once = c.drop_one.ensures.once in
@@ -116,21 +135,12 @@ loop-dropped-preserved g c =
           c.drop_one.ensures.cost;
     }
 
-pub bear_one-requires-clause-free : goal.bear_one-requires-clause-free
-bear_one-requires-clause-free g c = c.is_free.ensures c.if-is_free.true
-
-pub bear_one-requires-clause-askable : goal.bear_one-requires-clause-askable
-bear_one-requires-clause-askable g c =
-    let b_is = c.in-Some-split_first.ensures.cases.0 in
-    All-head (λ (p : Placed). IsAskable (live_of c.args.motions.now) p.fact.form) _ _ (subst (λ (xs : List Placed). All (λ (p : Placed). IsAskable (live_of c.args.motions.now) p.fact.form) xs) b_is c.loop-dropped.invariant.askable)
-
-pub bear_one-requires-clause-holds : goal.bear_one-requires-clause-holds
-bear_one-requires-clause-holds g c =
-    let b_is = c.in-Some-split_first.ensures.cases.0 in
-    All-head (λ (p : Placed). Holds (scene_at c.args.motions.now c.args.now.now) p.fact) _ _ (subst (λ (xs : List Placed). All (λ (p : Placed). Holds (scene_at c.args.motions.now c.args.now.now) p.fact) xs) b_is c.loop-dropped.invariant.holds)
+pub bear_one-requires : goal.bear_one-requires
+bear_one-requires g c = let b = (goal.at.bear_one-requires g c).In-Some-split_first in record { free = c.is_free.ensures c.if-is_free.true; askable = askable g b; holds = holding g b }
 
 pub loop-dropped-preserved-then-is_free : goal.loop-dropped-preserved-then-is_free
 loop-dropped-preserved-then-is_free g c =
+    let t = tried g (goal.at.loop-dropped-preserved-then-is_free g c).Joined-is_line in
     let s = c.args.structure in
     let scene = scene_at c.args.motions.now in
     let now = c.args.now.now in
@@ -138,11 +148,11 @@ loop-dropped-preserved-then-is_free g c =
     let ds = c.loop-dropped.rest.dropped.now in
     let b = c.in-Some-split_first.born.now in
     let bs = c.in-Some-split_first.later_born.now in
-    let mid = c.replace.new.self.live in
+    let mid = c.if-is_line.self.live in
     let new = c.bear_one.new.self.live in
     let b_is : c.loop-dropped.rest.born.now ≡ b ∷ bs = c.in-Some-split_first.ensures.cases.0 in
-    let same : c.replace.new.self ≡ c.loop-dropped.self = c.in_ok-replace.ensures.no (is_not _ c.if-branch.false) in
-    let idle : c.replace.new.steps ≡ c.loop-dropped.steps = c.in_ok-replace.ensures.idle (is_not _ c.if-branch.false) in
+    let same : c.if-is_line.self ≡ c.loop-dropped.self = t.no (is_not _ c.if-is_replaced.false) in
+    let idle : c.if-is_line.steps ≡ c.loop-dropped.steps = t.idle (is_not _ c.if-is_replaced.false) in
     let may : MayApply s (record { dropped = ds; born = b ∷ bs }) mid =
     subst (λ (t : Facts). MayApply s (record { dropped = ds; born = b ∷ bs }) t.live) (sym same) (subst (λ (ys : List Placed). MayApply s (record { dropped = ds; born = ys }) c.loop-dropped.self.live) b_is inv.may) in
     let free = c.is_free.ensures c.if-is_free.true in

@@ -13,7 +13,7 @@ use Rattle.kin_cert.proofs.Slots.{live-set-count}
 use Rattle.kin_cert.proofs.Costs.{gone_and_back}
 use Rattle.kin_cert.proofs.QueueSizes.{few-queued, few-queued-of}
 use Rattle.kin_cert.proofs.Ungiven.{cost_if, queued-ungiven}
-use Rattle.kin_cert.proofs.table.Table.put_in_stead.Goals as goal
+use Rattle.kin_cert.proofs.table.Table.replace.Goals as goal
 
 pub time-requires-clause-there : goal.time-requires-clause-there
 time-requires-clause-there g c =
@@ -61,31 +61,31 @@ invariant_of-self-2 g c =
       named = still-named c.note.new.self c.take_over.new.self c.time.new.roll named (same-facts c.take_over.new.self c.time.new.roll id (fresh o) (timed (fresh o) t.fails) slot.changed later refl);
     }
 
-pub returns-clause-yes : goal.returns-clause-yes
-returns-clause-yes g c = λ yes.
+pub returns : goal.returns
+returns g c =
     let s = c.args.structure in
     let o = held s c.args.born.now in
     let scene = scene_at c.args.motions.now in
-    let k = c.in-Some.ensures.taken in
-    let slot = taken-slot c.self.inside.roll c.take_over.new.self (owned_rank (held s c.args.dropped.now)) o c.in-Some.seat k in
-    subst (λ (t : Facts). HasReplaced s scene c.args.now.now c.args.dropped.now c.args.born.now t.live (live_in c.time.new.roll)) c.self.view_is
-    (has-replaced s scene c.args.now.now c.args.born.now c.self.inside.roll c.take_over.new.self c.time.new.roll c.in-Some.seat.id c.unqueue.new.schedule c.time.new.schedule slot.changed
-    (c.in_ok-time.ensures.ok o slot.changed refl) c.args.dropped.now c.in-Some.seat refl k)
-
-pub returns-clause-cost : goal.returns-clause-cost
-returns-clause-cost g c = λ yes r e.
-    let s = c.args.structure in
-    let o = held s c.args.born.now in
     let seat = c.in-Some.seat in
     let k = c.in-Some.ensures.taken in
-    let queued : seat.is_queued ≡ true → is_ungiven s c.args.self.now.live c.args.dropped.now ≡ true = λ q.
-    subst (λ (t : Facts). is_ungiven s t.live c.args.dropped.now ≡ true) c.self.view_is (queued-ungiven s c.args.dropped.now c.self.inside.roll seat k.seat_of q) in
     let slot = taken-slot c.self.inside.roll c.take_over.new.self (owned_rank (held s c.args.dropped.now)) o seat k in
-    let table = unqueued-table c.self.inside.roll c.take_over.new.self c.self.inside.schedule c.unqueue.new.schedule seat.id (Some (fresh o)) c.self.invariant.table slot refl c.unqueue.ensures.rest in
-    let live : live_in c.self.inside.roll ≡ c.args.self.now.live = ap (λ (t : Facts). t.live) c.self.view_is in
-    let same : length (live_in c.take_over.new.self) ≡ length c.args.self.now.live =
-    ap (λ (xs : List (Option Entry)). length (live_in xs)) k.slots ∙ live-set-count c.self.inside.roll seat.id k.seat_of.entry (fresh o) k.seat_of.there ∙ ap length live in
-    let left = few-queued c.take_over.new.self c.unqueue.new.schedule table in
-    let both = gone_and_back (length c.args.self.now.live) _ _ _ _ _ seat.is_queued (few-queued-of c.self.inside.roll c.self.inside.schedule c.args.self.now.live c.self.invariant.table live) (omega (arith, left, same)) c.unqueue.ensures.cost c.in_ok-time.ensures.cost r e in
-    let less = cost_if _ _ r queued in
-    omega (arith, both, less)
+    record {
+      yes = λ _.
+          subst (λ (t : Facts). HasReplaced s scene c.args.now.now c.args.dropped.now c.args.born.now t.live (live_in c.time.new.roll)) c.self.view_is
+          (has-replaced s scene c.args.now.now c.args.born.now c.self.inside.roll c.take_over.new.self c.time.new.roll seat.id c.unqueue.new.schedule c.time.new.schedule slot.changed
+          (c.in_ok-time.ensures.ok o slot.changed refl) c.args.dropped.now seat refl k);
+      no = λ n. absurd (n refl);
+      made = ap (λ (t : Facts). t.made) c.self.view_is;
+      cost = λ _ r e.
+          let queued : seat.is_queued ≡ true → is_ungiven s c.args.self.now.live c.args.dropped.now ≡ true = λ q.
+          subst (λ (t : Facts). is_ungiven s t.live c.args.dropped.now ≡ true) c.self.view_is (queued-ungiven s c.args.dropped.now c.self.inside.roll seat k.seat_of q) in
+          let table = unqueued-table c.self.inside.roll c.take_over.new.self c.self.inside.schedule c.unqueue.new.schedule seat.id (Some (fresh o)) c.self.invariant.table slot refl c.unqueue.ensures.rest in
+          let live : live_in c.self.inside.roll ≡ c.args.self.now.live = ap (λ (t : Facts). t.live) c.self.view_is in
+          let same : length (live_in c.take_over.new.self) ≡ length c.args.self.now.live =
+          ap (λ (xs : List (Option Entry)). length (live_in xs)) k.slots ∙ live-set-count c.self.inside.roll seat.id k.seat_of.entry (fresh o) k.seat_of.there ∙ ap length live in
+          let left = few-queued c.take_over.new.self c.unqueue.new.schedule table in
+          let both = gone_and_back (length c.args.self.now.live) _ _ _ _ _ seat.is_queued (few-queued-of c.self.inside.roll c.self.inside.schedule c.args.self.now.live c.self.invariant.table live) (omega (arith, left, same)) c.unqueue.ensures.cost c.in_ok-time.ensures.cost r e in
+          let less = cost_if _ _ r queued in
+          omega (arith, both, less);
+      idle = λ n. absurd (n refl);
+    }
