@@ -1,6 +1,6 @@
 //! Which facts name each number.
 
-ghost use Rattle.std.specs.Prelude.{◌≡◌, ℕ, ◌+◌, ◌*◌, ◌<◌, ◌^◌, cond, length, Some, None, IsTrue, ◌↔◌, IfOk, OnOk};
+ghost use Rattle.std.specs.Prelude.{◌≡◌, ℕ, ◌+◌, ◌*◌, ◌<◌, ◌^◌, cond, length, Some, None, IfOk, OnOk};
 ghost use Rattle.kin_cert.specs.Names.{target_of, numbers_in, AreTargets, IsIndex, AreNamed, HasNumber, ListsSlotsOf, IsAimed, HasNumbers, AreKept};
 
 use crate::roll::Roll;
@@ -193,7 +193,7 @@ fn aim(pointers: &mut Pointers, slot: u32, target: Option<u32>) -> Result<(), No
     ensures { OnOk result (IsAimed pointers.old pointers.new slot target) }
 {
     cover(pointers, slot)?;
-    if is_same(pointers.target(slot), target) {
+    if pointers.target(slot) == target {
         return Ok(());
     }
     pointers.release(slot);
@@ -202,16 +202,6 @@ fn aim(pointers: &mut Pointers, slot: u32, target: Option<u32>) -> Result<(), No
     };
     reach(pointers, number)?;
     pointers.point(slot, number)
-}
-
-fn is_same(x: Option<u32>, y: Option<u32>) -> bool
-    ensures { IsTrue result ↔ (x ≡ y) }
-{
-    match (x, y) {
-        (None, None) => true,
-        (Some(x), Some(y)) => x == y,
-        _ => false,
-    }
 }
 
 // Adds slots until there is this one.

@@ -6,7 +6,6 @@ ghost use Rattle.kin_wedge.specs.Passages.{HasNoted};
 ghost use Rattle.kin_wedge.specs.declared.touch.Touch.{Touch as Touched};
 
 use crate::push::push;
-use crate::renew::is_same;
 use crate::table::Table;
 use crate::touch::Touch;
 use kin_num::memory::NoMemory;
@@ -16,7 +15,7 @@ fn is_changed(table: &Table, touch: &Touch) -> bool
     requires { touch.now.slot < length table.now }
     ensures { IsTrue result ↔ (slice_get table.now touch.now.slot ≢ Some touch.now.old) }
 {
-    !is_same(table.candidate(touch.slot), touch.old)
+    table.candidate(touch.slot) != touch.old
 }
 
 /// Notes the slot of a touch, if it has another candidate now.

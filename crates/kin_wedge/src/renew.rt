@@ -1,6 +1,6 @@
 //! Touched slots get their candidates.
 
-ghost use Rattle.std.specs.Prelude.{◌≡◌, ◌↔◌, ℕ, ◌/◌, ◌%◌, ◌<◌, IsTrue, Option, Some, length, slice_get, slice_set, Contains, [], OnOk};
+ghost use Rattle.std.specs.Prelude.{◌≡◌, ℕ, ◌/◌, ◌%◌, ◌<◌, Option, Some, length, slice_get, slice_set, Contains, [], OnOk};
 ghost use Rattle.kin_motion.specs.Octants.{Octant as Bounds, octants};
 ghost use Rattle.kin_wedge.specs.Rows.{AreAlike, AreRows, AreRanked, HaveSlots};
 ghost use Rattle.kin_wedge.specs.Seen.{rows_of};
@@ -12,17 +12,6 @@ use crate::orders::Orders;
 use crate::table::Table;
 use crate::touch::Touch;
 use kin_num::memory::NoMemory;
-
-/// Whether they are the same.
-pub fn is_same(old: Option<u32>, new: Option<u32>) -> bool
-    ensures { IsTrue result ↔ (old ≡ new) }
-{
-    match (old, new) {
-        (None, None) => true,
-        (Some(old), Some(new)) => old == new,
-        _ => false,
-    }
-}
 
 /// Gives a touched slot its candidate after one offer.
 pub fn renew(orders: &Orders, table: &mut Table, touch: Touch) -> Result<(), NoMemory>
@@ -38,7 +27,7 @@ pub fn renew(orders: &Orders, table: &mut Table, touch: Touch) -> Result<(), NoM
     let around = orders_of(touch.slot % 8);
     let old = table.candidate(touch.slot);
     let new = orders.renewed(around, touch.slot / 8, old, touch.offer);
-    if is_same(old, new) {
+    if old == new {
         return Ok(());
     }
     table.put(touch.slot, new)

@@ -1,5 +1,4 @@
-use Rattle.std.proofs.Common.{◌≡◌, ◌∙◌, sym, ap, subst, ℕ, ◌/◌, ◌%◌, Option, Some}
-use Rattle.std.proofs.lemmas.Bool.{both_ways}
+use Rattle.std.proofs.Common.{◌≡◌, ◌∙◌, sym, ap, subst, ℕ, ◌/◌, ◌%◌, Option, Some, rules}
 use Rattle.std.proofs.lemmas.Option.{same_Some}
 use Rattle.kin_motion.specs.Octants.{Octant}
 use Rattle.kin_wedge.specs.Seen.{octant_seen, rows_of}
@@ -13,20 +12,20 @@ renewed-new-requires-clause-behind c = λ q h. c.requires.ranked.behind (c.args.
 pub put-requires-clause-candidate : goal.put-requires-clause-candidate
 put-requires-clause-candidate c = λ k e.
     within_slots (rows_of c.args.orders.now.lists.items) (octant_seen c.orders_of-around.result) (c.args.touch.slot / 8) _ k c.requires.members
-    (renewed_within (rows_of c.args.orders.now.lists.items) (octant_seen c.orders_of-around.result) (c.args.touch.slot / 8) c.candidate-old.result c.args.touch.offer c.renewed-new.result k c.renewed-new.ensures (λ f. both_ways c.is_same.result c.if-is_same.false (c.is_same.ensures.1 f)) e)
+    (renewed_within (rows_of c.args.orders.now.lists.items) (octant_seen c.orders_of-around.result) (c.args.touch.slot / 8) c.candidate-old.result c.args.touch.offer c.renewed-new.result k c.renewed-new.ensures (search rules) e)
 
-pub returns-then-is_same-clause-renewed : goal.returns-then-is_same-clause-renewed
-returns-then-is_same-clause-renewed c = λ o old e f.
+pub returns-then-eq-clause-renewed : goal.returns-then-eq-clause-renewed
+returns-then-eq-clause-renewed c = λ o old e f.
     let here = same_octant (c.args.touch.slot % 8) (octant_seen c.orders_of-around.result) o c.orders_of-around.ensures.octant e in
     let was : c.candidate-old.result ≡ old = same_Some _ _ (sym c.candidate-old.ensures ∙ f) in
-    let same : c.candidate-old.result ≡ c.renewed-new.result = c.is_same.ensures.0 c.if-is_same.true in (
+    let same : c.candidate-old.result ≡ c.renewed-new.result = search rules in (
       c.renewed-new.result,
       set_as_it_is c.args.table.now c.args.touch.slot c.renewed-new.result (c.candidate-old.ensures ∙ ap (λ (x : Option ℕ). Some x) same),
       subst (λ (x : Octant). IsRenewed (rows_of c.args.orders.now.lists.items) x (c.args.touch.slot / 8) old c.args.touch.offer c.renewed-new.result) here
           (subst (λ (x : Option ℕ). IsRenewed (rows_of c.args.orders.now.lists.items) (octant_seen c.orders_of-around.result) (c.args.touch.slot / 8) x c.args.touch.offer c.renewed-new.result) was c.renewed-new.ensures),
     )
 
-pub returns-then-is_same-clause-written : goal.returns-then-is_same-clause-written
-returns-then-is_same-clause-written c =
-    let same : c.candidate-old.result ≡ c.renewed-new.result = c.is_same.ensures.0 c.if-is_same.true in
+pub returns-then-eq-clause-written : goal.returns-then-eq-clause-written
+returns-then-eq-clause-written c =
+    let same : c.candidate-old.result ≡ c.renewed-new.result = search rules in
     (c.renewed-new.result, set_as_it_is c.args.table.now c.args.touch.slot c.renewed-new.result (c.candidate-old.ensures ∙ ap (λ (x : Option ℕ). Some x) same))
