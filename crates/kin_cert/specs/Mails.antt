@@ -1,5 +1,5 @@
 -- What each structure is told of the facts that fail at one moment.
-use Rattle.std.specs.Prelude.{◌≡◌, ℕ, ◌<◌, ◌≤◌, Bool, List, [], map, filter, nat_eq, length}
+use Rattle.std.specs.Prelude.{◌≡◌, ℕ, ◌<◌, ◌≤◌, Bool, List, map, filter, nat_eq, length}
 use Rattle.kin_num.specs.declared.instant.Moment.{Moment}
 use Rattle.kin_motion.specs.declared.fact.Placed.{Placed}
 pub use Rattle.kin_motion.specs.Letters.{told_to}

@@ -85,7 +85,7 @@ impl Table {
             let Some((born, later_born)) = rest.born.split_first() else {
                 return Ok(rest);
             };
-            // Only lines are exchanged in line.
+            // Lines have a way of their own, on which no kind is asked for.
             let is_replaced = if is_line(dropped) && is_line(born) {
                 self.replace(structure, dropped, born, motions, now, steps)?
             } else {
@@ -140,8 +140,8 @@ impl Table {
         Ok(true)
     }
 
-    // The same for forms of any kind, out of the way of lines.
-    #[inline(never)]
+    // The same for forms of any kind, in line by itself, so that two lines have a way of their own.
+    #[inline(always)]
     fn replace_curve<L: Ledger>(
         &mut self,
         structure: u32,
@@ -167,6 +167,7 @@ impl Table {
     }
 
     // Drops the live fact that has this owner and form.
+    #[inline(always)]
     fn drop_one<L: Ledger>(&mut self, structure: u32, placed: &Placed, steps: &mut Steps<L>)
         requires live { IsLiveIn self.old.live structure placed.now }
         ensures once { NoneAlike self.old.live }

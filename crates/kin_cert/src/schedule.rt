@@ -136,7 +136,9 @@ impl Schedule {
         }
     }
 
-    /// Takes an id of this moment out, before which there is none, or `None` exactly where no id has it.
+    /// Takes an id of this moment out, before which there is none, or `None` exactly where no id has it. In line in the
+    /// loops that give all facts of a moment.
+    #[inline(always)]
     pub(crate) fn take_at<L: Ledger>(
         &mut self,
         moment: &Moment,

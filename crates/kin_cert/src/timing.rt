@@ -52,8 +52,8 @@ pub(crate) fn time<L: Ledger>(
     }
 }
 
-// The same for a form of any degree, out of the way of lines.
-#[inline(never)]
+// The same for a form of any degree, in line by itself, so that a line's degree is known.
+#[inline(always)]
 fn time_curve<L: Ledger>(
     roll: &mut Roll,
     schedule: &mut Schedule,

@@ -102,6 +102,7 @@ fn numerator(b: i64, root: u64, upper: bool) -> u64
 }
 
 /// The span of a root of `a*t^2 + b*t + c`.
+#[inline(always)]
 fn span_of_root(a: i64, b: i64, c: i64, upper: bool) -> u64
     requires irreducible { IsIrreducible a b c }
     requires a_small { unsigned_abs a ≤ 2 ^ 28 }

@@ -73,8 +73,8 @@ pub fn next_root_from(p: &Poly, m: &Moment, sign: Sign) -> Option<Instant>
     }
 }
 
-/// The same for a curve, out of the way of lines.
-#[inline(never)]
+/// The same for a curve.
+#[inline(always)]
 fn curve_root_from(p: &Poly, m: &Moment, sign: Sign) -> Option<Instant>
     requires curved { p.now.a ≢ pos 0 }
     requires sign { sign_at p.now m.now ≡ sign }

@@ -44,8 +44,8 @@ pub fn put_in<L: Ledger>(
     lift(entries, places, moments, end, &entry, steps);
 }
 
-// Puts the last entry where it may stand.
-#[inline(never)]
+// Puts the last entry where it may stand. In line, as what calls it is.
+#[inline(always)]
 fn lift<L: Ledger>(
     entries: &mut [Ticket],
     places: &mut [usize],

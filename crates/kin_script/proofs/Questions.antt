@@ -130,12 +130,7 @@ asks_otherwise (Turn number u v) a b d e f g h = absurd (e number u v refl)
 asks_otherwise (AtRatio n m) a b d e f g h = absurd (f n m refl)
 asks_otherwise (AtRoot x y z upper) a b d e f g h = absurd (g x y z upper refl)
 asks_otherwise Next a b d e f g h = absurd (h refl)
-asks_otherwise (Order k) a b d e f g h = refl
-asks_otherwise (Extreme k) a b d e f g h = refl
-asks_otherwise Hull a b d e f g h = refl
-asks_otherwise Closest a b d e f g h = refl
-asks_otherwise (Inside r) a b d e f g h = refl
-asks_otherwise Live a b d e f g h = refl
+asks_otherwise question a b d e f g h = refl
 
 -- what a command does is in range
 pub deed_in_range : (size : ℕ) (c : Command) → IsCommandInRange size c → IsDeedInRange (deed_of c)
@@ -146,12 +141,7 @@ deed_in_range size (Turn number u v) range = range.1
 deed_in_range size (AtRatio n d) range = inl (n, d, range, refl, refl)
 deed_in_range size (AtRoot a b c upper) range = inr range
 deed_in_range size Next range = tt
-deed_in_range size (Order k) range = range
-deed_in_range size (Extreme k) range = range
-deed_in_range size Hull range = range
-deed_in_range size Closest range = range
-deed_in_range size (Inside r) range = range
-deed_in_range size Live range = range
+deed_in_range size question range = range
 
 -- ---- lines
 

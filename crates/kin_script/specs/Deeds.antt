@@ -3,7 +3,7 @@ use Rattle.std.specs.Prelude.{ℕ, Bool, true}
 use Rattle.kin_num.specs.Quadratic.{Quadratic}
 use Rattle.kin_num.specs.Instants.{line}
 use Rattle.kin_script.specs.declared.command.Command.{Command}
-use Rattle.kin_script.specs.declared.command.Command.TheVariants.{Insert, Remove, Replace, Turn, AtRatio, AtRoot, Next, Order, Extreme, Hull, Closest, Inside, Live}
+use Rattle.kin_script.specs.declared.command.Command.TheVariants.{Insert, Remove, Replace, Turn, AtRatio, AtRoot, Next}
 use Rattle.kin_script.specs.Changes.{Change, enters, leaves, restarts, turns}
 
 -- a number is changed; time goes to the root that is named, the greater one or the lesser; it goes to the next failures; or a question is asked
@@ -13,7 +13,7 @@ pub data Deed : Type 0 where
   goes_on : Deed
   asks : Command → Deed
 
--- what a command does; n/d is the only root of d*t - n
+-- what a command does; n/d is the only root of d*t - n, and every command that isn't named here is a question
 abbrev pub deed_of : Command → Deed
 deed_of (Insert number motion) = changes number (enters motion)
 deed_of (Remove number) = changes number leaves
@@ -22,9 +22,4 @@ deed_of (Turn number u v) = changes number (turns u v)
 deed_of (AtRatio n d) = goes_to true (line n d)
 deed_of (AtRoot a b c upper) = goes_to upper (record { a = a; b = b; c = c })
 deed_of Next = goes_on
-deed_of (Order k) = asks (Order k)
-deed_of (Extreme k) = asks (Extreme k)
-deed_of Hull = asks Hull
-deed_of Closest = asks Closest
-deed_of (Inside r) = asks (Inside r)
-deed_of Live = asks Live
+deed_of question = asks question

@@ -218,7 +218,7 @@ impl<I: Copy> Tree<I> {
     }
 
     /// `repair`, where nodes are in doubt.
-    #[inline(never)]
+    #[inline(always)]
     fn repair_doubts<K: Keyed<Item = I>, O: Signs, L: Ledger>(
         &mut self,
         all: bool,

@@ -143,7 +143,7 @@ impl Touches {
 
     /// Offers two members to the slots whose candidate the other is, in the octants that an order ranks. The
     /// second stands behind the first in the order.
-    #[inline(never)]
+    #[inline(always)]
     fn offer_past(
         &mut self,
         orders: &Orders,
