@@ -1,12 +1,11 @@
 //! Failure moments are made anew as points turn.
 
-ghost use Rattle.std.specs.Prelude.{◌≡◌, ◌<◌, ◌^◌, unsigned_abs, false, [], Contains, IsTrue, OnOk};
+ghost use Rattle.std.specs.Prelude.{◌≡◌, ◌<◌, ◌^◌, unsigned_abs, IsTrue};
 ghost use Rattle.std.specs.List.{All};
 ghost use Rattle.kin_motion.specs.Course.{live_of};
 ghost use Rattle.kin_motion.specs.Forms.{IsAskable};
 ghost use Rattle.kin_motion.specs.Numbers.{IsIn};
 ghost use Rattle.kin_motion.specs.Scene.{scene_at, Holds};
-ghost use Rattle.kin_cert.specs.Facts.{LiveFact};
 
 use super::moment;
 use crate::now::Now;
@@ -18,7 +17,7 @@ use kin_motion::motion::{Motion, Motions};
 use kin_motion::signs::Signs;
 use kin_num::{Moment, NoMemory, Phase, Steps};
 use std::alloc::Global;
-use std::marker::Brand;
+use std::marker::{Brand, Model};
 use std::sync::ledger::{Blank, Ledger};
 use std::test::Fail;
 
@@ -81,7 +80,7 @@ fn all_hold<L: Ledger>(
     true
 }
 
-/// A small table with its facts, and a counter.
+/// A small table with its facts, and a counter. No fact waits.
 #[derive(Drop)]
 struct Trial<L: Ledger> {
     alloc: Global,
@@ -91,12 +90,22 @@ struct Trial<L: Ledger> {
     steps: Steps<L>,
 }
 
+impl<L: Ledger> Model for Trial<L> {
+    ghost use Rattle.std.specs.Prelude.{◌≡◌, false, Contains};
+    ghost use Rattle.kin_cert.specs.Facts.{Facts, LiveFact};
+
+    ghost Value = { Facts };
+
+    ghost view = { λ t. t.table };
+
+    ghost invariant = { λ t. (l : LiveFact) → Contains t.table.live l → (l.waits ≡ false) × Contains t.facts.items l.certificate.placed };
+}
+
 impl<L: Ledger> Trial<L> {
     fn begin(alloc: Global, blank: Blank) -> Trial<L>
         requires name { blank.name ≡ L.name }
         requires parts { blank.parts ≡ L.parts }
         requires some { 0 < L.parts }
-        ensures { result.table.live ≡ [] }
     {
         Trial {
             alloc,
@@ -108,13 +117,11 @@ impl<L: Ledger> Trial<L> {
 
     /// Bears the fact that the form has its sign at this second, if the form may be asked for and no
     /// fact has it.
-    fn bear(&mut self, form: Form, motions: &Motions, second: i64) -> Result<(), NoMemory>
+    fn bear(mut self, form: Form, motions: &Motions, second: i64) -> Result<Trial<L>, NoMemory>
         requires whole { unsigned_abs second < 2 ^ 31 }
-        requires known { (l : LiveFact) → Contains self.old.table.live l → (l.waits ≡ false) × Contains self.old.facts.items l.certificate.placed }
-        ensures { OnOk result ((l : LiveFact) → Contains self.new.table.live l → (l.waits ≡ false) × Contains self.new.facts.items l.certificate.placed) }
     {
         if !is_askable(&form, motions) || self.table.sign_of(0, 0, &form).is_some() {
-            return Ok(());
+            return Ok(self);
         }
         let now = whole(second);
         let sign = Now {
@@ -131,72 +138,24 @@ impl<L: Ledger> Trial<L> {
         }
         let mut delta = Delta::new(self.alloc);
         delta.report_born(placed)?;
-        self.table.apply(0, &delta, motions, &now, &mut self.steps)
+        self.table.apply(0, &delta, motions, &now, &mut self.steps)?;
+        Ok(self)
     }
 
     /// Makes anew what names the number, if all facts hold at this second.
-    fn turn(&mut self, number: u32, motions: &Motions, second: i64) -> Result<(), NoMemory>
+    fn turn(mut self, number: u32, motions: &Motions, second: i64) -> Result<Trial<L>, NoMemory>
         requires whole { unsigned_abs second < 2 ^ 31 }
-        requires known { (l : LiveFact) → Contains self.old.table.live l → (l.waits ≡ false) × Contains self.old.facts.items l.certificate.placed }
-        ensures { OnOk result ((l : LiveFact) → Contains self.new.table.live l → (l.waits ≡ false) × Contains self.new.facts.items l.certificate.placed) }
     {
         let now = whole(second);
         if !all_hold(&self.facts, motions, &now, &mut self.steps) {
-            return Ok(());
+            return Ok(self);
         }
-        self.table.remake(number, motions, &now, &mut self.steps)
-    }
-
-    /// Bears two facts.
-    fn bear_both(
-        &mut self,
-        forms: (Form, Form),
-        motions: &Motions,
-        second: i64,
-    ) -> Result<(), NoMemory>
-        requires whole { unsigned_abs second < 2 ^ 31 }
-        requires known { (l : LiveFact) → Contains self.old.table.live l → (l.waits ≡ false) × Contains self.old.facts.items l.certificate.placed }
-        ensures { OnOk result ((l : LiveFact) → Contains self.new.table.live l → (l.waits ≡ false) × Contains self.new.facts.items l.certificate.placed) }
-    {
-        self.bear(forms.0, motions, second)?;
-        self.bear(forms.1, motions, second)
-    }
-
-    /// Makes anew what names the one number, and then what names the other.
-    fn turn_both(
-        &mut self,
-        numbers: (u32, u32),
-        motions: &Motions,
-        second: i64,
-    ) -> Result<(), NoMemory>
-        requires whole { unsigned_abs second < 2 ^ 31 }
-        requires known { (l : LiveFact) → Contains self.old.table.live l → (l.waits ≡ false) × Contains self.old.facts.items l.certificate.placed }
-        ensures { OnOk result ((l : LiveFact) → Contains self.new.table.live l → (l.waits ≡ false) × Contains self.new.facts.items l.certificate.placed) }
-    {
-        self.turn(numbers.0, motions, second)?;
-        self.turn(numbers.1, motions, second)
-    }
-
-    /// Bears a fact, and makes anew what names the number.
-    fn bear_and_turn(
-        &mut self,
-        form: Form,
-        number: u32,
-        motions: (&Motions, &Motions),
-        second: i64,
-    ) -> Result<(), NoMemory>
-        requires whole { unsigned_abs second < 2 ^ 31 }
-        requires known { (l : LiveFact) → Contains self.old.table.live l → (l.waits ≡ false) × Contains self.old.facts.items l.certificate.placed }
-        ensures { OnOk result ((l : LiveFact) → Contains self.new.table.live l → (l.waits ≡ false) × Contains self.new.facts.items l.certificate.placed) }
-    {
-        self.bear(form, motions.0, second)?;
-        self.turn(number, motions.1, second)
+        self.table.remake(number, motions, &now, &mut self.steps)?;
+        Ok(self)
     }
 
     /// Whether the next failure is at this second, and so many failure moments were made.
-    fn is_next(&self, second: i64, made: u64) -> bool
-        requires known { (l : LiveFact) → Contains self.now.table.live l → (l.waits ≡ false) × Contains self.now.facts.items l.certificate.placed }
-    {
+    fn is_next(&self, second: i64, made: u64) -> bool {
         self.table.made() == made && self.table.failing() == moment(second, Phase::At)
     }
 }
@@ -233,10 +192,11 @@ fn stops<L: Ledger>(
     requires parts { blank.parts ≡ L.parts }
     requires some { 0 < L.parts }
 {
-    let mut trial = Trial::<L>::begin(alloc, blank);
-    trial.bear_both((line(0, 1), line(0, 2)), before, 0)?;
+    let trial = Trial::<L>::begin(alloc, blank)
+        .bear(line(0, 1), before, 0)?
+        .bear(line(0, 2), before, 0)?;
     let first = trial.is_next(10, 2);
-    trial.turn_both((1, 3), after, 4)?;
+    let trial = trial.turn(1, after, 4)?.turn(3, after, 4)?;
     Ok(first && trial.is_next(30, 3))
 }
 
@@ -251,16 +211,15 @@ fn is_named_twice<L: Ledger>(
     requires parts { blank.parts ≡ L.parts }
     requires some { 0 < L.parts }
 {
-    let mut trial = Trial::<L>::begin(alloc, blank);
     let form = Form::Dist {
         i: 0,
         j: 1,
         k: 1,
         l: 2,
     };
-    trial.bear(form, before, 0)?;
+    let trial = Trial::<L>::begin(alloc, blank).bear(form, before, 0)?;
     let first = trial.is_next(30, 1);
-    trial.turn(1, after, 4)?;
+    let trial = trial.turn(1, after, 4)?;
     Ok(first && trial.is_next(18, 2))
 }
 
@@ -276,10 +235,11 @@ fn turns_late<L: Ledger>(
     requires parts { blank.parts ≡ L.parts }
     requires some { 0 < L.parts }
 {
-    let mut trial = Trial::<L>::begin(alloc, blank);
-    trial.bear_and_turn(line(1, 2), 1, (before, before), 4)?;
+    let trial = Trial::<L>::begin(alloc, blank)
+        .bear(line(1, 2), before, 4)?
+        .turn(1, before, 4)?;
     let first = trial.is_next(24, 2);
-    trial.bear_and_turn(line(1, 3), 3, (before, after), 4)?;
+    let trial = trial.bear(line(1, 3), before, 4)?.turn(3, after, 4)?;
     Ok(first && trial.is_next(18, 4))
 }
 
