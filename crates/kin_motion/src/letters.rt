@@ -44,7 +44,7 @@ impl Letters {
     pub fn add(&mut self, part: u32, fact: &Fact) -> Result<(), NoMemory>
         ensures { OnOk result (self.new ≡ self.old ++ (record { part = part; fact = fact.now }) ∷ []) }
     {
-        // Room comes before what it is for, so that a fact is copied once.
+        // Room comes before what it is for, so that the fact need not be kept over a call.
         self.facts.reserve(1)?;
         self.facts.push_reserved(Placed { part, fact: *fact });
         Ok(())
