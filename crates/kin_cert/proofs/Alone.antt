@@ -14,7 +14,7 @@ use Rattle.kin_cert.specs.Cost.{TakesAtMost, is_ungiven, ungiven, change_cost}
 use Rattle.kin_cert.specs.Layout.{HasBorn, IsPaid}
 use Rattle.kin_cert.proofs.Changes.{is-at}
 use Rattle.kin_cert.proofs.Costs.{enough}
-use Rattle.kin_cert.proofs.Replacing.{live-of, later-apart}
+use Rattle.kin_cert.proofs.Replacing.{live-of, later-apart, born-apart}
 use Rattle.kin_cert.proofs.Paying.{share}
 use Rattle.kin_cert.proofs.Ungiven.{ungiven-cons, fewer-ungiven}
 
@@ -89,11 +89,7 @@ module _ (s : ℕ) (scene : Moment → Scene) (now : Moment) (b : Placed) (ds bs
         dropped_once = may.dropped_once;
         born_free = λ l c (q, q_born, of). elim ((did.exactly l).0 c) [
           | inl was ↦ may.born_free l was (q, Contains-cons b q bs q_born, of)
-          | inr l_is ↦
-              let at = is-at s b did.fact did.is_born.is in
-              let of' : IsOf s q did.fact = subst (λ (x : LiveFact). IsOf s q x) l_is of in
-              let q_is : q ≡ get_or bs q_born.0 b = sym q_born.2 ∙ get_or_default bs q_born.0 q b q_born.1 in
-              absurd (may.born_once 0 (suc q_born.0) b (omega arith) (omega (arith, q_born.1)) (sym at.part_is ∙ of'.part_is ∙ ap (λ (x : Placed). x.part) q_is) (sym at.form_is ∙ of'.form_is ∙ ap (λ (x : Placed). x.fact.form) q_is))
+          | inr l_is ↦ absurd (born-apart s scene now b ds bs old may did.fact did.is_born q q_born (subst (λ (x : LiveFact). IsOf s q x) l_is of))
         ];
         born_once = λ i j x lt in_born. may.born_once (suc i) (suc j) x (omega (arith, lt)) (omega (arith, in_born));
       }

@@ -93,6 +93,13 @@ module _ (s : ℕ) (d : Placed) (ds bs : List Placed) (old : List LiveFact) (may
       let e : 0 ≡ suc i = may.dropped_once 0 (suc i) d refl (slice_get-get_or (d ∷ ds) (suc i) d (omega (arith, lt)) ∙ ap (λ (x : Placed). Some x) (sym same)) in
       absurd (omega (arith, e))
 
+-- no later born fact has the owner and form of the first one
+pub born-apart : (s : ℕ) (scene : Moment → Scene) (now : Moment) (b : Placed) (ds bs : List Placed) (old : List LiveFact) → MayApply s (record { dropped = ds; born = b ∷ bs }) old → (l : LiveFact) → IsBorn s scene now b l → (q : Placed) → Contains bs q → IsOf s q l → ⊥
+born-apart s scene now b ds bs old may l born q (j, lt, is) of =
+    let at = is-at s b l born.is in
+    let q_is : q ≡ get_or bs j b = sym is ∙ get_or_default bs j q b lt in
+    may.born_once 0 (suc j) b (omega arith) (omega (arith, lt)) (sym at.part_is ∙ of.part_is ∙ ap (λ (x : Placed). x.part) q_is) (sym at.form_is ∙ of.form_is ∙ ap (λ (x : Placed). x.fact.form) q_is)
+
 -- the rest of a change after its first pair
 module _ (s : ℕ) (scene : Moment → Scene) (now : Moment) (d b : Placed) (ds bs : List Placed) (old mid : List LiveFact)
     (may : MayApply s (record { dropped = d ∷ ds; born = b ∷ bs }) old) (did : HasReplaced s scene now d b old mid) where
@@ -121,11 +128,7 @@ module _ (s : ℕ) (scene : Moment → Scene) (now : Moment) (d b : Placed) (ds 
                 | inl e ↦ absurd (not_d (subst (λ (x : Placed). IsOf s x l) (sym e) p_of))
                 | inr rest ↦ (p, rest, p_of)
               ]
-          | inr l_is ↦
-              let at = is-at s b did.fact did.is_born.is in
-              let of' : IsOf s q did.fact = subst (λ (x : LiveFact). IsOf s q x) l_is of in
-              let q_is : q ≡ get_or bs q_born.0 b = sym q_born.2 ∙ get_or_default bs q_born.0 q b q_born.1 in
-              absurd (may.born_once 0 (suc q_born.0) b (omega arith) (omega (arith, q_born.1)) (sym at.part_is ∙ of'.part_is ∙ ap (λ (x : Placed). x.part) q_is) (sym at.form_is ∙ of'.form_is ∙ ap (λ (x : Placed). x.fact.form) q_is))
+          | inr l_is ↦ absurd (born-apart s scene now b (d ∷ ds) bs old may did.fact did.is_born q q_born (subst (λ (x : LiveFact). IsOf s q x) l_is of))
         ];
         born_once = λ i j x lt in_born. may.born_once (suc i) (suc j) x (omega (arith, lt)) (omega (arith, in_born));
       }

@@ -52,7 +52,7 @@ impl End {
     pub fn is(self, other: End) -> bool
         ensures { IsTrue result ↔ (self ≡ other) }
     {
-        self.a == other.a && self.b == other.b && self.x == other.x && are_same(self.y, other.y)
+        self.a == other.a && self.b == other.b && self.x == other.x && self.y == other.y
     }
 
     /// The fact by x.
@@ -74,16 +74,5 @@ impl End {
             form: y_line(self.a, self.b),
             sign,
         })
-    }
-}
-
-/// Whether neither sign was asked, or they are the same.
-fn are_same(one: Option<Sign>, other: Option<Sign>) -> bool
-    ensures { IsTrue result ↔ (one ≡ other) }
-{
-    match (one, other) {
-        (Some(one), Some(other)) => one == other,
-        (None, None) => true,
-        _ => false,
     }
 }

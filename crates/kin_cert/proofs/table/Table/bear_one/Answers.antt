@@ -4,7 +4,7 @@ use Rattle.kin_motion.specs.Scene.{scene_at}
 use Rattle.kin_cert.specs.Entries.{Entry}
 use Rattle.kin_cert.specs.declared.owned.Owned.{Owned}
 use Rattle.kin_cert.specs.Facts.{Facts}
-use Rattle.kin_cert.specs.Layout.{live_in, owned_rank, held, fresh, timed, HasSlot, IsNotFound, IsTimed, HasBorn}
+use Rattle.kin_cert.specs.Layout.{live_in, owned_rank, held, fresh, timed, IsNotFound, HasBorn}
 use Rattle.kin_cert.specs.Names.{numbers_at, IsListed}
 use Rattle.kin_cert.proofs.Schedules.{Moments}
 use Rattle.kin_cert.proofs.Naming.{renamed, still-named, same-facts}
@@ -55,10 +55,8 @@ returns-clause-gained g c =
     let s = c.args.structure in
     let p = c.args.placed.now in
     let scene = scene_at c.args.motions.now in
-    let slot : HasSlot c.self.inside.roll c.put_in.new.self c.in_ok-id.id (Some (fresh (held s p))) =
-    c.in_ok-id.ensures.slot in
-    let timed_so : IsTimed scene c.args.now.now (held s p) c.in_ok-id.id c.put_in.new.self c.self.inside.schedule c.time.new.roll c.time.new.schedule =
-    c.in_ok-time.ensures.ok (held s p) c.in_ok-id.ensures.slot.changed refl in
+    let slot = c.in_ok-id.ensures.slot in
+    let timed_so = c.in_ok-time.ensures.ok (held s p) slot.changed refl in
     subst (λ (t : Facts). HasBorn s scene c.args.now.now p t.live (live_in c.time.new.roll)) c.self.view_is
     (has-born s scene c.args.now.now p c.self.inside.roll c.put_in.new.self c.time.new.roll c.in_ok-id.id c.self.inside.schedule c.time.new.schedule slot.changed timed_so c.in_ok-id.ensures.vacant slot)
 
@@ -67,10 +65,8 @@ returns-clause-count g c =
     let s = c.args.structure in
     let p = c.args.placed.now in
     let scene = scene_at c.args.motions.now in
-    let slot : HasSlot c.self.inside.roll c.put_in.new.self c.in_ok-id.id (Some (fresh (held s p))) =
-    c.in_ok-id.ensures.slot in
-    let timed_so : IsTimed scene c.args.now.now (held s p) c.in_ok-id.id c.put_in.new.self c.self.inside.schedule c.time.new.roll c.time.new.schedule =
-    c.in_ok-time.ensures.ok (held s p) c.in_ok-id.ensures.slot.changed refl in
+    let slot = c.in_ok-id.ensures.slot in
+    let timed_so = c.in_ok-time.ensures.ok (held s p) slot.changed refl in
     let more : length (live_in c.put_in.new.self) ≡ length (live_in c.self.inside.roll) + 1 = omega (arith, live-count c.put_in.new.self, live-count c.self.inside.roll, c.in_ok-id.ensures.count) in
     born-count s scene c.args.now.now p c.self.inside.roll c.put_in.new.self c.time.new.roll c.in_ok-id.id c.self.inside.schedule c.time.new.schedule slot.changed timed_so more
     ∙ ap (λ (t : Facts). length t.live + 1) c.self.view_is

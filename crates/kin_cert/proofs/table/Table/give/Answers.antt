@@ -15,7 +15,9 @@ use Rattle.kin_cert.proofs.Naming.{still-named, same-facts}
 use Rattle.kin_cert.proofs.Dues.{queued-slot, due-queued, given-due, has-given}
 use Rattle.kin_cert.proofs.Costs.{takes_more, one_call}
 use Rattle.kin_cert.proofs.QueueSizes.{few-queued-of}
+use Rattle.kin_cert.proofs.table.Table.give.Given as given
 use Rattle.kin_cert.proofs.table.Table.give.Goals as goal
+use Rattle.kin_cert.proofs.table.Table.give.Goals.{After-let_wait}
 
 -- no id is due before the moment
 none-before : (slots : List (Option Entry)) (moments : Moments) → IsTable slots moments → (m : Moment) → ((l : LiveFact) (n : Moment) → Contains (live_in slots) l → IsDueAt l n → ¬ (IsEarlier n m)) → (id : ℕ) (n : Moment) → get moments id ≡ Some n → ¬ (IsEarlier n m)
@@ -23,11 +25,18 @@ none-before slots moments table m none id n h =
     let q = queued-slot slots moments table id n h in
     none (live_fact q.entry) n (live-there slots id q.entry q.there) q.due
 
+-- the id that is taken is due first
+first-due : (g : given.Over) (c : After-let_wait g) → IsLeast c.self.inside.schedule (c.in-Some.id, c.args.moment.now)
+first-due g c =
+    record {
+      there = c.in-Some.ensures.there;
+      least = none-before c.self.inside.roll c.self.inside.schedule c.self.invariant.table c.args.moment.now (rw (sym c.self.view_is) at c.requires);
+    }
+
 pub take_at-requires : goal.take_at-requires
 take_at-requires g c =
     record {
-      first = none-before c.self.inside.roll c.self.inside.schedule c.self.invariant.table c.args.moment.now
-          (subst (λ (t : Facts). (l : LiveFact) (n : Moment) → Contains t.live l → IsDueAt l n → ¬ (IsEarlier n c.args.moment.now)) (sym c.self.view_is) c.requires);
+      first = none-before c.self.inside.roll c.self.inside.schedule c.self.invariant.table c.args.moment.now (rw (sym c.self.view_is) at c.requires);
     }
 
 pub returns-in_default-clause-none : goal.returns-in_default-clause-none
@@ -55,16 +64,11 @@ invariant_of-self-2 g c =
 pub returns-clause-given : goal.returns-clause-given
 returns-clause-given g c =
     let w = c.let_wait.ensures.waits in
-    let id = c.in-Some.id in
-    let next : IsLeast c.self.inside.schedule (c.in-Some.id, c.args.moment.now) = record {
-      there = c.in-Some.ensures.there;
-      least = none-before c.self.inside.roll c.self.inside.schedule c.self.invariant.table c.args.moment.now
-          (subst (λ (t : Facts). (l : LiveFact) (n : Moment) → Contains t.live l → IsDueAt l n → ¬ (IsEarlier n c.args.moment.now)) (sym c.self.view_is) c.requires);
-    } in (
+    let id = c.in-Some.id in (
       live_fact w.0,
       subst (λ (xs : List (Option Entry)). HasGiven c.args.self.now.live (live_in xs) (live_fact w.0) c.args.moment.now) (sym w.3)
           (subst (λ (t : Facts). HasGiven t.live (live_in (set c.self.inside.roll id (Some (waiting w.0)))) (live_fact w.0) c.args.moment.now) c.self.view_is
-          (has-given c.self.inside.roll c.self.inside.schedule c.self.invariant.table (set c.self.inside.roll id (Some (waiting w.0))) c.len.ensures.once id c.args.moment.now next w.0 w.1 (has-slot c.self.inside.roll id w.0 (Some (waiting w.0)) w.1))),
+          (has-given c.self.inside.roll c.self.inside.schedule c.self.invariant.table (set c.self.inside.roll id (Some (waiting w.0))) c.len.ensures.once id c.args.moment.now (first-due g c) w.0 w.1 (has-slot c.self.inside.roll id w.0 (Some (waiting w.0)) w.1))),
       ap certificate_of w.2,
     )
 
@@ -77,12 +81,7 @@ pub returns-clause-fewer : goal.returns-clause-fewer
 returns-clause-fewer g c =
     let w = c.let_wait.ensures.waits in
     let id = c.in-Some.id in
-    let next : IsLeast c.self.inside.schedule (c.in-Some.id, c.args.moment.now) = record {
-      there = c.in-Some.ensures.there;
-      least = none-before c.self.inside.roll c.self.inside.schedule c.self.invariant.table c.args.moment.now
-          (subst (λ (t : Facts). (l : LiveFact) (n : Moment) → Contains t.live l → IsDueAt l n → ¬ (IsEarlier n c.args.moment.now)) (sym c.self.view_is) c.requires);
-    } in
-    let due = given-due c.self.inside.roll c.self.inside.schedule c.self.invariant.table (set c.self.inside.roll id (Some (waiting w.0))) c.len.ensures.once id c.args.moment.now next w.0 w.1 (has-slot c.self.inside.roll id w.0 (Some (waiting w.0)) w.1) in
+    let due = given-due c.self.inside.roll c.self.inside.schedule c.self.invariant.table (set c.self.inside.roll id (Some (waiting w.0))) c.len.ensures.once id c.args.moment.now (first-due g c) w.0 w.1 (has-slot c.self.inside.roll id w.0 (Some (waiting w.0)) w.1) in
     ap (λ (xs : List (Option Entry)). due_count (live_in xs) + 1) w.3 ∙ live-set-due c.self.inside.roll id w.0 w.1 due.waits_not ∙ ap (λ (t : Facts). due_count t.live) c.self.view_is
 
 pub returns-clause-once : goal.returns-clause-once

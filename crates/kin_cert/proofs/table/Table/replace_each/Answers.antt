@@ -1,17 +1,15 @@
-use Rattle.std.proofs.Common.{◌≡◌, ◌∙◌, ℕ, ◌+◌, Bool, false, List, ◌∷◌, length, sym, ap, subst, arith}
+use Rattle.std.proofs.Common.{◌≡◌, ◌∙◌, Bool, false, ◌∷◌, length, sym, ap, subst, arith}
 use Rattle.std.specs.Prelude.{IsTrue}
-use Rattle.std.specs.List.{All}
 use Rattle.std.proofs.lemmas.List.Elements.{All-head, All-tail}
 use Rattle.kin_motion.specs.declared.fact.Placed.{Placed}
 use Rattle.kin_motion.specs.Course.{live_of}
 use Rattle.kin_motion.specs.Forms.{IsAskable}
 use Rattle.kin_motion.specs.Scene.{scene_at, Holds}
-use Rattle.kin_cert.specs.Applied.{IsLiveIn, MayApply, HasApplied}
+use Rattle.kin_cert.specs.Applied.{IsLiveIn, MayApply}
 use Rattle.kin_cert.specs.Facts.{Facts}
 use Rattle.kin_cert.proofs.Alone.{dropped-may, dropped-did, dropped-paid, born-may, born-did, born-paid}
 use Rattle.kin_cert.proofs.Replacing.{rest-may, rest-did}
-use Rattle.kin_cert.specs.Cost.{change_cost}
-use Rattle.kin_cert.specs.Layout.{change_of, IsPaid, HasTriedToReplace}
+use Rattle.kin_cert.specs.Layout.{HasTriedToReplace}
 use Rattle.kin_cert.proofs.Paying.{rest-paid}
 use Rattle.kin_cert.proofs.table.Table.replace_each.Given as given
 use Rattle.kin_cert.proofs.table.Table.replace_each.Goals as goal
@@ -24,12 +22,12 @@ is_not b f t = cc
 askable : (g : given.Over) (c : In-Some-split_first g) → IsAskable (live_of c.args.motions.now) c.in-Some-split_first.born.now.fact.form
 askable g c =
     let b_is = c.in-Some-split_first.ensures.cases.0 in
-    All-head (λ (p : Placed). IsAskable (live_of c.args.motions.now) p.fact.form) _ _ (subst (λ (xs : List Placed). All (λ (p : Placed). IsAskable (live_of c.args.motions.now) p.fact.form) xs) b_is c.loop-dropped.invariant.askable)
+    All-head (λ (p : Placed). IsAskable (live_of c.args.motions.now) p.fact.form) _ _ (rw b_is at c.loop-dropped.invariant.askable)
 
 holding : (g : given.Over) (c : In-Some-split_first g) → Holds (scene_at c.args.motions.now c.args.now.now) c.in-Some-split_first.born.now.fact
 holding g c =
     let b_is = c.in-Some-split_first.ensures.cases.0 in
-    All-head (λ (p : Placed). Holds (scene_at c.args.motions.now c.args.now.now) p.fact) _ _ (subst (λ (xs : List Placed). All (λ (p : Placed). Holds (scene_at c.args.motions.now c.args.now.now) p.fact) xs) b_is c.loop-dropped.invariant.holds)
+    All-head (λ (p : Placed). Holds (scene_at c.args.motions.now c.args.now.now) p.fact) _ _ (rw b_is at c.loop-dropped.invariant.holds)
 
 -- what either call did
 tried : (g : given.Over) (c : Joined-is_line g) → HasTriedToReplace c.args.structure (scene_at c.args.motions.now) c.args.now.now c.in-Some.dropped.now c.in-Some-split_first.born.now c.if-is_line.is_replaced c.loop-dropped.self c.if-is_line.self c.loop-dropped.steps c.if-is_line.steps
@@ -56,29 +54,19 @@ loop-dropped-preserved-then-is_replaced g c =
     let bs = c.in-Some-split_first.later_born.now in
     let d_is : c.loop-dropped.rest.dropped.now ≡ d ∷ ds = c.in-Some.ensures.cases.0 in
     let b_is : c.loop-dropped.rest.born.now ≡ b ∷ bs = c.in-Some-split_first.ensures.cases.0 in
-    let may : MayApply s (record { dropped = d ∷ ds; born = b ∷ bs }) c.loop-dropped.self.live =
-    subst (λ (xs : List Placed). MayApply s (record { dropped = xs; born = b ∷ bs }) c.loop-dropped.self.live) d_is
-    (subst (λ (ys : List Placed). MayApply s (record { dropped = c.loop-dropped.rest.dropped.now; born = ys }) c.loop-dropped.self.live) b_is inv.may) in
-    let all : ℕ → ℕ = change_cost s (change_of c.args.all) c.args.self.now.live in
+    let may : MayApply s (record { dropped = d ∷ ds; born = b ∷ bs }) c.loop-dropped.self.live = rw (d_is, b_is) at inv.may in
     let did = t.yes c.if-is_replaced.true in
     record {
       may = rest-may s scene c.args.now.now d b ds bs c.loop-dropped.self.live c.if-is_line.self.live may did;
-      did = λ after app.
-          inv.did after
-          (subst (λ (xs : List Placed). HasApplied s (record { dropped = xs; born = c.loop-dropped.rest.born.now }) scene c.args.now.now c.loop-dropped.self.live after) (sym d_is)
-          (subst (λ (ys : List Placed). HasApplied s (record { dropped = d ∷ ds; born = ys }) scene c.args.now.now c.loop-dropped.self.live after) (sym b_is)
-          (rest-did s scene c.args.now.now d b ds bs c.loop-dropped.self.live c.if-is_line.self.live may did after app)));
-      askable = All-tail (λ (p : Placed). IsAskable (live_of c.args.motions.now) p.fact.form) b bs (subst (λ (xs : List Placed). All (λ (p : Placed). IsAskable (live_of c.args.motions.now) p.fact.form) xs) b_is inv.askable);
-      holds = All-tail (λ (p : Placed). Holds (scene c.args.now.now) p.fact) b bs (subst (λ (xs : List Placed). All (λ (p : Placed). Holds (scene c.args.now.now) p.fact) xs) b_is inv.holds);
+      did = λ after app. inv.did after (rw (d_is, b_is) (rest-did s scene c.args.now.now d b ds bs c.loop-dropped.self.live c.if-is_line.self.live may did after app));
+      askable = All-tail (λ (p : Placed). IsAskable (live_of c.args.motions.now) p.fact.form) b bs (rw b_is at inv.askable);
+      holds = All-tail (λ (p : Placed). Holds (scene c.args.now.now) p.fact) b bs (rw b_is at inv.holds);
       made = t.made ∙ inv.made;
       count =
           let live = inv.count.live in
           let fewer = inv.count.fewer in
           record { live = omega (arith, live, did.count, ap length d_is, ap length b_is); fewer = omega (arith, fewer, ap length d_is) };
-      cost = rest-paid s scene c.args.now.now d b ds bs c.loop-dropped.self.live c.if-is_line.self.live may did _ _ _ _ _ (omega (arith, inv.count.live, inv.count.fewer))
-          (subst (λ (xs : List Placed). IsPaid (length c.args.self.now.live + length c.args.all.born.now) all (change_cost s (record { dropped = xs; born = b ∷ bs }) c.loop-dropped.self.live) c.args.steps.now c.loop-dropped.steps) d_is
-          (subst (λ (ys : List Placed). IsPaid (length c.args.self.now.live + length c.args.all.born.now) all (change_cost s (record { dropped = c.loop-dropped.rest.dropped.now; born = ys }) c.loop-dropped.self.live) c.args.steps.now c.loop-dropped.steps) b_is inv.cost))
-          (t.cost c.if-is_replaced.true);
+      cost = rest-paid s scene c.args.now.now d b ds bs c.loop-dropped.self.live c.if-is_line.self.live may did _ _ _ _ _ (omega (arith, inv.count.live, inv.count.fewer)) (rw (d_is, b_is) at inv.cost) (t.cost c.if-is_replaced.true);
     }
 
 pub drop_one-requires : goal.drop_one-requires
@@ -89,7 +77,7 @@ drop_one-requires g c =
     let same = t.no (is_not _ c.if-is_replaced.false) in
     record {
       live = subst (λ (t : Facts). IsLiveIn t.live s c.in-Some.dropped.now) (sym same)
-          ((subst (λ (xs : List Placed). All (IsLiveIn c.loop-dropped.self.live s) xs) d_is c.loop-dropped.invariant.may.dropped_live) 0 c.in-Some.dropped.now (omega arith));
+          ((rw d_is at c.loop-dropped.invariant.may.dropped_live) 0 c.in-Some.dropped.now (omega arith));
     }
 
 pub loop-dropped-preserved : goal.loop-dropped-preserved
@@ -107,20 +95,14 @@ loop-dropped-preserved g c =
     let d_is : c.loop-dropped.rest.dropped.now ≡ d ∷ ds = c.in-Some.ensures.cases.0 in
     let same : c.if-is_line.self ≡ c.loop-dropped.self = t.no (is_not _ c.if-is_replaced.false) in
     let idle : c.if-is_line.steps ≡ c.loop-dropped.steps = t.idle (is_not _ c.if-is_replaced.false) in
-    let may : MayApply s (record { dropped = d ∷ ds; born = bs }) mid =
-    subst (λ (t : Facts). MayApply s (record { dropped = d ∷ ds; born = bs }) t.live) (sym same) (subst (λ (xs : List Placed). MayApply s (record { dropped = xs; born = bs }) c.loop-dropped.self.live) d_is inv.may) in
+    let may : MayApply s (record { dropped = d ∷ ds; born = bs }) mid = rw (d_is, sym same) at inv.may in
     let once = c.drop_one.ensures.once in
     let gone = c.drop_one.ensures.rest in
     let count = c.drop_one.ensures.count in
     let same_count : length mid ≡ length c.loop-dropped.self.live = ap (λ (t : Facts). length t.live) same in
-    let n = length c.args.self.now.live + length c.args.all.born.now in
-    let all : ℕ → ℕ = change_cost s (change_of c.args.all) c.args.self.now.live in
     record {
       may = dropped-may s d ds bs mid new may once gone count;
-      did = λ after app.
-          inv.did after
-          (subst (λ (xs : List Placed). HasApplied s (record { dropped = xs; born = bs }) scene now c.loop-dropped.self.live after) (sym d_is)
-          (subst (λ (t : Facts). HasApplied s (record { dropped = d ∷ ds; born = bs }) scene now t.live after) same (dropped-did s d ds bs mid new may once gone count scene now after app)));
+      did = λ after app. inv.did after (rw (d_is, sym same) (dropped-did s d ds bs mid new may once gone count scene now after app));
       askable = inv.askable;
       holds = inv.holds;
       made = c.drop_one.ensures.made ∙ ap (λ (t : Facts). t.made) same ∙ inv.made;
@@ -128,11 +110,7 @@ loop-dropped-preserved g c =
           let live = inv.count.live in
           let fewer = inv.count.fewer in
           record { live = omega (arith, live, count, same_count, ap length d_is); fewer = omega (arith, fewer, ap length d_is) };
-      cost = dropped-paid s d ds bs mid new may once gone count n all _ _ _ (omega (arith, inv.count.live, inv.count.fewer, same_count))
-          (subst (λ (k : ℕ). IsPaid n all (change_cost s (record { dropped = d ∷ ds; born = bs }) mid) c.args.steps.now k) (sym idle)
-          (subst (λ (t : Facts). IsPaid n all (change_cost s (record { dropped = d ∷ ds; born = bs }) t.live) c.args.steps.now c.loop-dropped.steps) (sym same)
-          (subst (λ (xs : List Placed). IsPaid n all (change_cost s (record { dropped = xs; born = bs }) c.loop-dropped.self.live) c.args.steps.now c.loop-dropped.steps) d_is inv.cost)))
-          c.drop_one.ensures.cost;
+      cost = dropped-paid s d ds bs mid new may once gone count _ _ _ _ _ (omega (arith, inv.count.live, inv.count.fewer, same_count)) (rw (sym same, sym idle, d_is) at inv.cost) c.drop_one.ensures.cost;
     }
 
 pub bear_one-requires : goal.bear_one-requires
@@ -153,30 +131,20 @@ loop-dropped-preserved-then-is_free g c =
     let b_is : c.loop-dropped.rest.born.now ≡ b ∷ bs = c.in-Some-split_first.ensures.cases.0 in
     let same : c.if-is_line.self ≡ c.loop-dropped.self = t.no (is_not _ c.if-is_replaced.false) in
     let idle : c.if-is_line.steps ≡ c.loop-dropped.steps = t.idle (is_not _ c.if-is_replaced.false) in
-    let may : MayApply s (record { dropped = ds; born = b ∷ bs }) mid =
-    subst (λ (t : Facts). MayApply s (record { dropped = ds; born = b ∷ bs }) t.live) (sym same) (subst (λ (ys : List Placed). MayApply s (record { dropped = ds; born = ys }) c.loop-dropped.self.live) b_is inv.may) in
+    let may : MayApply s (record { dropped = ds; born = b ∷ bs }) mid = rw (b_is, sym same) at inv.may in
     let free = c.is_free.ensures c.if-is_free.true in
     let did = c.in_ok-bear_one.ensures.gained in
     let count = c.in_ok-bear_one.ensures.count in
     let same_count : length mid ≡ length c.loop-dropped.self.live = ap (λ (t : Facts). length t.live) same in
-    let n = length c.args.self.now.live + length c.args.all.born.now in
-    let all : ℕ → ℕ = change_cost s (change_of c.args.all) c.args.self.now.live in
     record {
       may = born-may s scene now b ds bs mid new may free did count;
-      did = λ after app.
-          inv.did after
-          (subst (λ (ys : List Placed). HasApplied s (record { dropped = ds; born = ys }) scene now c.loop-dropped.self.live after) (sym b_is)
-          (subst (λ (t : Facts). HasApplied s (record { dropped = ds; born = b ∷ bs }) scene now t.live after) same (born-did s scene now b ds bs mid new may free did count after app)));
-      askable = All-tail (λ (p : Placed). IsAskable (live_of c.args.motions.now) p.fact.form) b bs (subst (λ (xs : List Placed). All (λ (p : Placed). IsAskable (live_of c.args.motions.now) p.fact.form) xs) b_is inv.askable);
-      holds = All-tail (λ (p : Placed). Holds (scene c.args.now.now) p.fact) b bs (subst (λ (xs : List Placed). All (λ (p : Placed). Holds (scene c.args.now.now) p.fact) xs) b_is inv.holds);
+      did = λ after app. inv.did after (rw (b_is, sym same) (born-did s scene now b ds bs mid new may free did count after app));
+      askable = All-tail (λ (p : Placed). IsAskable (live_of c.args.motions.now) p.fact.form) b bs (rw b_is at inv.askable);
+      holds = All-tail (λ (p : Placed). Holds (scene c.args.now.now) p.fact) b bs (rw b_is at inv.holds);
       made = c.bear_one.ensures.made ∙ ap (λ (t : Facts). t.made) same ∙ inv.made;
       count =
           let live = inv.count.live in
           let fewer = inv.count.fewer in
           record { live = omega (arith, live, count, same_count, ap length b_is); fewer = fewer };
-      cost = born-paid s scene now b ds bs mid new may free did count n all _ _ _ (omega (arith, inv.count.live, inv.count.fewer, same_count))
-          (subst (λ (k : ℕ). IsPaid n all (change_cost s (record { dropped = ds; born = b ∷ bs }) mid) c.args.steps.now k) (sym idle)
-          (subst (λ (t : Facts). IsPaid n all (change_cost s (record { dropped = ds; born = b ∷ bs }) t.live) c.args.steps.now c.loop-dropped.steps) (sym same)
-          (subst (λ (ys : List Placed). IsPaid n all (change_cost s (record { dropped = ds; born = ys }) c.loop-dropped.self.live) c.args.steps.now c.loop-dropped.steps) b_is inv.cost)))
-          c.in_ok-bear_one.ensures.cost;
+      cost = born-paid s scene now b ds bs mid new may free did count _ _ _ _ _ (omega (arith, inv.count.live, inv.count.fewer, same_count)) (rw (b_is, sym same, sym idle) at inv.cost) c.in_ok-bear_one.ensures.cost;
     }
