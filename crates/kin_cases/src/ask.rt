@@ -7,6 +7,7 @@ ghost use Rattle.kin_motion.specs.Forms.{IsAskable};
 ghost use Rattle.kin_motion.specs.Numbers.{IsIn};
 
 use crate::fault::Fault;
+use kin_cert::Now;
 use kin_motion::form::Form;
 use kin_motion::motion::Motions;
 use kin_motion::signs::Signs;
@@ -73,6 +74,18 @@ pub struct Sight<'a, O: Signs> {
     pub signs: &'a O,
     pub motions: &'a Motions,
     ghost live: { (O.scene signs.now).live ≡ live_of motions.now },
+}
+
+impl<'a, 'b> Sight<'a, Now<'b>> {
+    /// The signs of motions at a moment.
+    pub fn at(now: &'a Now<'b>) -> Sight<'a, Now<'b>>
+        ensures { result.signs.now ≡ now.now }
+    {
+        Sight {
+            signs: now,
+            motions: now.motions,
+        }
+    }
 }
 
 impl<O: Signs> Sight<'_, O> {

@@ -3,6 +3,7 @@
 
 use crate::ask::Sight;
 use crate::chains::{x_line, y_line};
+use crate::failing::is_among;
 use crate::fault::Fault;
 use kin_motion::fact::{Delta, Fact, Placed};
 use kin_motion::form::Form;
@@ -163,14 +164,9 @@ pub fn facts_of_merge<O: Signs>(
     Ok(facts)
 }
 
-/// Whether a list has the fact.
-fn has(facts: &[Placed], fact: &Placed) -> bool {
-    facts.iter().any(|other| other.is(*fact))
-}
-
 /// Whether both lists have the same facts, where no fact stands twice in one.
 pub fn are_same(facts: &[Placed], others: &[Placed]) -> bool {
-    facts.len() == others.len() && facts.iter().all(|fact| has(others, fact))
+    facts.len() == others.len() && facts.iter().all(|fact| is_among(fact, others))
 }
 
 /// Whether the report is the difference of the facts before and after, each fact once.
@@ -182,17 +178,17 @@ pub fn is_difference(report: &Delta, before: &[Placed], after: &[Placed]) -> boo
 fn is_lacking(list: &[Placed], facts: &[Placed], others: &[Placed]) -> bool {
     let are_missing = list
         .iter()
-        .all(|fact| has(facts, fact) && !has(others, fact));
+        .all(|fact| is_among(fact, facts) && !is_among(fact, others));
     let are_all = facts
         .iter()
-        .all(|fact| has(others, fact) || has(list, fact));
+        .all(|fact| is_among(fact, others) || is_among(fact, list));
     are_missing && are_all && is_once(list)
 }
 
 /// Whether no fact stands twice.
 fn is_once(list: &[Placed]) -> bool {
     for place in 0..list.len() {
-        if has(&list[place + 1..], &list[place]) {
+        if is_among(&list[place], &list[place + 1..]) {
             return false;
         }
     }

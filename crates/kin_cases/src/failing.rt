@@ -64,16 +64,13 @@ pub fn failing_at<S: Spares>(
     ensures failing { IfOk result (λ v. (live : List Put) (spared : Put → Bool) → ListsExactly facts.now (Contains live) → ((p : Put) → S.is_spared spares.now p ≡ spared p) → ListsFailing live spared (scene_at now.now.motions.now now.now.moment.now) v.items) }
 {
     let plain = now.plain();
-    let sight = Sight {
-        signs: &plain,
-        motions: plain.motions,
-    };
+    let sight = Sight::at(&plain);
     let failed = failing(alloc, facts, &sight, spares)?;
     Ok(failed)
 }
 
 /// Whether a list has the fact.
-fn is_among(fact: &Placed, facts: &[Placed]) -> bool
+pub fn is_among(fact: &Placed, facts: &[Placed]) -> bool
     ensures { IsTrue result ↔ Contains facts.now fact.now }
 {
     facts.iter().any(|other| other.is(*fact))

@@ -12,7 +12,6 @@ use crate::spares::{SparesNamed, SparesNone};
 use crate::visits::{Halves, Stage};
 use crate::watch::Callers;
 use crate::written::are_written;
-use kin_cert::Now;
 use kin_motion::{Fact, Form, Placed};
 use kin_num::{Moment, Sign, Steps};
 use std::alloc::Global;
@@ -113,14 +112,9 @@ fn failures_at<'a>(
     moment: &'a Moment,
     gone: u32,
 ) -> Result<(usize, usize), Fault> {
-    let now = Now {
-        motions: &stage.motions,
-        moment,
-    };
-    let sight = Sight {
-        signs: &now,
-        motions: now.motions,
-    };
+    let watch = stage.watch(moment);
+    let now = watch.plain();
+    let sight = Sight::at(&now);
     let all = failing(stage.alloc, merging.facts(), &sight, &SparesNone)?;
     let gone = [gone];
     let handed = failing(

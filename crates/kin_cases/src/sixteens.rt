@@ -12,7 +12,6 @@ use crate::moments::at;
 use crate::random::crowd_of_motions;
 use crate::visits::Stage;
 use crate::watch::Callers;
-use kin_cert::Now;
 use kin_num::{Moment, Steps};
 use std::alloc::Global;
 use std::marker::Brand;
@@ -25,14 +24,9 @@ fn next_change<'a>(
     merging: &Merging,
     moment: &'a Moment,
 ) -> Result<Option<Moment>, Fault> {
-    let now = Now {
-        motions: &stage.motions,
-        moment,
-    };
-    let sight = Sight {
-        signs: &now,
-        motions: now.motions,
-    };
+    let watch = stage.watch(moment);
+    let now = watch.plain();
+    let sight = Sight::at(&now);
     let (a, b) = merging.told();
     let of_a = certificates(stage.alloc, &sight, &stage.halves.left, a)?;
     let of_b = certificates(stage.alloc, &sight, &stage.halves.right, b)?;

@@ -77,10 +77,7 @@ pub fn is_right<'a>(
     moment: &'a Moment,
 ) -> Result<bool, Fault> {
     let now = envelope.at(moment);
-    let sight = Sight {
-        signs: &now,
-        motions: now.motions,
-    };
+    let sight = Sight::at(&now);
     let size = envelope.size();
     let points = points_under(alloc, now.motions, size, 1)?;
     let chain = sight.upper_chain(alloc, &points)?;

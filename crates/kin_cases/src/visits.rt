@@ -176,10 +176,7 @@ impl Stage {
     ) -> Result<Merging, Fault> {
         let watch = self.watch(moment);
         let now = watch.plain();
-        let sight = Sight {
-            signs: &now,
-            motions: now.motions,
-        };
+        let sight = Sight::at(&now);
         visit(self.alloc, merging, &self.halves, &sight, &watch, steps)
     }
 
@@ -201,7 +198,8 @@ impl Stage {
         visit(self.alloc, merging, &self.halves, &sight, &turned, steps)
     }
 
-    fn watch<'a>(&'a self, moment: &'a Moment) -> Watch<'a>
+    /// The signs at a moment, which are counted.
+    pub fn watch<'a>(&'a self, moment: &'a Moment) -> Watch<'a>
         ensures motions { result.motions.now ≡ self.now.motions }
         ensures moment { result.moment.now ≡ moment.now }
     {

@@ -1,26 +1,26 @@
 //! Scripts of leaps, with their answers, worked out by hand.
 
 use crate::scripts::{Call, ORDER_EAST, Script, Time};
-use crate::tests::{may_step, moment};
+use crate::tests::{limit_at, moment};
 use crate::world::World;
 use kin_motion::Keep;
-use kin_num::{Moment, NoMemory, Phase, Steps};
+use kin_num::{NoMemory, Phase, Steps};
 use std::sync::ledger::Ledger;
 
 /// A leap towards the limit lands at this time, or moves there.
 pub fn leaps<L: Ledger>(
     world: &mut World,
-    limit: &Moment,
+    limit: Time,
     time: Option<Time>,
     steps: &mut Steps<L>,
 ) -> Result<bool, NoMemory> {
-    if !may_step(world, limit, steps) {
+    let Some(limit) = limit_at(world, limit, steps) else {
         return Ok(false);
-    }
-    let some = world.leap(limit, steps)?;
+    };
+    let some = world.leap(&limit, steps)?;
     let there = match time {
         Some(time) => moment(time),
-        None => Some(*limit),
+        None => Some(limit),
     };
     Ok(some == time.is_some() && world.is_whole() && Some(*world.now()) == there)
 }

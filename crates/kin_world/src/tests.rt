@@ -1,4 +1,4 @@
-ghost use Rattle.std.specs.Prelude.{◌≡◌, ◌≤◌, ◌<◌, ◌^◌, unsigned_abs, IsTrue};
+ghost use Rattle.std.specs.Prelude.{◌≡◌, ◌≤◌, ◌<◌, ◌^◌, unsigned_abs, IsTrue, IfSome};
 ghost use Rattle.kin_num.specs.Order.{IsEarlier};
 ghost use Rattle.kin_motion.specs.Boxes.{IsRectInRange};
 ghost use Rattle.kin_world.specs.Worlds.{AreKeepable};
@@ -122,26 +122,30 @@ fn is_replaced<L: Ledger>(
     Ok(world.is_whole() && world.motion(no) == Some(m))
 }
 
-/// Whether a step to this limit may be asked for.
-pub fn may_step<L: Ledger>(world: &World, limit: &Moment, steps: &mut Steps<L>) -> bool
-    ensures whole { IsTrue result → IsTrue world.now.whole }
-    ensures later { IsTrue result → ¬ (IsEarlier limit.now world.now.moment) }
+/// The moment of a limit, if a step to it may be asked for.
+pub fn limit_at<L: Ledger>(world: &World, limit: Time, steps: &mut Steps<L>) -> Option<Moment>
+    ensures whole { IfSome result (λ _. IsTrue world.now.whole) }
+    ensures later { IfSome result (λ m. ¬ (IsEarlier m world.now.moment)) }
 {
-    world.is_whole() && compare_moments(limit, world.now(), steps) != Ordering::Less
+    let limit = moment(limit)?;
+    if !world.is_whole() || compare_moments(&limit, world.now(), steps) == Ordering::Less {
+        return None;
+    }
+    Some(limit)
 }
 
 /// A step towards the limit stops at this time, with these failures.
 fn stops<L: Ledger>(
     world: &mut World,
-    limit: &Moment,
+    limit: Time,
     time: Time,
     lost: &[Lost],
     steps: &mut Steps<L>,
 ) -> Result<bool, NoMemory> {
-    if !may_step(world, limit, steps) {
+    let Some(limit) = limit_at(world, limit, steps) else {
         return Ok(false);
-    }
-    let Some(block) = world.step(limit, steps)? else {
+    };
+    let Some(block) = world.step(&limit, steps)? else {
         return Ok(false);
     };
     let told = Some(block.moment) == moment(time) && are_lost(&block.failures, lost);
@@ -151,44 +155,40 @@ fn stops<L: Ledger>(
 /// A step to the limit passes nothing and moves there.
 fn moves<L: Ledger>(
     world: &mut World,
-    limit: &Moment,
+    limit: Time,
     steps: &mut Steps<L>,
 ) -> Result<bool, NoMemory> {
-    if !may_step(world, limit, steps) {
+    let Some(limit) = limit_at(world, limit, steps) else {
         return Ok(false);
-    }
-    let passed = world.step(limit, steps)?;
-    Ok(passed.is_none() && world.is_whole() && *world.now() == *limit)
+    };
+    let passed = world.step(&limit, steps)?;
+    Ok(passed.is_none() && world.is_whole() && *world.now() == limit)
 }
 
 /// A step towards the limit that lists nothing stops at this time, where so many facts have failed.
 fn passes<L: Ledger>(
     world: &mut World,
-    limit: &Moment,
+    limit: Time,
     time: Time,
     count: usize,
     steps: &mut Steps<L>,
 ) -> Result<bool, NoMemory> {
-    if !may_step(world, limit, steps) {
+    let Some(limit) = limit_at(world, limit, steps) else {
         return Ok(false);
-    }
-    let passed = world.pass(limit, steps)?;
+    };
+    let passed = world.pass(&limit, steps)?;
     Ok(passed == Some(count) && world.is_whole() && Some(*world.now()) == moment(time))
 }
 
 /// At most a hundred steps lead to the limit.
-fn runs<L: Ledger>(
-    world: &mut World,
-    limit: &Moment,
-    steps: &mut Steps<L>,
-) -> Result<bool, NoMemory> {
+fn runs<L: Ledger>(world: &mut World, limit: Time, steps: &mut Steps<L>) -> Result<bool, NoMemory> {
     for _ in 0..100 {
-        if !may_step(world, limit, steps) {
+        let Some(limit) = limit_at(world, limit, steps) else {
             return Ok(false);
-        }
-        let passed = world.pass(limit, steps)?;
+        };
+        let passed = world.pass(&limit, steps)?;
         if passed.is_none() {
-            return Ok(world.is_whole() && *world.now() == *limit);
+            return Ok(world.is_whole() && *world.now() == limit);
         }
     }
     Ok(false)
@@ -285,26 +285,11 @@ fn follows<L: Ledger>(
         Call::Remove(no) => leaves(world, no, steps),
         Call::Replace(no, m) => is_replaced(world, no, m, steps),
         Call::Turns(no, speed, refused) => turns(world, no, speed, refused, steps),
-        Call::Stops(limit, time, lost) => match moment(limit) {
-            Some(limit) => stops(world, &limit, time, lost, steps),
-            None => Ok(false),
-        },
-        Call::Passes(limit, time, count) => match moment(limit) {
-            Some(limit) => passes(world, &limit, time, count, steps),
-            None => Ok(false),
-        },
-        Call::Leaps(limit, time) => match moment(limit) {
-            Some(limit) => leaps(world, &limit, time, steps),
-            None => Ok(false),
-        },
-        Call::Runs(limit) => match moment(limit) {
-            Some(limit) => runs(world, &limit, steps),
-            None => Ok(false),
-        },
-        Call::Moves(limit) => match moment(limit) {
-            Some(limit) => moves(world, &limit, steps),
-            None => Ok(false),
-        },
+        Call::Stops(limit, time, lost) => stops(world, limit, time, lost, steps),
+        Call::Passes(limit, time, count) => passes(world, limit, time, count, steps),
+        Call::Leaps(limit, time) => leaps(world, limit, time, steps),
+        Call::Runs(limit) => runs(world, limit, steps),
+        Call::Moves(limit) => moves(world, limit, steps),
         _ => answers(world, call),
     }
 }

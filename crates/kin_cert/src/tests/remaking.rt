@@ -1,4 +1,5 @@
-//! Failure moments are made anew as points turn.
+//! A table of few facts: which one is given out as it fails, and how failure moments are made anew
+//! as points turn.
 
 ghost use Rattle.std.specs.Prelude.{◌≡◌, ◌<◌, ◌^◌, unsigned_abs, IsTrue};
 ghost use Rattle.std.specs.List.{All};
@@ -9,13 +10,14 @@ ghost use Rattle.kin_motion.specs.Scene.{scene_at, Holds};
 
 use super::moment;
 use crate::now::Now;
+use crate::owned::Owned;
 use crate::table::Table;
 use kin_instant::ratio::ratio;
 use kin_motion::fact::{Delta, Fact, Placed};
 use kin_motion::form::Form;
 use kin_motion::motion::{Motion, Motions};
 use kin_motion::signs::Signs;
-use kin_num::{Moment, NoMemory, Phase, Steps};
+use kin_num::{Moment, NoMemory, Phase, Sign, Steps};
 use std::alloc::Global;
 use std::marker::{Brand, Model};
 use std::sync::ledger::{Blank, Ledger};
@@ -154,13 +156,27 @@ impl<L: Ledger> Trial<L> {
         Ok(self)
     }
 
+    /// Gives out the facts that fail next.
+    fn take(self) -> Result<Vec<Owned>, NoMemory> {
+        let Trial {
+            alloc,
+            mut table,
+            facts: _,
+            mut steps,
+        } = self;
+        let Some(_) = table.failing() else {
+            return Ok(Vec::new(alloc));
+        };
+        table.take_failing(&mut steps)
+    }
+
     /// Whether the next failure is at this second, and so many failure moments were made.
     fn is_next(&self, second: i64, made: u64) -> bool {
         self.table.made() == made && self.table.failing() == moment(second, Phase::At)
     }
 }
 
-fn line(i: u32, j: u32) -> Form {
+pub fn line(i: u32, j: u32) -> Form {
     Form::Line {
         dx: 1,
         dy: 0,
@@ -177,6 +193,29 @@ fn whole(second: i64) -> Moment
     Moment {
         at: ratio(second, 1),
         phase: Phase::At,
+    }
+}
+
+/// Whether the fact that the second point is to the right of the first fails at 5, and is then given
+/// out alone.
+fn fails_at_five<L: Ledger>(
+    alloc: Global,
+    motions: &Motions,
+    blank: Blank,
+) -> Result<bool, NoMemory>
+    requires name { blank.name ≡ L.name }
+    requires parts { blank.parts ≡ L.parts }
+    requires some { 0 < L.parts }
+{
+    let trial = Trial::<L>::begin(alloc, blank).bear(line(0, 1), motions, 0)?;
+    let is_alone = trial.table.live() == 1 && trial.is_next(5, 1);
+    Ok(is_alone && is_the_fact(&trial.take()?))
+}
+
+fn is_the_fact(taken: &[Owned]) -> bool {
+    match taken {
+        [one] => one.structure == 0 && one.part == 0 && one.fact.sign == Sign::Plus,
+        _ => false,
     }
 }
 
@@ -251,6 +290,15 @@ fn points(alloc: Global, second: Motion, fourth: Motion) -> Result<Motions, NoMe
     all.set(2, Motion::new(30, 0, -1, 0));
     all.set(3, fourth);
     Ok(all)
+}
+
+#[test]
+fn a_table_gives_its_failing_fact(rt: HostRuntime) -> Result<(), Fail> {
+    let mut motions = Motions::new(rt.alloc(), 1)?;
+    motions.set(0, Motion::new(0, 0, 1, 0));
+    motions.set(1, Motion::new(10, 0, -1, 0));
+    assert!(rt; fails_at_five::<Brand>(rt.alloc(), &motions, Blank::new(1))?);
+    Ok(())
 }
 
 #[test]
