@@ -1,5 +1,5 @@
 -- Octants whose points enter, leave and move.
-use Rattle.std.proofs.Common.{◌≡◌, ◌≢◌, ◌⊎◌, inl, inr, refl, sym, ap, ◌∙◌, subst, List, ◌∷◌, ℕ, ◌^◌, ◌<◌, length, true, false, arith}
+use Rattle.std.proofs.Common.{◌≡◌, ◌≢◌, ◌⊎◌, inl, inr, refl, sym, ap, ◌∙◌, subst, List, ℕ, ◌^◌, ◌<◌, length, true, false, arith}
 use Rattle.std.specs.Prelude.{Option, Some, None, is_some, slice_set}
 use Rattle.std.proofs.lemmas.Bool.{cases_eq}
 use Rattle.std.proofs.lemmas.List.{get_or-set_same, get_or-set_other, length-set}

@@ -7,7 +7,7 @@ use Rattle.kin_motion.specs.Kinetics.{HasChanged, ListsFailing}
 use Rattle.kin_motion.specs.Scene.{Scene, Holds}
 use Rattle.kin_motion.specs.Sets.{ListsExactly}
 use Rattle.kin_motion.proofs.SetLaws.{exactly_both, exactly_in_words}
-use Rattle.kin_cert.proofs.SamePlaced.{there_or_not}
+use Rattle.kin_fail.proofs.SamePlaced.{there_or_not}
 
 -- the facts without the dropped ones, and with the born ones, are the new ones
 pub facts_after : (facts kept old new : List Placed) (report : Change) → ListsExactly facts (Contains old)

@@ -7,7 +7,7 @@ ghost use Rattle.kin_motion.specs.Forms.{IsAskable};
 ghost use Rattle.kin_motion.specs.Numbers.{IsIn};
 
 use crate::fault::Fault;
-use kin_cert::Now;
+use kin_fail::Now;
 use kin_motion::form::Form;
 use kin_motion::motion::Motions;
 use kin_motion::signs::Signs;

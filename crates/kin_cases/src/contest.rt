@@ -8,7 +8,7 @@ use crate::driver::Driver;
 use crate::fault::Fault;
 use crate::spares::SparesAbove;
 use crate::watch::{Tally, Watch};
-use kin_cert::Now;
+use kin_fail::Now;
 use kin_motion::{Motions, Placed};
 use kin_num::{Moment, Steps};
 use kin_tourney::{Along, Tourney};

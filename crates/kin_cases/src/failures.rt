@@ -4,8 +4,8 @@ ghost use Rattle.std.specs.Prelude.{◌≡◌, ◌<◌};
 
 use crate::ask::is_askable;
 use crate::fault::Fault;
-use kin_cert::Now;
-use kin_cert::first_fail::first_fail;
+use kin_fail::Now;
+use kin_fail::first_fail::first_fail;
 use kin_instant::order::compare_moments;
 use kin_instant::sign::sign_at;
 use kin_motion::fact::Placed;
@@ -14,6 +14,10 @@ use kin_num::{Moment, Steps};
 use std::cmp::Ordering;
 use std::marker::Brand;
 use std::sync::ledger::{Blank, Ledger};
+
+/// How many failure moments were passed, and how often a sign was asked for: in all, and with the
+/// caller's counter.
+pub type Passed = (u32, u64, u64);
 
 /// When a live fact fails first.
 fn failure_of<L: Ledger>(

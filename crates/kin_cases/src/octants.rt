@@ -10,7 +10,7 @@ use crate::driver::Driver;
 use crate::fault::Fault;
 use crate::spares::SparesLeaving;
 use crate::watch::{Tally, Watch};
-use kin_cert::Now;
+use kin_fail::Now;
 use kin_list::Mark;
 use kin_motion::{Motion, Motions, Placed};
 use kin_num::{Moment, Steps};

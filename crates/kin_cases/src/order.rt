@@ -8,7 +8,7 @@ use crate::driver::Driver;
 use crate::fault::Fault;
 use crate::spares::SparesNone;
 use crate::watch::{Tally, Watch};
-use kin_cert::Now;
+use kin_fail::Now;
 use kin_list::KinList;
 use kin_motion::{Motion, Motions, Placed};
 use kin_num::{Moment, NoMemory, Steps};

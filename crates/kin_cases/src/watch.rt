@@ -3,7 +3,7 @@
 ghost use Rattle.std.specs.Prelude.{◌≡◌, ◌+◌};
 ghost use Rattle.kin_num.specs.Canonical.{IsCanonical};
 
-use kin_cert::Now;
+use kin_fail::Now;
 use kin_motion::form::Form;
 use kin_motion::motion::Motions;
 use kin_motion::signs::Signs;

@@ -1,6 +1,6 @@
 -- A dropped fact, or a born one, that goes by itself, and the rest of its change.
 use Rattle.std.proofs.Common.{◌≡◌, ℕ, suc, ◌+◌, ◌*◌, ◌≤◌, ◌↔◌, cond, List, ◌∷◌, length, get_or, refl, sym, ap, subst, ◌∙◌, inl, inr, arith}
-use Rattle.kin_basics.proofs.Members.{contains_head}
+use Rattle.kin_algebra.proofs.Members.{contains_head}
 use Rattle.std.proofs.lemmas.List.{get_or_default}
 use Rattle.std.proofs.lemmas.Nat.{mul-le}
 use Rattle.std.specs.List.{Contains}

@@ -10,7 +10,7 @@ use Rattle.kin_num.specs.declared.instant.Moment.{Moment}
 use Rattle.kin_queue.specs.Agenda.{IsLeast}
 use Rattle.kin_cert.specs.Entries.{Entry}
 use Rattle.kin_cert.specs.Facts.{LiveFact}
-use Rattle.kin_cert.specs.Rank.{padded_rank}
+use Rattle.kin_fail.specs.Rank.{padded_rank}
 use Rattle.kin_cert.specs.Taken.{NoneWaits, NoneFails, IsLeastFailure}
 use Rattle.kin_cert.specs.Layout.{IsTable, live_fact, live_in, entry_at, queued_at, waiting, HasSlot, NoneTwice, IsDue, IsDueAt, NoneDue, HasGiven}
 use Rattle.kin_cert.proofs.Slots.{live-there, live-from}

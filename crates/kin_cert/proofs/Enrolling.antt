@@ -6,12 +6,12 @@ use Rattle.indexmap.specs.IndexMap.{IndexMap, get as look_up}
 use Rattle.kin_motion.specs.declared.form.Form.{Form}
 use Rattle.kin_cert.specs.Entries.{Entry}
 use Rattle.kin_cert.specs.declared.holder.Holder.{Holder}
-use Rattle.kin_cert.specs.declared.owned.Owned.{Owned}
+use Rattle.kin_fail.specs.declared.owned.Owned.{Owned}
 use Rattle.kin_cert.specs.Place.{place_of}
-use Rattle.kin_cert.specs.Rank.{padded_rank}
-use Rattle.kin_cert.specs.Layout.{entry_at, entry_rank, owned_rank, owned_place, is_rank, fresh, HasSlot, IsNotFound}
+use Rattle.kin_fail.specs.Rank.{padded_rank, is_rank, owned_rank}
+use Rattle.kin_cert.specs.Layout.{entry_at, entry_rank, owned_place, fresh, HasSlot, IsNotFound}
 use Rattle.kin_cert.specs.Rolls.{is_place, IsKnownBy, IsShared, IsOther, IsRoll, IsIdOf, IsStruck, HoldsPlace, SharesPlace, IsEnrolled, MayHaveLeft}
-use Rattle.kin_cert.proofs.Ranks.{rank_same, rank_itself, rank_differs}
+use Rattle.kin_fail.proofs.Ranks.{rank_same, rank_itself, rank_differs}
 use Rattle.kin_cert.proofs.Places.{some_none, place_same, place_itself, place_differs, rank-place_of, known-once, kept-known, here, elsewhere, stays-shared, left-was-known, left-known, left-shared}
 use Rattle.kin_cert.proofs.Rolls.{unlisted, same-index}
 

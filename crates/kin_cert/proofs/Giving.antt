@@ -1,18 +1,19 @@
 -- Facts given out one by one.
 use Rattle.std.proofs.Common.{◌≡◌, ◌≢◌, Bool, true, false, ℤ, List, [], ◌∷◌, ◌++◌, get_or, IsTrue, refl, sym, ap, subst, ◌∙◌, ◌⊎◌, inl, inr, arith}
-use Rattle.kin_basics.proofs.Members.{contains_none}
+use Rattle.kin_algebra.proofs.Members.{contains_none}
 use Rattle.std.proofs.lemmas.List.Elements.{Contains-get_or, Contains-push, Contains-push_cases, Contains-append_left}
 use Rattle.std.specs.List.{Contains, AllPairs}
 use Rattle.std.proofs.lemmas.List.Quantifiers.{all_pairs_push}
 use Rattle.kin_num.specs.declared.instant.Moment.{Moment}
 use Rattle.kin_motion.specs.Live.{Certificate}
-use Rattle.kin_cert.specs.declared.owned.Owned.{Owned}
-use Rattle.kin_cert.specs.Facts.{LiveFact, NoneAlike, IsAt, certificate_of}
+use Rattle.kin_fail.specs.declared.owned.Owned.{Owned}
+use Rattle.kin_fail.specs.Blocks.{certificate_of}
+use Rattle.kin_cert.specs.Facts.{LiveFact, NoneAlike, IsAt}
 use Rattle.kin_cert.specs.Taken.{NoneWaits}
-use Rattle.kin_cert.specs.Layout.{IsDue, HasGiven, IsGivenUpTo, owned_rank, is_rank}
+use Rattle.kin_fail.specs.Rank.{is_rank, padded_rank, owned_rank}
+use Rattle.kin_cert.specs.Layout.{IsDue, HasGiven, IsGivenUpTo}
 use Rattle.kin_cert.proofs.Changes.{once-same}
-use Rattle.kin_cert.proofs.Ranks.{rank_names, rank_same, rank_itself}
-use Rattle.kin_cert.specs.Rank.{padded_rank}
+use Rattle.kin_fail.proofs.Ranks.{rank_names, rank_same, rank_itself}
 
 contradicts : (b : Bool) → b ≡ false → IsTrue b → ⊥
 contradicts b f t = let both : false ≡ true = sym f ∙ t in absurd cc

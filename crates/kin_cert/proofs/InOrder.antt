@@ -7,13 +7,13 @@ use Rattle.std.specs.Ordering.{int_cmp, ordering_reverse}
 use Rattle.std.specs.Cmp.Lexicographic.{slice_cmp}
 use Rattle.std.proofs.lemmas.Cmp.{int_cmp_total, lists_total}
 use Rattle.std.proofs.lemmas.List.Sorted.{IsPermutation-refl, IsPermutation-cons, IsPermutation-trans, IsPermutation-sym, IsPermutation-middle, Contains-permutation}
-use Rattle.kin_basics.proofs.Members.{contains_head, contains_tail}
+use Rattle.kin_algebra.proofs.Members.{contains_head, contains_tail}
 use Rattle.kin_motion.specs.Numbers.{IsChain}
 use Rattle.kin_motion.specs.Sets.{AreDistinct}
 use Rattle.kin_motion.proofs.SetLaws.{distinct_none, distinct_cons}
-use Rattle.kin_cert.specs.declared.owned.Owned.{Owned}
+use Rattle.kin_fail.specs.declared.owned.Owned.{Owned}
 use Rattle.kin_cert.specs.Taken.{is_taken_before}
-use Rattle.kin_cert.specs.Layout.{owned_rank}
+use Rattle.kin_fail.specs.Rank.{owned_rank}
 use Rattle.kin_cert.proofs.Sorted.{listed, equal_ranks}
 
 abbrev Apart : Owned → Owned → Type 0

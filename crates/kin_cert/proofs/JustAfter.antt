@@ -21,8 +21,8 @@ use Rattle.kin_motion.specs.Course.{Course}
 use Rattle.kin_motion.specs.Forms.{polynomial_of}
 use Rattle.kin_motion.specs.Moments.{HoldsAt, FailsFirst}
 use Rattle.kin_motion.specs.Scene.{scene_at}
-use Rattle.kin_cert.proofs.Failing.{zero_everywhere}
-use Rattle.kin_cert.proofs.Seen.{holds-seen, seen-holds}
+use Rattle.kin_fail.proofs.Failing.{zero_everywhere}
+use Rattle.kin_fail.proofs.Seen.{holds-seen, seen-holds}
 
 -- an instant, and just after it
 module _ (w : Shape) (c : IsCanonical w) where

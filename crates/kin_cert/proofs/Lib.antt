@@ -1,9 +1,7 @@
 pub mod Changes
 pub mod Dues
-pub mod Failing
 pub mod Giving
 pub mod Posting
-pub mod Ranks
 pub mod Places
 pub mod Rolls
 pub mod Succession
@@ -20,10 +18,6 @@ pub mod Sorted
 pub mod InOrder
 pub mod Tables
 pub mod Taking
-pub mod FailureRoots
-pub mod LeastFailure
-pub mod JournalExistence
-pub mod SamePlaced
 pub mod TellLaws
 pub mod ToldLaws
 pub mod NextLaws
@@ -33,4 +27,3 @@ pub mod Costs
 pub mod QueueSizes
 pub mod Ungiven
 pub mod Paying
-pub mod Trials

@@ -14,9 +14,10 @@ use Rattle.kin_motion.specs.Moments.{HoldsAt, FailsFirst}
 use Rattle.kin_motion.specs.Numbers.{IsChain}
 use Rattle.kin_motion.specs.Scene.{Scene}
 use Rattle.kin_motion.proofs.SetLaws.{contains_none, contains_mapped, contains_map}
-use Rattle.kin_cert.specs.declared.owned.Owned.{Owned}
-use Rattle.kin_cert.specs.Facts.{LiveFact, certificate_of}
-use Rattle.kin_cert.specs.Failures.{IsFirstFailure}
+use Rattle.kin_fail.specs.declared.owned.Owned.{Owned}
+use Rattle.kin_fail.specs.Blocks.{certificate_of}
+use Rattle.kin_cert.specs.Facts.{LiveFact}
+use Rattle.kin_fail.specs.Failures.{IsFirstFailure}
 use Rattle.kin_cert.specs.Taken.{NoneFails, NoneFailsUntil, IsLeastFailure, HasTaken, is_taken_before}
 use Rattle.kin_cert.proofs.Places.{some_none}
 use Rattle.kin_cert.specs.Told.{certificates_of, IsTimed}

@@ -6,12 +6,12 @@ use Rattle.std.specs.Map.{lookup_key}
 use Rattle.indexmap.specs.IndexMap.{IndexMap, get as look_up}
 use Rattle.kin_motion.specs.declared.form.Form.{Form}
 use Rattle.kin_cert.specs.declared.holder.Holder.{Holder}
-use Rattle.kin_cert.specs.declared.owned.Owned.{Owned}
+use Rattle.kin_fail.specs.declared.owned.Owned.{Owned}
 use Rattle.kin_cert.specs.Place.{place_of}
-use Rattle.kin_cert.specs.Rank.{padded_rank}
-use Rattle.kin_cert.specs.Layout.{owned_rank, owned_place}
+use Rattle.kin_fail.specs.Rank.{padded_rank, owned_rank}
+use Rattle.kin_cert.specs.Layout.{owned_place}
 use Rattle.kin_cert.specs.Rolls.{is_place, IsKnownBy, IsShared, HasHolder, MayHaveLeft}
-use Rattle.kin_cert.proofs.Ranks.{both_hold, rank_names}
+use Rattle.kin_fail.proofs.Ranks.{both_hold, rank_names}
 
 pub some_none : {A : Type 0} (x : A) → Some x ≡ None → ⊥
 some_none x e = cc

@@ -4,8 +4,9 @@ use Rattle.std.proofs.lemmas.List.{append-nil, map-append}
 use Rattle.std.proofs.lemmas.List.Elements.{filter-append}
 use Rattle.kin_num.specs.declared.instant.Moment.{Moment}
 use Rattle.kin_motion.specs.declared.fact.Placed.{Placed}
-use Rattle.kin_cert.specs.declared.owned.Owned.{Owned}
-use Rattle.kin_cert.specs.Facts.{LiveFact, NoneAlike, certificate_of}
+use Rattle.kin_fail.specs.declared.owned.Owned.{Owned}
+use Rattle.kin_fail.specs.Blocks.{certificate_of}
+use Rattle.kin_cert.specs.Facts.{LiveFact, NoneAlike}
 use Rattle.kin_cert.specs.Layout.{HasGiven, IsDue, IsDueAt}
 use Rattle.kin_cert.specs.Mails.{HasPosted, IsPostedUpTo, gathered, is_of, placed_of, told_to}
 use Rattle.kin_cert.specs.Taken.{IsLeastFailure, NoneWaits}

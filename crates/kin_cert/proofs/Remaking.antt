@@ -4,7 +4,7 @@ use Rattle.std.specs.Prelude.{slice_get}
 use Rattle.std.proofs.lemmas.Option.{same_Some, none-some}
 use Rattle.std.proofs.lemmas.List.Sums.{sum_by-cons}
 use Rattle.std.specs.List.{Contains}
-use Rattle.kin_basics.proofs.Members.{contains_none, contains_head, contains_tail, contains_cases}
+use Rattle.kin_algebra.proofs.Members.{contains_none, contains_head, contains_tail, contains_cases}
 use Rattle.kin_num.specs.declared.instant.Moment.{Moment}
 use Rattle.kin_motion.specs.Forms.{names, IsAskable}
 use Rattle.kin_motion.specs.Scene.{Scene, Holds}
@@ -13,7 +13,7 @@ use Rattle.kin_motion.proofs.SetLaws.{distinct_head, distinct_tail}
 use Rattle.kin_pointers.specs.Pointing.{Pointing, AreSlotsOf}
 use Rattle.kin_cert.specs.Entries.{Entry}
 use Rattle.kin_cert.specs.Facts.{LiveFact}
-use Rattle.kin_cert.specs.Failures.{IsFirstFailure}
+use Rattle.kin_fail.specs.Failures.{IsFirstFailure}
 use Rattle.kin_cert.specs.Layout.{entry_at, live_fact, live_in, fresh, timed, HasSlot}
 use Rattle.kin_cert.specs.Names.{target_of, slot_number, numbers_at, owned_in, IsIndex, AreNamed, ListsSlotsOf, MayRenew, IsRenewed, AreRenewed}
 use Rattle.kin_cert.specs.Remade.{names_number, IsRemade, HasRemade}

@@ -7,13 +7,13 @@ use Rattle.std.specs.List.{Contains}
 use Rattle.std.specs.Ordering.{nat_cmp}
 use Rattle.std.specs.FinMap as map
 use Rattle.std.specs.FinMap.{FinMap}
-use Rattle.kin_basics.proofs.Members.{contains_none, contains_head, contains_cases}
+use Rattle.kin_algebra.proofs.Members.{contains_none, contains_head, contains_cases}
 use Rattle.kin_num.specs.declared.instant.Moment.{Moment}
 use Rattle.kin_motion.specs.Scene.{Scene}
 use Rattle.kin_cert.specs.Entries.{Entry}
 use Rattle.kin_cert.specs.declared.entry.Seat.{Seat}
-use Rattle.kin_cert.specs.declared.owned.Owned.{Owned}
-use Rattle.kin_cert.specs.Failures.{IsFirstFailure}
+use Rattle.kin_fail.specs.declared.owned.Owned.{Owned}
+use Rattle.kin_fail.specs.Failures.{IsFirstFailure}
 use Rattle.kin_cert.specs.Layout.{entry_at, live_in, fresh, timed, HasSlot, IsTable, IsTimed}
 use Rattle.kin_cert.specs.Names.{owned_in, HaveSameFacts, IsFreed, IsRenewed, HasRenewed, AreRenewed}
 use Rattle.kin_cert.proofs.Slots.{live-set-count}

@@ -1,6 +1,6 @@
 -- A born fact in the stead of a dropped one.
 use Rattle.std.proofs.Common.{◌≡◌, ℕ, suc, ◌+◌, ◌<◌, ℤ, List, ◌∷◌, length, get_or, set, Option, Some, None, refl, sym, ap, subst, ◌∙◌, inl, inr, arith}
-use Rattle.kin_basics.proofs.Members.{contains_head}
+use Rattle.kin_algebra.proofs.Members.{contains_head}
 use Rattle.std.proofs.lemmas.Option.{slice_get-get_or, same_Some}
 use Rattle.std.proofs.lemmas.List.{get_or_default}
 use Rattle.std.specs.List.{Contains}
@@ -13,10 +13,11 @@ use Rattle.kin_motion.specs.Live.{Certificate}
 use Rattle.kin_motion.specs.Scene.{Scene}
 use Rattle.kin_cert.specs.Entries.{Entry}
 use Rattle.kin_cert.specs.declared.entry.Seat.{Seat}
-use Rattle.kin_cert.specs.declared.owned.Owned.{Owned}
+use Rattle.kin_fail.specs.declared.owned.Owned.{Owned}
 use Rattle.kin_cert.specs.Facts.{LiveFact, NoneAlike}
 use Rattle.kin_cert.specs.Applied.{IsOf, IsLiveIn, MayApply, IsBorn, HasApplied}
-use Rattle.kin_cert.specs.Layout.{entry_at, owned_rank, live_fact, live_in, held, fresh, timed, HasSlot, IsTakenOver, IsTimed, HasReplaced, HasBorn}
+use Rattle.kin_fail.specs.Rank.{owned_rank}
+use Rattle.kin_cert.specs.Layout.{entry_at, live_fact, live_in, held, fresh, timed, HasSlot, IsTakenOver, IsTimed, HasReplaced, HasBorn}
 use Rattle.kin_cert.proofs.Changes.{is-at, once-same}
 use Rattle.kin_cert.proofs.Slots.{live-from, live-set-count}
 use Rattle.kin_cert.proofs.Tables.{at-rank, rank-of-live, table-once, has-slot, gained-exactly, replaced-exactly}

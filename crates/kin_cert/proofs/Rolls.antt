@@ -6,10 +6,10 @@ use Rattle.indexmap.specs.IndexMap.{IndexMap, get as look_up}
 use Rattle.kin_motion.specs.declared.form.Form.{Form}
 use Rattle.kin_cert.specs.Entries.{Entry}
 use Rattle.kin_cert.specs.declared.holder.Holder.{Holder}
-use Rattle.kin_cert.specs.declared.owned.Owned.{Owned}
+use Rattle.kin_fail.specs.declared.owned.Owned.{Owned}
 use Rattle.kin_cert.specs.Place.{place_of}
-use Rattle.kin_cert.specs.Rank.{padded_rank}
-use Rattle.kin_cert.specs.Layout.{entry_at, entry_rank, owned_rank, owned_place, is_rank, fresh, HasSlot, NoneTwice, IsNotFound}
+use Rattle.kin_fail.specs.Rank.{padded_rank, is_rank, owned_rank}
+use Rattle.kin_cert.specs.Layout.{entry_at, entry_rank, owned_place, fresh, HasSlot, NoneTwice, IsNotFound}
 use Rattle.kin_cert.specs.Rolls.{is_place, IsKnownBy, IsShared, IsRoll, IsFirstAt, IsIdOf, HasNoId, MayFollow, IsSameIndex}
 use Rattle.kin_cert.proofs.Places.{some_none, place-rank, rank-place, rank-place_of, known-once, kept-known, kept-shared}
 

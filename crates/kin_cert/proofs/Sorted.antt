@@ -11,10 +11,9 @@ use Rattle.kin_motion.specs.declared.form.Form.TheVariants.{Line, Turn, Slope, D
 use Rattle.kin_motion.specs.Journal.{is_less_rank, form_rank}
 use Rattle.kin_motion.specs.Numbers.{IsChain}
 use Rattle.kin_motion.proofs.JournalLaws.{by_first, by_rest}
-use Rattle.kin_cert.specs.declared.owned.Owned.{Owned}
-use Rattle.kin_cert.specs.Rank.{padded_rank, padding}
+use Rattle.kin_fail.specs.declared.owned.Owned.{Owned}
+use Rattle.kin_fail.specs.Rank.{padded_rank, padding, owned_rank}
 use Rattle.kin_cert.specs.Taken.{is_taken_before}
-use Rattle.kin_cert.specs.Layout.{owned_rank}
 
 is_less : (x y : ℤ) → x <ℤ y → (b : Bool) → int_lt x y ≡ b → b ≡ true
 is_less x y h true e = refl

@@ -4,9 +4,10 @@ use Rattle.std.specs.Prelude.{is_some}
 use Rattle.std.proofs.lemmas.Option.{same_Some}
 use Rattle.indexmap.specs.IndexMap.{IndexMap, get as look_up}
 use Rattle.kin_cert.specs.declared.holder.Holder.{Holder}
-use Rattle.kin_cert.specs.declared.owned.Owned.{Owned}
+use Rattle.kin_fail.specs.declared.owned.Owned.{Owned}
 use Rattle.kin_cert.specs.Entries.{Entry}
-use Rattle.kin_cert.specs.Layout.{entry_at, entry_rank, owned_place, owned_rank, is_rank, fresh, queued_at, HasSlot, IsTakenOver}
+use Rattle.kin_fail.specs.Rank.{is_rank, owned_rank}
+use Rattle.kin_cert.specs.Layout.{entry_at, entry_rank, owned_place, fresh, queued_at, HasSlot, IsTakenOver}
 use Rattle.kin_cert.specs.Rolls.{is_place, IsFirstAt, IsKnownBy, IsRoll, MayFollow}
 use Rattle.kin_cert.proofs.Places.{rank-place_of}
 use Rattle.kin_cert.proofs.Rolls.{once, follows-unlisted, only-there, taken-over-roll}

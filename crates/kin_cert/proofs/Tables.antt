@@ -13,11 +13,11 @@ use Rattle.kin_motion.specs.declared.form.Form.{Form}
 use Rattle.kin_motion.specs.Scene.{Scene}
 use Rattle.kin_queue.proofs.Entries.{same, same_is, same_itself, differ}
 use Rattle.kin_cert.specs.Entries.{Entry}
-use Rattle.kin_cert.specs.declared.owned.Owned.{Owned}
+use Rattle.kin_fail.specs.declared.owned.Owned.{Owned}
 use Rattle.kin_cert.specs.Facts.{LiveFact, IsAt, NoneAlike}
-use Rattle.kin_cert.specs.Rank.{padded_rank}
+use Rattle.kin_fail.specs.Rank.{padded_rank}
 use Rattle.kin_cert.specs.Layout.{IsTable, live_fact, live_in, entry_at, entry_rank, queued_at, with, fresh, timed, HasSlot, NoneTwice, IsNotFound, IsTimed}
-use Rattle.kin_cert.proofs.Ranks.{rank_names}
+use Rattle.kin_fail.proofs.Ranks.{rank_names}
 use Rattle.kin_cert.proofs.Places.{some_none}
 use Rattle.kin_cert.proofs.Slots.{live-there, live-from, live-once, IsEntryOf}
 

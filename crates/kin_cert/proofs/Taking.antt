@@ -12,12 +12,14 @@ use Rattle.std.specs.Bool.{Decides}
 use Rattle.kin_cert.proofs.Changes.{some-element}
 use Rattle.kin_num.specs.declared.instant.Moment.{Moment}
 use Rattle.kin_motion.specs.Live.{Certificate}
-use Rattle.kin_cert.specs.declared.owned.Owned.{Owned}
-use Rattle.kin_cert.specs.Facts.{LiveFact, certificate_of}
+use Rattle.kin_fail.specs.declared.owned.Owned.{Owned}
+use Rattle.kin_fail.specs.Blocks.{certificate_of}
+use Rattle.kin_cert.specs.Facts.{LiveFact}
 use Rattle.kin_motion.specs.Numbers.{IsChain}
 use Rattle.kin_cert.specs.Taken.{IsLeastFailure, IsMarked, HasTaken, HasGivenOut, is_taken_before}
-use Rattle.kin_cert.specs.Layout.{IsDueAt, IsGivenUpTo, owned_rank, is_rank}
-use Rattle.kin_cert.proofs.Ranks.{rank_same, rank_itself}
+use Rattle.kin_fail.specs.Rank.{is_rank, owned_rank}
+use Rattle.kin_cert.specs.Layout.{IsDueAt, IsGivenUpTo}
+use Rattle.kin_fail.proofs.Ranks.{rank_same, rank_itself}
 use Rattle.kin_cert.proofs.Sorted.{sorted-chain}
 use Rattle.kin_cert.proofs.InOrder.{in_order, apart_distinct}
 

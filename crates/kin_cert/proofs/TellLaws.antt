@@ -15,7 +15,7 @@ use Rattle.kin_cert.specs.Facts.{LiveFact}
 use Rattle.kin_cert.specs.Applied.{IsLiveIn, IsAmong, AreUnlike, MayApply}
 use Rattle.kin_cert.proofs.Changes.{is-at}
 use Rattle.kin_cert.specs.Told.{nothing, MayTell}
-use Rattle.kin_cert.proofs.SamePlaced.{same_placed}
+use Rattle.kin_fail.proofs.SamePlaced.{same_placed}
 
 -- what holds of all items, item by item
 all_of : {A : Type 0} (xs : List A) (which : A → Type 0) → ((x : A) → Contains xs x → which x) → All which xs

@@ -8,12 +8,12 @@ use Rattle.kin_motion.specs.Kinetics.{HasChanged}
 use Rattle.kin_motion.specs.Live.{Certificate, owned_by}
 use Rattle.kin_motion.specs.Scene.{Scene}
 use Rattle.kin_motion.proofs.SetLaws.{contains_mapped, contains_map, distinct_mapped}
-use Rattle.kin_cert.specs.Failures.{IsFirstFailure}
+use Rattle.kin_fail.specs.Failures.{IsFirstFailure}
 use Rattle.kin_cert.specs.Facts.{LiveFact, NoneAlike}
 use Rattle.kin_cert.specs.Applied.{IsAmong, IsBorn, HasApplied}
 use Rattle.kin_cert.proofs.Changes.{is-at, once-same}
 use Rattle.kin_cert.specs.Told.{certificates_of, nothing, HasFactsOf, IsTimed, MayTell, AreNew, IsTold}
-use Rattle.kin_cert.proofs.SamePlaced.{there_or_not}
+use Rattle.kin_fail.proofs.SamePlaced.{there_or_not}
 use Rattle.kin_cert.proofs.TellLaws.{dropped_all, born_all}
 
 same_owned : (k : ℕ) (p q : Placed) → owned_by k p ≡ owned_by k q → p ≡ q

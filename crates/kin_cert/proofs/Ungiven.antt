@@ -3,7 +3,7 @@ use Rattle.std.proofs.Common.{◌≡◌, ℕ, ◌+◌, ◌<◌, ◌≤◌, Bool,
 use Rattle.std.specs.List.{Contains}
 use Rattle.std.proofs.lemmas.List.Folds.{Any-from_list_any, list_any_at}
 use Rattle.std.proofs.lemmas.List.Sums.{sum_by-cons, count_by_more_no, count_by_more_yes}
-use Rattle.kin_basics.proofs.Members.{contains_head, contains_tail}
+use Rattle.kin_algebra.proofs.Members.{contains_head, contains_tail}
 use Rattle.kin_num.specs.declared.instant.Moment.{Moment}
 use Rattle.kin_motion.specs.declared.fact.Placed.{Placed}
 use Rattle.kin_motion.specs.declared.form.Form.{Form}
@@ -12,9 +12,9 @@ use Rattle.kin_cert.specs.declared.entry.Seat.{Seat}
 use Rattle.kin_cert.specs.Facts.{LiveFact}
 use Rattle.kin_cert.specs.Applied.{IsOf}
 use Rattle.kin_cert.specs.Cost.{is_of, is_ungiven, ungiven}
-use Rattle.kin_cert.specs.Layout.{held, live_fact, live_in, owned_rank, is_rank, IsSeatOf}
-use Rattle.kin_cert.specs.Rank.{padded_rank}
-use Rattle.kin_cert.proofs.Ranks.{both_hold, rank_names, rank_same, rank_itself}
+use Rattle.kin_fail.specs.Rank.{is_rank, padded_rank, owned_rank}
+use Rattle.kin_cert.specs.Layout.{held, live_fact, live_in, IsSeatOf}
+use Rattle.kin_fail.proofs.Ranks.{both_hold, rank_names, rank_same, rank_itself}
 use Rattle.kin_cert.proofs.Slots.{live-there}
 use Rattle.kin_cert.proofs.Tables.{at-rank}
 

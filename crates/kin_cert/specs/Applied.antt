@@ -7,7 +7,7 @@ use Rattle.kin_motion.specs.Kinetics.{AreDistinct}
 use Rattle.kin_motion.specs.Live.{owned_by}
 use Rattle.kin_motion.specs.Scene.{Scene}
 use Rattle.kin_motion.specs.Deltas.{Change}
-use Rattle.kin_cert.specs.Failures.{IsFirstFailure}
+use Rattle.kin_fail.specs.Failures.{IsFirstFailure}
 use Rattle.kin_cert.specs.Facts.{LiveFact, IsAt}
 
 -- the live fact has the owner and the form of this one

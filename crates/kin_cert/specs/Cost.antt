@@ -6,7 +6,7 @@ use lib.Pointwise.{pointwise}
 use Rattle.kin_motion.specs.declared.fact.Placed.{Placed}
 use Rattle.kin_motion.specs.Deltas.{Change}
 use Rattle.kin_cert.specs.Facts.{LiveFact}
-use Rattle.kin_cert.specs.Rank.{padded_rank}
+use Rattle.kin_fail.specs.Rank.{padded_rank}
 
 -- no call of a queue of at most n entries compares moments more than r times; the least such r is the greatest with 2^r ≤ (n + 1)^2
 abbrev pub IsEnough : ℕ → ℕ → Type 0

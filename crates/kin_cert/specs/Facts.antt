@@ -4,7 +4,6 @@ use Rattle.std.specs.List.{AllPairs}
 use Rattle.kin_num.specs.declared.instant.Moment.{Moment}
 use Rattle.kin_motion.specs.declared.form.Form.{Form}
 use Rattle.kin_motion.specs.Live.{Certificate}
-use Rattle.kin_cert.specs.declared.owned.Owned.{Owned}
 
 -- a live fact: whose it is, when it fails first, and whether it was given out and waits to be dropped
 pub record LiveFact : Type 0 where
@@ -30,7 +29,3 @@ AreAlike k l = IsAt l.certificate.structure l.certificate.placed.part l.certific
 -- no owner has a form twice
 abbrev pub NoneAlike : List LiveFact → Type 0
 NoneAlike = AllPairs (λ k l. ¬ (AreAlike k l))
-
--- a fact with its owner, as the definition of the live facts has it
-abbrev pub certificate_of : Owned → Certificate
-certificate_of o = record { structure = o.structure; placed = record { part = o.part; fact = o.fact } }

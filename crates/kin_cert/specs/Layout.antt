@@ -1,10 +1,9 @@
 -- How a table lies in memory: a roll of entries by id, and a queue of ids. No public clause cites this module.
 use Rattle.std.specs.Prelude.{◌≡◌, ℕ, Bool, true, false, cond, not, ℤ, List, [], ◌∷◌, Option, Some, None, Contains, ◌↔◌, ◌⊎◌, count_by, IsTrue, ◌≢◌, length, slice_index_or, slice_set, is_some, ◌+◌, ◌≤◌}
 use Rattle.std.specs.List.{AllPairs}
-use Rattle.std.specs.Ordering.{nat_cmp, int_eq}
+use Rattle.std.specs.Ordering.{nat_cmp}
 use Rattle.std.specs.FinMap as map
 use Rattle.std.specs.FinMap.{FinMap}
-use lib.Pointwise.{pointwise}
 use Rattle.kin_num.specs.declared.instant.Moment.{Moment}
 use Rattle.kin_num.specs.Order.{IsEarlier}
 use Rattle.kin_motion.specs.declared.fact.Fact.{Fact}
@@ -12,15 +11,16 @@ use Rattle.kin_motion.specs.declared.fact.Placed.{Placed}
 use Rattle.kin_motion.specs.Scene.{Scene}
 use Rattle.kin_cert.specs.Entries.{Entry}
 use Rattle.kin_cert.specs.declared.entry.Seat.{Seat}
-use Rattle.kin_cert.specs.declared.owned.Owned.{Owned}
-use Rattle.kin_cert.specs.Facts.{Facts, LiveFact, NoneAlike, certificate_of}
+use Rattle.kin_fail.specs.declared.owned.Owned.{Owned}
+use Rattle.kin_fail.specs.Blocks.{certificate_of}
+use Rattle.kin_cert.specs.Facts.{Facts, LiveFact, NoneAlike}
 use Rattle.kin_cert.specs.declared.change.Pending.{Pending}
 use Rattle.kin_motion.specs.Deltas.{Change}
-use Rattle.kin_cert.specs.Failures.{IsFirstFailure}
+use Rattle.kin_fail.specs.Failures.{IsFirstFailure}
 use Rattle.kin_cert.specs.Applied.{IsBorn, IsOf, HasApplied}
 use Rattle.kin_cert.specs.Cost.{IsEnough, TakesAtMost, is_ungiven}
 use Rattle.kin_cert.specs.Place.{place_of}
-use Rattle.kin_cert.specs.Rank.{padded_rank}
+use Rattle.kin_fail.specs.Rank.{padded_rank, owned_rank}
 
 abbrev pub live_fact : Entry → LiveFact
 live_fact e = record { certificate = certificate_of e.owned; fails = e.fails; waits = e.is_waiting }
@@ -33,9 +33,6 @@ live_in (Some e ∷ slots) = live_fact e ∷ live_in slots
 abbrev pub entry_rank : Entry → List ℤ
 entry_rank e = padded_rank e.owned.structure e.owned.part e.owned.fact.form
 
-abbrev pub owned_rank : Owned → List ℤ
-owned_rank o = padded_rank o.structure o.part o.fact.form
-
 -- when the queue has the entry
 abbrev pub queued_at : Option Entry → Option Moment
 queued_at None = None
@@ -45,9 +42,6 @@ queued_at (Some e) = cond e.is_waiting None e.fails
 abbrev pub with : FinMap nat_cmp Moment → ℕ → Option Moment → FinMap nat_cmp Moment
 with moments id None = moments
 with moments id (Some m) = map.insert moments id m
-
-abbrev pub is_rank : List ℤ → List ℤ → Bool
-is_rank = pointwise int_eq
 
 abbrev pub owned_place : Owned → List ℕ
 owned_place o = place_of o.structure o.part o.fact.form

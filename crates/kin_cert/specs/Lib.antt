@@ -1,10 +1,7 @@
-pub mod Rank
 pub mod Place
-pub mod Failures
 pub mod Facts
 pub mod Applied
 pub mod Taken
-pub mod Blocks
 pub mod Entries
 pub mod Layout
 pub mod Rolls

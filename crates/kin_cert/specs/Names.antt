@@ -10,8 +10,8 @@ use Rattle.kin_motion.specs.Scene.{Scene, Holds}
 use Rattle.kin_pointers.specs.Pointing.{Pointing, AreSlotsOf}
 use Rattle.kin_cert.specs.Entries.{Entry}
 use Rattle.kin_cert.specs.declared.entry.Seat.{Seat}
-use Rattle.kin_cert.specs.declared.owned.Owned.{Owned}
-use Rattle.kin_cert.specs.Failures.{IsFirstFailure}
+use Rattle.kin_fail.specs.declared.owned.Owned.{Owned}
+use Rattle.kin_fail.specs.Failures.{IsFirstFailure}
 use Rattle.kin_cert.specs.Layout.{entry_at, live_in, fresh, timed, queued_at, IsTable}
 
 -- at which number a slot points, if it is there and points

@@ -3,7 +3,7 @@ use Rattle.std.specs.Prelude.{◌≡◌, ◌⊎◌, ℕ, ◌+◌, ◌-◌, ◌^�
 use Rattle.kin_num.specs.declared.instant.Moment.{Moment}
 use Rattle.kin_motion.specs.Forms.{names}
 use Rattle.kin_motion.specs.Scene.{Scene}
-use Rattle.kin_cert.specs.Failures.{IsFirstFailure}
+use Rattle.kin_fail.specs.Failures.{IsFirstFailure}
 use Rattle.kin_cert.specs.Facts.{LiveFact, Facts}
 
 -- whether the live fact names the number

@@ -4,12 +4,12 @@ use lib.Pointwise.{pointwise}
 use Rattle.indexmap.specs.IndexMap.{IndexMap, get as look_up}
 use Rattle.kin_motion.specs.declared.form.Form.{Form}
 use Rattle.kin_cert.specs.Entries.{Entry}
-use Rattle.kin_cert.specs.declared.owned.Owned.{Owned}
+use Rattle.kin_fail.specs.declared.owned.Owned.{Owned}
 use Rattle.kin_cert.specs.declared.holder.Holder.{Holder}
 use Rattle.kin_cert.specs.declared.holder.Spot.{Spot}
 use Rattle.kin_cert.specs.Place.{place_of}
-use Rattle.kin_cert.specs.Rank.{padded_rank}
-use Rattle.kin_cert.specs.Layout.{entry_at, entry_rank, is_rank, owned_place, owned_rank}
+use Rattle.kin_fail.specs.Rank.{padded_rank, is_rank, owned_rank}
+use Rattle.kin_cert.specs.Layout.{entry_at, entry_rank, owned_place}
 
 abbrev pub is_place : List ℕ → List ℕ → Bool
 is_place = pointwise nat_eq

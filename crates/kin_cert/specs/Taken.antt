@@ -7,8 +7,9 @@ use Rattle.kin_motion.specs.Live.{Certificate}
 use Rattle.kin_motion.specs.Numbers.{IsChain}
 use Rattle.kin_motion.specs.Journal.{is_less_rank, form_rank}
 use Rattle.kin_motion.specs.Sets.{AreDistinct}
-use Rattle.kin_cert.specs.declared.owned.Owned.{Owned}
-use Rattle.kin_cert.specs.Facts.{LiveFact, certificate_of}
+use Rattle.kin_fail.specs.declared.owned.Owned.{Owned}
+use Rattle.kin_fail.specs.Blocks.{certificate_of}
+use Rattle.kin_cert.specs.Facts.{LiveFact}
 
 -- no fact was given out and waits to be dropped
 abbrev pub NoneWaits : List LiveFact → Type 0

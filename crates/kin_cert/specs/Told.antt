@@ -10,7 +10,7 @@ use Rattle.kin_motion.specs.Live.{Certificate, owned_by}
 use Rattle.kin_motion.specs.Scene.{Scene}
 use Rattle.kin_motion.specs.Sets.{ListsExactly}
 use Rattle.kin_cert.specs.Facts.{LiveFact, NoneAlike}
-use Rattle.kin_cert.specs.Failures.{IsFirstFailure}
+use Rattle.kin_fail.specs.Failures.{IsFirstFailure}
 
 -- the certificates of the live facts
 abbrev pub certificates_of : List LiveFact → List Certificate

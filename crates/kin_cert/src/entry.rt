@@ -1,11 +1,11 @@
 //! Entries of the table.
 
 ghost use Rattle.std.specs.Prelude.{◌≡◌, ◌↔◌, Some, is_some, IsTrue};
-ghost use Rattle.kin_cert.specs.Rank.{padded_rank};
+ghost use Rattle.kin_fail.specs.Rank.{padded_rank};
 ghost use Rattle.kin_cert.specs.Layout.{entry_rank, owned_place, with_fact, held, fresh, timed, waiting, queued_at};
 
-use crate::owned::Owned;
 use crate::place::{Place, place};
+use kin_fail::owned::Owned;
 use kin_motion::fact::{Fact, Placed};
 use kin_motion::form::Form;
 use kin_num::{Instant, Moment, Phase, Shape};

@@ -3,16 +3,16 @@
 ghost use Rattle.std.specs.Prelude.{◌≡◌, ◌⊎◌, ℕ, Some, None, OnOk, OnErr, IfSome, IfNone, IsTrue, ◌↔◌};
 ghost use Rattle.indexmap.specs.IndexMap.{get as look_up};
 ghost use Rattle.kin_cert.specs.Entries.{Entry as Kept};
-ghost use Rattle.kin_cert.specs.Rank.{padded_rank};
-ghost use Rattle.kin_cert.specs.Layout.{entry_at, entry_rank, is_rank, owned_place, owned_rank, held};
+ghost use Rattle.kin_fail.specs.Rank.{padded_rank, is_rank, owned_rank};
+ghost use Rattle.kin_cert.specs.Layout.{entry_at, entry_rank, owned_place, held};
 ghost use Rattle.kin_cert.specs.Rolls.{IsIdOf, HasNoId, IsStruck, MayFollow, IsEnrolled, IsSameIndex};
 
 use crate::entry::Entry;
 use crate::guesses::Guesses;
 use crate::holder::{Holder, hand_over, leave};
 use crate::place::{Place, place, place_number};
-use crate::rank::{Rank, rank};
 use indexmap::IndexMap;
+use kin_fail::rank::{Rank, rank};
 use kin_motion::fact::Placed;
 use kin_motion::form::Form;
 use kin_num::NoMemory;

@@ -3,7 +3,7 @@
 ghost use Rattle.std.specs.Prelude.{◌≡◌, ℕ, ◌<◌, ◌≤◌, [], ◌∷◌, ◌++◌, cond, length, OnOk};
 ghost use Rattle.kin_cert.specs.Mails.{gathered, is_of, placed_of, told_to};
 
-use crate::owned::Owned;
+use kin_fail::owned::Owned;
 use kin_motion::{Letters, Placed};
 use kin_num::NoMemory;
 use std::alloc::Global;

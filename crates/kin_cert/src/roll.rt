@@ -2,18 +2,18 @@
 
 ghost use Rattle.std.specs.Prelude.{◌≡◌, ◌≤◌, length, ◌+◌, [], Some, None, is_some, count_by, OnOk, OnErr, IfOk, IfSome, IfNone, IsSome, slice_set, ⊤};
 ghost use Rattle.kin_cert.specs.Entries.{Entry as Kept};
-ghost use Rattle.kin_cert.specs.Rank.{padded_rank};
-ghost use Rattle.kin_cert.specs.Layout.{entry_at, owned_rank, fresh, waiting, timed, held, HasSlot, NoneTwice, IsFoundAt, IsNotFound, IsSeatOf, IsTakenOver};
+ghost use Rattle.kin_fail.specs.Rank.{padded_rank, owned_rank};
+ghost use Rattle.kin_cert.specs.Layout.{entry_at, fresh, waiting, timed, held, HasSlot, NoneTwice, IsFoundAt, IsNotFound, IsSeatOf, IsTakenOver};
 ghost use Rattle.kin_cert.specs.Names.{form_in, IsFreed};
 
 use crate::entry::{Entry, Seat};
 use crate::guesses::Guesses;
 use crate::holder::Holder;
 use crate::index::{enrol, has_fact, have_one_place, id_of, may_follow, strike};
-use crate::owned::Owned;
 use crate::place::{Place, place};
-use crate::rank::Rank;
 use indexmap::IndexMap;
+use kin_fail::owned::Owned;
+use kin_fail::rank::Rank;
 use kin_motion::fact::Placed;
 use kin_motion::form::Form;
 use kin_num::{Moment, NoMemory, Sign};

@@ -6,15 +6,15 @@ ghost use Rattle.kin_num.specs.Instants.{sign_at};
 ghost use Rattle.kin_motion.specs.Course.{live_of};
 ghost use Rattle.kin_motion.specs.Forms.{IsAskable};
 ghost use Rattle.kin_motion.specs.Scene.{scene_at, Holds};
-ghost use Rattle.kin_cert.specs.Failures.{seen_by};
+ghost use Rattle.kin_fail.specs.Failures.{seen_by};
 ghost use Rattle.kin_cert.specs.Layout.{entry_at, live_in, IsTable, IsTimedFact};
 ghost use Rattle.kin_cert.specs.Cost.{TakesAtMost};
 ghost use Rattle.kin_cert.specs.Names.{HaveSameFacts, MayRenew, HasRenewed, AreRenewed};
 
 use crate::entry::Seat;
-use crate::first_fail::first_fail;
 use crate::roll::Roll;
 use crate::schedule::Schedule;
+use kin_fail::first_fail::first_fail;
 use kin_motion::fact::Fact;
 use kin_motion::form::Form;
 use kin_motion::motion::Motions;

@@ -1,7 +1,7 @@
 -- Every cell of a merge is supported at both ends, and its signs say which current point is higher there.
 use Rattle.std.proofs.Common.{◌≡◌, inl, refl, sym, ◌∙◌, subst, List, [], ◌∷◌, ℕ, Bool, true, false}
 use Rattle.std.specs.Prelude.{Option, Some, None}
-use Rattle.kin_basics.proofs.Members.{contains_none}
+use Rattle.kin_algebra.proofs.Members.{contains_none}
 use Rattle.kin_algebra.specs.declared.sign.Sign.{Sign}
 use Rattle.kin_algebra.proofs.OrderedRings.{OrderedRing}
 use Rattle.kin_motion.specs.Scene.{Scene}

@@ -2,8 +2,8 @@
 use Rattle.std.proofs.Common.{◌≡◌, sym, ap, ◌∙◌, subst, List, ◌++◌, ℕ, Bool, true, false, not}
 use Rattle.std.specs.List.{list_any}
 use Rattle.std.proofs.lemmas.Bool.{and_parts, not-true}
-use Rattle.kin_basics.proofs.Tests.{three_parts, three_from}
-use Rattle.kin_basics.proofs.Tests.{and_same}
+use Rattle.kin_algebra.proofs.Tests.{three_parts, three_from}
+use Rattle.kin_algebra.proofs.Tests.{and_same}
 use Rattle.kin_motion.specs.Numbers.{is_in}
 use Rattle.kin_motion.specs.Scene.{Scene, IsReal}
 use Rattle.kin_motion.specs.Chains.{is_double, is_above, is_under_segment, is_bare, IsUpperChain}

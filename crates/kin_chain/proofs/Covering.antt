@@ -2,7 +2,7 @@
 use Rattle.std.proofs.Common.{◌≡◌, ◌≢◌, ◌⊎◌, inl, inr, refl, sym, ap, ◌∙◌, subst, arith, List, [], ◌∷◌, ◌++◌, ℕ, Bool, true, false, not, nat_lt, append_assoc}
 use Rattle.std.proofs.lemmas.Bool.Decides.{nat_tests}
 use Rattle.std.proofs.lemmas.Bool.{both_ways, and_from}
-use Rattle.kin_basics.proofs.Tests.{three_from}
+use Rattle.kin_algebra.proofs.Tests.{three_from}
 use Rattle.kin_algebra.proofs.Ring.{by_identity, quotes_in}
 use Rattle.kin_algebra.proofs.OrderedRings.{OrderedRing}
 use Rattle.kin_motion.specs.declared.form.Form.TheVariants.{Turn}

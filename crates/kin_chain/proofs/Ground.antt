@@ -1,7 +1,7 @@
 -- The merge of two chains in terms of places: what is known, and the state of a walk along the breakpoint list.
 use Rattle.std.proofs.Common.{◌≡◌, ◌⊎◌, inl, inr, refl, sym, ap, ◌∙◌, subst, ◌<◌, List, ◌∷◌, ◌++◌, ℕ, Bool, true, false, not, ◌&&◌}
 use Rattle.std.specs.Prelude.{Contains, Option, Some, None}
-use Rattle.kin_basics.proofs.Members.{contains_head, contains_cases}
+use Rattle.kin_algebra.proofs.Members.{contains_head, contains_cases}
 use Rattle.kin_algebra.specs.declared.sign.Sign.{Sign}
 use Rattle.kin_algebra.specs.declared.sign.Sign.TheVariants.{Minus, Zero, Plus}
 use Rattle.kin_algebra.specs.Signs.{opposite_of}

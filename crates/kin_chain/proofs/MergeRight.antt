@@ -1,7 +1,7 @@
 -- One theorem for both laws of a merge: where the told chains are upper chains and what was seen is so, the merge is right.
 use Rattle.std.proofs.Common.{◌≡◌, refl, ap, ap₂, ◌∙◌, subst, List, [], ◌∷◌, ◌++◌, ℕ, Bool, true, false, cond, ◌||◌, map}
 use Rattle.std.specs.Prelude.{Contains, flat_map, None}
-use Rattle.kin_basics.proofs.Members.{contains_head, contains_tail}
+use Rattle.kin_algebra.proofs.Members.{contains_head, contains_tail}
 use Rattle.kin_motion.specs.declared.form.Form.{Form}
 use Rattle.kin_motion.specs.declared.fact.Placed.{Placed}
 use Rattle.kin_motion.specs.Numbers.{IsChain}

@@ -2,8 +2,8 @@
 use Rattle.std.proofs.Common.{◌≡◌, ◌⊎◌, inl, inr, sym, ◌∙◌, subst, List, [], ◌∷◌, ◌++◌, ℕ, true, false, ◌&&◌}
 use Rattle.std.specs.Prelude.{Contains, None, flat_map}
 use Rattle.std.proofs.lemmas.Bool.{and_from, and_parts}
-use Rattle.kin_basics.proofs.Tests.{same_test}
-use Rattle.kin_basics.proofs.Members.{contains_none, contains_cases}
+use Rattle.kin_algebra.proofs.Tests.{same_test}
+use Rattle.kin_algebra.proofs.Members.{contains_none, contains_cases}
 use Rattle.kin_algebra.proofs.OrderedRings.{one}
 use Rattle.kin_motion.specs.Numbers.{is_in, IsIn}
 use Rattle.kin_motion.specs.Scene.{Scene, IsReal}

@@ -2,7 +2,7 @@
 use Rattle.std.proofs.Common.{◌≡◌, ◌⊎◌, inl, inr, sym, ap, ap₂, ◌∙◌, subst, List, [], ◌∷◌, ◌++◌, map, ℕ, zero, suc}
 use Rattle.std.specs.Prelude.{pos, Option, None, Contains, flat_map}
 use Rattle.std.proofs.lemmas.List.Elements.{Contains-append_left, Contains-append_right}
-use Rattle.kin_basics.proofs.Members.{contains_none, contains_head, contains_tail, contains_cases}
+use Rattle.kin_algebra.proofs.Members.{contains_none, contains_head, contains_tail, contains_cases}
 use Rattle.kin_algebra.proofs.OrderedRings.{OrderedRing}
 use Rattle.kin_algebra.proofs.Pairs.{Pair}
 use Rattle.kin_num.specs.Quadratic.{Quadratic}

@@ -1,7 +1,7 @@
 -- One chain beside a place of the breakpoint list: its current point, what is passed and what is to come.
 use Rattle.std.proofs.Common.{◌≡◌, ◌⊎◌, inl, inr, sym, ap, ◌∙◌, subst, List, [], ◌∷◌, ℕ, false, cond}
 use Rattle.std.specs.Prelude.{Contains}
-use Rattle.kin_basics.proofs.Members.{contains_head, contains_tail}
+use Rattle.kin_algebra.proofs.Members.{contains_head, contains_tail}
 use Rattle.kin_algebra.proofs.OrderedRings.{OrderedRing}
 use Rattle.kin_motion.specs.Merges.{Half, Breakpoint, is_of, own_of, breakpoints_of}
 use Rattle.kin_motion.proofs.BreakpointLaws.{itself}

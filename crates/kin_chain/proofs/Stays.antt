@@ -3,7 +3,7 @@ use Rattle.std.proofs.Common.{◌≡◌, ◌⊎◌, inl, inr, refl, sym, ap, ◌
 use Rattle.std.specs.List.{list_any}
 use Rattle.std.proofs.lemmas.Bool.Decides.{nat_tests}
 use Rattle.std.proofs.lemmas.Bool.{both_ways, false_from_ne_true, and_from, and_parts, not-true, or_from}
-use Rattle.kin_basics.proofs.Tests.{three_from, three_parts}
+use Rattle.kin_algebra.proofs.Tests.{three_from, three_parts}
 use Rattle.kin_algebra.specs.declared.sign.Sign.{Sign}
 use Rattle.kin_algebra.specs.Signs.{opposite_of}
 use Rattle.kin_algebra.proofs.Signs.{AtLeast}

@@ -1,7 +1,7 @@
 -- The steps of the walk: where it starts, what a breakpoint of either half leads to, and the signs of its ends.
 use Rattle.std.proofs.Common.{◌≡◌, inl, refl, sym, ap, ◌∙◌, List, ◌∷◌, ℕ}
 use Rattle.std.specs.Prelude.{Option, Some, None}
-use Rattle.kin_basics.proofs.Members.{contains_tail}
+use Rattle.kin_algebra.proofs.Members.{contains_tail}
 use Rattle.kin_algebra.specs.declared.sign.Sign.{Sign}
 use Rattle.kin_algebra.specs.Signs.{opposite_of}
 use Rattle.kin_algebra.proofs.OrderedRings.{OrderedRing}

@@ -1,7 +1,7 @@
 -- Support at each breakpoint of a merge, and what narrow cells have at both ends.
 use Rattle.std.proofs.Common.{◌≡◌, ◌⊎◌, inl, inr, sym, ◌∙◌, subst, List, [], ◌∷◌, ◌++◌, ℕ, true}
 use Rattle.std.specs.Prelude.{Contains, Option, Some, None}
-use Rattle.kin_basics.proofs.Members.{contains_none, contains_cases}
+use Rattle.kin_algebra.proofs.Members.{contains_none, contains_cases}
 use Rattle.kin_algebra.specs.declared.sign.Sign.{Sign}
 use Rattle.kin_algebra.proofs.OrderedRings.{OrderedRing}
 use Rattle.kin_motion.specs.Scene.{Scene}

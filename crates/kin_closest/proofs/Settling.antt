@@ -4,7 +4,7 @@ use Rattle.std.specs.Prelude.{Some, Contains, slice_get, IsTrue}
 use Rattle.std.proofs.lemmas.Bool.{cases_eq}
 use Rattle.std.proofs.lemmas.List.{length-map}
 use Rattle.std.proofs.lemmas.Nat.{mul-le}
-use Rattle.kin_basics.proofs.Members.{contains_from_get}
+use Rattle.kin_algebra.proofs.Members.{contains_from_get}
 use Rattle.kin_motion.specs.declared.fact.Placed.{Placed}
 use Rattle.kin_motion.specs.Agreements.{FitsSize}
 use Rattle.kin_motion.specs.ClosestPairs.{Near, distance_key}

@@ -4,8 +4,8 @@ use Rattle.std.specs.Prelude.{Option, Some, None, slice_get}
 use Rattle.std.proofs.lemmas.Bool.{cases_eq}
 use Rattle.std.proofs.lemmas.List.{length-set, get_or-set_same, get_or-set_other}
 use Rattle.std.proofs.lemmas.Option.{same_Some, slice_get_within}
-use Rattle.kin_basics.proofs.Members.{get_from_contains, contains_from_get}
-use Rattle.kin_basics.proofs.Places.{get-set_same, get-set_other}
+use Rattle.kin_algebra.proofs.Members.{get_from_contains, contains_from_get}
+use Rattle.kin_algebra.proofs.Places.{get-set_same, get-set_other}
 use Rattle.kin_motion.specs.Numbers.{is_in}
 use Rattle.kin_motion.specs.Octants.{ListsChanged}
 use Rattle.kin_motion.specs.ClosestPairs.{Near}

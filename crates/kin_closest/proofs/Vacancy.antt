@@ -5,9 +5,9 @@ use Rattle.std.proofs.lemmas.List.{length-replicate}
 use Rattle.std.proofs.lemmas.Nat.{pow-add}
 use Rattle.std.proofs.lemmas.Option.{none-some, slice_get-get_or}
 use Rattle.std.proofs.Math.Pow.{pow_pos}
-use Rattle.kin_basics.proofs.Places.{get_or-replicate_any}
+use Rattle.kin_algebra.proofs.Places.{get_or-replicate_any}
 use Rattle.kin_algebra.specs.declared.sign.Sign.TheVariants.{Zero}
-use Rattle.kin_basics.proofs.Members.{contains_none}
+use Rattle.kin_algebra.proofs.Members.{contains_none}
 use Rattle.kin_motion.specs.declared.fact.Placed.{Placed}
 use Rattle.kin_motion.specs.ClosestFacts.{HoldsNear, near_of, IsWedgeFact, IsClosestFact}
 use Rattle.kin_motion.specs.ClosestPairs.{Near, distance_key, pair_in, IsClosest}

@@ -4,9 +4,6 @@
 //! What it does before it calls `run` is in no contract. It writes nothing to standard error.
 #![tactic(auto)]
 
-ghost use Rattle.std.specs.Prelude.{◌≡◌};
-ghost use Rattle.kin_cmd.specs.Exits.{exit_status_of};
-
 use kin_io::standard::{StdSink, StdSource};
 use kin_run::run::run;
 use kin_run::status::Status;
@@ -39,20 +36,6 @@ fn words_of<R: Env + AllocGlobal>(rt: &R) -> Result<Vec<String>, WordsFault> {
     Ok(env::args(rt)?.skip(1).collect(rt.alloc())?)
 }
 
-/// The exit status of a run.
-fn exit_of(status: Status) -> u8
-    ensures { result ≡ exit_status_of status }
-{
-    match status {
-        Status::Done => 0,
-        Status::Fault(_) => 1,
-        Status::Script(_) | Status::TooLong => 2,
-        Status::Command(_, _) => 3,
-        Status::NoMemory => 4,
-        Status::Words => 5,
-    }
-}
-
 fn main(rt: HostRuntime) -> ExitCode {
     let status = match words_of(&rt) {
         Ok(words) => {
@@ -63,28 +46,5 @@ fn main(rt: HostRuntime) -> ExitCode {
         Err(WordsFault::NoMemory(_)) => Status::NoMemory,
         Err(WordsFault::NotText) => Status::Words,
     };
-    ExitCode::from(exit_of(status))
-}
-
-#[cfg(test)]
-mod tests {
-    use super::*;
-    use kin_run::Refusal;
-    use kin_run::status::Side;
-
-    #[test]
-    fn each_status_has_its_exit(rt: HostRuntime) {
-        for (status, exit) in [
-            (Status::Done, 0),
-            (Status::Fault(Side::Read), 1),
-            (Status::Fault(Side::Write), 1),
-            (Status::Script(1), 2),
-            (Status::TooLong, 2),
-            (Status::Command(1, Refusal::Past), 3),
-            (Status::NoMemory, 4),
-            (Status::Words, 5),
-        ] {
-            assert_eq!(rt; exit_of(status), exit);
-        }
-    }
+    ExitCode::from(status.exit())
 }

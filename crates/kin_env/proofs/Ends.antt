@@ -4,7 +4,7 @@ use Rattle.std.specs.Prelude.{Option, Contains, IsFalse, slice_index_or, filter,
 use Rattle.std.proofs.lemmas.Bool.{cases_eq}
 use Rattle.std.proofs.lemmas.Bool.Decides.{nat_tests}
 use Rattle.std.proofs.lemmas.Option.{slice_get_within, get_or_from_slice_get}
-use Rattle.kin_basics.proofs.Members.{contains_head, get_from_contains}
+use Rattle.kin_algebra.proofs.Members.{contains_head, get_from_contains}
 use Rattle.kin_motion.specs.declared.fact.Placed.{Placed}
 use Rattle.kin_motion.specs.Chains.{IsUpperChain}
 use Rattle.kin_motion.specs.Edits.{Edit}

@@ -6,7 +6,7 @@ use Rattle.std.proofs.lemmas.Bool.Decides.{nat_tests}
 use Rattle.std.proofs.lemmas.List.{append_assoc, length-set, length-replicate, get_or-set_other, append-nil}
 use Rattle.std.proofs.lemmas.List.Elements.{filter-append}
 use Rattle.std.proofs.Math.Pow.{pow_pos}
-use Rattle.kin_basics.proofs.Places.{get-set_same, get-set_other, get_or-replicate_any}
+use Rattle.kin_algebra.proofs.Places.{get-set_same, get-set_other, get_or-replicate_any}
 use Rattle.kin_motion.specs.declared.fact.Placed.{Placed}
 use Rattle.kin_tourney.specs.declared.doubt.Doubt.{Doubt}
 use Rattle.kin_tourney.specs.declared.doubt.Doubt.TheVariants.{Clear, Below, Here}

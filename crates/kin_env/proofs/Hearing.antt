@@ -3,7 +3,7 @@ use Rattle.std.proofs.Common.{◌≡◌, ◌≢◌, refl, sym, ap, ◌∙◌, su
 use Rattle.std.specs.Prelude.{Option, Some, slice_get}
 use Rattle.std.proofs.lemmas.List.{length-set, length-append, set-append_left, set-append_right}
 use Rattle.std.proofs.lemmas.Option.{same_Some, slice_get_read}
-use Rattle.kin_basics.proofs.Places.{get-set_same, get-set_other, get_front}
+use Rattle.kin_algebra.proofs.Places.{get-set_same, get-set_other, get_front}
 use Rattle.kin_motion.specs.Deltas.{Change}
 use Rattle.kin_motion.specs.Kinetics.{HasChanged}
 use Rattle.kin_motion.specs.Scene.{Scene}

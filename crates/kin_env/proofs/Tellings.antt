@@ -17,7 +17,7 @@ use Rattle.std.proofs.lemmas.Bool.{false_from_ne_true, both_ways, not-true, or_r
 use Rattle.kin_motion.proofs.Members.{in_left, in_right, in_either, in_cases}
 use Rattle.kin_overlay.specs.declared.half.Half.TheVariants.{A, B}
 use Rattle.kin_overlay.specs.Overlays.{Merge, names_any, names_gone, told}
-use Rattle.kin_basics.proofs.Members.{contains_none, contains_head}
+use Rattle.kin_algebra.proofs.Members.{contains_none, contains_head}
 use Rattle.kin_env.specs.declared.node.Node.{Node}
 use Rattle.kin_env.specs.Nodes.{chain_of, facts_with}
 use Rattle.kin_env.specs.Joints.{Leads, IsMergeOf, IsMergeTold, AreHalves, AreSpared}

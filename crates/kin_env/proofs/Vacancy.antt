@@ -2,7 +2,7 @@
 use Rattle.std.proofs.Common.{◌≡◌, refl, sym, ap, ◌∙◌, subst, List, [], ◌∷◌, ◌++◌, ℕ, zero, suc, ◌+◌, ◌-◌, ◌*◌, ◌^◌, true, false, replicate, flat_map, length}
 use Rattle.std.specs.Prelude.{filter}
 use Rattle.std.proofs.lemmas.List.{length-replicate}
-use Rattle.kin_basics.proofs.Places.{get_or-replicate_any}
+use Rattle.kin_algebra.proofs.Places.{get_or-replicate_any}
 use Rattle.kin_motion.specs.declared.fact.Placed.{Placed}
 use Rattle.kin_motion.specs.Chains.{IsUpperChain}
 use Rattle.kin_motion.specs.Merges.{IsListedForm, IsTreeFact, points_under}

@@ -26,10 +26,21 @@ impl Work for Run {
         let Run(alloc) = self;
         // Numbers below 2^2 may be given out, and two structures are kept.
         let mut world = World::new(alloc, 2, &[Keep::Closest, Keep::Range])?;
-        let mut text = Vec::new(alloc);
-        play(&mut world, &mut text, steps)?;
-        Ok(text)
+        text_of(alloc, &mut world, steps)
     }
+}
+
+/// What is told of the run.
+fn text_of<L: Ledger>(
+    alloc: Global,
+    world: &mut World,
+    steps: &mut Steps<L>,
+) -> Result<Vec<u8>, NoMemory>
+    requires { IsWatched world.old }
+{
+    let mut text = Vec::new(alloc);
+    play(world, &mut text, steps)?;
+    Ok(text)
 }
 
 /// Two vehicles go east, one of them behind the other, one north, and one against them; 50 seconds go by.

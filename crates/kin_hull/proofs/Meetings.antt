@@ -5,8 +5,8 @@ use Rattle.std.proofs.lemmas.Option.{same_Some, none-some, slice_get_within}
 use Rattle.kin_algebra.specs.declared.sign.Sign.{Sign}
 use Rattle.kin_algebra.specs.declared.sign.Sign.TheVariants.{Plus}
 use Rattle.kin_algebra.specs.Signs.{opposite_of}
-use Rattle.kin_basics.proofs.Members.{contains_from_get, get_from_contains}
-use Rattle.kin_basics.proofs.Places.{get_within}
+use Rattle.kin_algebra.proofs.Members.{contains_from_get, get_from_contains}
+use Rattle.kin_algebra.proofs.Places.{get_within}
 use Rattle.kin_motion.specs.declared.form.Form.TheVariants.{Turn}
 use Rattle.kin_motion.specs.Chains.{is_left, IsUpperChain, IsLowerChain}
 use Rattle.kin_motion.specs.Numbers.{IsIn, IsChain}

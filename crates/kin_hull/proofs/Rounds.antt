@@ -2,7 +2,7 @@
 use Rattle.std.proofs.Common.{◌≡◌, inl, inr, refl, sym, ap, ◌∙◌, List, [], ◌∷◌, ◌++◌, ℕ, Bool, true, false, cond, not, filter}
 use Rattle.std.specs.Prelude.{reverse}
 use Rattle.std.proofs.lemmas.List.{append_assoc, reverse-append}
-use Rattle.kin_basics.proofs.Members.{contains_from_get}
+use Rattle.kin_algebra.proofs.Members.{contains_from_get}
 use Rattle.kin_motion.specs.Numbers.{is_in, IsIn}
 use Rattle.kin_motion.proofs.Members.{in_from_contains}
 use Rattle.kin_hull.specs.Meetings.{IsEnd}

@@ -2,7 +2,7 @@
 use Rattle.std.proofs.Common.{◌≡◌, inl, inr, refl, sym, ap, ◌∙◌, subst, List, [], ◌++◌, ℕ, ◌^◌, ◌≤◌, Bool, false, map}
 use Rattle.std.specs.Prelude.{replicate}
 use Rattle.kin_algebra.specs.declared.sign.Sign.TheVariants.{Zero}
-use Rattle.kin_basics.proofs.Members.{contains_none}
+use Rattle.kin_algebra.proofs.Members.{contains_none}
 use Rattle.kin_motion.specs.declared.fact.Placed.{Placed}
 use Rattle.kin_motion.specs.Merges.{IsTreeFact, IsUpperFact, IsLowerFact, IsHullFact}
 use Rattle.kin_motion.specs.Scene.{Scene, placed_at, turned}

@@ -1,7 +1,7 @@
 -- The whole root of a discriminant: how large it is, and where it isn't exact.
 use Rattle.std.proofs.Common.{◌≡◌, ℕ, ◌+◌, ◌*◌, ◌<◌, ◌≤◌, ◌^◌, ℤ, pos, ◌-ℤ◌, ◌*ℤ◌, unsigned_abs, arith, ap, sym, ◌∙◌, subst, mul-le-mul, lt_of_not-le, not-le_of_lt}
 use Rattle.std.proofs.lemmas.Int.{ints}
-use Rattle.kin_basics.proofs.Integers.{size-product}
+use Rattle.kin_algebra.proofs.Magnitudes.{size-product}
 use Rattle.kin_num.specs.Quadratic.{IsSmall}
 use Rattle.kin_num.specs.Canonical.{discriminant}
 use Rattle.kin_num.specs.Roots.{IsWholeRoot}

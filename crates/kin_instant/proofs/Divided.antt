@@ -5,7 +5,7 @@ use Rattle.std.specs.Int.{◌∣◌}
 use Rattle.std.proofs.lemmas.Int.{ints, unsigned_abs-mul}
 use Rattle.std.proofs.lemmas.Nat.Gcd.{dvd_antisymm}
 use Rattle.std.proofs.Math.Nat.{mul_comm, mul-one, mul-dvd-mul_left, dvd_of_mul-dvd-mul_left, one-dvd}
-use Rattle.kin_basics.proofs.Integers.{size-some}
+use Rattle.kin_algebra.proofs.Magnitudes.{size-some}
 use Rattle.kin_num.specs.declared.instant.Shape.TheVariants.{Root}
 use Rattle.kin_num.specs.Quadratic.{IsSmall}
 use Rattle.kin_num.specs.Canonical.{IsCanonical, HaveNoCommonDivisor, discriminant}

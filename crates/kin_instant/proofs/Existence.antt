@@ -6,7 +6,7 @@ use Rattle.std.proofs.lemmas.Int.{ints}
 use Rattle.std.proofs.lemmas.Nat.Gcd.{dvd_trans}
 use Rattle.std.proofs.Math.Nat.{pos_of_dvd_of_pos, eq-or-lt_of_le}
 use lib.IntN.{neg_ℤ}
-use Rattle.kin_basics.proofs.Integers.{size-some, pos-some, negative-some}
+use Rattle.kin_algebra.proofs.Magnitudes.{size-some, pos-some, negative-some}
 use Rattle.kin_algebra.proofs.Squares.{square_below}
 use Rattle.kin_num.specs.declared.instant.Shape.{Shape}
 use Rattle.kin_num.specs.declared.instant.Shape.TheVariants.{Ratio, Root}

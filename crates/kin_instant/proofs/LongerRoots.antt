@@ -24,25 +24,6 @@ module _ (x r q u e : ℕ) (rest : x ≡ r * r + e) (divided : e * 2 ^ 31 ≡ q 
       by_rest : (p p' : ℕ) → p ≡ p' → (r * 2 ^ 32 + q) * (r * 2 ^ 32 + q) + u * 2 ^ 33 ≡ x * 2 ^ 64 + q * q
       by_rest p p' f = omega (arith, rest, divided)
 
-  -- where the square isn't greater, these are the digits
-  pub kept : u < r → q * q ≤ u * 2 ^ 33 → IsWholeRoot (x * 2 ^ 64) (r * 2 ^ 32 + q)
-  kept below h = record {
-    at_most = most ((r * 2 ^ 32 + q) * (r * 2 ^ 32 + q)) (q * q) (x * 2 ^ 64) square h;
-    greatest = next (r * 2 ^ 32 + q) ((r * 2 ^ 32 + q) * (r * 2 ^ 32 + q)) (q * q) (x * 2 ^ 64) square (following (r * 2 ^ 32 + q)) (let m : r * 2 ^ 32 ≤ r * 2 ^ 32 + q = omega arith in m);
-  }
-    where
-      most : (t p n : ℕ) → t + u * 2 ^ 33 ≡ n + p → p ≤ u * 2 ^ 33 → t ≤ n
-      most t p n e h = omega (arith, e, h)
-
-      following : (s : ℕ) → (s + 1) * (s + 1) ≡ s * s + 2 * s + 1
-      following s = omega arith
-
-      next : (s t p n : ℕ) → t + u * 2 ^ 33 ≡ n + p → (s + 1) * (s + 1) ≡ t + 2 * s + 1 → r * 2 ^ 32 ≤ s → n < (s + 1) * (s + 1)
-      next s t p n e f h = by_square ((s + 1) * (s + 1)) f
-        where
-          by_square : (m : ℕ) → m ≡ t + 2 * s + 1 → n < m
-          by_square m f = omega (arith, e, f, h, below)
-
   -- q has no more digits than r
   pub few : 2 ^ 31 ≤ r → e ≤ 2 * r → q ≤ 2 ^ 32
   few wide short = least (λ l. not-le_of_lt (over l) divisor)

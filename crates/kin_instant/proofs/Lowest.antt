@@ -6,7 +6,7 @@ use Rattle.std.proofs.lemmas.Int.{ints, unsigned_abs-mul}
 use Rattle.std.proofs.lemmas.Nat.Gcd.{mod-eq-zero_of_dvd}
 use Rattle.std.proofs.Math.Nat.{mul_comm, mul-one, one-dvd, mul-dvd-mul_left, dvd_of_mul-dvd-mul_left}
 use lib.IntN.{neg_ℤ}
-use Rattle.kin_basics.proofs.Integers.{pos-some}
+use Rattle.kin_algebra.proofs.Magnitudes.{pos-some}
 use Rattle.kin_algebra.specs.declared.sign.Sign.TheVariants.{Plus}
 use Rattle.kin_algebra.specs.Signs.{sign_of}
 use Rattle.kin_algebra.proofs.Ring.{by_ring, quotes}

@@ -3,7 +3,7 @@ use Rattle.std.proofs.Common.{◌≡◌, ◌≢◌, ◌⊎◌, ◌↔◌, inl, i
 use Rattle.std.specs.Prelude.{◌<ℤ◌}
 use Rattle.std.proofs.lemmas.Int.{ints}
 use lib.IntN.{neg_ℤ}
-use Rattle.kin_basics.proofs.Integers.{pos-some, negative-some}
+use Rattle.kin_algebra.proofs.Magnitudes.{pos-some, negative-some}
 use Rattle.kin_algebra.specs.declared.sign.Sign.{Sign}
 use Rattle.kin_algebra.specs.declared.sign.Sign.TheVariants.{Minus, Zero, Plus}
 use Rattle.kin_algebra.specs.Signs.{sign_of, opposite_of, product_of}

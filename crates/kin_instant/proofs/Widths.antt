@@ -5,7 +5,7 @@ use mir.Syntax.{Width, w128}
 use mir.Val.{hbits}
 use lib.IntN.{neg_ℤ}
 use lib.Signed.{mag, lt_z, ◌<ℤ◌, ◌≤ℤ◌}
-use Rattle.kin_basics.proofs.Integers.{size-sum, size-difference}
+use Rattle.kin_algebra.proofs.Magnitudes.{size-sum, size-difference}
 
 -- what the code's a * b + c * d and a * b - c * d give, where the products are at most k and l
 module _ (w : Width) (a b c d : ℤ) (k l : ℕ) (fa : FitsSigned w a) (fb : FitsSigned w b) (fc : FitsSigned w c) (fd : FitsSigned w d)

@@ -17,8 +17,6 @@ pub mod key;
 pub mod laws;
 pub mod next;
 pub mod order;
-#[cfg(test)]
-mod pairs;
 mod product;
 pub mod ratio;
 mod ratio_sign;
@@ -26,6 +24,4 @@ mod root_sign;
 pub mod roots;
 pub mod sign;
 pub mod solve;
-#[cfg(test)]
-mod tests;
 mod wide_root;

@@ -180,38 +180,3 @@ impl Sink for MemSink {
         Ok(count)
     }
 }
-
-#[cfg(test)]
-mod tests {
-    use super::*;
-    use crate::sink::write_all;
-    use crate::source::{Untaken, read_all};
-    use std::test::Fail;
-
-    const SCRIPT: &[u8] = b"size 1\nhull\n";
-
-    /// Takes the whole script in pieces of 3 bytes.
-    fn taken(alloc: Global, limit: u8, failing: Vec<u64>) -> Result<Vec<u8>, Untaken> {
-        let bytes = Vec::from_slice(alloc, SCRIPT)?;
-        read_all(alloc, &mut MemSource::new(bytes, 3, failing), limit.into())
-    }
-
-    #[test]
-    fn takes_all_up_to_the_limit(rt: HostRuntime) -> Result<(), Fail> {
-        let alloc = rt.alloc();
-        let all = taken(alloc, 12, Vec::new(alloc))?;
-        assert!(rt; all.as_slice() == SCRIPT);
-        assert!(rt; matches!(taken(alloc, 11, Vec::new(alloc)), Err(Untaken::TooLong)));
-        assert!(rt; matches!(taken(alloc, 12, vec![in alloc; 1]?), Err(Untaken::Fault)));
-        Ok(())
-    }
-
-    #[test]
-    fn holds_what_there_is_room_for(rt: HostRuntime) -> Result<(), Fail> {
-        let mut sink = MemSink::new(rt.alloc(), 7, Vec::new(rt.alloc()))?;
-        assert!(rt; write_all(&mut sink, b"0 1\n").is_ok());
-        assert!(rt; write_all(&mut sink, b"0 1\n").is_err());
-        assert!(rt; sink.held() == b"0 1\n0 1".as_slice());
-        Ok(())
-    }
-}

@@ -3,7 +3,7 @@ use Rattle.std.proofs.Common.{◌≡◌, ◌≢◌, refl, sym, ap, ap₂, ◌∙
 use Rattle.std.specs.Prelude.{slice_get, slice_index_or, remove, insert, MatchOption}
 use Rattle.std.proofs.lemmas.Option.{slice_get_within, same_Some}
 use Rattle.std.proofs.lemmas.List.{length_push, set-set}
-use Rattle.kin_basics.proofs.Places.{get-remove_above, get-set_same, get_within, past_from_none}
+use Rattle.kin_algebra.proofs.Places.{get-remove_above, get-set_same, get_within, past_from_none}
 use Rattle.slab.specs.Slab.{Slab, Updates}
 use Rattle.kin_links.specs.declared.node.Gap.{Gap}
 use Rattle.kin_links.specs.declared.node.Gap.TheVariants.{Front, Behind}

@@ -5,4 +5,3 @@ pub mod Rewiring
 pub mod Moves
 pub mod Slots
 pub mod Calls
-pub mod Case

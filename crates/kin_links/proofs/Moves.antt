@@ -3,7 +3,7 @@ use Rattle.std.proofs.Common.{◌≡◌, ◌≢◌, refl, sym, ap, ap₂, ◌∙
 use Rattle.std.specs.Prelude.{slice_get, insert, remove}
 use Rattle.std.proofs.lemmas.Bool.{cases_eq, cases_order}
 use Rattle.std.proofs.lemmas.Option.{slice_get_within, same_Some}
-use Rattle.kin_basics.proofs.Places.{get-insert_below, get-insert_at, get-insert_above, get-remove_below, get-remove_above, get-set_same, get-set_other}
+use Rattle.kin_algebra.proofs.Places.{get-insert_below, get-insert_at, get-insert_above, get-remove_below, get-remove_above, get-set_same, get-set_other}
 use Rattle.kin_links.specs.declared.node.Gap.{Gap}
 use Rattle.kin_links.specs.declared.node.Gap.TheVariants.{Front, Behind}
 use Rattle.kin_links.specs.Family.{Linked, Standing}

@@ -3,7 +3,7 @@ use Rattle.std.proofs.Common.{◌≡◌, ◌≢◌, refl, sym, ap, ap₂, ◌∙
 use Rattle.std.specs.Prelude.{slice_get}
 use Rattle.std.proofs.lemmas.Option.{slice_get_within, same_Some}
 use Rattle.std.proofs.lemmas.List.{drop_all}
-use Rattle.kin_basics.proofs.Places.{past_from_none}
+use Rattle.kin_algebra.proofs.Places.{past_from_none}
 use Rattle.kin_links.specs.declared.node.Gap.{Gap}
 use Rattle.kin_links.specs.declared.node.Gap.TheVariants.{Front, Behind}
 use Rattle.kin_links.specs.Family.{Linked, AreApart}

@@ -3,21 +3,9 @@ use Rattle.std.proofs.Common.{◌≡◌, ◌≢◌, refl, sym, ◌∙◌, ℕ, S
 use Rattle.std.proofs.lemmas.Option.{same_Some}
 use Rattle.kin_links.specs.declared.node.Gap.{Gap}
 use Rattle.kin_links.specs.declared.node.Gap.TheVariants.{Behind}
-use Rattle.kin_links.specs.Pointers.{Pointers, HasNext, HasPrev, IsAttached, IsDetached}
+use Rattle.kin_links.specs.Pointers.{Pointers, HasNext, HasPrev, IsAttached}
 
 module _ {T : Type 0} where
-  pub detached : (g h i : Pointers T) (node : ℕ) (gap : Gap) → g.prev node ≡ Some gap → HasNext g h gap (g.next (Behind node)) → HasPrev h i (g.next (Behind node)) gap → IsDetached g i node
-  detached g h i node gap at a b = record {
-    gap = gap;
-    at = at;
-    next = b.next gap ∙ a.next;
-    nexts = λ c n. b.next c ∙ a.others c n;
-    prev = λ k e. b.prev k e;
-    prevs = λ k n. b.others k n ∙ a.prev k;
-    item = λ k. b.item k ∙ a.item k;
-    count = b.count ∙ a.count;
-  }
-
   pub attached : (g h i j k : Pointers T) (node : ℕ) (gap : Gap) (m : Option ℕ) → gap ≢ Behind node → ((n : ℕ) → g.next gap ≡ Some n → n ≢ node) → m ≡ g.next gap
       → HasNext g h gap (Some node) → HasNext h i (Behind node) m → HasPrev i j (Some node) gap → HasPrev j k m (Behind node) → IsAttached g k node gap
   attached g h i j k node gap m apart other same a b c d = record {

@@ -7,5 +7,3 @@ pub use links::{Links, ListId, NodeId};
 mod arena;
 pub mod links;
 mod node;
-#[cfg(test)]
-mod tests;

@@ -4,7 +4,7 @@ use Rattle.std.specs.Prelude.{slice_get, Contains, ◌↔◌, ◌⊎◌}
 use Rattle.std.specs.Option.{option_map, option_to_list}
 use Rattle.std.proofs.lemmas.Bool.{cases_eq}
 use Rattle.std.proofs.lemmas.Option.{slice_get_within, same_Some}
-use Rattle.kin_basics.proofs.Places.{get-set_same, get-set_other}
+use Rattle.kin_algebra.proofs.Places.{get-set_same, get-set_other}
 use Rattle.kin_motion.specs.declared.form.Form.{Form}
 use Rattle.kin_motion.specs.declared.form.Form.TheVariants.{Line, Turn, Slope, Dist}
 use Rattle.kin_motion.specs.declared.fact.Placed.{Placed}

@@ -4,7 +4,7 @@ use Rattle.std.specs.Prelude.{slice_get, remove}
 use Rattle.std.proofs.lemmas.Bool.{cases_order}
 use Rattle.std.proofs.lemmas.Option.{slice_get_within, same_Some}
 use Rattle.std.proofs.lemmas.List.Edits.{length-remove}
-use Rattle.kin_basics.proofs.Places.{get-remove_below, get-remove_above}
+use Rattle.kin_algebra.proofs.Places.{get-remove_below, get-remove_above}
 use Rattle.kin_motion.specs.Numbers.{numbers_from}
 use Rattle.kin_motion.specs.Sets.{AreDistinct}
 

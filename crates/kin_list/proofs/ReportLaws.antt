@@ -5,7 +5,7 @@ use Rattle.std.proofs.lemmas.Bool.{cases_eq, cases_lt, cases_order, both_ways}
 use Rattle.std.proofs.lemmas.List.{set_past, append_assoc, map-append}
 use Rattle.std.proofs.lemmas.Option.{same_Some}
 use Rattle.kin_algebra.proofs.Signs.{equal_or_not}
-use Rattle.kin_basics.proofs.Places.{get_within, get-set_same, get-set_other}
+use Rattle.kin_algebra.proofs.Places.{get_within, get-set_same, get-set_other}
 use Rattle.kin_motion.specs.declared.fact.Placed.{Placed}
 use Rattle.kin_motion.specs.Deltas.{Change}
 use Rattle.kin_motion.specs.Kinetics.{HasChanged}

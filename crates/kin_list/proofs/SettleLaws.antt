@@ -3,7 +3,7 @@ use Rattle.std.proofs.Common.{◌≡◌, refl, sym, ap, ap₂, ◌∙◌, subst,
 use Rattle.std.specs.Prelude.{slice_get, Contains, ◌↔◌}
 use Rattle.std.proofs.lemmas.Option.{slice_get_within, same_Some, none-some}
 use Rattle.std.proofs.lemmas.Bool.{cases_Bool}
-use Rattle.kin_basics.proofs.Members.{contains_from_get, get_from_contains}
+use Rattle.kin_algebra.proofs.Members.{contains_from_get, get_from_contains}
 use Rattle.kin_algebra.specs.declared.sign.Sign.{Sign}
 use Rattle.kin_motion.specs.declared.form.Form.TheVariants.{Line}
 use Rattle.kin_motion.specs.declared.fact.Placed.{Placed}

@@ -1,6 +1,6 @@
 -- A list of which no fact has failed is settled as it stands.
 use Rattle.std.proofs.Common.{◌≡◌, refl, arith, List, [], ℕ, length, Option, ℤ}
-use Rattle.kin_basics.proofs.Members.{contains_none}
+use Rattle.kin_algebra.proofs.Members.{contains_none}
 use Rattle.kin_algebra.specs.declared.sign.Sign.{Sign}
 use Rattle.kin_motion.specs.Contents.{IsSettledList}
 use Rattle.kin_motion.specs.Kinetics.{ListsFailing}

@@ -237,19 +237,3 @@ impl Kinetic for KinList {
         self.settle_in(0, now, failed, out, steps)
     }
 }
-
-#[cfg(test)]
-mod tests {
-    use super::*;
-    use std::test::Fail;
-
-    #[test]
-    fn a_mark_waits_for_the_next_settle(rt: HostRuntime) -> Result<(), Fail> {
-        let mut list = KinList::new(rt.alloc(), 1, 0, 2)?;
-        list.insert(3)?;
-        assert_eq!(rt; list.items(), [].as_slice());
-        assert_eq!(rt; list.swaps(), [].as_slice());
-        assert_eq!(rt; list.place_of(3), None);
-        Ok(())
-    }
-}

@@ -4,7 +4,7 @@ use Rattle.std.specs.Prelude.{Option, Some, None, Contains, slice_get}
 use Rattle.std.proofs.Math.Nat.{div-add-mod}
 use Rattle.std.proofs.lemmas.Nat.{mod_below}
 use Rattle.std.proofs.lemmas.Bool.{and_parts}
-use Rattle.kin_basics.proofs.Members.{contains_none, contains_cases, contains_from_get}
+use Rattle.kin_algebra.proofs.Members.{contains_none, contains_cases, contains_from_get}
 use Rattle.kin_motion.specs.declared.form.Form.{Form}
 use Rattle.kin_motion.specs.declared.form.Form.TheVariants.{Line, Dist}
 use Rattle.kin_motion.specs.declared.fact.Placed.{Placed}

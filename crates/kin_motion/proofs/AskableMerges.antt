@@ -3,7 +3,7 @@ use Rattle.std.proofs.Common.{◌≡◌, ◌⊎◌, inl, inr, refl, sym, ap, ◌
 use Rattle.std.specs.Prelude.{Contains}
 use Rattle.std.proofs.lemmas.List.Elements.{Contains-append_cases}
 use Rattle.std.proofs.lemmas.Bool.{and_parts}
-use Rattle.kin_basics.proofs.Members.{contains_none, contains_head, contains_tail, contains_cases}
+use Rattle.kin_algebra.proofs.Members.{contains_none, contains_head, contains_tail, contains_cases}
 use Rattle.kin_motion.specs.declared.form.Form.{Form}
 use Rattle.kin_motion.specs.declared.form.Form.TheVariants.{Line, Turn}
 use Rattle.kin_motion.specs.Forms.{IsAskable}

@@ -2,7 +2,7 @@
 use Rattle.std.proofs.Common.{◌≡◌, ◌⊎◌, inl, inr, refl, sym, ◌∙◌, subst, arith, List, [], ◌∷◌, zero, Bool, true, false, cond}
 use Rattle.std.specs.Prelude.{Option, Some, None, Contains}
 use Rattle.std.proofs.lemmas.Option.{same_Some}
-use Rattle.kin_basics.proofs.Members.{contains_cases, contains_tail, contains_none}
+use Rattle.kin_algebra.proofs.Members.{contains_cases, contains_tail, contains_none}
 
 module _ {Item : Type 0} (is_preferred : Item → Item → Bool) where
   -- the preferred one of an item and another

@@ -6,7 +6,7 @@ use Rattle.std.proofs.lemmas.Bool.Decides.{nat_tests}
 use Rattle.std.proofs.lemmas.Int.{ints}
 use Rattle.std.proofs.lemmas.Bool.{and_parts, not-true}
 use lib.IntN.{neg_ℤ}
-use Rattle.kin_basics.proofs.Tests.{three_parts}
+use Rattle.kin_algebra.proofs.Tests.{three_parts}
 use Rattle.kin_algebra.proofs.Ring.{by_ring, quotes}
 use Rattle.kin_algebra.proofs.IntegerSigns.{sign_in}
 use Rattle.kin_algebra.specs.declared.sign.Sign.{Sign}

@@ -3,7 +3,7 @@ use Rattle.std.proofs.Common.{◌≡◌, ◌≢◌, ◌⊎◌, inl, inr, refl, a
 use Rattle.std.specs.Prelude.{ℤ, ◌+ℤ◌, ◌-ℤ◌, Option}
 use Rattle.std.proofs.lemmas.Bool.Decides.{nat_tests}
 use Rattle.std.proofs.lemmas.Bool.{or_left, or_right, and_from, lt-ltb, eq-eqb}
-use Rattle.kin_basics.proofs.Integers.{difference-turned}
+use Rattle.kin_algebra.proofs.Magnitudes.{difference-turned}
 use Rattle.kin_algebra.proofs.Ring.{by_ring, quotes}
 use Rattle.kin_algebra.specs.declared.sign.Sign.{Sign}
 use Rattle.kin_algebra.specs.declared.sign.Sign.TheVariants.{Minus, Zero, Plus}

@@ -2,8 +2,8 @@
 use Rattle.std.proofs.Common.{◌≡◌, ◌⊎◌, inl, inr, refl, sym, ap, ◌∙◌, List, [], ◌∷◌, ◌++◌, ℕ, true, false, ◌||◌, nat_eq, zero, arith}
 use Rattle.std.specs.Prelude.{Contains}
 use Rattle.std.proofs.lemmas.Bool.{or_left, or_right, or_cases, or_parts, or_from, eq-eqb, eqb-true, eqb-false, ne_eqb}
-use Rattle.kin_basics.proofs.Tests.{or_assoc, or_none, or_swapped}
-use Rattle.kin_basics.proofs.Members.{contains_none, contains_tail, contains_cases}
+use Rattle.kin_algebra.proofs.Tests.{or_assoc, or_none, or_swapped}
+use Rattle.kin_algebra.proofs.Members.{contains_none, contains_tail, contains_cases}
 use Rattle.kin_motion.specs.Numbers.{is_in, IsIn}
 
 pub in_front : (i x : ℕ) (xs : List ℕ) → x ≡ i → IsIn i (x ∷ xs)

@@ -5,7 +5,7 @@ use Rattle.std.proofs.lemmas.Bool.Decides.{nat_tests}
 use Rattle.std.proofs.lemmas.Nat.{pow-add}
 use Rattle.std.proofs.lemmas.Bool.{cases_eq, or_cases}
 use Rattle.std.proofs.lemmas.Option.{same_Some}
-use Rattle.kin_basics.proofs.Members.{contains_none, contains_head, contains_tail, contains_cases}
+use Rattle.kin_algebra.proofs.Members.{contains_none, contains_head, contains_tail, contains_cases}
 use Rattle.kin_motion.specs.declared.fact.Placed.{Placed}
 use Rattle.kin_motion.specs.Sets.{ListsExactly}
 use Rattle.kin_motion.specs.Scene.{Scene, placed_at}

@@ -1,6 +1,6 @@
 -- Polynomials by their coefficients.
 use Rattle.std.proofs.Common.{◌≡◌, ℤ, ℕ, ◌*◌, arith}
-use Rattle.kin_basics.proofs.Integers.{size-sum}
+use Rattle.kin_algebra.proofs.Magnitudes.{size-sum}
 use Rattle.kin_num.specs.Quadratic.{Quadratic, quadratic_sum}
 use Rattle.kin_motion.specs.Sizes.{IsWithin}
 

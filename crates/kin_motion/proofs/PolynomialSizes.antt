@@ -1,6 +1,6 @@
 -- How large the polynomials of forms are, where motions are slow.
 use Rattle.std.proofs.Common.{◌≡◌, ℤ, ℕ, ◌≤◌, ◌^◌, ◌+ℤ◌, ◌*ℤ◌, unsigned_abs, List, Option, Some, None, refl, arith}
-use Rattle.kin_basics.proofs.Integers.{size-sum, size-difference, size-product}
+use Rattle.kin_algebra.proofs.Magnitudes.{size-sum, size-difference, size-product}
 use Rattle.kin_num.specs.Quadratic.{Quadratic, IsSmall, quadratic_sum}
 use Rattle.kin_motion.specs.declared.form.Form.TheVariants.{Line, Turn, Slope, Dist}
 use Rattle.kin_motion.specs.Course.{Course, IsSlow, AreSlow, motion_of}

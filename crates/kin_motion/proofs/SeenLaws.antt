@@ -2,7 +2,7 @@
 use Rattle.std.proofs.Common.{◌≡◌, ◌⊎◌, inl, inr, refl, ap, ◌∙◌, arith, List, [], ◌∷◌, ℕ, suc, ◌+◌, ◌*◌, ◌^◌, ◌<◌, ◌≤◌, unsigned_abs}
 use Rattle.std.specs.Prelude.{pos, Contains}
 use Rattle.std.proofs.lemmas.Int.{unsigned_abs-mul}
-use Rattle.kin_basics.proofs.Members.{contains_none, contains_cases}
+use Rattle.kin_algebra.proofs.Members.{contains_none, contains_cases}
 use Rattle.kin_algebra.specs.declared.sign.Sign.TheVariants.{Plus}
 use Rattle.kin_algebra.specs.Signs.{sign_of}
 use Rattle.kin_algebra.proofs.Pairs.{Sound}

@@ -3,8 +3,8 @@ use Rattle.std.proofs.Common.{◌≡◌, ◌⊎◌, inl, inr, refl, sym, ap, ◌
 use Rattle.std.specs.Prelude.{Contains, ◌↔◌, flat_map, filter}
 use Rattle.std.proofs.lemmas.Bool.{both_ways}
 use Rattle.std.proofs.lemmas.List.Elements.{Contains-append_left, Contains-append_right, Contains-append_cases}
-pub use Rattle.kin_basics.proofs.Members.{contains_none, contains_head, contains_tail, contains_cases}
-use Rattle.kin_basics.proofs.Members.{contains_from_get, get_from_contains}
+pub use Rattle.kin_algebra.proofs.Members.{contains_none, contains_head, contains_tail, contains_cases}
+use Rattle.kin_algebra.proofs.Members.{contains_from_get, get_from_contains}
 use Rattle.kin_motion.specs.Numbers.{numbers_from, is_in, IsOnce}
 use Rattle.kin_motion.specs.Sets.{AreDistinct, ListsExactly}
 use Rattle.kin_motion.proofs.Members.{in_from_contains}

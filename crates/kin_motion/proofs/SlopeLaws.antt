@@ -1,8 +1,8 @@
 -- Steepness goes through: of three steps to the right, the sign of the first against the third is that of a sum.
 use Rattle.std.proofs.Common.{◌≡◌, refl, sym, ap, ◌∙◌, List, [], ◌∷◌, ℕ}
 use Rattle.std.specs.Prelude.{pos, Option, Contains}
-use Rattle.kin_basics.proofs.Members.{contains_from_get}
-use Rattle.kin_basics.proofs.Integers.{difference-turned}
+use Rattle.kin_algebra.proofs.Members.{contains_from_get}
+use Rattle.kin_algebra.proofs.Magnitudes.{difference-turned}
 use Rattle.kin_algebra.specs.declared.sign.Sign.TheVariants.{Plus}
 use Rattle.kin_algebra.specs.Signs.{opposite_of, SumMayBe}
 use Rattle.kin_algebra.proofs.OrderedRings.{OrderedRing}

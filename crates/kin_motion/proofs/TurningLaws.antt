@@ -4,7 +4,7 @@ use Rattle.std.specs.Prelude.{ℤ, pos, ◌+ℤ◌, ◌-ℤ◌, Option, Some, No
 use Rattle.std.proofs.lemmas.Bool.Decides.{nat_tests}
 use Rattle.std.proofs.lemmas.List.{get_or-set_same, get_or-set_other}
 use lib.IntN.{neg_ℤ}
-use Rattle.kin_basics.proofs.Integers.{difference_of_same}
+use Rattle.kin_algebra.proofs.Magnitudes.{difference_of_same}
 use Rattle.kin_algebra.proofs.Ring.{by_ring, quotes}
 use Rattle.kin_algebra.proofs.IntegerSigns.{zero_of}
 use Rattle.kin_algebra.specs.declared.sign.Sign.TheVariants.{Zero}

@@ -2,7 +2,7 @@
 use Rattle.std.proofs.Common.{◌≡◌, ◌≢◌, ◌⊎◌, inl, inr, refl, sym, ap, ap₂, ◌∙◌, subst, List, [], ◌∷◌, map, ℕ, Bool, true, false, cond, ℤ, pos}
 use Rattle.std.specs.Prelude.{Option, Some, slice_get}
 use Rattle.std.proofs.lemmas.Bool.{and_parts}
-use Rattle.kin_basics.proofs.Members.{contains_from_get}
+use Rattle.kin_algebra.proofs.Members.{contains_from_get}
 use Rattle.kin_algebra.specs.declared.sign.Sign.{Sign}
 use Rattle.kin_algebra.specs.declared.sign.Sign.TheVariants.{Minus, Zero, Plus}
 use Rattle.kin_algebra.specs.Signs.{opposite_of}

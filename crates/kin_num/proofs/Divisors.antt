@@ -6,7 +6,7 @@ use Rattle.std.proofs.lemmas.Int.{ints, unsigned_abs-mul}
 use Rattle.std.proofs.lemmas.Nat.Gcd.{IsGcd-from_zero, IsGcd-from_mod, same_from_IsGcd, dvd_refl, dvd_trans, dvd_antisymm}
 use Rattle.std.proofs.Math.Nat.{mul-one}
 use native.Mathlib.Nat.{dvd-mod_iff, dvd-sub, dvd-mul_right_of_dvd}
-use Rattle.kin_basics.proofs.Integers.{same_from_difference, difference_of_same}
+use Rattle.kin_algebra.proofs.Magnitudes.{same_from_difference, difference_of_same}
 use Rattle.kin_algebra.specs.declared.sign.Sign.TheVariants.{Plus}
 use Rattle.kin_algebra.specs.Signs.{sign_of}
 use Rattle.kin_algebra.proofs.Integers.{integers}

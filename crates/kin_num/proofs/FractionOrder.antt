@@ -2,7 +2,7 @@
 use Rattle.std.proofs.Common.{◌≡◌, ◌≢◌, inl, inr, ℕ, Bool, true, false, [], ◌∷◌, refl, sym, ap, ap₂, ◌∙◌, ◌<◌}
 use Rattle.std.specs.Prelude.{ℤ, pos, negsuc, ◌-ℤ◌, ◌*ℤ◌, ◌<ℤ◌}
 use lib.IntN.{neg_ℤ}
-use Rattle.kin_basics.proofs.Integers.{same_from_difference, pos-some}
+use Rattle.kin_algebra.proofs.Magnitudes.{same_from_difference, pos-some}
 use Rattle.kin_algebra.specs.declared.sign.Sign.{Sign}
 use Rattle.kin_algebra.specs.declared.sign.Sign.TheVariants.{Minus, Zero, Plus}
 use Rattle.kin_algebra.specs.Signs.{sign_of, opposite_of, pair_sign_of}

@@ -29,21 +29,3 @@ fn long_gcd(x: u64, y: u64) -> u64
 {
     if y == 0 { x } else { long_gcd(y, x % y) }
 }
-
-#[cfg(test)]
-mod tests {
-    use super::*;
-    use std::test::Fail;
-
-    #[test]
-    fn divisors_at_the_bounds(rt: HostRuntime) -> Result<(), Fail> {
-        assert_eq!(rt; gcd(0, 0), 0);
-        assert_eq!(rt; gcd(0, u64::MAX), u64::MAX);
-        assert_eq!(rt; gcd(u64::MAX, u64::MAX), u64::MAX);
-        // Euler's factor of 2^32 + 1
-        assert_eq!(rt; gcd(u64::MAX, 641 * 641), 641);
-        // neighbouring Fibonacci numbers, the slowest case (Lamé)
-        assert_eq!(rt; gcd(12200160415121876738, 7540113804746346429), 1);
-        Ok(())
-    }
-}

@@ -51,29 +51,3 @@ pub fn pair_sign(u: i64, v: i64, d: u64) -> Sign
         (first, _) => first,
     }
 }
-
-#[cfg(test)]
-mod tests {
-    use super::*;
-    use std::test::Fail;
-
-    #[test]
-    fn signs_of_sums(rt: HostRuntime) -> Result<(), Fail> {
-        assert_eq!(rt; pair_sign(-3, 2, 2), Sign::Minus);
-        assert_eq!(rt; pair_sign(-2, 2, 2), Sign::Plus);
-        assert_eq!(rt; pair_sign(-2, 1, 4), Sign::Zero);
-        assert_eq!(rt; pair_sign(5, -7, 0), Sign::Plus);
-        Ok(())
-    }
-
-    #[test]
-    fn signs_at_the_bounds(rt: HostRuntime) -> Result<(), Fail> {
-        let (u, v, d) = (1 << 62, 1 << 31, (1 << 63) - 1);
-        assert_eq!(rt; pair_sign(u, -v, d), Sign::Minus);
-        assert_eq!(rt; pair_sign(-u, v, d), Sign::Plus);
-        assert_eq!(rt; pair_sign(-u, -v, d), Sign::Minus);
-        assert_eq!(rt; pair_sign(u, -v, 1 << 62), Sign::Zero);
-        assert_eq!(rt; pair_sign(u, -v, (1 << 62) - 1), Sign::Plus);
-        Ok(())
-    }
-}

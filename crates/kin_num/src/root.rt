@@ -47,34 +47,3 @@ fn guess_above(x: u64) -> u64
 {
     (x >> 34) * 3 + 1_431_655_768
 }
-
-#[cfg(test)]
-mod tests {
-    use super::*;
-    use std::test::Fail;
-
-    #[test]
-    fn roots_around_the_greatest_square(rt: HostRuntime) -> Result<(), Fail> {
-        let top: u64 = (1 << 32) - 1;
-        assert_eq!(rt; isqrt(0), 0);
-        assert_eq!(rt; isqrt(u64::MAX), top);
-        assert_eq!(rt; isqrt(top * top), top);
-        assert_eq!(rt; isqrt(top * top - 1), top - 1);
-        Ok(())
-    }
-
-    #[test]
-    fn roots_around_each_power(rt: HostRuntime) -> Result<(), Fail> {
-        assert_eq!(rt; isqrt(1), 1);
-        assert_eq!(rt; isqrt(3), 1);
-        assert_eq!(rt; isqrt(0xFFFF), 0xFF);
-        assert_eq!(rt; isqrt(0x1_0000), 0x100);
-        assert_eq!(rt; isqrt(0xFF_FFFF), 0xFFF);
-        assert_eq!(rt; isqrt(0x100_0000), 0x1000);
-        assert_eq!(rt; isqrt(0xFFFF_FFFF), 0xFFFF);
-        assert_eq!(rt; isqrt(0x1_0000_0000), 0x1_0000);
-        assert_eq!(rt; isqrt(0xFFFF_FFFF_FFFF), 0xFF_FFFF);
-        assert_eq!(rt; isqrt(0x1_0000_0000_0000), 0x100_0000);
-        Ok(())
-    }
-}

@@ -1,7 +1,7 @@
 -- The records of a list, found by their left points.
 use Rattle.std.proofs.Common.{◌≡◌, ◌⊎◌, inl, inr, refl, sym, ap, ◌∙◌, subst, List, [], ◌∷◌, ◌++◌, ℕ, true, false, Contains}
 use Rattle.std.proofs.lemmas.Bool.{both_ways, false_from_ne_true}
-use Rattle.kin_basics.proofs.Members.{contains_none, contains_cases}
+use Rattle.kin_algebra.proofs.Members.{contains_none, contains_cases}
 use Rattle.kin_motion.specs.Numbers.{is_in, IsOnce}
 use Rattle.kin_motion.proofs.Members.{in_head, in_tail, not_in_tail}
 use Rattle.kin_overlay.specs.declared.record.Record.{Record}

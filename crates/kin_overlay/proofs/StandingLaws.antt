@@ -4,7 +4,7 @@ use Rattle.std.specs.Prelude.{slice_get, IsTrue, ◌↔◌}
 use Rattle.std.proofs.lemmas.Option.{get_or_from_slice_get}
 use borrow.Author.Count.{below_more}
 use Rattle.kin_algebra.proofs.Signs.{equal_or_not}
-use Rattle.kin_basics.proofs.Members.{contains_head, contains_from_get, get_from_contains}
+use Rattle.kin_algebra.proofs.Members.{contains_head, contains_from_get, get_from_contains}
 use Rattle.kin_motion.specs.declared.fact.Fact.{Fact}
 use Rattle.kin_motion.specs.declared.form.Form.TheVariants.{Line}
 use Rattle.kin_motion.specs.declared.fact.Placed.{Placed}

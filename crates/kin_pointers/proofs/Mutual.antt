@@ -3,8 +3,8 @@ use Rattle.std.proofs.Common.{◌≡◌, ◌≢◌, refl, sym, ap, ◌∙◌, su
 use Rattle.std.specs.Prelude.{slice_get, Contains}
 use Rattle.std.proofs.lemmas.Bool.{cases_eq}
 use Rattle.std.proofs.lemmas.Option.{slice_get_within, same_Some, slice_get-map}
-use Rattle.kin_basics.proofs.Places.{get-set_same, get-set_other, get-push_cases, get_front, get_last}
-use Rattle.kin_basics.proofs.Members.{contains_from_get, get_from_contains}
+use Rattle.kin_algebra.proofs.Places.{get-set_same, get-set_other, get-push_cases, get_front, get_last}
+use Rattle.kin_algebra.proofs.Members.{contains_from_get, get_from_contains}
 use Rattle.kin_motion.specs.Sets.{ListsExactly}
 use Rattle.kin_pointers.specs.declared.pointers.Pointer.{Pointer}
 use Rattle.kin_pointers.specs.Pointing.{target_in, IsListed, AreMutual, IsStruck}
@@ -148,10 +148,6 @@ numbered held lists agree = record {
   forth = λ slot p e. let l = agree.forth slot p e in record { slots = l.slots; listed = get_front lists ([] ∷ []) p.target l.slots l.listed; at = l.at };
   back = λ t p q xs a e. elim (get-push_cases lists [] t xs a) [ inl f ↦ agree.back t p q xs f e | inr f ↦ absurd (let g = sym (ap (λ (ys : List ℕ). slice_get ys p) f.1) ∙ e in cc) ];
 }
-
--- no slots over empty lists
-pub none_mutual : (lists : List (List ℕ)) → ((t : ℕ) (xs : List ℕ) → slice_get lists t ≡ Some xs → xs ≡ []) → AreMutual [] lists
-none_mutual lists empty = record { forth = λ slot p e. absurd cc; back = λ t p q xs a e. absurd (let f = sym (ap (λ (ys : List ℕ). slice_get ys p) (empty t xs a)) ∙ e in cc) }
 
 -- a slot that points at none points at a number
 module _ (held : List (Option Pointer)) (lists : List (List ℕ)) (agree : AreMutual held lists) (slot target : ℕ) (slots : List ℕ) (vacant : slice_get held slot ≡ Some None) (listed : slice_get lists target ≡ Some slots) where

@@ -5,5 +5,3 @@
 #![tactic(auto)]
 
 pub mod pointers;
-#[cfg(test)]
-mod tests;

@@ -24,6 +24,14 @@ pub line_pieces : (dx dy off : ℤ) (x y z : List ℕ)
     → codes "line(" ++ (x ++ (codes "," ++ (y ++ (codes "," ++ (z ++ codes ")"))))) ≡ line_text dx dy off
 line_pieces dx dy off x y z p q r other = rw (p, q, r, not_zero off other) (line_joined (codes "line(") (signed_decimal dx) (codes ",") (signed_decimal dy) (signed_decimal off) (codes ")"))
 
+-- without an offset
+line_joined-no_offset : (h x c y e : List ℕ) → h ++ (x ++ (c ++ (y ++ e))) ≡ h ++ x ++ c ++ y ++ [] ++ e
+line_joined-no_offset h x c y e = simp append_assoc
+
+pub line_pieces-no_offset : (dx dy off : ℤ) (x y : List ℕ) → x ≡ signed_decimal dx → y ≡ signed_decimal dy → off ≡ pos 0
+    → codes "line(" ++ (x ++ (codes "," ++ (y ++ codes ")"))) ≡ line_text dx dy off
+line_pieces-no_offset dx dy off x y p q zero = rw (p, q, zero) (line_joined-no_offset (codes "line(") (signed_decimal dx) (codes ",") (signed_decimal dy) (codes ")"))
+
 -- behind its kind the numbers of a form stand behind a space each
 pub form_pieces : (f : Form) → kind_text f ++ flat_map spaced (numbers_of f) ≡ form_text f
 form_pieces (Line dx dy off i j) = sym (append_assoc (line_text dx dy off) (codes " ") (join_by decimal (codes " ") (i ∷ j ∷ [])))

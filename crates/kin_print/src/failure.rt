@@ -3,7 +3,7 @@
 ghost use Rattle.std.specs.Prelude.{◌≡◌, ◌++◌, OnOk, OnErr, codes};
 ghost use Rattle.std.specs.Fmt.{decimal};
 ghost use Rattle.std.specs.List.{flat_map};
-ghost use Rattle.kin_cert.specs.Blocks.{failure_of};
+ghost use Rattle.kin_fail.specs.Blocks.{failure_of};
 ghost use Rattle.kin_script.specs.Printed.{PutsFront};
 ghost use Rattle.kin_script.specs.PrintedJournal.{sign_text, line_text, kind_text, form_text, failure_line};
 ghost use Rattle.kin_motion.specs.Forms.{numbers_of};
@@ -13,7 +13,7 @@ use crate::list::put_each;
 use crate::moment::put_moment;
 use crate::piece::{digits, put_bytes, put_pieces};
 use itoa::Buffer;
-use kin_cert::Failure;
+use kin_fail::Failure;
 use kin_motion::form::Form;
 use kin_num::{Moment, NoMemory, Sign};
 
@@ -107,146 +107,5 @@ fn put_points(out: &mut Vec<u8>, form: &Form) -> Result<(), NoMemory>
         Form::Turn { i, j, k } => put_each(out, &[i, j, k]),
         Form::Slope { i, j, k, l } => put_each(out, &[i, j, k, l]),
         Form::Dist { i, j, k, l } => put_each(out, &[i, j, k, l]),
-    }
-}
-
-#[cfg(test)]
-mod tests {
-    use super::*;
-    use kin_instant::ratio::ratio;
-    use kin_instant::roots::Roots;
-    use kin_instant::solve::roots;
-    use kin_num::poly::Poly;
-    use kin_num::{Instant, Phase};
-    use std::test::Fail;
-
-    fn line(i: u32, j: u32) -> Form {
-        Form::Line {
-            dx: 1,
-            dy: 0,
-            off: 0,
-            i,
-            j,
-        }
-    }
-
-    /// Appends a failure of the structure 0.
-    fn put(
-        out: &mut Vec<u8>,
-        (at, phase): (Instant, Phase),
-        part: u32,
-        form: Form,
-        (before, after): (Sign, Sign),
-    ) -> Result<(), NoMemory> {
-        let failure = Failure {
-            structure: 0,
-            part,
-            form,
-            before,
-            after,
-        };
-        put_failure(out, &Moment { at, phase }, &failure)
-    }
-
-    const MEET: (Sign, Sign) = (Sign::Plus, Sign::Zero);
-
-    const PASS: (Sign, Sign) = (Sign::Zero, Sign::Minus);
-
-    #[test]
-    fn points_meet_and_pass(rt: HostRuntime) -> Result<(), Fail> {
-        let five = ratio(5, 1);
-        let mut out = Vec::new(rt.alloc());
-        put(&mut out, (five, Phase::At), 0, line(0, 1), MEET)?;
-        put(&mut out, (five, Phase::At), 0, line(1, 2), MEET)?;
-        put(&mut out, (five, Phase::After), 0, line(0, 1), PASS)?;
-        put(&mut out, (five, Phase::After), 0, line(1, 2), PASS)?;
-        let text = b"! 5 0/0 line(1,0) 0 1 + 0\n\
-            ! 5 0/0 line(1,0) 1 2 + 0\n\
-            ! 5+ 0/0 line(1,0) 0 1 0 -\n\
-            ! 5+ 0/0 line(1,0) 1 2 0 -\n";
-        assert_eq!(rt; out.as_slice(), text.as_slice());
-        Ok(())
-    }
-
-    #[test]
-    fn a_turn_is_0_at_an_irrational_instant(rt: HostRuntime) -> Result<(), Fail> {
-        let begin = (Sign::Zero, Sign::Plus);
-        let turn = Form::Turn { i: 0, j: 1, k: 2 };
-        let end = (Sign::Minus, Sign::Zero);
-        let (zero, one) = (ratio(0, 1), ratio(1, 1));
-        let mut out = Vec::new(rt.alloc());
-        put(&mut out, (zero, Phase::After), 4, line(0, 1), begin)?;
-        put(&mut out, (zero, Phase::After), 5, line(0, 1), begin)?;
-        put(&mut out, (one, Phase::At), 2, line(1, 2), MEET)?;
-        put(&mut out, (one, Phase::At), 3, line(1, 2), MEET)?;
-        put(&mut out, (one, Phase::After), 2, line(1, 2), PASS)?;
-        put(&mut out, (one, Phase::After), 3, line(1, 2), PASS)?;
-        if let Roots::Two(_, at) = roots(&Poly::new(1, 0, -2)) {
-            put(&mut out, (at, Phase::At), 2, turn, end)?;
-            put(&mut out, (at, Phase::At), 3, turn, end)?;
-        }
-        let text = b"! 0+ 0/4 line(1,0) 0 1 0 +\n\
-            ! 0+ 0/5 line(1,0) 0 1 0 +\n\
-            ! 1 0/2 line(1,0) 1 2 + 0\n\
-            ! 1 0/3 line(1,0) 1 2 + 0\n\
-            ! 1+ 0/2 line(1,0) 1 2 0 -\n\
-            ! 1+ 0/3 line(1,0) 1 2 0 -\n\
-            ! r(1,0,-2,hi) 0/2 turn 0 1 2 - 0\n\
-            ! r(1,0,-2,hi) 0/3 turn 0 1 2 - 0\n";
-        assert_eq!(rt; out.as_slice(), text.as_slice());
-        Ok(())
-    }
-
-    #[test]
-    fn each_form_has_its_name_and_points(rt: HostRuntime) -> Result<(), Fail> {
-        let now = Moment {
-            at: ratio(7, 3),
-            phase: Phase::At,
-        };
-        let forms = [
-            Form::Slope {
-                i: 4095,
-                j: 1,
-                k: 2,
-                l: 3,
-            },
-            Form::Dist {
-                i: 0,
-                j: 1,
-                k: 0,
-                l: 2,
-            },
-            Form::Line {
-                dx: -16,
-                dy: 16,
-                off: -65536,
-                i: 10,
-                j: 9,
-            },
-            Form::Line {
-                dx: 0,
-                dy: 1,
-                off: 7,
-                i: 0,
-                j: 1,
-            },
-        ];
-        let mut out = Vec::new(rt.alloc());
-        for form in &forms {
-            let failure = Failure {
-                structure: 15,
-                part: 32767,
-                form: *form,
-                before: Sign::Minus,
-                after: Sign::Plus,
-            };
-            put_failure(&mut out, &now, &failure)?;
-        }
-        let text = b"! 7/3 15/32767 slope 4095 1 2 3 - +\n\
-            ! 7/3 15/32767 dist 0 1 0 2 - +\n\
-            ! 7/3 15/32767 line(-16,16,-65536) 10 9 - +\n\
-            ! 7/3 15/32767 line(0,1,7) 0 1 - +\n";
-        assert_eq!(rt; out.as_slice(), text.as_slice());
-        Ok(())
     }
 }

@@ -26,22 +26,3 @@ pub fn put_one(out: &mut Vec<u8>, one: Option<u32>) -> Result<(), NoMemory>
         None => put_bytes(out, b"none\n"),
     }
 }
-
-#[cfg(test)]
-mod tests {
-    use super::*;
-    use std::test::Fail;
-
-    #[test]
-    fn a_number_or_none_is_a_line(rt: HostRuntime) -> Result<(), Fail> {
-        let mut out = Vec::new(rt.alloc());
-        put_one(&mut out, Some(4095))?;
-        put_one(&mut out, None)?;
-        put_one(&mut out, Some(0))?;
-        put_count(&mut out, 399_999)?;
-        put_count(&mut out, 0)?;
-        let text = b"4095\nnone\n0\n399999\n0\n";
-        assert_eq!(rt; out.as_slice(), text.as_slice());
-        Ok(())
-    }
-}

@@ -62,37 +62,3 @@ pub fn put_pair(out: &mut Vec<u8>, pair: Option<(u32, u32)>) -> Result<(), NoMem
         None => put_bytes(out, b"none\n"),
     }
 }
-
-#[cfg(test)]
-mod tests {
-    use super::*;
-    use std::alloc::Global;
-    use std::test::Fail;
-
-    fn line(alloc: Global, list: &[u32]) -> Result<Vec<u8>, NoMemory> {
-        let mut out = Vec::new(alloc);
-        put_list(&mut out, list)?;
-        Ok(out)
-    }
-
-    #[test]
-    fn numbers_stand_behind_one_space_each(rt: HostRuntime) -> Result<(), Fail> {
-        let alloc = rt.alloc();
-        assert_eq!(rt; line(alloc, &[])?.as_slice(), b"none\n".as_slice());
-        assert_eq!(rt; line(alloc, &[5])?.as_slice(), b"5\n".as_slice());
-        assert_eq!(rt;
-            line(alloc, &[1, 0, 4095])?.as_slice(),
-            b"1 0 4095\n".as_slice()
-        );
-        Ok(())
-    }
-
-    #[test]
-    fn a_pair_or_none_is_a_line(rt: HostRuntime) -> Result<(), Fail> {
-        let mut out = Vec::new(rt.alloc());
-        put_pair(&mut out, Some((0, 4095)))?;
-        put_pair(&mut out, None)?;
-        assert_eq!(rt; out.as_slice(), b"0 4095\nnone\n".as_slice());
-        Ok(())
-    }
-}

@@ -33,26 +33,3 @@ pub fn put_reply(out: &mut Vec<u8>, reply: &Reply) -> Result<(), NoMemory>
         Reply::Count(n) => put_count(out, *n),
     }
 }
-
-#[cfg(test)]
-mod tests {
-    use super::*;
-    use std::test::Fail;
-
-    #[test]
-    fn each_reply_is_a_line(rt: HostRuntime) -> Result<(), Fail> {
-        let replies = [
-            Reply::List(Vec::from_slice(rt.alloc(), &[3, 1, 2])?),
-            Reply::List(Vec::new(rt.alloc())),
-            Reply::One(Some(7)),
-            Reply::Pair(Some((1, 2))),
-            Reply::Count(13),
-        ];
-        let mut out = Vec::new(rt.alloc());
-        for reply in &replies {
-            put_reply(&mut out, reply)?;
-        }
-        assert_eq!(rt; out.as_slice(), b"3 1 2\nnone\n7\n1 2\n13\n".as_slice());
-        Ok(())
-    }
-}

@@ -1,5 +1,4 @@
 pub mod Entries
-pub mod Looks
 pub mod Order
 pub mod Tickets
 pub mod Moves

@@ -2,8 +2,8 @@
 use Rattle.std.proofs.Common.{◌≡◌, ◌⊎◌, inl, inr, refl, sym, ap, ◌∙◌, subst, arith, List, [], ◌∷◌, ℕ, false, IsTrue, ℤ, pos}
 use Rattle.std.specs.Prelude.{nat_eq, Contains}
 use Rattle.std.proofs.lemmas.Bool.Decides.{nat_tests}
-use Rattle.kin_basics.proofs.Members.{contains_none, contains_cases}
-use Rattle.kin_basics.proofs.Tests.{or_exchanged}
+use Rattle.kin_algebra.proofs.Members.{contains_none, contains_cases}
+use Rattle.kin_algebra.proofs.Tests.{or_exchanged}
 use Rattle.kin_algebra.specs.declared.sign.Sign.{Sign}
 use Rattle.kin_motion.specs.declared.form.Form.TheVariants.{Line}
 use Rattle.kin_motion.specs.declared.fact.Placed.{Placed}

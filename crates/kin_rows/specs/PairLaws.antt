@@ -2,7 +2,7 @@
 use Rattle.std.proofs.Common.{◌≡◌, ◌⊎◌, inl, inr, sym, ap, ◌∙◌, subst, arith, [], ◌∷◌, ℕ, ℤ, pos, IsTrue}
 use Rattle.std.specs.Prelude.{Contains}
 use Rattle.std.proofs.lemmas.List.Elements.{All-contains}
-use Rattle.kin_basics.proofs.Members.{contains_head, contains_tail}
+use Rattle.kin_algebra.proofs.Members.{contains_head, contains_tail}
 use Rattle.kin_algebra.specs.declared.sign.Sign.{Sign}
 use Rattle.kin_motion.specs.declared.form.Form.TheVariants.{Line}
 use Rattle.kin_motion.specs.declared.fact.Placed.{Placed}

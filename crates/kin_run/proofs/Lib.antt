@@ -1,11 +1,3 @@
 pub mod Vocabulary
-pub mod Gathering
-pub mod NamedRoots
-pub mod Determined
-pub mod Passing
-pub mod Performing
-pub mod Playing
-pub mod OneText
-pub mod Tallying
-pub mod Generated
-pub mod Existence
+pub mod OnTheWay
+pub mod Changing

@@ -1,64 +1,34 @@
 -- The words and lemmas of the crates below that several proofs of this crate speak in, brought in at one place.
-pub use Rattle.std.specs.Io.KnownBytes.{Appends, Consumes}
-pub use Rattle.std.proofs.KnownBytes.{Appends-nil, Appends-trans}
-pub use Rattle.std.proofs.lemmas.Bool.{cases_lt}
-pub use Rattle.std.proofs.lemmas.Int.{ints, to_z-of_z}
-pub use Rattle.std.proofs.lemmas.List.{drop_all, length-replicate}
-pub use Rattle.std.proofs.lemmas.Option.{same_Some}
+pub use Rattle.std.proofs.lemmas.Int.{to_z-of_z}
 pub use Rattle.std.proofs.lemmas.Result.{err_from_is_err_and, on_err_weaker}
-pub use Rattle.kin_basics.proofs.Results.{on_err, on_ok}
-pub use Rattle.kin_algebra.specs.Signs.{opposite_of, product_of, sign_of}
-pub use Rattle.kin_algebra.specs.declared.sign.Sign.{Sign}
-pub use Rattle.kin_algebra.specs.declared.sign.Sign.TheVariants.{Minus, Plus, Zero}
-pub use Rattle.kin_algebra.proofs.IntegerSigns.{sign_in, sign_of-times, sign_out}
-pub use Rattle.kin_num.specs.Canonical.{IsCanonical, IsCanonicalForm, discriminant}
+pub use Rattle.kin_algebra.proofs.Results.{on_err, on_ok}
+pub use Rattle.kin_num.specs.Canonical.{IsCanonical}
 pub use Rattle.kin_num.specs.Grains.{moments_left}
-pub use Rattle.kin_num.specs.Instants.{line, sign_at_instant}
-pub use Rattle.kin_num.specs.Order.{IsEarlier, IsLess}
-pub use Rattle.kin_num.specs.Quadratic.{Quadratic}
+pub use Rattle.kin_num.specs.Instants.{line}
+pub use Rattle.kin_num.specs.Order.{IsEarlier}
 pub use Rattle.kin_num.specs.declared.instant.Moment.{Moment}
-pub use Rattle.kin_num.specs.declared.instant.Phase.TheVariants.{After, At}
 pub use Rattle.kin_num.specs.declared.instant.Shape.{Shape}
-pub use Rattle.kin_num.proofs.InstantOrder.{above_fraction, level_same}
-pub use Rattle.kin_num.proofs.LowerFractions.{less_asym, not_less_itself}
-pub use Rattle.kin_num.proofs.Values.{start_canonical}
-pub use Rattle.kin_instant.specs.Roots.{AreRootsOf, HasRoot, IsFraction, count_by_signs}
-pub use Rattle.kin_instant.specs.declared.roots.Roots.{Roots}
-pub use Rattle.kin_instant.specs.declared.roots.Roots.TheVariants.{All, Nowhere, One, Two}
-pub use Rattle.kin_motion.specs.Course.{AreSlow, Course, IsSlow, is_live, motion_of}
-pub use Rattle.kin_motion.specs.Journal.{Block, Failure, IsJournal, IsNextBlock, NothingFails, Setting}
-pub use Rattle.kin_motion.proofs.JournalLaws.{block_is_listed, journal_is_one, next_block_is_one}
-pub use Rattle.kin_motion.proofs.SlotLaws.{none_live}
+pub use Rattle.kin_motion.specs.Course.{Course, motion_of}
+pub use Rattle.kin_motion.specs.Journal.{Block, IsJournal, IsNextBlock, Setting}
+pub use Rattle.kin_motion.proofs.JournalLaws.{block_is_listed}
 pub use Rattle.kin_io.specs.Ends.{AppendsFront}
-pub use Rattle.kin_cert.specs.Blocks.{failure_of}
-pub use Rattle.kin_print.proofs.Fronts.{front_at, front_behind, front_first, nothing}
-pub use Rattle.kin_script.specs.Changes.{Change, ChangesTo, IsChangeInRange, IsRefusedChange, IsRefusedTurn, IsSlowVelocity, enters, leaves, restarts, turns}
-pub use Rattle.kin_script.specs.Deeds.{Deed, asks, changes, deed_of, goes_on, goes_to}
-pub use Rattle.kin_script.specs.Generated.{IsGenerated, IsLeastSize, course_behind, insertion, insertions, one_of_each, questions, state_after}
-pub use Rattle.kin_script.specs.Grammar.{script_of}
+pub use Rattle.kin_print.proofs.Fronts.{nothing}
+pub use Rattle.kin_script.specs.Changes.{IsSlowVelocity, restarts, turns}
+pub use Rattle.kin_script.specs.Deeds.{deed_of}
 pub use Rattle.kin_script.specs.Printed.{PutsFront}
-pub use Rattle.kin_script.specs.PrintedJournal.{block_lines, failure_line, journal_lines, none_line, now_line}
-pub use Rattle.kin_script.specs.Questions.{IsKeepInRange, IsProvided}
-pub use Rattle.kin_script.specs.Ranges.{IsAskedFor, IsCommandInRange, IsDeedInRange, IsRatioInRange, IsRootInRange, IsWithin}
-pub use Rattle.kin_script.specs.Replay.{HasNoRoot, IsAllowed, IsNamedRoot, IsRefused, IsRootOf, LeadsTo}
-pub use Rattle.kin_script.specs.States.{State, at, start, state_setting}
-pub use Rattle.kin_script.specs.Text.{Ending, IsNextText, IsPassedText, Prints, Step, Text, bad_line, refused_line}
+pub use Rattle.kin_script.specs.PrintedJournal.{none_line}
+pub use Rattle.kin_script.specs.Ranges.{IsRootInRange}
+pub use Rattle.kin_script.specs.States.{State, at, state_setting}
+pub use Rattle.kin_script.specs.Text.{IsPassedText, refused_line}
 pub use Rattle.kin_script.specs.declared.command.Command.{Command}
-pub use Rattle.kin_script.specs.declared.refusal.Refusal.{Refusal}
-pub use Rattle.kin_script.specs.declared.refusal.Refusal.TheVariants.{Absent, NoRoot, NotKept, NotWhole, OutOfBounds, Past, Taken}
-pub use Rattle.kin_script.specs.declared.script.Script.{Script}
-pub use Rattle.kin_script.proofs.Questions.{asks_otherwise, deed_in_range, has_line, one_reply_line, small_keep}
+pub use Rattle.kin_script.proofs.Questions.{asks_otherwise}
+pub use Rattle.kin_status.specs.Performed.{BreaksOff, IsCutOfText, IsFrontOfEach}
+pub use Rattle.kin_status.specs.Passed.{printed_if}
+pub use Rattle.kin_status.specs.Tallies.{HasTallied, counted_on}
+pub use Rattle.kin_status.specs.Written.{Gains, GainsSome, IsFront, Printer, printer}
+pub use Rattle.kin_status.specs.declared.stop.Halt.{Halt}
+pub use Rattle.kin_status.specs.declared.tally.Tally.{Tally}
+pub use Rattle.kin_status.specs.declared.stop.Stop.TheVariants.{Fault, NoMemory}
 pub use Rattle.kin_world.specs.Worlds.{HasMoved, HasPassed, HasReplaced, HasStepped, IsWhole, World, failure_count, with_facts_of}
-pub use Rattle.kin_run.specs.Demo.{DemoTextsExist, IsDemoText, OneDemoText, WritesDemo, demo_line, failures_in, start_of}
-pub use Rattle.kin_run.specs.Headline.{Answers, IsAnswer, IsBrokenOff, IsCut, IsTextOf, OneAnswer, Outcome, TakesWhole, TextsExist, status_of_stop}
-pub use Rattle.kin_run.specs.Passed.{Passes, PassesInTurn}
-pub use Rattle.kin_run.specs.Performed.{BreaksOff, IsCutOfText, IsFrontOfEach, IsReply, Performs, PutsLine, Replies, RepliesTo}
-pub use Rattle.kin_run.specs.States.{printed_if, state_of}
-pub use Rattle.kin_run.specs.Tallies.{HasTallied, counted_on, tallied_on, tally_line}
-pub use Rattle.kin_run.specs.Written.{Gains, GainsSome, IsFront, LosesSome, Printer, Wrote, printer}
-pub use Rattle.kin_run.specs.declared.perform.Halt.{Halt}
-pub use Rattle.kin_run.specs.declared.perform.Halt.TheVariants.{Broken, Refused}
-pub use Rattle.kin_run.specs.declared.status.Status.{Status}
-pub use Rattle.kin_run.specs.declared.tally.Tally.{Tally}
-pub use Rattle.kin_run.specs.declared.write.Stop.{Stop}
-pub use Rattle.kin_run.specs.declared.write.Stop.TheVariants.{Fault, NoMemory}
+pub use Rattle.kin_run.specs.Replied.{RepliesTo}
+pub use Rattle.kin_run.specs.States.{state_of}

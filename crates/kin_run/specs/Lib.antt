@@ -1,9 +1,10 @@
-pub mod Written
+pub use Rattle.kin_status.specs.Written
+pub use Rattle.kin_status.specs.Performed
+pub use Rattle.kin_status.specs.Passed
+pub use Rattle.kin_status.specs.Tallies
+pub use Rattle.kin_status.specs.Headline
+pub use Rattle.kin_status.specs.Demo
+pub use Rattle.kin_status.specs.Words
 pub mod States
-pub mod Performed
-pub mod Passed
-pub mod Tallies
+pub mod Replied
 pub mod Arrived
-pub mod Headline
-pub mod Demo
-pub mod Words

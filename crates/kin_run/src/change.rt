@@ -3,17 +3,17 @@
 ghost use Rattle.std.specs.Prelude.{◌≡◌, ◌≢◌, ◌≤◌, ◌<◌, ◌^◌, Bool, OnOk, IfErr, unsigned_abs};
 ghost use Rattle.kin_script.specs.Changes.{enters, leaves, restarts, turns};
 ghost use Rattle.kin_script.specs.Deeds.{changes};
+ghost use Rattle.kin_status.specs.declared.stop.Halt.TheVariants.{Broken as BrokenOff};
+ghost use Rattle.kin_status.specs.declared.stop.Stop.TheVariants.{Fault as FaultOf};
+ghost use Rattle.kin_status.specs.Performed.{Performs, OnRefused};
+ghost use Rattle.kin_status.specs.Written.{Printer};
 ghost use Rattle.kin_world.specs.Worlds.{IsWhole};
-ghost use Rattle.kin_run.specs.declared.perform.Halt.TheVariants.{Broken as BrokenOff};
-ghost use Rattle.kin_run.specs.declared.write.Stop.TheVariants.{Fault as FaultOf};
-ghost use Rattle.kin_run.specs.Performed.{Performs, OnRefused};
 ghost use Rattle.kin_run.specs.States.{state_of};
-ghost use Rattle.kin_run.specs.Written.{Printer};
 
-use crate::perform::Halt;
 use kin_motion::Motion;
 use kin_num::Steps;
 use kin_script::refusal::Refusal;
+use kin_status::stop::Halt;
 use kin_turn::turned::TurnError;
 use kin_world::world::World;
 use std::sync::ledger::Ledger;

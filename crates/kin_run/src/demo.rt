@@ -4,33 +4,20 @@ ghost use Rattle.std.specs.Prelude.{◌≡◌, ◌≤◌, ◌<◌, ◌^◌, OnOk
 ghost use Rattle.std.specs.Io.KnownBytes.{Appends};
 ghost use Rattle.kin_io.specs.Causes.{Rose};
 ghost use Rattle.kin_io.specs.Ends.{AppendsFront};
-ghost use Rattle.kin_run.specs.declared.write.Stop.TheVariants.{Fault as FaultOf};
-ghost use Rattle.kin_run.specs.Demo.{WritesDemo};
-ghost use Rattle.kin_run.specs.Tallies.{tally_line};
-ghost use Rattle.kin_run.specs.Written.{Wrote};
+ghost use Rattle.kin_status.specs.declared.stop.Stop.TheVariants.{Fault as FaultOf};
+ghost use Rattle.kin_status.specs.Demo.{WritesDemo};
+ghost use Rattle.kin_status.specs.Tallies.{tally_line};
+ghost use Rattle.kin_status.specs.Written.{Wrote};
 
 use crate::play::play_script;
-use crate::status::{Side, Status, status_of};
-use crate::tally::Tally;
-use crate::text::demo_text;
-use crate::write::{Stop, flush};
 use kin_io::sink::Sink;
 use kin_script::generate;
+use kin_status::ending::write_tally;
+use kin_status::status::{Side, Status, status_of};
+use kin_status::tally::Tally;
 use std::alloc::Global;
 use std::marker::Brand;
 use std::sync::ledger::{Blank, Ledger};
-
-/// Writes how much a run has passed.
-fn write_tally<K: Sink>(alloc: Global, tally: &Tally, sink: &mut K) -> Result<(), Stop>
-    ensures ok { OnOk result (Appends (K.held sink.old) (K.held sink.new) (tally_line tally.now)) }
-    ensures err { OnErr result (AppendsFront (K.held sink.old) (K.held sink.new) (tally_line tally.now)) }
-    ensures later { K.faults sink.old ≤ K.faults sink.new }
-    ensures cause { IsErrOf result FaultOf → Rose (K.faults sink.old) (K.faults sink.new) }
-{
-    let mut out = demo_text(alloc, tally)?;
-    flush(&mut out, sink)?;
-    Ok(())
-}
 
 /// Runs a generated script, and writes how much that passed. None of its commands is refused.
 fn run_generated<K: Sink, L: Ledger>(

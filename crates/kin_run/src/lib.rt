@@ -7,23 +7,13 @@
 #![tactic(auto)]
 
 pub use kin_script::refusal::Refusal;
+pub use kin_status::{laws, status, words};
 
-mod asked;
 mod change;
 mod demo;
-pub mod laws;
 mod next;
 mod pass;
 mod perform;
 mod play;
 mod reply;
 pub mod run;
-pub mod status;
-mod tally;
-#[cfg(test)]
-mod tests;
-mod text;
-pub mod words;
-#[cfg(test)]
-mod worked;
-mod write;

@@ -1,42 +1,20 @@
 //! The next failures.
 
-ghost use Rattle.std.specs.Prelude.{◌≡◌, ◌++◌, OnOk, OnErr};
-ghost use Rattle.kin_script.specs.Printed.{PutsFront};
-ghost use Rattle.kin_script.specs.PrintedJournal.{now_line};
+ghost use Rattle.std.specs.Prelude.{OnOk};
 ghost use Rattle.kin_script.specs.Replay.{LeadsToNext};
 ghost use Rattle.kin_script.specs.Text.{IsNextText};
+ghost use Rattle.kin_status.specs.Passed.{IsNextIfAny};
+ghost use Rattle.kin_status.specs.Performed.{PutsLine};
+ghost use Rattle.kin_status.specs.Tallies.{HasTallied};
 ghost use Rattle.kin_world.specs.Worlds.{IsWhole};
-ghost use Rattle.kin_run.specs.Passed.{IsNextIfAny};
-ghost use Rattle.kin_run.specs.Performed.{PutsLine};
-ghost use Rattle.kin_run.specs.States.{state_of, printed_if};
-ghost use Rattle.kin_run.specs.Tallies.{HasTallied};
+ghost use Rattle.kin_run.specs.States.{state_of};
 
-use crate::pass::{count_of, put_if_on};
-use crate::tally::{Tally, count_on};
-use kin_cert::Block;
-use kin_num::{Moment, NoMemory, Steps};
-use kin_print::{put_bytes, put_moment};
+use kin_num::{NoMemory, Steps};
+use kin_print::put_bytes;
+use kin_status::journal::{count_of, put_passed};
+use kin_status::tally::{Tally, count_on};
 use kin_world::world::World;
 use std::sync::ledger::Ledger;
-
-/// Appends the line with the moment that `next` moved to.
-fn put_now(out: &mut Vec<u8>, now: &Moment) -> Result<(), NoMemory>
-    ensures ok { OnOk result (out.new.items ≡ out.old.items ++ now_line now.now) }
-    ensures err { OnErr result (PutsFront out.old.items out.new.items (now_line now.now)) }
-{
-    put_bytes(out, b"now ")?;
-    put_moment(out, now)?;
-    put_bytes(out, b"\n")
-}
-
-/// Appends a block where the journal is on, and the line with its moment.
-fn put_passed(out: &mut Vec<u8>, journal: bool, block: &Block) -> Result<(), NoMemory>
-    ensures ok { OnOk result (out.new.items ≡ out.old.items ++ (printed_if journal block.now ++ now_line block.now.moment)) }
-    ensures err { OnErr result (PutsFront out.old.items out.new.items (printed_if journal block.now ++ now_line block.now.moment)) }
-{
-    put_if_on(out, journal, block)?;
-    put_now(out, &block.moment)
-}
 
 /// Moves to the next failures, and appends them where the journal is on, and then the line with
 /// their moment. Where nothing ever fails, appends the word `none`. What was passed is counted.

@@ -1,59 +1,30 @@
 //! The failures on the way to an instant, each block written before the next is computed.
 
 ghost use Rattle.std.specs.Prelude.{◌≡◌, ◌≤◌, ◌++◌, length, OnOk, OnErr, IsErrOf};
-ghost use Rattle.kin_io.specs.Causes.{Rose};
 ghost use Rattle.kin_num.specs.Canonical.{IsCanonical};
 ghost use Rattle.kin_num.specs.Order.{IsEarlier};
+ghost use Rattle.kin_motion.specs.Journal.{IsJournal};
+ghost use Rattle.kin_io.specs.Causes.{Rose};
 ghost use Rattle.kin_script.specs.Printed.{PutsFront};
 ghost use Rattle.kin_script.specs.PrintedJournal.{block_lines};
-ghost use Rattle.kin_motion.specs.Journal.{IsJournal};
 ghost use Rattle.kin_script.specs.States.{at, state_setting};
 ghost use Rattle.kin_script.specs.Text.{IsPassedText};
+ghost use Rattle.kin_status.specs.declared.stop.Stop.TheVariants.{Fault as FaultOf};
+ghost use Rattle.kin_status.specs.Performed.{Puts};
+ghost use Rattle.kin_status.specs.Tallies.{HasTallied};
+ghost use Rattle.kin_status.specs.Written.{printer};
 ghost use Rattle.kin_world.specs.Worlds.{IsWhole};
-ghost use Rattle.kin_run.specs.declared.write.Stop.TheVariants.{Fault as FaultOf};
 ghost use Rattle.kin_run.specs.Arrived.{HasArrived};
-ghost use Rattle.kin_run.specs.Performed.{Puts};
-ghost use Rattle.kin_run.specs.States.{state_of, printed_if};
-ghost use Rattle.kin_run.specs.Tallies.{HasTallied};
-ghost use Rattle.kin_run.specs.Written.{printer};
+ghost use Rattle.kin_run.specs.States.{state_of};
 
-use crate::tally::{Tally, count_on};
-use crate::write::{Stop, flush_if_due};
-use kin_cert::Block;
 use kin_io::sink::Sink;
 use kin_num::{Instant, Moment, NoMemory, Phase, Steps};
-use kin_print::put_failure;
+use kin_status::journal::{count_of, put_if_on};
+use kin_status::stop::Stop;
+use kin_status::tally::{Tally, count_on};
+use kin_status::write::flush_if_due;
 use kin_world::world::World;
 use std::sync::ledger::Ledger;
-
-/// How many failures a block has.
-pub fn count_of(block: &Block) -> usize
-    ensures { result ≡ length block.now.failures }
-{
-    block.failures.len()
-}
-
-/// Appends the lines of a block.
-fn put_block(out: &mut Vec<u8>, block: &Block) -> Result<(), NoMemory>
-    ensures ok { OnOk result (out.new.items ≡ out.old.items ++ block_lines block.now) }
-    ensures err { OnErr result (PutsFront out.old.items out.new.items (block_lines block.now)) }
-{
-    for failure in &block.failures {
-        put_failure(out, &block.moment, failure)?;
-    }
-    Ok(())
-}
-
-/// Appends the lines of a block where the journal is on.
-pub fn put_if_on(out: &mut Vec<u8>, journal: bool, block: &Block) -> Result<(), NoMemory>
-    ensures ok { OnOk result (out.new.items ≡ out.old.items ++ printed_if journal block.now) }
-    ensures err { OnErr result (PutsFront out.old.items out.new.items (printed_if journal block.now)) }
-{
-    if journal {
-        put_block(out, block)?;
-    }
-    Ok(())
-}
 
 /// Leaves all failures up to the limit behind, of which nobody learns.
 fn leap_to<L: Ledger>(

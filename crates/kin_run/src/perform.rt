@@ -1,58 +1,35 @@
 //! One command: its refusals first, then what it does.
 
 ghost use Rattle.std.specs.Prelude.{◌≡◌, ◌≢◌, ◌≤◌, Bool, OnOk, IsErrOf};
-ghost use Rattle.kin_io.specs.Causes.{Rose};
 ghost use Rattle.kin_num.specs.Canonical.{IsCanonical};
 ghost use Rattle.kin_num.specs.Quadratic.{Quadratic};
+ghost use Rattle.kin_io.specs.Causes.{Rose};
 ghost use Rattle.kin_script.specs.Deeds.{deed_of, goes_to};
 ghost use Rattle.kin_script.specs.Ranges.{IsCommandInRange};
 ghost use Rattle.kin_script.specs.Replay.{IsNamedRoot};
+ghost use Rattle.kin_status.specs.declared.stop.Halt.TheVariants.{Broken as BrokenOff};
+ghost use Rattle.kin_status.specs.declared.stop.Stop.TheVariants.{Fault as FaultOf};
+ghost use Rattle.kin_status.specs.Passed.{Passes};
+ghost use Rattle.kin_status.specs.Performed.{Performs, OnRefused};
+ghost use Rattle.kin_status.specs.Tallies.{HasTallied};
+ghost use Rattle.kin_status.specs.Written.{printer};
 ghost use Rattle.kin_world.specs.Worlds.{IsWhole};
-ghost use Rattle.kin_run.specs.declared.perform.Halt.TheVariants.{Broken as BrokenOff};
-ghost use Rattle.kin_run.specs.declared.write.Stop.TheVariants.{Fault as FaultOf, NoMemory as WantOfMemory};
-ghost use Rattle.kin_run.specs.Passed.{Passes};
-ghost use Rattle.kin_run.specs.Performed.{Performs, OnRefused};
 ghost use Rattle.kin_run.specs.States.{state_of};
-ghost use Rattle.kin_run.specs.Tallies.{HasTallied};
-ghost use Rattle.kin_run.specs.Written.{printer};
 
-use crate::asked::{is_before, named_root};
 use crate::change::{insert, remove, replace, turn};
 use crate::next::put_next;
 use crate::pass::pass;
 use crate::reply::put_reply_to;
-use crate::tally::Tally;
-use crate::write::Stop;
 use kin_instant::ratio::ratio;
 use kin_io::sink::Sink;
-use kin_num::{Instant, NoMemory, Steps};
+use kin_num::{Instant, Steps};
 use kin_script::command::Command;
 use kin_script::refusal::Refusal;
+use kin_status::asked::{is_before, named_root};
+use kin_status::stop::Halt;
+use kin_status::tally::Tally;
 use kin_world::world::World;
 use std::sync::ledger::Ledger;
-
-/// Why a command was not carried out.
-#[derive(Clone, Copy, Debug, PartialEq, Eq)]
-pub enum Halt {
-    Refused(Refusal),
-    Broken(Stop),
-}
-
-impl From<NoMemory> for Halt {
-    ghost from_gives = { λ _ e. e ≡ BrokenOff WantOfMemory };
-
-    fn from(_error: NoMemory) -> Halt {
-        Halt::Broken(Stop::NoMemory)
-    }
-}
-
-impl From<Stop> for Halt {
-    ghost from_gives = { λ stop e. e ≡ BrokenOff stop };
-
-    fn from(stop: Stop) -> Halt {
-        Halt::Broken(stop)
-    }
-}
 
 /// Moves to the asked instant, which is not before now.
 fn move_to<K: Sink, L: Ledger>(

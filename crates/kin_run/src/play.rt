@@ -5,39 +5,29 @@ ghost use Rattle.kin_io.specs.Causes.{Rose};
 ghost use Rattle.kin_io.specs.Ends.{AppendsFront};
 ghost use Rattle.kin_script.specs.Ranges.{IsCommandInRange, IsInRange};
 ghost use Rattle.kin_script.specs.Text.{Text};
+ghost use Rattle.kin_status.specs.declared.stop.Stop.TheVariants.{Fault as FaultOf};
+ghost use Rattle.kin_status.specs.Demo.{start_of};
+ghost use Rattle.kin_status.specs.Passed.{PassesInTurn};
+ghost use Rattle.kin_status.specs.Performed.{IsCutOfText, PutsAll};
+ghost use Rattle.kin_status.specs.Tallies.{HasTallied};
+ghost use Rattle.kin_status.specs.Written.{Wrote, printer};
 ghost use Rattle.kin_world.specs.Worlds.{IsWhole};
-ghost use Rattle.kin_run.specs.declared.write.Stop.TheVariants.{Fault as FaultOf, NoMemory as WantOfMemory};
-ghost use Rattle.kin_run.specs.Demo.{start_of};
-ghost use Rattle.kin_run.specs.Passed.{PassesInTurn};
-ghost use Rattle.kin_run.specs.Performed.{IsCutOfText, PutsAll};
 ghost use Rattle.kin_run.specs.States.{state_of};
-ghost use Rattle.kin_run.specs.Tallies.{HasTallied};
-ghost use Rattle.kin_run.specs.Written.{Wrote, printer};
 
-use crate::perform::{Halt, perform};
-use crate::tally::Tally;
-use crate::text::put_refused;
-use crate::write::{Stop, flush, flush_if_due};
+use crate::perform::perform;
 use kin_io::sink::Sink;
 use kin_num::Steps;
 use kin_script::command::Command;
 use kin_script::refusal::Refusal;
 use kin_script::script::Script;
+use kin_status::ending::salvage;
+use kin_status::stop::{Halt, Stop};
+use kin_status::tally::Tally;
+use kin_status::text::put_refused;
+use kin_status::write::{flush, flush_if_due};
 use kin_world::world::World;
 use std::alloc::Global;
 use std::sync::ledger::{Blank, Ledger};
-
-/// Writes what was gathered before memory ran out, as far as that goes. After a failed write
-/// nothing more is written.
-fn salvage<K: Sink>(stop: Stop, out: &mut Vec<u8>, sink: &mut K)
-    ensures front { stop ≡ WantOfMemory → AppendsFront (K.held sink.old) (K.held sink.new) out.old.items }
-    ensures untouched { stop ≡ FaultOf → sink.new ≡ sink.old }
-    ensures later { K.faults sink.old ≤ K.faults sink.new }
-{
-    if let Stop::NoMemory = stop {
-        let _ = flush(out, sink);
-    }
-}
 
 /// Whether the command printed a block that the sink hasn't been given. `at` gives each of its own.
 fn prints_block(journal: bool, command: &Command) -> bool {

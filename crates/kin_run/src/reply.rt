@@ -1,20 +1,21 @@
 //! The replies to questions.
 
 ghost use Rattle.std.specs.Prelude.{◌≡◌, ◌≢◌, Bool, IfErr};
+ghost use Rattle.kin_motion.specs.Boxes.{IsRectInRange};
 ghost use Rattle.kin_script.specs.declared.command.Command.TheVariants as asked;
 ghost use Rattle.kin_script.specs.Ranges.{IsCommandInRange};
-ghost use Rattle.kin_motion.specs.Boxes.{IsRectInRange};
+ghost use Rattle.kin_status.specs.declared.stop.Halt.TheVariants.{Broken as BrokenOff};
+ghost use Rattle.kin_status.specs.declared.stop.Stop.TheVariants.{Fault as FaultOf};
+ghost use Rattle.kin_status.specs.Performed.{Replies};
 ghost use Rattle.kin_world.specs.Worlds.{IsWhole};
-ghost use Rattle.kin_run.specs.declared.perform.Halt.TheVariants.{Broken as BrokenOff};
-ghost use Rattle.kin_run.specs.declared.write.Stop.TheVariants.{Fault as FaultOf};
-ghost use Rattle.kin_run.specs.Performed.{RepliesTo, Replies};
+ghost use Rattle.kin_run.specs.Replied.{RepliesTo};
 ghost use Rattle.kin_run.specs.States.{state_of};
 
-use crate::perform::Halt;
 use kin_motion::{Keep, Rect};
 use kin_print::{Reply, put_reply};
 use kin_script::command::Command;
 use kin_script::refusal::Refusal;
+use kin_status::stop::Halt;
 use kin_world::world::World;
 
 /// The order that is kept as structure `s`.
@@ -82,7 +83,7 @@ fn live(world: &World) -> Result<Reply, Halt>
 }
 
 /// What a question is answered with, where what it asks for is kept. No other command is one.
-#[tactic(auto, using(crate::proofs::Performing::of_same))]
+#[tactic(auto, using(crate::proofs::Changing::of_same))]
 fn reply_to(world: &World, command: &Command) -> Result<Reply, Halt>
     requires whole { IsWhole world.now }
     requires range { IsCommandInRange world.now.size command.now }

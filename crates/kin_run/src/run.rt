@@ -5,21 +5,20 @@ ghost use Rattle.kin_io.specs.Causes.{Rose};
 ghost use Rattle.kin_script.specs.Grammar.{script_of};
 ghost use Rattle.kin_script.specs.Ranges.{IsInRange};
 ghost use Rattle.kin_script.specs.declared.refusal.Refusal.{Refusal};
-ghost use Rattle.kin_run.specs.Demo.{WritesDemo};
-ghost use Rattle.kin_run.specs.Headline.{Writes, Answers, IsTextOf, IsBrokenOff};
-ghost use Rattle.kin_run.specs.Words.{asked_of};
-ghost use Rattle.kin_run.specs.Written.{Wrote};
+ghost use Rattle.kin_status.specs.Demo.{WritesDemo};
+ghost use Rattle.kin_status.specs.Headline.{Writes, Answers, IsTextOf, IsBrokenOff};
+ghost use Rattle.kin_status.specs.Words.{asked_of};
+ghost use Rattle.kin_status.specs.Written.{Wrote};
 
 use crate::demo::run_demo;
 use crate::play::play_script;
-use crate::status::{Side, Status, status_of};
-use crate::text::bad_text;
-use crate::words::{Asked, parse};
-use crate::write::flush;
 use kin_io::sink::Sink;
 use kin_io::source::{Source, Untaken, read_all};
 use kin_script::read::{ReadError, read};
 use kin_script::script::Script;
+use kin_status::ending::refuse_script;
+use kin_status::status::{Side, Status, status_of};
+use kin_status::words::{Asked, parse};
 use std::alloc::Global;
 use std::marker::Brand;
 use std::sync::ledger::{Blank, Ledger};
@@ -48,22 +47,6 @@ fn run_script<K: Sink, L: Ledger>(
         Ok(None) => Status::Done,
         Ok(Some((line, refusal))) => Status::Command(line, refusal),
         Err(stop) => status_of(stop),
-    }
-}
-
-/// Writes the line that names the first line outside the grammar.
-fn refuse_script<K: Sink>(alloc: Global, input: &[u8], line: u32, sink: &mut K) -> Status
-    requires { script_of input.now ≡ Err line }
-    ensures writes { Wrote (K.held sink.old) (K.held sink.new) (Writes input.now result) }
-    ensures later { K.faults sink.old ≤ K.faults sink.new }
-    ensures cause { result ≡ Status.Fault Side.Write → Rose (K.faults sink.old) (K.faults sink.new) }
-{
-    let Ok(mut out) = bad_text(alloc, line) else {
-        return Status::NoMemory;
-    };
-    match flush(&mut out, sink) {
-        Ok(()) => Status::Script(line),
-        Err(_) => Status::Fault(Side::Write),
     }
 }
 

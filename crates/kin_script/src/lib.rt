@@ -22,6 +22,4 @@ mod number;
 pub mod read;
 pub mod refusal;
 pub mod script;
-#[cfg(test)]
-mod tests;
 mod words;

@@ -92,22 +92,3 @@ pub struct Script {
     pub journal: bool,
     pub lines: Commands,
 }
-
-#[cfg(test)]
-mod tests {
-    use super::*;
-    use std::test::Fail;
-
-    #[test]
-    fn lists_are_lent_and_given_back(rt: HostRuntime) -> Result<(), Fail> {
-        let kept = [Keep::Order { dx: 1, dy: 0 }, Keep::Hull];
-        let keeps = Keeps::from_vec(Vec::from_slice(rt.alloc(), &kept)?);
-        assert_eq!(rt; keeps.as_slice(), kept.as_slice());
-        assert_eq!(rt; keeps.into_vec().as_slice(), kept.as_slice());
-        let asked = [(2, Command::Hull), (5, Command::Order { s: 1 })];
-        let commands = Commands::from_vec(Vec::from_slice(rt.alloc(), &asked)?);
-        assert_eq!(rt; commands.as_slice(), asked.as_slice());
-        assert_eq!(rt; commands.into_vec().as_slice(), asked.as_slice());
-        Ok(())
-    }
-}

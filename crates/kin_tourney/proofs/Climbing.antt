@@ -28,9 +28,6 @@ pub record IsClimbing (first : List Doubt) (from : ℕ) (now : List Doubt) (node
   pub done : IsDone now node
   pub climbed : (count : ℕ) × HasClimbed count first from now node
 
-pub climbing_starts : (ds : List Doubt) (node : ℕ) → IsClosed ds → IsDone ds node → IsClimbing ds node ds node
-climbing_starts ds node closed done = record { room = refl; closed = closed; done = done; climbed = (0, (refl, refl)) }
-
 pub climbing_more : (first : List Doubt) (from : ℕ) (now : List Doubt) (node : ℕ) → IsClimbing first from now node → IsPassage now node → IsClimbing first from (set now (node / 2) Clear) (node / 2)
 climbing_more first from now node h p =
     let inside : node / 2 < length now = let i = h.done.inside in omega (arith, i) in

@@ -4,7 +4,7 @@ use Rattle.std.specs.Prelude.{Option, Some, None, Contains, slice_index_or}
 use Rattle.std.proofs.lemmas.Bool.Decides.{nat_tests}
 use Rattle.std.proofs.lemmas.List.{get_or-map, get_or-append_right, get_or_append_left, length-map, get_or_past}
 use Rattle.std.proofs.lemmas.Bool.{cases_eq}
-use Rattle.kin_basics.proofs.Options.{none_or_some}
+use Rattle.kin_algebra.proofs.Options.{none_or_some}
 use Rattle.kin_algebra.specs.declared.sign.Sign.{Sign}
 use Rattle.kin_algebra.specs.declared.sign.Sign.TheVariants.{Zero}
 use Rattle.kin_motion.specs.declared.form.Form.{Form}

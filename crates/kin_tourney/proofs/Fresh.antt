@@ -3,8 +3,8 @@ use Rattle.std.proofs.Common.{◌≡◌, refl, sym, ap, ◌∙◌, subst, arith,
 use Rattle.std.specs.Prelude.{Option, Some, None, Contains}
 use Rattle.std.proofs.lemmas.List.{length-set, length-replicate, get_or-set_same, get_or-set_other}
 use Rattle.std.proofs.Math.Pow.{pow_pos}
-use Rattle.kin_basics.proofs.Places.{get_or-replicate_any}
-use Rattle.kin_basics.proofs.Options.{none_or_some}
+use Rattle.kin_algebra.proofs.Places.{get_or-replicate_any}
+use Rattle.kin_algebra.proofs.Options.{none_or_some}
 use Rattle.kin_algebra.specs.declared.sign.Sign.TheVariants.{Zero}
 use Rattle.kin_motion.specs.declared.fact.Fact.{Fact}
 use Rattle.kin_motion.specs.declared.fact.Placed.{Placed}

@@ -13,7 +13,6 @@ pub mod Soundness
 pub mod Fresh
 pub mod Vacant
 pub mod Settled
-pub mod WholeTimes
 pub mod ExtremePoints
 pub mod EnterPoints
 pub mod LeavingPoints

@@ -24,5 +24,3 @@ mod points;
 mod report;
 pub mod tourney;
 mod tree;
-#[cfg(test)]
-mod watch;

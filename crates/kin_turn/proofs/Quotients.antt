@@ -2,7 +2,7 @@
 use Rattle.std.proofs.Common.{◌≡◌, refl, sym, ap, ◌∙◌, subst, arith, [], ◌∷◌, ℕ, zero, suc, ◌*◌, ◌<◌}
 use Rattle.std.specs.Prelude.{ℤ, pos, ◌+ℤ◌, ◌-ℤ◌, ◌*ℤ◌, unsigned_abs}
 use Rattle.std.proofs.lemmas.Int.{unsigned_abs-mul}
-use Rattle.kin_basics.proofs.Integers.{zero_from_size}
+use Rattle.kin_algebra.proofs.Magnitudes.{zero_from_size}
 use Rattle.kin_algebra.proofs.Ring.{by_ring, quotes}
 use Rattle.kin_num.proofs.LowerFractions.{same_denominator}
 

@@ -1,7 +1,7 @@
 -- Which constant part a coordinate has after its speed has changed at an instant.
 use Rattle.std.proofs.Common.{◌≡◌, ◌≢◌, refl, sym, ap, ◌∙◌, subst, Bool}
 use Rattle.std.specs.Prelude.{ℤ, pos, ◌-ℤ◌, ◌*ℤ◌, ◌<ℤ◌, Option, Some, None, MatchOption}
-use Rattle.kin_basics.proofs.Integers.{difference-turned, difference_of_same}
+use Rattle.kin_algebra.proofs.Magnitudes.{difference-turned, difference_of_same}
 use Rattle.kin_algebra.proofs.Rings.{zero_times}
 use Rattle.kin_algebra.proofs.Integers.{integers}
 use Rattle.kin_algebra.specs.declared.sign.Sign.TheVariants.{Zero, Plus}

@@ -4,6 +4,4 @@
 //! so not every turn is possible; the error says why.
 #![tactic(auto)]
 
-#[cfg(test)]
-mod tests;
 pub mod turned;

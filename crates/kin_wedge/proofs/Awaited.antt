@@ -3,7 +3,7 @@ use Rattle.std.proofs.Common.{◌≡◌, refl, sym, ap, ◌∙◌, subst, arith,
 use Rattle.std.specs.Prelude.{Contains, cond}
 use Rattle.std.proofs.lemmas.Option.{same_Some}
 use Rattle.std.proofs.lemmas.Bool.{cases_Bool}
-use Rattle.kin_basics.proofs.Members.{contains_cases}
+use Rattle.kin_algebra.proofs.Members.{contains_cases}
 use Rattle.kin_motion.specs.Octants.{Octant, Reading}
 use Rattle.kin_motion.specs.Changes.{stands_before}
 use Rattle.kin_motion.specs.Sets.{AreDistinct}

@@ -6,8 +6,8 @@ use Rattle.std.proofs.lemmas.List.{length-replicate}
 use Rattle.std.proofs.lemmas.Option.{same_Some, slice_get_within}
 use Rattle.std.proofs.Math.Nat.{div-add-mod}
 use Rattle.std.proofs.lemmas.Nat.{mod_below}
-use Rattle.kin_basics.proofs.Members.{contains_none, get_from_contains, contains_from_get}
-use Rattle.kin_basics.proofs.Places.{get-set_same, get-set_other}
+use Rattle.kin_algebra.proofs.Members.{contains_none, get_from_contains, contains_from_get}
+use Rattle.kin_algebra.proofs.Places.{get-set_same, get-set_other}
 use Rattle.kin_motion.proofs.SetLaws.{distinct_none}
 use Rattle.kin_pointers.specs.Pointing.{Pointing, AreSlotsOf}
 use Rattle.kin_wedge.specs.Tables.{pair_of, AreSlots, AreHits}

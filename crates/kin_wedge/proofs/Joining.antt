@@ -21,8 +21,8 @@ use Rattle.kin_wedge.proofs.StillThere.{HasPassed, AreOffered, awaited_first}
 use Rattle.kin_wedge.proofs.Slots.{below_eight}
 use Rattle.kin_motion.specs.Numbers.{IsChain}
 use Rattle.std.proofs.Common.{nat_lt}
-use Rattle.kin_basics.proofs.Members.{contains_tail, contains_cases}
-use Rattle.kin_basics.proofs.Places.{get_within}
+use Rattle.kin_algebra.proofs.Members.{contains_tail, contains_cases}
+use Rattle.kin_algebra.proofs.Places.{get_within}
 
 -- a number by the mark
 IsEntering : Mark → ℕ → Type 0

@@ -4,8 +4,8 @@ use Rattle.std.specs.Prelude.{slice_get}
 use Rattle.std.proofs.lemmas.List.{length-map, length-replicate}
 use Rattle.std.proofs.lemmas.Bool.{cases_lt}
 use Rattle.std.proofs.lemmas.Option.{same_Some, slice_get_within}
-use Rattle.kin_basics.proofs.Members.{contains_none}
-use Rattle.kin_basics.proofs.Places.{get_within}
+use Rattle.kin_algebra.proofs.Members.{contains_none}
+use Rattle.kin_algebra.proofs.Places.{get_within}
 use Rattle.kin_motion.specs.declared.fact.Placed.{Placed}
 use Rattle.kin_motion.specs.Changes.{stands_before}
 use Rattle.kin_motion.specs.Numbers.{is_in, IsOnce}

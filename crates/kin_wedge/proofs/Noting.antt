@@ -14,7 +14,7 @@ use Rattle.kin_motion.specs.Numbers.{is_in, IsChain}
 use Rattle.kin_list.proofs.OrderingLaws.{chain_from_neighbours}
 use Rattle.kin_list.proofs.RowLaws.{get_from_is_in}
 use Rattle.std.proofs.lemmas.Option.{slice_get_within, get_or_from_slice_get}
-use Rattle.kin_basics.proofs.Members.{get_from_contains, contains_from_get}
+use Rattle.kin_algebra.proofs.Members.{get_from_contains, contains_from_get}
 use Rattle.kin_motion.proofs.Members.{is_in-push, in_from_contains}
 use Rattle.kin_wedge.specs.declared.touch.Touch.{Touch}
 use Rattle.kin_wedge.specs.Passages.{HasNoted}

@@ -4,7 +4,7 @@ use Rattle.std.specs.Prelude.{Contains, slice_get}
 use Rattle.std.proofs.lemmas.Bool.{cases_lt}
 use Rattle.std.proofs.lemmas.List.{length-map}
 use Rattle.std.proofs.lemmas.Option.{slice_get_within}
-use Rattle.kin_basics.proofs.Places.{get_within}
+use Rattle.kin_algebra.proofs.Places.{get_within}
 use Rattle.kin_motion.specs.declared.fact.Placed.{Placed}
 use Rattle.kin_motion.specs.ClosestFacts.{IsWedgeFact}
 use Rattle.kin_motion.specs.Contents.{IsSettledWedges}

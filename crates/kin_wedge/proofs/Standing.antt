@@ -3,7 +3,7 @@ use Rattle.std.proofs.Common.{◌≡◌, ◌≢◌, ◌⊎◌, inl, inr, refl, s
 use Rattle.std.specs.Prelude.{slice_get}
 use Rattle.std.proofs.lemmas.Bool.{cases_eq, cases_lt}
 use Rattle.std.proofs.lemmas.Option.{same_Some, slice_get_within}
-use Rattle.kin_basics.proofs.Places.{get_within, get-set_same, get-set_other}
+use Rattle.kin_algebra.proofs.Places.{get_within, get-set_same, get-set_other}
 use Rattle.kin_motion.specs.declared.fact.Placed.{Placed}
 use Rattle.kin_motion.specs.Kinetics.{ListsFailing}
 use Rattle.kin_motion.specs.Scene.{Scene, IsReal}

@@ -4,7 +4,7 @@ use Rattle.std.specs.Prelude.{slice_get}
 use Rattle.std.proofs.lemmas.Bool.{cases_eq}
 use Rattle.std.proofs.lemmas.List.{length-set}
 use Rattle.std.proofs.lemmas.Option.{same_Some, slice_get_within}
-use Rattle.kin_basics.proofs.Places.{get-set_same, get-set_other}
+use Rattle.kin_algebra.proofs.Places.{get-set_same, get-set_other}
 use Rattle.kin_list.specs.Listing.{Listing}
 use Rattle.kin_wedge.specs.Parts.{EachTo}
 

@@ -2,7 +2,7 @@
 use Rattle.std.proofs.Common.{◌≡◌, refl, sym, ap, ◌∙◌, subst, List, [], ◌∷◌, ◌++◌, ℕ, zero, suc, ◌+◌, length, Some, inl, inr, ◌⊎◌}
 use Rattle.std.specs.Prelude.{slice_get}
 use Rattle.std.proofs.lemmas.List.{length_push}
-use Rattle.kin_basics.proofs.Places.{get-push_cases}
+use Rattle.kin_algebra.proofs.Places.{get-push_cases}
 use Rattle.kin_list.specs.Listing.{Listing}
 use Rattle.kin_wedge.specs.Parts.{AreVacant, vacant_listing}
 use Rattle.kin_wedge.specs.Passages.{AreVacantRows}

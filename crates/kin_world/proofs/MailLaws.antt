@@ -2,7 +2,7 @@
 use Rattle.std.proofs.Common.{nat_eq, ◌≡◌, ◌≢◌, inl, inr, refl, sym, ap, ap₂, ◌∙◌, subst, arith, ℕ, ◌+◌, ◌-◌, ◌^◌, ◌<◌, ◌≤◌, true, List, [], ◌∷◌, length, Contains, IsTrue, filter}
 use Rattle.std.proofs.lemmas.Bool.{eqb-true}
 use Rattle.kin_world.proofs.Vocabulary.{cases_Bool, cases_eq, nat_tests, contains_none, Certificate, owned_by, Placed, contains_map, contains_mapped, distinct_filter, distinct_mapped_on, exactly_in_words, exactly_none, filter-complete, filter-sound}
-use Rattle.kin_world.proofs.Vocabulary.{LiveFact, certificate_of, Owned, Facts, AreTold, AreWaiting, HasRepaired, HasSameFrame, HasSettled, HasTimedNew, IsRepairing, IsUnderRepair, ListsWaiting, Stage, gathered, is_of, placed_of, told_to}
+use Rattle.kin_world.proofs.Vocabulary.{LiveFact, certificate_of, Owned, Facts, AreTold, AreWaiting, HasComeTo, HasRepaired, HasSameFrame, HasSettled, HasTimedNew, IsRepairing, IsUnderRepair, ListsWaiting, Stage, gathered, is_of, placed_of, told_to}
 use Rattle.kin_world.proofs.Certificates.{come_on}
 use Rattle.kin_world.proofs.RepairLaws.{sound_when_none_waits}
 
@@ -44,8 +44,12 @@ told_first waiting boxes sorted = record { told = λ j from within. rw (sorted j
 same_facts : (table : Facts) → table.made ≤ 2 ^ 64 - 1 → HasTimedNew table table
 same_facts table few = record { born = []; exactly = exactly_none _ (λ c new. new.1 new.0); count = omega (arith, few) }
 
+-- at the start nothing has come to another state
+pub come_none : (table : Facts) → table.made ≤ 2 ^ 64 - 1 → HasComeTo 0 table table
+come_none table counted = record { made = same_facts table counted; ahead = λ c low. (λ h. h, λ h. h) }
+
 pub repairing_none : {s : Stage} {boxes : List (List Placed)} → IsUnderRepair s → AreTold 0 s boxes → IsRepairing s s 0 boxes
-repairing_none {s} repair told = record { repair = repair; told = told; come = record { made = same_facts s.table repair.counted; ahead = λ c low. (λ h. h, λ h. h) }; frame = refl }
+repairing_none {s} repair told = record { repair = repair; told = told; come = come_none s.table repair.counted; frame = refl }
 
 -- a structure that is told nothing is repaired as it is
 pub none_told : {s : Stage} → IsUnderRepair s → (k : ℕ) (failed : List Placed) → nat_eq (length failed) 0 ≡ true → ListsWaiting k s.table.live failed → HasRepaired k s s

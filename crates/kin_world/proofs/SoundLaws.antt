@@ -6,7 +6,7 @@ use Rattle.kin_world.proofs.Vocabulary.{NoneFailsUntil, IsTimed, certificates_of
 use Rattle.kin_world.proofs.Vocabulary.{IsSound, Stage, meaning, setting, sight, FailsWithin, HasInserted, HasMade, HasRemoved, IsNextMoment, IsWhole, with_facts_of, Structure}
 use Rattle.kin_motion.specs.Agreements.{FitsSize}
 use Rattle.kin_motion.proofs.LiveFactLaws.{live_facts_agree}
-use Rattle.kin_cert.proofs.JournalExistence.{least_block}
+use Rattle.kin_fail.proofs.JournalExistence.{least_block}
 use Rattle.kin_world.proofs.Certificates.{at_its}
 use Rattle.kin_world.proofs.InOrder.{facts_hold, owner, seen_anew, timed, timely_from_timed}
 use Rattle.kin_world.proofs.StructureLaws.{settled_askable, settled_facts, settled_from_hold, settled_where_hold}

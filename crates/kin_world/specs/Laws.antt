@@ -5,7 +5,7 @@ use Rattle.kin_num.specs.Canonical.{IsCanonical}
 use Rattle.kin_num.specs.Order.{IsEarlier}
 use Rattle.kin_motion.specs.Forms.{polynomial_of}
 use Rattle.kin_motion.specs.Journal.{Failure, Block, IsNextBlock, IsJournal}
-use Rattle.kin_cert.specs.Laws.{IsProperRoot}
+use Rattle.kin_fail.specs.Laws.{IsProperRoot}
 use Rattle.kin_world.specs.Worlds.{World, IsWhole, world_setting}
 
 -- the next block of a whole world is at or just after a root of the polynomial of each of its failures

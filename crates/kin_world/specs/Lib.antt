@@ -1,4 +1,3 @@
-pub mod Approach
 pub mod Laws
 pub mod Kinds
 pub mod Structures

@@ -17,8 +17,9 @@ use Rattle.kin_motion.specs.Live.{Certificate, owned_by}
 use Rattle.kin_motion.specs.Moments.{HoldsAt}
 use Rattle.kin_motion.specs.Scene.{Scene, scene_at}
 use Rattle.kin_motion.specs.Sets.{AreDistinct, ListsExactly}
-use Rattle.kin_cert.specs.declared.owned.Owned.{Owned}
-use Rattle.kin_cert.specs.Facts.{LiveFact, Facts, NoneAlike, certificate_of}
+use Rattle.kin_fail.specs.declared.owned.Owned.{Owned}
+use Rattle.kin_fail.specs.Blocks.{certificate_of}
+use Rattle.kin_cert.specs.Facts.{LiveFact, Facts, NoneAlike}
 use Rattle.kin_cert.specs.Mails.{told_to}
 use Rattle.kin_cert.specs.Taken.{NoneWaits, IsLeastFailure}
 use Rattle.kin_cert.specs.Told.{HasFactsOf, IsTimed, IsTold, AreNew, certificates_of, nothing}

@@ -9,9 +9,9 @@
 //! Who uses a world names nothing of the crates below it but from here.
 #![tactic(auto)]
 
-pub use approach::first_within;
 pub use counter::{Work, uncounted};
-pub use kin_cert::{Block, Failure};
+pub use kin_fail::approach::first_within;
+pub use kin_fail::{Block, Failure};
 pub use kin_instant::next::next_root;
 pub use kin_instant::order::{compare, compare_moments};
 pub use kin_instant::ratio::ratio;
@@ -24,21 +24,9 @@ pub use kin_turn::turned::TurnError;
 pub use std::sync::ledger::Ledger;
 pub use world::World;
 
-pub mod approach;
-#[cfg(test)]
-mod asked;
 pub mod counter;
-mod failures;
 pub mod laws;
-#[cfg(test)]
-mod leaping;
 mod places;
-#[cfg(test)]
-mod scripts;
 mod structure;
-#[cfg(test)]
-mod tests;
-#[cfg(test)]
-mod turning;
 mod upkeep;
 pub mod world;

@@ -8,16 +8,17 @@ ghost use Rattle.kin_world.specs.Structures.{AreVacant};
 ghost use Rattle.kin_world.specs.Worlds.{AreKeepable, empty};
 ghost use Rattle.kin_world.specs.Upkeep.{stage_of, meaning, setting, HasSameFrame, IsSound, IsUnderRepair, IsCarriedOut, ListsWaiting, AreWaiting, HasTimedNew, HasRepaired, HasGoneOn, HasSettled, AreTold};
 
-use crate::failures::block_of;
 use crate::structure::{Mark, Structure};
-use kin_cert::{Block, Mail, Now, Owned, Table};
+use kin_cert::{Mail, Table};
+use kin_fail::failures::block_of;
+use kin_fail::{Block, Now, Owned};
 use kin_motion::{Delta, Keep, Motions};
 use kin_num::{Instant, Moment, NoMemory, Phase, Shape, Steps};
 use std::alloc::Global;
 use std::mem::replace;
 use std::sync::ledger::Ledger;
 
-mod leap;
+pub mod leap;
 
 /// What is kept, the structures in the same order and the table of their live facts; the motions,
 /// and the moment now.

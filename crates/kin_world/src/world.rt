@@ -16,13 +16,12 @@ ghost use Rattle.kin_world.specs.Worlds.{AreKeepable, IsNextMoment, IsWhole, Can
 use crate::places::find;
 use crate::structure::Mark;
 use crate::upkeep::Upkeep;
-use kin_cert::Block;
-use kin_instant::order::compare_moments;
+use crate::upkeep::leap::is_after;
+use kin_fail::Block;
 use kin_motion::{Form, Keep, Motion};
 use kin_num::{Moment, NoMemory, Sign, Steps};
 use kin_turn::turned::{TurnError, turned};
 use std::alloc::Global;
-use std::cmp::Ordering;
 use std::marker::Model;
 use std::sync::ledger::Ledger;
 
@@ -352,8 +351,9 @@ fn due_within<L: Ledger>(upkeep: &Upkeep, limit: &Moment, steps: &mut Steps<L>) 
     let Some(moment) = upkeep.table.failing() else {
         return None;
     };
-    match compare_moments(&moment, limit, steps) {
-        Ordering::Greater => None,
-        _ => Some(moment),
+    if is_after(&moment, limit, steps) {
+        None
+    } else {
+        Some(moment)
     }
 }

@@ -13,7 +13,7 @@ ghost use Rattle.kin_cert.specs.Taken.{IsLeastFailure};
 ghost use Rattle.kin_world.specs.Upkeep.{stage_of, HasSameFrame, HasLanded, IsLanding, IsSound, is_line};
 
 use crate::upkeep::Upkeep;
-use kin_cert::{Now, Owned};
+use kin_fail::{Now, Owned};
 use kin_instant::order::compare_moments;
 use kin_motion::{Form, Motions, Signs};
 use kin_num::{Moment, NoMemory, Phase, Steps};
@@ -80,10 +80,11 @@ fn landing<L: Ledger>(
     }
 }
 
-fn is_after<L: Ledger>(moment: &Moment, limit: &Moment, steps: &mut Steps<L>) -> bool
+/// Whether the moment comes after the limit.
+pub fn is_after<L: Ledger>(moment: &Moment, limit: &Moment, steps: &mut Steps<L>) -> bool
     ensures { IsTrue result ↔ IsEarlier limit.now moment.now }
 {
-    matches!(compare_moments(moment, limit, steps), Ordering::Greater)
+    compare_moments(moment, limit, steps) == Ordering::Greater
 }
 
 fn is_line(form: &Form) -> bool

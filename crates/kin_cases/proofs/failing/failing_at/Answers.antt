@@ -1,6 +1,6 @@
 use Rattle.std.proofs.Common.{refl, ap, ap₂, ◌∙◌}
 use Rattle.kin_motion.specs.Scene.{scene_at}
-use Rattle.kin_cert.specs.declared.now.Now.{Now}
+use Rattle.kin_fail.specs.declared.now.Now.{Now}
 use Rattle.kin_cases.proofs.Reports.{lists_failing}
 use Rattle.kin_cases.proofs.failing.failing_at.Goals as goal
 

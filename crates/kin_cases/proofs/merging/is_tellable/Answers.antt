@@ -5,6 +5,9 @@ use Rattle.kin_overlay.specs.Fingers.{AreLive}
 use Rattle.kin_cases.proofs.ByTests.{all_in, has_some}
 use Rattle.kin_cases.proofs.merging.is_tellable.Goals as goal
 
+pub returns-then-is_empty : goal.returns-then-is_empty
+returns-then-is_empty g c = λ e. absurd cc
+
 pub returns : goal.returns
 returns g c = λ e. record {
   some = has_some (length c.args.chain.now) c.is_empty.result c.is_empty.ensures c.if-is_empty.false;

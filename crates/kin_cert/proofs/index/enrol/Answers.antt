@@ -3,7 +3,8 @@ use Rattle.std.proofs.lemmas.Option.{same_Some}
 use Rattle.indexmap.specs.IndexMap.{get as look_up}
 use Rattle.kin_cert.specs.Entries.{Entry}
 use Rattle.kin_cert.specs.declared.holder.Holder.{Holder}
-use Rattle.kin_cert.specs.Layout.{entry_at, is_rank, owned_place, held}
+use Rattle.kin_fail.specs.Rank.{is_rank}
+use Rattle.kin_cert.specs.Layout.{entry_at, owned_place, held}
 use Rattle.kin_cert.specs.Rolls.{is_place}
 use Rattle.kin_cert.proofs.Places.{some_none}
 use Rattle.kin_cert.proofs.index.enrol.Goals as goal

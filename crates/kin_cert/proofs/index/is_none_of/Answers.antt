@@ -1,6 +1,6 @@
 use Rattle.std.proofs.Common.{◌≡◌, Bool, true, false, not, ap, sym, ◌∙◌, ◌⊎◌, inl, inr, Option, Some, None, is_some, refl, ℕ, List, ℤ}
 use Rattle.indexmap.specs.IndexMap.{get as look_up}
-use Rattle.kin_cert.specs.Layout.{is_rank}
+use Rattle.kin_fail.specs.Rank.{is_rank}
 use Rattle.kin_cert.proofs.Tables.{none-of}
 use Rattle.kin_cert.proofs.index.is_none_of.Goals as goal
 

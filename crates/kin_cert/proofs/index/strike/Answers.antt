@@ -2,7 +2,8 @@ use Rattle.std.proofs.Common.{◌≡◌, ℕ, ℤ, true, false, List, Option, co
 use Rattle.std.proofs.lemmas.Option.{same_Some}
 use Rattle.indexmap.specs.IndexMap.{get as look_up}
 use Rattle.kin_cert.specs.declared.holder.Holder.{Holder}
-use Rattle.kin_cert.specs.Layout.{entry_at, is_rank}
+use Rattle.kin_fail.specs.Rank.{is_rank}
+use Rattle.kin_cert.specs.Layout.{entry_at}
 use Rattle.kin_cert.specs.Place.{place_of}
 use Rattle.kin_cert.specs.Rolls.{is_place}
 use Rattle.kin_cert.proofs.index.strike.Goals as goal

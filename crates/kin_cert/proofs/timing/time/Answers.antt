@@ -3,7 +3,8 @@ use Rattle.kin_num.specs.Quadratic.{Quadratic}
 use Rattle.kin_num.specs.Instants.{sign_at}
 use Rattle.kin_motion.specs.declared.form.Form.{Form}
 use Rattle.kin_motion.specs.Forms.{polynomial_of}
-use Rattle.kin_cert.proofs.Seen.{holds-seen, on_timed, line-read}
+use Rattle.kin_fail.proofs.Seen.{holds-seen, line-read}
+use Rattle.kin_cert.proofs.Seen.{on_timed}
 use Rattle.kin_cert.proofs.timing.time.Goals as goal
 
 pub time_by-requires-clause-holds : goal.time_by-requires-clause-holds

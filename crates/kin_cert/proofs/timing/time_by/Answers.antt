@@ -1,6 +1,6 @@
 use Rattle.std.proofs.Common.{Some, None, refl, sym, subst, arith}
 use Rattle.kin_motion.specs.declared.fact.Fact.{Fact}
-use Rattle.kin_cert.specs.Failures.{IsFirstFailure, seen_by}
+use Rattle.kin_fail.specs.Failures.{IsFirstFailure, seen_by}
 use Rattle.kin_cert.specs.Layout.{fresh}
 use Rattle.kin_cert.proofs.Tables.{same-slot}
 use Rattle.kin_cert.proofs.Costs.{one_call}

@@ -5,5 +5,5 @@ use Rattle.kin_example.proofs.RunWork.run.Goals as goal
 pub new-requires-clause-keepable : goal.new-requires-clause-keepable
 new-requires-clause-keepable g c = are_keepable _ refl (search rules)
 
-pub play-requires : goal.play-requires
-play-requires g c = starts _ _ c.in_ok-world.ensures.empty c.in_ok-world.ensures.whole
+pub text_of-requires : goal.text_of-requires
+text_of-requires g c = starts _ _ c.in_ok-world.ensures.empty c.in_ok-world.ensures.whole

@@ -1,4 +1,4 @@
-use Rattle.std.proofs.Common.{◌≡◌, sym, subst, List, [], ◌∷◌, ◌++◌, ℕ, not, filter}
+use Rattle.std.proofs.Common.{◌≡◌, sym, subst, List, [], ◌∷◌, ◌++◌, ℕ, not, filter, rules}
 use Rattle.std.specs.Prelude.{reverse}
 use Rattle.kin_motion.specs.Chains.{round}
 use Rattle.kin_motion.specs.Numbers.{is_in, IsIn}
@@ -19,3 +19,6 @@ loop-number-preserved c = record {
       c.list_new.new.cycle.items c.in_ok-list_new.ensures;
   among = λ p h. c.loop-number.invariant.among p (subst (λ xs. IsIn p xs) (sym c.in-Some.ensures.steps) (in_left p c.next.new.self.iter.rest.now (c.in-Some.number.now ∷ []) h));
 }
+
+pub loop-number-init : goal.loop-number-init
+loop-number-init c = search rules

@@ -5,7 +5,7 @@ use Rattle.std.proofs.lemmas.Int.{fits_signed_from_abs, to_z_pos}
 use Rattle.std.proofs.lemmas.Nat.Gcd.{dvd_trans, le_of_dvd}
 use Rattle.kin_instant.proofs.Widths.{clean, positive_out, below_width}
 use Rattle.std.proofs.Math.Nat.{pos_of_dvd_of_pos, one-dvd}
-use Rattle.kin_basics.proofs.Integers.{size-some}
+use Rattle.kin_algebra.proofs.Magnitudes.{size-some}
 use Rattle.kin_instant.proofs.curve.common_divisor.Goals as goal
 
 -- g is the greatest common divisor of |a|, |b| and |c|, as the code has it

@@ -1,6 +1,6 @@
 use Rattle.std.proofs.Common.{◌<◌, ◌≤◌, ◌^◌, ℤ, ◌*ℤ◌, unsigned_abs, w64, arith, ap₂, ◌∙◌}
 use Rattle.std.specs.Ordering.{int_cmp}
-use Rattle.kin_basics.proofs.Integers.{size-product}
+use Rattle.kin_algebra.proofs.Magnitudes.{size-product}
 use Rattle.kin_instant.proofs.Widths.{clean, product-value}
 use Rattle.kin_instant.proofs.order.cross_order.Goals as goal
 

@@ -2,7 +2,7 @@ use Rattle.std.proofs.Common.{◌≡◌, ℕ, ◌*◌, ◌/◌, ◌%◌, ◌<◌
 use Rattle.std.specs.Int.RustNames.{int_div, int_rem}
 use Rattle.std.proofs.lemmas.Int.{quot-rem, quot_is, quot_fits, rem_below}
 use Rattle.std.proofs.lemmas.Nat.Gcd.{mod-eq-zero_of_dvd}
-use Rattle.kin_basics.proofs.Integers.{size-some}
+use Rattle.kin_algebra.proofs.Magnitudes.{size-some}
 use Rattle.kin_instant.proofs.Lowest.{no_remainder}
 use Rattle.kin_instant.proofs.ratio.exact_quotient.Goals as goal
 

@@ -4,7 +4,7 @@ use Rattle.std.specs.Int.{IsGcd, ◌∣◌}
 use Rattle.std.proofs.lemmas.Int.{to_z_pos, fits_signed_from_abs}
 use Rattle.std.proofs.lemmas.Nat.Gcd.{le_of_dvd}
 use Rattle.std.proofs.Math.Nat.{pos_of_dvd_of_pos}
-use Rattle.kin_basics.proofs.Integers.{size-some}
+use Rattle.kin_algebra.proofs.Magnitudes.{size-some}
 use Rattle.kin_num.specs.Canonical.{IsLowest}
 use Rattle.kin_instant.proofs.Widths.{clean, positive_out, below_width}
 use Rattle.kin_instant.proofs.Lowest.{lowest_of, crossed, not_more}

@@ -2,7 +2,7 @@ use Rattle.std.proofs.Common.{◌≡◌, ◌≤◌, ◌<◌, ◌^◌, ℤ, ◌+�
 use Rattle.std.proofs.lemmas.Int.{to_z-of_z}
 use Rattle.kin_algebra.specs.Signs.{sign_of}
 use mir.Syntax.{w128}
-use Rattle.kin_basics.proofs.Integers.{size-product}
+use Rattle.kin_algebra.proofs.Magnitudes.{size-product}
 use Rattle.kin_instant.proofs.Widths.{clean, same_sums, product-raw, product-value}
 use Rattle.kin_instant.proofs.Values.{sign_at_ratio-line, sign_at_ratio-value}
 use Rattle.kin_instant.proofs.ratio_sign.value_at_ratio.Goals as goal

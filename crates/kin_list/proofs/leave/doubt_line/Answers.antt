@@ -1,7 +1,7 @@
 use Rattle.std.proofs.Common.{◌≡◌, arith, ℕ, Bool, true, ◌||◌, nat_eq}
 use Rattle.std.proofs.lemmas.Bool.Decides.{nat_tests}
 use Rattle.std.proofs.lemmas.Option.{same_Some, none-some}
-use Rattle.kin_basics.proofs.Results.{for_ok, at_ok}
+use Rattle.kin_algebra.proofs.Results.{for_ok, at_ok}
 use Rattle.kin_list.proofs.leave.doubt_line.Goals as goal
 
 put_there : (p place : ℕ) (old new : Bool) → new ≡ nat_eq p place || old → place ≡ p → new ≡ true

@@ -1,4 +1,4 @@
-use Rattle.kin_basics.proofs.Results.{from_three}
+use Rattle.kin_algebra.proofs.Results.{from_three}
 use Rattle.kin_motion.proofs.KeptLaws.{entered_in, none_left}
 use Rattle.kin_motion.proofs.kept.leave.Goals as goal
 

@@ -1,7 +1,7 @@
 use Rattle.std.proofs.Common.{◌++◌, refl}
 use Rattle.std.proofs.lemmas.Result.{on_ok_weaker, on_err_weaker}
-use Rattle.kin_basics.proofs.Results.{on_err}
-use Rattle.kin_cert.specs.Blocks.{failure_of}
+use Rattle.kin_algebra.proofs.Results.{on_err}
+use Rattle.kin_fail.specs.Blocks.{failure_of}
 use Rattle.kin_script.specs.Printed.{moment_text}
 use Rattle.kin_print.proofs.Fronts.{both, front_first, front_behind, front_of_both}
 use Rattle.kin_print.proofs.Failures.{form_of, signs_of, behind_moment, failure_pieces}

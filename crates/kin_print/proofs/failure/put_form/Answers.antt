@@ -1,6 +1,6 @@
 use Rattle.std.proofs.Common.{subst}
 use Rattle.std.proofs.lemmas.Result.{on_ok_weaker, on_err_weaker}
-use Rattle.kin_basics.proofs.Results.{on_err}
+use Rattle.kin_algebra.proofs.Results.{on_err}
 use Rattle.kin_script.specs.Printed.{PutsFront}
 use Rattle.kin_print.proofs.Fronts.{both, front_first, front_of_both}
 use Rattle.kin_print.proofs.Failures.{form_pieces}

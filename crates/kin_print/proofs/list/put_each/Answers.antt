@@ -1,4 +1,4 @@
-use Rattle.kin_basics.proofs.Results.{on_err}
+use Rattle.kin_algebra.proofs.Results.{on_err}
 use Rattle.kin_print.specs.Pieces.{spaced}
 use Rattle.kin_print.proofs.Fronts.{front_at}
 use Rattle.kin_print.proofs.list.put_each.Goals as goal

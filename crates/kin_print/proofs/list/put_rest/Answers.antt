@@ -1,5 +1,5 @@
 use Rattle.std.proofs.Common.{codes, flat_map}
-use Rattle.kin_basics.proofs.Results.{on_err}
+use Rattle.kin_algebra.proofs.Results.{on_err}
 use Rattle.kin_print.specs.Pieces.{spaced}
 use Rattle.kin_print.proofs.Fronts.{front_first}
 use Rattle.kin_print.proofs.list.put_rest.Goals as goal

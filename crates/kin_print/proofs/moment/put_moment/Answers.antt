@@ -1,4 +1,4 @@
-use Rattle.kin_basics.proofs.Results.{on_err}
+use Rattle.kin_algebra.proofs.Results.{on_err}
 use Rattle.kin_script.specs.Printed.{instant_text, phase_text}
 use Rattle.kin_print.proofs.Fronts.{front_first}
 use Rattle.kin_print.proofs.moment.put_moment.Goals as goal

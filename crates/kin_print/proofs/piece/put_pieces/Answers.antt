@@ -1,6 +1,6 @@
 use Rattle.std.proofs.Common.{ℕ, List}
 use Rattle.std.specs.Borrow.{Bor}
-use Rattle.kin_basics.proofs.Results.{on_err}
+use Rattle.kin_algebra.proofs.Results.{on_err}
 use Rattle.kin_print.proofs.Fronts.{front_between}
 use Rattle.kin_print.proofs.piece.put_pieces.Goals as goal
 

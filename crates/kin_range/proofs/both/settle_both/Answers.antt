@@ -1,6 +1,6 @@
 use Rattle.std.proofs.Common.{◌∙◌, arith}
 use Rattle.std.proofs.lemmas.Result.{on_ok_weaker}
-use Rattle.kin_basics.proofs.Results.{from_two}
+use Rattle.kin_algebra.proofs.Results.{from_two}
 use Rattle.kin_wedge.proofs.Posted.{failing_told}
 use Rattle.kin_range.proofs.Settling.{x_told, y_told, y_ready, settled_now, joined_now, range_changed, few_tests}
 use Rattle.kin_range.proofs.both.settle_both.Goals as goal

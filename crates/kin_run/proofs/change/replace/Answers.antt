@@ -1,6 +1,7 @@
 use Rattle.std.proofs.Common.{◌≡◌, true, false, Some, refl, sym, ap, ◌∙◌, is_some}
 use Rattle.kin_run.proofs.Vocabulary.{restarts, state_of}
-use Rattle.kin_run.proofs.Performing.{changed, replaced}
+use Rattle.kin_run.proofs.Changing.{replaced}
+use Rattle.kin_status.proofs.Performing.{changed}
 use Rattle.kin_run.proofs.change.replace.Goals as goal
 
 pub returns-clause-performs : goal.returns-clause-performs

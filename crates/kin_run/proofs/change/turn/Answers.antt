@@ -1,9 +1,9 @@
 use Rattle.std.proofs.Common.{rules, arith, [], ap, Some, refl, w32}
 use Rattle.kin_run.proofs.Vocabulary.{err_from_is_err_and, motion_of, turns, state_of}
 use Rattle.kin_instant.proofs.Widths.{clean}
-use Rattle.kin_run.proofs.Existence.{allowed_turn}
-use Rattle.kin_run.proofs.Gathering.{front_nil, gains_nothing}
-use Rattle.kin_run.proofs.Performing.{changed}
+use Rattle.kin_status.proofs.Existence.{allowed_turn}
+use Rattle.kin_status.proofs.Gathering.{front_nil, gains_nothing}
+use Rattle.kin_status.proofs.Performing.{changed}
 use Rattle.kin_run.proofs.change.turn.Goals as goal
 
 pub returns-in_err-turn-in-Ok-clause-performs : goal.returns-in_err-turn-in-Ok-clause-performs

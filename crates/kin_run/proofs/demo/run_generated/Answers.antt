@@ -1,7 +1,7 @@
 use Rattle.std.proofs.Common.{rules, arith, ◌∙◌}
-use Rattle.kin_run.proofs.Generated.{wrote_whole, wrote_part, never_refused, cut_of_body, broken_demo}
-use Rattle.kin_run.proofs.Tallying.{tallied_from_nothing}
-use Rattle.kin_basics.proofs.Options.{none_or_some}
+use Rattle.kin_status.proofs.Generated.{wrote_whole, wrote_part, never_refused, cut_of_body, broken_demo}
+use Rattle.kin_status.proofs.Tallying.{tallied_from_nothing}
+use Rattle.kin_algebra.proofs.Options.{none_or_some}
 use Rattle.kin_run.proofs.demo.run_generated.Goals as goal
 
 pub returns-in-Ok-write_tally-clause-writes : goal.returns-in-Ok-write_tally-clause-writes

@@ -1,9 +1,9 @@
 use Rattle.std.proofs.Common.{rules, arith, [], inl, inr, refl, sym, append-nil}
 use Rattle.kin_run.proofs.Vocabulary.{err_from_is_err_and, on_err_weaker, on_ok, block_is_listed, nothing, none_line, HasMoved, state_of}
-use Rattle.kin_run.proofs.Tallying.{none_tallied, one_tallied}
-use Rattle.kin_run.proofs.Passing.{not_back}
-use Rattle.kin_run.proofs.Gathering.{front_nil}
-use Rattle.kin_run.proofs.Performing.{puts_next}
+use Rattle.kin_status.proofs.Tallying.{none_tallied, one_tallied}
+use Rattle.kin_status.proofs.Passing.{not_back}
+use Rattle.kin_status.proofs.Gathering.{front_nil}
+use Rattle.kin_status.proofs.Performing.{puts_next}
 use Rattle.kin_num.proofs.MomentLaws.{never}
 use Rattle.kin_run.proofs.next.put_next.Goals as goal
 

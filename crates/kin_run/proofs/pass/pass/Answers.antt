@@ -1,9 +1,9 @@
 use Rattle.std.proofs.Common.{[], ap, arith, not, refl, ◌∙◌}
 use Rattle.kin_run.proofs.Vocabulary.{err_from_is_err_and, at, printer}
 use Rattle.kin_world.proofs.RootLaws.{journals_exist}
-use Rattle.kin_run.proofs.Tallying.{untallied}
-use Rattle.kin_run.proofs.Gathering.{gains_nothing}
-use Rattle.kin_run.proofs.Passing.{sets_out, breaks_here, breaks_within, faults_behind, goes_on, goes_on_quietly, arrives, counted_all, told_some, told_none}
+use Rattle.kin_status.proofs.Tallying.{untallied}
+use Rattle.kin_status.proofs.Gathering.{gains_nothing}
+use Rattle.kin_run.proofs.OnTheWay.{sets_out, breaks_here, breaks_within, faults_behind, goes_on, goes_on_quietly, arrives, counted_all, told_some, told_none}
 use Rattle.kin_run.proofs.pass.pass.Goals as goal
 
 pub loop-block-init : goal.loop-block-init

@@ -1,6 +1,6 @@
 use Rattle.std.proofs.Common.{◌≤◌}
 use Rattle.kin_run.proofs.Vocabulary.{moments_left, printer}
-use Rattle.kin_run.proofs.Passing.{IsOnTheWay}
+use Rattle.kin_run.proofs.OnTheWay.{IsOnTheWay}
 use Rattle.kin_run.proofs.pass.pass.Given as goal
 
 abbrev pub invariant-loop-block : goal.invariant-loop-block

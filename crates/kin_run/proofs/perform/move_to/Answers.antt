@@ -1,6 +1,6 @@
 use Rattle.std.proofs.Common.{refl, sym, subst, inr}
 use Rattle.kin_run.proofs.Vocabulary.{err_from_is_err_and, IsEarlier, at, state_of, printer}
-use Rattle.kin_run.proofs.Performing.{moved, moving_broke}
+use Rattle.kin_status.proofs.Performing.{moved, moving_broke}
 use Rattle.kin_run.proofs.perform.move_to.Goals as goal
 
 pub returns-in_err-pass-clause-performs : goal.returns-in_err-pass-clause-performs

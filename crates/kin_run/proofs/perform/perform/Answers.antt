@@ -1,9 +1,9 @@
 use Rattle.std.proofs.Common.{rules, ◌≡◌, true, arith, to_z, of_z, w32, w64}
 use Rattle.kin_run.proofs.Vocabulary.{to_z-of_z, err_from_is_err_and, on_ok, line, IsSlowVelocity, IsRootInRange, asks_otherwise, printer}
-use Rattle.kin_run.proofs.Tallying.{none_tallied}
-use Rattle.kin_run.proofs.Gathering.{gains_put}
-use Rattle.kin_run.proofs.Performing.{replied}
-use Rattle.kin_run.proofs.NamedRoots.{handed_ratio}
+use Rattle.kin_status.proofs.Tallying.{none_tallied}
+use Rattle.kin_status.proofs.Gathering.{gains_put}
+use Rattle.kin_status.proofs.Performing.{replied}
+use Rattle.kin_status.proofs.NamedRoots.{handed_ratio}
 use Rattle.kin_run.proofs.perform.perform.Goals as goal
 
 pub returns-in-AtRatio-clause-performs : goal.returns-in-AtRatio-clause-performs
@@ -18,6 +18,9 @@ returns-in-Turn-clause-performs g c =
     let u_is : to_z w32 (of_z w32 u) ≡ u = grind (arith, to_z-of_z, range.u_small) in
     let v_is : to_z w32 (of_z w32 v) ≡ v = grind (arith, to_z-of_z, range.v_small) in
     rw c.in-Turn.is (rw (u_is, v_is) at c.turn.ensures.performs c.args.journal (printer (g.K.Sink.held c.args.sink.now) c.args.out.now.items))
+
+pub returns-in-Replace-clause-performs : goal.returns-in-Replace-clause-performs
+returns-in-Replace-clause-performs g c = search rules
 
 pub returns-in_err-put_next-in-Next-clause-performs : goal.returns-in_err-put_next-in-Next-clause-performs
 returns-in_err-put_next-in-Next-clause-performs g c =

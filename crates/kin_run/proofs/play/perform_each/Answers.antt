@@ -1,9 +1,9 @@
 use Rattle.std.proofs.Common.{[], ◌∙◌, refl, arith}
 use Rattle.kin_run.proofs.Vocabulary.{err_from_is_err_and, deed_of, refused_line, state_of, printer}
-use Rattle.kin_run.proofs.Determined.{stays}
-use Rattle.kin_run.proofs.Gathering.{gains_nothing, gains_put, some_flushed}
-use Rattle.kin_run.proofs.Tallying.{none_tallied}
-use Rattle.kin_run.proofs.Playing.{all_done, carried_out, lost_behind, broke_off, refused_here, broke_refusing, counts_command, counts_all}
+use Rattle.kin_status.proofs.Determined.{stays}
+use Rattle.kin_status.proofs.Gathering.{gains_nothing, gains_put, some_flushed}
+use Rattle.kin_status.proofs.Tallying.{none_tallied}
+use Rattle.kin_status.proofs.Playing.{all_done, carried_out, lost_behind, broke_off, refused_here, broke_refusing, counts_command, counts_all}
 use Rattle.kin_run.proofs.play.perform_each.Goals as goal
 
 pub loop-line-init : goal.loop-line-init

@@ -1,6 +1,6 @@
 use Rattle.std.proofs.Common.{◌≡◌, ◌≤◌, drop}
 use Rattle.kin_run.proofs.Vocabulary.{IsWhole, state_of, HasTallied, GainsSome, printer}
-use Rattle.kin_run.proofs.Playing.{IsSoFar, ArePassedSoFar}
+use Rattle.kin_status.proofs.Playing.{IsSoFar, ArePassedSoFar}
 use Rattle.kin_run.proofs.play.perform_each.Given as goal
 
 abbrev pub invariant-loop-line : goal.invariant-loop-line

@@ -1,7 +1,7 @@
 use Rattle.std.proofs.Common.{[], ap, subst}
 use Rattle.kin_run.proofs.Vocabulary.{on_err, IsCutOfText, IsFront, state_of, printer}
-use Rattle.kin_run.proofs.Gathering.{front_through, some_lost_here, wrote_front, wrote_broken}
-use Rattle.kin_run.proofs.OneText.{one_text}
+use Rattle.kin_status.proofs.Gathering.{front_through, some_lost_here, wrote_front, wrote_broken}
+use Rattle.kin_status.proofs.OneText.{one_text}
 use Rattle.kin_run.proofs.play.play.Goals as goal
 
 pub returns-in_err-flush-in-Ok-clause-cut : goal.returns-in_err-flush-in-Ok-clause-cut

@@ -1,6 +1,6 @@
 use Rattle.std.proofs.Common.{false, refl}
 use Rattle.kin_run.proofs.Vocabulary.{err_from_is_err_and, state_of}
-use Rattle.kin_run.proofs.Performing.{no_reply, no_fault, reply_broke}
+use Rattle.kin_status.proofs.Performing.{no_reply, no_fault, reply_broke}
 use Rattle.kin_run.proofs.reply.put_reply_to.Goals as goal
 
 pub returns-in_err-reply-clause-line : goal.returns-in_err-reply-clause-line

@@ -1,4 +1,4 @@
-use Rattle.kin_run.proofs.OneText.{exact}
+use Rattle.kin_status.proofs.OneText.{exact}
 use Rattle.kin_run.proofs.run.run.Goals as goal
 
 pub returns-in-Some-Run-clause-done : goal.returns-in-Some-Run-clause-done

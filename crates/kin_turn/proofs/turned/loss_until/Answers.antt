@@ -1,5 +1,5 @@
 use Rattle.std.proofs.Common.{◌≤◌, ◌<◌, ◌^◌, ℤ, ◌*ℤ◌, unsigned_abs, w64, arith, subst, sym}
-use Rattle.kin_basics.proofs.Integers.{size-product}
+use Rattle.kin_algebra.proofs.Magnitudes.{size-product}
 use Rattle.kin_instant.proofs.Widths.{clean, product-value}
 use Rattle.kin_turn.proofs.turned.loss_until.Goals as goal
 

@@ -1,7 +1,7 @@
 use Rattle.std.proofs.Common.{◌≡◌, w64, ap, ap₂, ◌∙◌, to_z, of_z}
 use Rattle.std.specs.Int.RustNames.{int_div, int_rem}
 use Rattle.std.proofs.lemmas.Int.{quot-rem, rem_below, to_z-of_z}
-use Rattle.kin_basics.proofs.Integers.{size-some}
+use Rattle.kin_algebra.proofs.Magnitudes.{size-some}
 use Rattle.kin_turn.proofs.Quotients.{remainder_of_multiple}
 use Rattle.kin_turn.proofs.turned.whole_quotient.Goals as goal
 

@@ -17,3 +17,6 @@ pub loop-k-preserved : goal.loop-k-preserved
 loop-k-preserved c =
     to_more (rows_of c.args.orders.now.lists.items) c.args.table.now c.args.no c.args.touches.now.all.items c.args.from c.loop-k.touches.all.items c.offer.new.self.all.items c.loop-k.k _
     c.loop-k.invariant (there _ c.items-apexes.result.now c.loop-k.k c.args.to (c.items-apexes.ensures ∙ c.list.ensures.row) c.loop-k-test.true c.requires.within) c.in_ok-offer.ensures.offered c.in_ok-offer.ensures.touched
+
+pub returns-clause-offered : goal.returns-clause-offered
+returns-clause-offered c = λ k p w o l h. c.loop-k.invariant.offered k p w o l (omega (arith, h, c.loop-k-test.false))

@@ -20,3 +20,6 @@ pub returns-then-is_at_rest-clause-delta : goal.returns-then-is_at_rest-clause-d
 returns-then-is_at_rest-clause-delta g c =
     subst (λ (fs : List Placed). HasChanged (map (moved_by c.args.part) c.args.list.now.facts) (map (moved_by c.args.part) fs) c.args.out.now c.args.out.now) (sym (ap (λ (l : Listing). l.facts) c.stand_still.ensures.same))
     (nothing_changed (map (moved_by c.args.part) c.args.list.now.facts) c.args.out.now)
+
+pub returns-clause-delta : goal.returns-clause-delta
+returns-clause-delta g c = c.settle_in.ensures.delta

@@ -1,6 +1,6 @@
 use Rattle.std.proofs.Common.{sym, ap, ◌∙◌, subst, false, ◌^◌}
 use Rattle.std.specs.Prelude.{is_some}
-use Rattle.kin_basics.proofs.Places.{get_or-replicate_any}
+use Rattle.kin_algebra.proofs.Places.{get_or-replicate_any}
 use Rattle.kin_motion.proofs.LiveLaws.{live-members}
 use Rattle.kin_env.specs.Trees.{Envelope}
 use Rattle.kin_env.specs.Walks.{slot_in}

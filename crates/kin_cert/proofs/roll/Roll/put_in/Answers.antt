@@ -1,7 +1,8 @@
 use Rattle.std.proofs.Common.{◌≡◌, ℕ, List, Option, Some, sym, subst, ap, ◌∙◌}
 use Rattle.slab.specs.Slab.{Slab, Updates}
 use Rattle.kin_cert.specs.Entries.{Entry}
-use Rattle.kin_cert.specs.Layout.{owned_rank, held, fresh, HasSlot, IsNotFound}
+use Rattle.kin_fail.specs.Rank.{owned_rank}
+use Rattle.kin_cert.specs.Layout.{held, fresh, HasSlot, IsNotFound}
 use Rattle.kin_cert.proofs.Rolls.{same-index}
 use Rattle.kin_cert.proofs.Enrolling.{enrolled-roll}
 use Rattle.kin_cert.specs.Rolls.{IsRoll}

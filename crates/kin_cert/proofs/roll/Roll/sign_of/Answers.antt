@@ -1,9 +1,9 @@
 use Rattle.std.proofs.Common.{◌≡◌, List, Option, Some, None, IfNone, sym, ap, subst, ◌∙◌}
 use Rattle.std.proofs.lemmas.Option.{same_Some}
 use Rattle.kin_cert.specs.Entries.{Entry}
-use Rattle.kin_cert.specs.declared.owned.Owned.{Owned}
+use Rattle.kin_fail.specs.declared.owned.Owned.{Owned}
 use Rattle.kin_cert.specs.Layout.{entry_at, IsFoundAt, IsNotFound}
-use Rattle.kin_cert.specs.Rank.{padded_rank}
+use Rattle.kin_fail.specs.Rank.{padded_rank}
 use Rattle.kin_cert.proofs.Places.{some_none}
 use Rattle.kin_cert.proofs.Rolls.{id-there, nowhere}
 use Rattle.kin_cert.proofs.roll.Roll.sign_of.Goals as goal

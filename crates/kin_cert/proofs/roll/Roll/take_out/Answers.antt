@@ -2,7 +2,7 @@ use Rattle.std.proofs.Common.{◌≡◌, List, Option, IsSome, refl, sym, subst,
 use Rattle.std.specs.Prelude.{⊤}
 use Rattle.std.proofs.lemmas.Option.{same_Some}
 use Rattle.kin_cert.specs.Entries.{Entry}
-use Rattle.kin_cert.specs.Rank.{padded_rank}
+use Rattle.kin_fail.specs.Rank.{padded_rank}
 use Rattle.kin_cert.specs.Layout.{entry_rank, NoneTwice, IsSeatOf, IsFoundAt}
 use Rattle.kin_cert.proofs.Rolls.{once, id-there, nowhere}
 use Rattle.kin_cert.proofs.Enrolling.{struck-id, struck-roll}

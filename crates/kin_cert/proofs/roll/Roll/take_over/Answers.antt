@@ -3,9 +3,10 @@ use Rattle.std.proofs.lemmas.Option.{same_Some}
 use Rattle.indexmap.specs.IndexMap.{get as look_up}
 use Rattle.kin_motion.specs.declared.fact.Placed.{Placed}
 use Rattle.kin_cert.specs.Entries.{Entry}
-use Rattle.kin_cert.specs.Layout.{entry_rank, owned_place, owned_rank, held, fresh, with_fact, IsTakenOver}
+use Rattle.kin_fail.specs.Rank.{owned_rank}
+use Rattle.kin_cert.specs.Layout.{entry_rank, owned_place, held, fresh, with_fact, IsTakenOver}
 use Rattle.kin_cert.specs.Rolls.{is_place, IsRoll}
-use Rattle.kin_cert.proofs.Ranks.{rank_names}
+use Rattle.kin_fail.proofs.Ranks.{rank_names}
 use Rattle.kin_cert.proofs.Succession.{succession_roll, succeeds}
 use Rattle.kin_cert.proofs.roll.Roll.take_over.Goals as goal
 

@@ -1,6 +1,6 @@
 use Rattle.std.proofs.Common.{◌≡◌, ◌⊎◌, inl, inr, ℕ, List, [], ◌∷◌, ◌++◌, None, OnOk, OnErr, Result, Ok, Err, refl, sym, ap, subst, ◌∙◌}
 use Rattle.std.specs.FinMap.{get, insert}
-use Rattle.kin_basics.proofs.Results.{from_two}
+use Rattle.kin_algebra.proofs.Results.{from_two}
 use Rattle.kin_num.specs.declared.instant.Moment.{Moment}
 use Rattle.kin_queue.specs.Agenda.{Agenda}
 use Rattle.kin_cert.specs.Schedules.{with_each, AreBeside, just_after}

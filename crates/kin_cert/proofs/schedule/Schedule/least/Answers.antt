@@ -1,6 +1,6 @@
-use Rattle.std.proofs.Common.{inl, inr, ℕ, List, Option, Some, None, refl, sym, subst, ◌∙◌}
+use Rattle.std.proofs.Common.{inl, inr, ℕ, List, Option, Some, None, refl, sym, subst, ◌∙◌, rules}
 use Rattle.std.specs.List.{Contains}
-use Rattle.kin_basics.proofs.Members.{contains_none}
+use Rattle.kin_algebra.proofs.Members.{contains_none}
 use Rattle.kin_num.specs.declared.instant.Moment.{Moment}
 use Rattle.kin_num.specs.Order.{IsEarlier}
 use Rattle.kin_queue.specs.Agenda.{IsLeast, IsNext}
@@ -36,3 +36,6 @@ returns-else-comes_first c =
     let other = c.if-comes_first.ensures.other refl in
     let some = some_listed ids (λ e. other.0 (c.deref-2.ensures.value ∙ e)) in
     (some.0, subst (λ (w : Moment). IsLeast c.args.self.now (some.0, w)) (sym c.moment_after-else-comes_first.ensures) (subst (λ (x : Moments). IsLeast x (some.0, just_after c.self.inside.soon_from)) c.self.view_is (listed_least m (just_after c.self.inside.soon_from) ids c.self.invariant c.recall_canonical.ensures c.in-Some.next first other.1 some.0 some.1)))
+
+pub returns-then-is_vacant : goal.returns-then-is_vacant
+returns-then-is_vacant c = search rules

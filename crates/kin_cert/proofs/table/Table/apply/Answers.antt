@@ -1,4 +1,4 @@
-use Rattle.std.proofs.Common.{◌≡◌, ◌+◌, ◌∙◌, List, length, ap₂, sym, subst, refl, arith}
+use Rattle.std.proofs.Common.{◌≡◌, ◌+◌, ◌∙◌, List, length, ap₂, sym, subst, refl, arith, rules}
 use Rattle.kin_motion.specs.declared.fact.Placed.{Placed}
 use Rattle.kin_motion.specs.Deltas.{Change}
 use Rattle.kin_motion.specs.Scene.{scene_at}
@@ -39,3 +39,6 @@ returns-clause-cost g c =
     subst (λ (x : Change). TakesAtMost (length c.args.self.now.live + length x.born) (change_cost c.args.structure x c.args.self.now.live) c.args.steps.now c.bear_each.new.steps) change_is
     (all-paid n c.args.structure (record { dropped = c.deref.result.now; born = c.deref-2.result.now }) (change_of rest) c.args.self.now.live c.replace_each.new.self.live (length c.drop_each.new.self.live + length rest.born.now) _ _ _ _
     (omega (arith, counted, fewer)) (omega (arith, counted, fewer, dropped)) c.in_ok-rest.ensures.cost c.drop_each.ensures.cost c.in_ok-bear_each.ensures.cost)
+
+pub returns-clause-made : goal.returns-clause-made
+returns-clause-made g c = search rules

@@ -5,7 +5,8 @@ use Rattle.kin_num.specs.declared.instant.Moment.{Moment}
 use Rattle.kin_num.specs.Order.{IsEarlier}
 use Rattle.kin_queue.specs.Agenda.{IsLeast}
 use Rattle.kin_cert.specs.Entries.{Entry}
-use Rattle.kin_cert.specs.Facts.{Facts, LiveFact, NoneAlike, certificate_of}
+use Rattle.kin_fail.specs.Blocks.{certificate_of}
+use Rattle.kin_cert.specs.Facts.{Facts, LiveFact, NoneAlike}
 use Rattle.kin_cert.specs.Layout.{HasGiven, IsDueAt, IsTable, live_fact, live_in, waiting, due_count}
 use Rattle.kin_cert.specs.Names.{IsListed}
 use Rattle.kin_cert.proofs.Schedules.{Moments}

@@ -1,6 +1,6 @@
-use Rattle.std.proofs.Common.{◌≡◌, ◌∙◌, ◌++◌, ◌∷◌, [], ℕ, ◌+◌, ◌*◌, true, List, length, length-append, refl, sym, ap, subst, arith}
+use Rattle.std.proofs.Common.{◌≡◌, ◌∙◌, ◌++◌, ◌∷◌, [], ℕ, ◌+◌, ◌*◌, true, List, length, length-append, refl, sym, ap, subst, arith, rules}
 use Rattle.std.specs.Result.{is_ok}
-use Rattle.kin_cert.specs.declared.owned.Owned.{Owned}
+use Rattle.kin_fail.specs.declared.owned.Owned.{Owned}
 use Rattle.kin_cert.specs.Cost.{TakesAtMost}
 use Rattle.kin_cert.specs.Layout.{IsGivenUpTo}
 use Rattle.kin_cert.proofs.Costs.{one_more}
@@ -38,3 +38,9 @@ pub returns-clause-cost : goal.returns-clause-cost
 returns-clause-cost g c = λ r e.
     let before = c.loop-owned.invariant.cost r e in
     omega (arith, before, c.in_default.ensures.idle)
+
+pub returns-clause-given : goal.returns-clause-given
+returns-clause-given g c = search rules
+
+pub returns-clause-all : goal.returns-clause-all
+returns-clause-all g c = search rules

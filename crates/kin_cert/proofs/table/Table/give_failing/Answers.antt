@@ -1,7 +1,8 @@
 use Rattle.kin_cert.proofs.Dues.{least-due}
 use Rattle.kin_cert.proofs.Taking.{has-given_out}
-use Rattle.kin_basics.proofs.Results.{from_two}
+use Rattle.kin_algebra.proofs.Results.{from_two}
 use Rattle.kin_cert.proofs.Costs.{few_given}
+use Rattle.std.proofs.Common.{rules}
 use Rattle.kin_cert.proofs.table.Table.give_failing.Goals as goal
 
 pub give_all-requires-clause-due : goal.give_all-requires-clause-due
@@ -15,3 +16,6 @@ returns-clause-given g c =
 
 pub returns-clause-cost : goal.returns-clause-cost
 returns-clause-cost g c = from_two c.give_all.result (λ few again. few_given _ _ _ _ few) c.give_all.ensures.cost c.give_all.ensures.cost
+
+pub give_all-requires-clause-empty : goal.give_all-requires-clause-empty
+give_all-requires-clause-empty g c = c.clear.ensures.items

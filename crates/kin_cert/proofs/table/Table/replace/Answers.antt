@@ -3,7 +3,8 @@ use Rattle.kin_motion.specs.Scene.{scene_at}
 use Rattle.kin_cert.specs.Entries.{Entry}
 use Rattle.kin_cert.specs.Cost.{is_ungiven}
 use Rattle.kin_cert.specs.Facts.{Facts}
-use Rattle.kin_cert.specs.Layout.{live_in, held, owned_rank, fresh, timed, queued_at, HasReplaced}
+use Rattle.kin_fail.specs.Rank.{owned_rank}
+use Rattle.kin_cert.specs.Layout.{live_in, held, fresh, timed, queued_at, HasReplaced}
 use Rattle.kin_cert.specs.Names.{numbers_at, IsListed}
 use Rattle.kin_cert.proofs.Schedules.{Moments}
 use Rattle.kin_cert.proofs.Naming.{renamed, still-named, same-facts}

@@ -1,4 +1,4 @@
-use Rattle.std.proofs.Common.{◌≡◌, ◌∙◌, Bool, false, ◌∷◌, length, sym, ap, subst, arith}
+use Rattle.std.proofs.Common.{◌≡◌, ◌∙◌, Bool, false, ◌∷◌, length, sym, ap, subst, arith, rules}
 use Rattle.std.specs.Prelude.{IsTrue}
 use Rattle.std.proofs.lemmas.List.Elements.{All-head, All-tail}
 use Rattle.kin_motion.specs.declared.fact.Placed.{Placed}
@@ -148,3 +148,6 @@ loop-dropped-preserved-then-is_free g c =
           record { live = omega (arith, live, count, same_count, ap length b_is); fewer = fewer };
       cost = born-paid s scene now b ds bs mid new may free did count _ _ _ _ _ (omega (arith, inv.count.live, inv.count.fewer, same_count)) (rw (b_is, sym same, sym idle) at inv.cost) c.in_ok-bear_one.ensures.cost;
     }
+
+pub loop-dropped-smaller : goal.loop-dropped-smaller
+loop-dropped-smaller g c = search rules

@@ -4,7 +4,7 @@ use Rattle.kin_algebra.specs.declared.sign.Sign.{Sign}
 use Rattle.kin_motion.specs.declared.form.Form.{Form}
 use Rattle.kin_cert.specs.Entries.{Entry}
 use Rattle.kin_cert.specs.Facts.{Facts, LiveFact, IsAt}
-use Rattle.kin_cert.specs.Rank.{padded_rank}
+use Rattle.kin_fail.specs.Rank.{padded_rank}
 use Rattle.kin_cert.specs.Layout.{live_in, live_fact, IsFoundAt, IsNotFound}
 use Rattle.kin_cert.proofs.Slots.{live-there, live-from}
 use Rattle.kin_cert.proofs.Places.{some_none}

@@ -1,4 +1,4 @@
-use Rattle.kin_basics.proofs.Results.{from_two}
+use Rattle.kin_algebra.proofs.Results.{from_two}
 use Rattle.kin_motion.specs.Scene.{scene_at}
 use Rattle.kin_cert.proofs.TellLaws.{may_apply, born_askable, born_hold}
 use Rattle.kin_cert.proofs.ToldLaws.{told}
@@ -18,3 +18,6 @@ returns-clause-told g c =
     from_two c.apply.result
     (told c.args.k c.args.delta.now (scene_at c.args.motions.now) c.args.now.now c.args.self.now.live c.apply.new.self.live c.requires)
     c.apply.ensures.applied c.apply.ensures.once
+
+pub returns-clause-cost : goal.returns-clause-cost
+returns-clause-cost g c = c.apply.ensures.cost

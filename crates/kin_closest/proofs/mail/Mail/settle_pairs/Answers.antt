@@ -1,11 +1,12 @@
-use Rattle.std.proofs.Common.{◌≡◌, sym, ap, ◌∙◌, subst, ℕ, ◌≤◌, ◌++◌, length, map, take, drop}
-use Rattle.std.specs.Prelude.{Contains}
+use Rattle.std.proofs.Common.{◌≡◌, sym, ap, ◌∙◌, subst, ℕ, ◌≤◌, ◌++◌, length, map, take, drop, rules}
+use Rattle.std.specs.Prelude.{Contains, List}
+use Rattle.kin_motion.specs.declared.fact.Placed.{Placed}
 use Rattle.kin_motion.specs.ClosestPairs.{Near}
 use Rattle.kin_motion.specs.Deltas.{Change}
 use Rattle.kin_motion.specs.Parts.{moved_by}
 use Rattle.kin_motion.proofs.Gains.{gained_behind, mapped_report}
 use Rattle.kin_motion.proofs.PartLaws.{moved_one}
-use Rattle.kin_tourney.specs.Tournament.{Tournament}
+use Rattle.kin_tourney.specs.Tournament.{Tournament, CoversAskable}
 use Rattle.kin_closest.specs.declared.distance.Distance.{Distance}
 use Rattle.kin_closest.proofs.Joining.{facts_low}
 use Rattle.kin_closest.proofs.mail.Mail.settle_pairs.Goals as goal
@@ -31,3 +32,9 @@ returns-clause-delta g c =
     c.in_ok-settle_told.ensures.delta
     (c.move_from.ensures ∙ ap (λ (d : Change). take c.len-dropped.result d.dropped ++ map (moved_by 8) (drop c.len-dropped.result d.dropped)) c.out-2.view_is)
     (c.move_from-2.ensures ∙ ap (λ (d : Change). take c.len-born.result d.born ++ map (moved_by 8) (drop c.len-born.result d.born)) c.out-2.view_is)
+
+pub settle_told-requires-clause-failing : goal.settle_told-requires-clause-failing
+settle_told-requires-clause-failing g c = subst (λ (fs : List Placed). CoversAskable c.args.pairs.now.facts (g.O.Signs.scene c.args.now.now) fs) (sym c.deref.ensures.value) c.requires.failing
+
+pub returns-clause-cost : goal.returns-clause-cost
+returns-clause-cost g c = search rules

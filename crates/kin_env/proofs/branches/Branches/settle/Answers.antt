@@ -1,7 +1,7 @@
 use Rattle.std.proofs.Common.{◌≡◌, ap, ◌∙◌, subst, arith, List, get_or}
-use Rattle.kin_basics.proofs.Members.{contains_from_get}
+use Rattle.kin_algebra.proofs.Members.{contains_from_get}
 use Rattle.std.proofs.lemmas.Option.{slice_get-get_or}
-use Rattle.kin_basics.proofs.Results.{for_ok, at_ok}
+use Rattle.kin_algebra.proofs.Results.{for_ok, at_ok}
 use Rattle.kin_motion.specs.declared.fact.Placed.{Placed}
 use Rattle.kin_motion.specs.Kinetics.{HasChanged}
 use Rattle.kin_env.specs.Nodes.{facts_with}

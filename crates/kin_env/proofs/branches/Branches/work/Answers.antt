@@ -1,5 +1,5 @@
 use Rattle.std.proofs.Common.{◌≡◌, sym, ◌∙◌, arith, ◌<◌, ◌≤◌, ◌^◌, true, false}
-use Rattle.kin_basics.proofs.Results.{for_ok, at_ok}
+use Rattle.kin_algebra.proofs.Results.{for_ok, at_ok}
 use Rattle.kin_env.proofs.Works.{told, worked_visit, worked_idle, worked_leaf}
 use Rattle.kin_env.proofs.branches.Branches.work.Goals as goal
 

@@ -1,4 +1,4 @@
-use Rattle.std.proofs.Common.{sym, ap, ◌∙◌, subst, List, ◌++◌, map, ℕ, ◌≤◌, true}
+use Rattle.std.proofs.Common.{◌≡◌, sym, ap, ◌∙◌, subst, List, ◌++◌, map, ℕ, ◌≤◌, false, true, rules}
 use Rattle.kin_motion.specs.declared.fact.Placed.{Placed}
 use Rattle.kin_motion.specs.Kinetics.{ListsFailing, HasChanged}
 use Rattle.kin_motion.specs.Scene.{turned}
@@ -53,3 +53,22 @@ pub returns-clause-delta : goal.returns-clause-delta
 returns-clause-delta g c =
     subst (λ (k : Hull). HasChanged (facts_of k) (map (outward Upper) c.settle.new.tree.facts ++ map (outward Lower) c.settle-2.new.tree.facts) c.args.out.now c.settle-2.new.out) c.self.view_is
     (both_reported c.self.inside.upper.facts c.settle.new.tree.facts c.self.inside.lower.facts c.settle-2.new.tree.facts c.args.out.now c.settle.new.out c.settle-2.new.out c.in_ok-settle.ensures.delta c.in_ok-settle-2.ensures.delta)
+
+-- who isn't whole has no invariant to keep
+nothing : {P : Type 0} → false ≡ true → P
+nothing e = absurd cc
+
+pub returns-in_err-sort-clause-broken : goal.returns-in_err-sort-clause-broken
+returns-in_err-sort-clause-broken g c = search rules
+
+pub invariant_of-self-in_err-settle : goal.invariant_of-self-in_err-settle
+invariant_of-self-in_err-settle g c = nothing
+
+pub returns-in_err-settle-clause-broken : goal.returns-in_err-settle-clause-broken
+returns-in_err-settle-clause-broken g c = search rules
+
+pub invariant_of-self-in_err-settle-2 : goal.invariant_of-self-in_err-settle-2
+invariant_of-self-in_err-settle-2 g c = nothing
+
+pub returns-in_err-settle-2-clause-broken : goal.returns-in_err-settle-2-clause-broken
+returns-in_err-settle-2-clause-broken g c = search rules

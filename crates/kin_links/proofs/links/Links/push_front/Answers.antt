@@ -1,6 +1,6 @@
 use Rattle.std.proofs.Common.{refl}
 use Rattle.std.proofs.lemmas.Result.{IfOk-weaker}
-use Rattle.kin_basics.proofs.Places.{get_within}
+use Rattle.kin_algebra.proofs.Places.{get_within}
 use Rattle.kin_links.proofs.links.Links.push_front.Goals as goal
 
 pub link_in-requires : goal.link_in-requires

@@ -1,7 +1,7 @@
 use Rattle.std.proofs.Common.{ap, ◌∙◌, arith, ◌+◌, ◌-◌, length, nat_eq, nat_lt, ◌&&◌, ◌||◌}
 use Rattle.std.proofs.lemmas.Option.{slice_get_within}
 use Rattle.std.proofs.lemmas.List.Edits.{length-remove}
-use Rattle.kin_basics.proofs.Results.{for_ok, at_ok}
+use Rattle.kin_algebra.proofs.Results.{for_ok, at_ok}
 use Rattle.kin_motion.specs.Numbers.{is_in}
 use Rattle.kin_list.proofs.LeaveLaws.{taken_first, taken_later}
 use Rattle.kin_list.proofs.lineup.Lineup.take_out.Goals as goal

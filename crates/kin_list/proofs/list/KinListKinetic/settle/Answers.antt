@@ -1,5 +1,5 @@
 use Rattle.std.proofs.Common.{subst, List, map}
-use Rattle.kin_basics.proofs.Results.{for_ok, at_ok}
+use Rattle.kin_algebra.proofs.Results.{for_ok, at_ok}
 use Rattle.kin_motion.specs.declared.fact.Placed.{Placed}
 use Rattle.kin_motion.specs.Kinetics.{HasChanged}
 use Rattle.kin_motion.specs.Parts.{moved_by}

@@ -1,5 +1,5 @@
 use Rattle.std.proofs.Common.{sym, subst, List, [], ℕ, rules, Contains}
-use Rattle.kin_basics.proofs.Members.{contains_none}
+use Rattle.kin_algebra.proofs.Members.{contains_none}
 use Rattle.kin_motion.specs.Contents.{IsSettledMerge}
 use Rattle.kin_motion.specs.Deltas.{Change}
 use Rattle.kin_motion.specs.Kinetics.{HasChanged}

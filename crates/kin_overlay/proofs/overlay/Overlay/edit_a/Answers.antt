@@ -1,4 +1,4 @@
-use Rattle.std.proofs.Common.{◌≢◌, sym, subst, List, ℕ}
+use Rattle.std.proofs.Common.{◌≢◌, sym, subst, List, ℕ, rules}
 use Rattle.kin_motion.specs.Edits.{all_edited}
 use Rattle.kin_overlay.specs.declared.stage.Stage.TheVariants.{Broken}
 use Rattle.kin_overlay.specs.Fingers.{AreLess}
@@ -16,3 +16,6 @@ invariant_of-self-2 c =
       less = subst (λ (l : List ℕ). AreLess l o.b.items) (sym c.in_ok-carry_out.ensures.list) less;
       distinct = (whole o.stage o.a.items o.b.items (all_placed o.part (facts_of o.list)) usable c.self.invariant).distinct;
     }
+
+pub returns-clause-told : goal.returns-clause-told
+returns-clause-told c = search rules

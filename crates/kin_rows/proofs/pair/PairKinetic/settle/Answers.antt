@@ -1,5 +1,5 @@
 use Rattle.std.proofs.lemmas.Result.{on_ok_weaker}
-use Rattle.kin_basics.proofs.Results.{on_ok}
+use Rattle.kin_algebra.proofs.Results.{on_ok}
 use Rattle.kin_rows.specs.PairLaws.{pair_settled}
 use Rattle.kin_rows.proofs.Ordered.{pair_changed}
 use Rattle.kin_rows.proofs.pair.PairKinetic.settle.Goals as goal

@@ -1,8 +1,11 @@
-use Rattle.kin_world.proofs.Vocabulary.{rules, sym, ap, ◌∙◌, arith, length, few_at_most, Stage}
+use Rattle.kin_world.proofs.Vocabulary.{rules, refl, sym, ap, ◌∙◌, arith, length, few_at_most, Stage}
 use Rattle.kin_world.proofs.MarkLaws.{carried_out_all}
-use Rattle.kin_world.proofs.MailLaws.{frame_through}
+use Rattle.kin_world.proofs.MailLaws.{come_none, frame_through}
 use Rattle.kin_world.proofs.Certificates.{come_on}
 use Rattle.kin_world.proofs.upkeep.Upkeep.carry_out_each.Goals as goal
+
+pub loop-k-init : goal.loop-k-init
+loop-k-init g c = let marked = c.requires.marked in record { marked = marked; come = come_none c.args.self.now.table marked.1.in_order.counted; frame = refl; all = search rules }
 
 pub overflow_cast-k : goal.overflow_cast-k
 overflow_cast-k g c = search (rules, arith, few_at_most)

@@ -3,6 +3,9 @@ use Rattle.kin_world.proofs.LeapLaws.{landing_under_repair, has_landed}
 use Rattle.kin_world.proofs.TakeLaws.{given_waiting, given_askable, settled_since}
 use Rattle.kin_world.proofs.upkeep.Upkeep.leap.Goals as goal
 
+pub give_failing-requires-clause-failing : goal.give_failing-requires-clause-failing
+give_failing-requires-clause-failing g c = c.requires.failing
+
 pub landing-self-requires : goal.landing-self-requires
 landing-self-requires g c = search (rules, arith, c.in_ok-give_failing.ensures.given, c.deref.ensures.value, given_askable, c.requires.sound)
 

@@ -1,4 +1,4 @@
-use Rattle.kin_world.proofs.Vocabulary.{◌<◌, ◌^◌, true, meaning, stage_of, HasInserted}
+use Rattle.kin_world.proofs.Vocabulary.{rules, ◌<◌, ◌^◌, true, meaning, stage_of, HasInserted}
 use Rattle.kin_world.proofs.Inside.{sound_inside, as_seen, as_inside}
 use Rattle.kin_world.proofs.MarkLaws.{may_insert}
 use Rattle.kin_world.proofs.SoundLaws.{has_inserted}
@@ -10,6 +10,12 @@ carry_out_each-requires g c =
     let free = rw (← c.self.view_is) at c.requires.free in
     let low = as_inside c.self.inside c.self.view_is c.self.invariant c.requires.whole (λ v. c.args.no < 2 ^ v.size) c.requires.room in
     record { marked = (c.self.inside.upkeep.motions, may_insert sound c.args.no c.args.m c.set.new.self free low c.set.ensures.value c.set.ensures.slow) }
+
+pub invariant_of-self : goal.invariant_of-self
+invariant_of-self g c = search rules
+
+pub returns-in_err-carry_out_each-clause-broken : goal.returns-in_err-carry_out_each-clause-broken
+returns-in_err-carry_out_each-clause-broken g c = search rules
 
 pub returns-clause-inserted : goal.returns-clause-inserted
 returns-clause-inserted g c =

@@ -1,4 +1,4 @@
-use Rattle.kin_world.proofs.Vocabulary.{subst, ◌<◌, true, meaning, stage_of, HasRemoved}
+use Rattle.kin_world.proofs.Vocabulary.{rules, subst, ◌<◌, true, meaning, stage_of, HasRemoved}
 use Rattle.kin_world.proofs.Inside.{sound_inside, as_seen}
 use Rattle.kin_world.proofs.MarkLaws.{live_within, may_remove}
 use Rattle.kin_world.proofs.SoundLaws.{has_removed}
@@ -10,6 +10,9 @@ carry_out_each-requires g c =
     let live = rw (← c.self.view_is) at c.requires.live in
     let low = subst (λ n. c.args.no < n) sound.in_order.fit.room (live_within c.self.inside.upkeep.motions c.args.no live) in
     record { marked = (c.self.inside.upkeep.motions, may_remove sound c.args.no c.clear.new.self live low c.clear.ensures) }
+
+pub invariant_of-self : goal.invariant_of-self
+invariant_of-self g c = search rules
 
 pub returns-clause-removed : goal.returns-clause-removed
 returns-clause-removed g c =

@@ -1,4 +1,0 @@
-use Rattle.kin_cases.proofs.halves.a_half_empties_and_fills_again.Given as goal
-
-abbrev pub ghosts-half_changes : goal.ghosts-half_changes
-ghosts-half_changes g a = record { name = a.blank.name; parts = a.blank.parts }

@@ -1,0 +1,6 @@
+use Rattle.std.proofs.Common.{refl, rules, ap}
+use Rattle.kin_cert.specs.Layout.{waiting}
+use Rattle.kin_cert.proofs.entry.Entry.let_wait.Goals as goal
+
+pub returns : goal.returns
+returns c = ap waiting c.self.view_is

@@ -1,0 +1,5 @@
+pub mod Rank
+pub mod Failures
+pub mod Blocks
+pub mod Approach
+pub mod Laws

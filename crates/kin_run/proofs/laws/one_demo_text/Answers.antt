@@ -1,5 +1,0 @@
-use Rattle.kin_run.proofs.Generated.{one_demo_text}
-use Rattle.kin_run.proofs.laws.one_demo_text.Goals as goal
-
-pub returns : goal.returns
-returns c = one_demo_text

@@ -1,0 +1,17 @@
+//! Tests of whole runs, over sources and sinks in memory.
+#![tactic(auto)]
+
+#[cfg(test)]
+mod borders;
+#[cfg(test)]
+mod exits;
+#[cfg(test)]
+mod faults;
+#[cfg(test)]
+mod kept;
+#[cfg(test)]
+mod runs;
+#[cfg(test)]
+mod texts;
+#[cfg(test)]
+mod worked;

@@ -1,0 +1,11 @@
+pub mod Vocabulary
+pub mod Gathering
+pub mod NamedRoots
+pub mod Tallying
+pub mod Passing
+pub mod Determined
+pub mod Performing
+pub mod Playing
+pub mod OneText
+pub mod Generated
+pub mod Existence

@@ -1,0 +1,28 @@
+//! The laws of the text.
+
+ghost use Rattle.kin_status.specs.Demo.{DemoTextsExist, OneDemoText};
+ghost use Rattle.kin_status.specs.Headline.{OneAnswer, TextsExist};
+
+/// An input has one text, and one status with it.
+#[tactic(auto, using(crate::proofs::OneText::one_answer))]
+pub fn one_answer()
+    ensures { OneAnswer }
+{}
+
+/// Every input has a text, and a status with it. So a front of each text of an input is a front of
+/// one that exists.
+#[tactic(auto, using(crate::proofs::Existence::texts_exist))]
+pub fn texts_exist()
+    ensures { TextsExist }
+{}
+
+/// Each seed has a text with each count of 1..1024.
+#[tactic(auto, using(crate::proofs::Existence::demo_texts_exist))]
+pub fn demo_texts_exist()
+    ensures { DemoTextsExist }
+{}
+
+/// A seed and a count have no two texts.
+pub fn one_demo_text()
+    ensures { OneDemoText }
+{}

@@ -1,0 +1,37 @@
+//! Where the ranges of lines that change the points end.
+
+use crate::outside::are_outside;
+use std::test::Fail;
+
+#[test]
+fn their_ranges_end_where_they_should(rt: HostRuntime) -> Result<(), Fail> {
+    let rows: [(&[u8], u32); 25] = [
+        (b"size 1\nremove 1", 0),
+        (b"size 1\nremove 2", 2),
+        (b"size 12\nremove 4095", 0),
+        (b"size 12\nremove 4096", 2),
+        (b"size 1\nremove -1", 2),
+        (b"size 1\nremove", 2),
+        (b"size 1\nremove 0 0", 2),
+        (b"size 1\nRemove 0", 2),
+        (b"size 1\nreplace 1 -4096 4096 -4096 4096", 0),
+        (b"size 1\nreplace 2 0 0 0 0", 2),
+        (b"size 1\nreplace 0 4097 0 0 0", 2),
+        (b"size 1\nreplace 0 0 -4097 0 0", 2),
+        (b"size 1\nreplace 0 0 0 4097 0", 2),
+        (b"size 1\nreplace 0 0 0 0 -4097", 2),
+        (b"size 1\nreplace 0 0 0 0", 2),
+        (b"size 1\nreplace 0 0 0 0 0 0", 2),
+        (b"size 1\nturn 1 4096 -4096", 0),
+        (b"size 1\nturn 2 0 0", 2),
+        (b"size 1\nturn 0 4097 0", 2),
+        (b"size 1\nturn 0 0 -4097", 2),
+        (b"size 1\nturn 0 0", 2),
+        (b"size 1\nturn 0 0 0 0", 2),
+        (b"size 1\nturn", 2),
+        (b"size 1\nremove 0\nkeep hull", 3),
+        (b"turn 0 0 0\nsize 1", 1),
+    ];
+    are_outside(&rt, rt.alloc(), &rows)?;
+    Ok(())
+}

@@ -1,4 +1,0 @@
-use Rattle.kin_tourney.proofs.tourney.tests.two_points_that_meet.Given as goal
-
-abbrev pub ghosts-races : goal.ghosts-races
-ghosts-races g a = record { name = a.blank.name; parts = a.blank.parts }

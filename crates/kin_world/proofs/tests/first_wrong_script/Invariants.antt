@@ -1,4 +1,0 @@
-use Rattle.kin_world.proofs.tests.first_wrong_script.Given as goal
-
-abbrev pub ghosts-first_wrong : goal.ghosts-first_wrong
-ghosts-first_wrong a = record { name = a.blank.name; parts = a.blank.parts }

@@ -1,0 +1,89 @@
+//! Questions that a world answers.
+
+ghost use Rattle.std.specs.Prelude.{◌≤◌, ◌^◌, unsigned_abs, IsTrue};
+ghost use Rattle.kin_motion.specs.Boxes.{IsRectInRange};
+
+use crate::script::{Call, form, moment};
+use kin_motion::{Keep, Rect};
+use kin_num::NoMemory;
+use kin_world::World;
+
+/// An order is kept, and this is it.
+fn orders(world: &World, s: u32, numbers: &[u32]) -> Result<bool, NoMemory> {
+    let Some(Keep::Order { .. }) = world.keep(s) else {
+        return Ok(false);
+    };
+    Ok(world.is_whole() && world.order(s)?.as_slice() == numbers)
+}
+
+/// An extreme point is kept, and this is it.
+fn has_extreme(world: &World, s: u32, number: Option<u32>) -> bool {
+    let Some(Keep::Extreme { .. }) = world.keep(s) else {
+        return false;
+    };
+    world.is_whole() && world.extreme(s) == number
+}
+
+/// A hull is kept, and this is its cycle.
+fn has_hull(world: &World, s: u32, cycle: &[u32]) -> Result<bool, NoMemory> {
+    let Some(Keep::Hull) = world.keep(s) else {
+        return Ok(false);
+    };
+    Ok(world.is_whole() && world.hull()?.as_slice() == cycle)
+}
+
+/// A closest pair is kept, and this is it.
+fn has_closest(world: &World, s: u32, pair: Option<(u32, u32)>) -> bool {
+    let Some(Keep::Closest) = world.keep(s) else {
+        return false;
+    };
+    world.is_whole() && world.closest() == pair
+}
+
+/// A range is kept, and these are the points in the rectangle.
+fn has_inside(world: &World, s: u32, rect: &Rect, numbers: &[u32]) -> Result<bool, NoMemory> {
+    let Some(Keep::Range) = world.keep(s) else {
+        return Ok(false);
+    };
+    if !world.is_whole() || !is_in_range(rect) {
+        return Ok(false);
+    }
+    Ok(world.inside(rect)?.as_slice() == numbers)
+}
+
+fn is_small_border(n: i32) -> bool
+    ensures { IsTrue result → unsigned_abs n ≤ 2 ^ 24 }
+{
+    n.unsigned_abs() <= 1 << 24
+}
+
+fn is_in_range(rect: &Rect) -> bool
+    ensures { IsTrue result → IsRectInRange rect.now }
+{
+    is_small_border(rect.x1)
+        && is_small_border(rect.x2)
+        && is_small_border(rect.y1)
+        && is_small_border(rect.y2)
+}
+
+/// Whether a question has its answer.
+pub fn answers(world: &World, call: &Call) -> Result<bool, NoMemory> {
+    if !world.is_whole() {
+        return Ok(false);
+    }
+    match *call {
+        Call::MayInsert(no, may) => Ok(world.can_insert(no) == may),
+        Call::Next(None) => Ok(world.next() == None),
+        Call::Next(Some(time)) => Ok(world.next() == moment(time)),
+        Call::Facts(live, made) => Ok(world.live() == live && world.made() == made),
+        Call::SignOf((structure, part), line, sign) => Ok(
+            world.sign_of(structure, part, &form(line)) == sign,
+        ),
+        Call::Order(s, numbers) => orders(world, s, numbers),
+        Call::Extreme(s, number) => Ok(has_extreme(world, s, number)),
+        Call::Hull(s, cycle) => has_hull(world, s, cycle),
+        Call::Closest(s, pair) => Ok(has_closest(world, s, pair)),
+        Call::Inside(s, rect, numbers) => has_inside(world, s, &rect, numbers),
+        _ => Ok(false),
+    }
+}
