@@ -8,10 +8,10 @@ log=$crate/out/build.log
 
 # The program's crates, each after those below it.
 names=()
-# Of a crate: all crates below it; how long it takes, in lines of its code; the same for it and the longest way up to the program.
+# Of a crate: all crates below it; how long it takes, in lines of code; the same for it and the longest way up to the program.
 declare -A below weight way
-# Of a crate: that it is proved; the process that proves it, in which lane, and with how many jobs.
-declare -A is_proved pid lane given
+# Of a crate: that it is proved; the process that proves it, and in which lane.
+declare -A is_proved pid lane
 locks=()
 # When the build began, in seconds; nothing before it holds the locks.
 began=
@@ -26,11 +26,12 @@ least() {
 lanes() {
     local memory found
     memory=$(awk '/^MemAvailable:/ { print int($2 / 3000000) }' /proc/meminfo 2>/dev/null)
-    found=$(least "${memory:-1}" "$(nproc 2>/dev/null || echo 1)")
+    found=$(least "${memory:-1}" "$processors")
     echo $((found > 1 ? found : 1))
 }
 
-# What the tables above say of each crate. The code is what takes time: a lemma is read much faster.
+# What the tables above say of each crate. What takes time is its code, since a lemma is read much faster, and to load the
+# crates below: as much for each as 60 lines.
 read_crates() {
     local name deps dep it at
     while read -r name deps; do
@@ -41,6 +42,9 @@ read_crates() {
             for it in ${weight[$dep]:+${below[$dep]} $dep}; do
                 [[ " ${below[$name]} " == *" $it "* ]] || below[$name]+=" $it"
             done
+        done
+        for it in ${below[$name]}; do
+            weight[$name]=$((${weight[$name]} + 60))
         done
     done < <(lines)
     for ((at = ${#names[@]} - 1; at >= 0; at--)); do
@@ -113,9 +117,10 @@ find_lane() {
     [ -d "$work/$number" ] || double "$work/sources" "$work/$number"
 }
 
-# Begins with the proof of a crate, or with that of the program and its build, in so many jobs.
+# Begins with the proof of a crate, or with that of the program and its build. All waits for the crate whose way up is the
+# longest, so it goes first, in up to four jobs. The others get one each, since more jobs take more time of the processors in all.
 start() {
-    local name=$1 command=lib crates it
+    local name=$1 command=lib crates it jobs=4 later=0
     [ "$name" != kin_cmd ] || command=run
     find_lane "$name" || return
     crates=$work/${lane[$name]}/crates
@@ -126,9 +131,11 @@ start() {
     # What was proved of the crate before isn't proved again.
     [ ! -d "$root/crates/$name/out/incremental" ] ||
         mv -- "$root/crates/$name/out/incremental" "$crates/$name/out" || return
-    (cd "$crates/$name" && exec rt $command --jobs "$2" </dev/null >"$work/$name.log" 2>&1) &
+    for it in "${!pid[@]}"; do
+        [ "${way[$it]}" -lt "${way[$name]}" ] || { jobs=1 && later=10; }
+    done
+    (cd "$crates/$name" && exec nice -n $later rt $command --jobs "$(least $jobs "$processors")" </dev/null >"$work/$name.log" 2>&1) &
     pid[$name]=$!
-    given[$name]=$2
 }
 
 # Puts some parts of what a lane has of a crate into the crate's folder: always what was proved of it.
@@ -153,24 +160,12 @@ ready() {
     done | sort -k 1,1nr | cut -d ' ' -f 2
 }
 
-# Begins with as many crates as there are processors for. All waits for one whose way up is nearly the longest, so it gets up
-# to four jobs, and the others one each, or share what no crate is left for. A crate doesn't keep all its jobs busy, so
-# there may be half as many again as processors.
+# Begins with as many crates as may be proved at a time, those first whose way up is the longest.
 start_ready() {
-    local idle=$((at_once - ${#pid[@]})) room=$((at_once * 3 / 2)) longest=0 name left jobs
-    mapfile -t left < <(ready)
-    for name in "${left[@]}" "${!pid[@]}"; do
-        longest=$((way[$name] > longest ? way[$name] : longest))
-        room=$((room - ${given[$name]:-0}))
-    done
-    while [ $idle -gt 0 ] && [ ${#left[@]} -gt 0 ]; do
-        name=${left[0]}
-        jobs=$((10 * way[$name] >= 9 * longest ? at_once : idle / ${#left[@]}))
-        jobs=$(least $jobs 4 $((room + 1 - $(least $idle ${#left[@]}))))
-        start "$name" $((jobs > 1 ? jobs : 1)) || return
-        idle=$((idle - 1))
-        room=$((room - given[$name]))
-        left=("${left[@]:1}")
+    local name
+    for name in $(ready); do
+        [ ${#pid[@]} -lt "$at_once" ] || break
+        start "$name" || return
     done
 }
 
@@ -183,7 +178,7 @@ tell_failure() {
 # A library and the program are as old as their sources, of which some may have changed meanwhile.
 finish() {
     local name=$1 out=$work/${lane[$1]}/crates/$1/out
-    unset "pid[$name]" "given[$name]"
+    unset "pid[$name]"
     { echo "== $name" && cat "$work/$name.log"; } >>"$log"
     if [ "$name" = kin_cmd ] && [ -x "$out/kin_cmd" ]; then
         rm -f "$record"
@@ -251,8 +246,8 @@ minutes() {
         all=$((all + weight[$name]))
         longest=$((way[$name] > longest ? way[$name] : longest))
     done
-    # On one processor a minute for 540 lines. Of the longest way a part doesn't get shorter by more processors.
-    echo $(((10 * all + 3 * (at_once - 1) * longest) / (at_once * 5400) + 1))
+    # On one processor a minute for 800 lines. Of the longest way a part doesn't get shorter by more processors.
+    echo $(((10 * all + 2 * (processors - 1) * longest) / (processors * 8000) + 1))
 }
 
 # Ends all that runs, keeps what it has proved so far, and takes everything else away.
@@ -275,7 +270,7 @@ clear_up() {
 
 # Proves what isn't proved and builds the program, or says why not.
 build() {
-    local at_once total ended=0
+    local at_once total ended=0 processors
     trap 'exit 130' INT
     trap 'exit 143' TERM
     trap 'exit 129' HUP
@@ -285,6 +280,7 @@ build() {
     # Another call may have built it meanwhile.
     if ! is_fresh; then
         began=$(date +%s)
+        processors=$(nproc 2>/dev/null || echo 1)
         at_once=$(lanes)
         make_work || return
         find_proved
