@@ -1,12 +1,15 @@
 -- What is true of an overlay, from call to call.
-use Rattle.std.proofs.Common.{◌≡◌, ◌≢◌, refl, subst, List, [], ℕ, None}
+use Rattle.std.proofs.Common.{◌≡◌, ◌≢◌, inl, inr, refl, ap, ◌∙◌, subst, arith, List, [], ◌∷◌, ℕ, ◌+◌, length, None}
+use Rattle.std.proofs.lemmas.List.{length-append}
+use Rattle.kin_algebra.proofs.Members.{contains_none}
+use Rattle.kin_motion.specs.declared.fact.Fact.{Fact}
 use Rattle.kin_motion.specs.declared.fact.Placed.{Placed}
 use Rattle.kin_motion.specs.Kinetics.{HasChanged}
 use Rattle.kin_motion.specs.Sets.{AreDistinct}
 use Rattle.kin_overlay.specs.declared.stage.Stage.{Stage}
 use Rattle.kin_overlay.specs.declared.stage.Stage.TheVariants.{Rest, Told, Broken}
-use Rattle.kin_overlay.specs.Remembered.{Remembered, facts_of, all_placed}
-use Rattle.kin_overlay.specs.Reports.{IsTold}
+use Rattle.kin_overlay.specs.Remembered.{Remembered, facts_of, placed, all_placed}
+use Rattle.kin_overlay.specs.Reports.{IsToldOne, IsTold}
 use Rattle.kin_overlay.specs.Sound.{IsWhole, IsSound}
 use Rattle.kin_overlay.proofs.FactLaws.{changed}
 use Rattle.kin_motion.proofs.SetLaws.{distinct_none}
@@ -32,3 +35,12 @@ pub all-born : (part : ℕ) (new none : Remembered) (dropped born born' : List P
 all-born part new none dropped born born' is distinct told =
     changed part (record { records = []; left = None; right = None }) new (record { dropped = dropped; born = born }) (record { dropped = dropped; born = born' }) distinct_none distinct refl
     (subst (λ (m : Remembered). IsTold part (facts_of m) (facts_of new) born born') is told)
+
+-- where nothing is known, each fact is told
+pub told-all : (part : ℕ) (fs : List Fact) (before after : List Placed) → IsTold part [] fs before after → length after ≡ length before + length fs
+told-all part [] before after e = let k = ap length e in omega arith
+told-all part (f ∷ fs) before after (middle, one, rest) = at one (told-all part fs middle after rest)
+  where
+    at : IsToldOne part [] f before middle → length after ≡ length middle + length fs → length after ≡ length before + length (f ∷ fs)
+    at (inl w) k = absurd (contains_none f w.0)
+    at (inr w) k = let l = ap length w.1 ∙ length-append before (placed part f ∷ []) in omega (arith, k, l)

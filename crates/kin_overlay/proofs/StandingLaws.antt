@@ -1,16 +1,17 @@
 -- Remembered facts that stand.
-use Rattle.std.proofs.Common.{◌≡◌, ◌⊎◌, inl, inr, refl, sym, ap, ◌∙◌, subst, List, [], ℕ, pos, ◌+◌, ◌<◌, get_or, Bool, true, false, Some, Contains}
+use Rattle.std.proofs.Common.{◌≡◌, ◌⊎◌, inl, inr, refl, sym, ap, ◌∙◌, subst, List, [], ◌∷◌, ℕ, pos, ◌+◌, ◌<◌, get_or, Bool, true, false, Some, Contains}
 use Rattle.std.specs.Prelude.{slice_get, IsTrue, ◌↔◌}
 use Rattle.std.proofs.lemmas.Option.{get_or_from_slice_get}
 use borrow.Author.Count.{below_more}
 use Rattle.kin_algebra.proofs.Signs.{equal_or_not}
-use Rattle.kin_algebra.proofs.Members.{contains_head, contains_from_get, get_from_contains}
+use Rattle.kin_algebra.proofs.Members.{contains_head, contains_tail, contains_from_get, get_from_contains}
+use Rattle.kin_algebra.specs.declared.sign.Sign.{Sign}
 use Rattle.kin_motion.specs.declared.fact.Fact.{Fact}
 use Rattle.kin_motion.specs.declared.form.Form.TheVariants.{Line}
 use Rattle.kin_motion.specs.declared.fact.Placed.{Placed}
 use Rattle.kin_motion.specs.Kinetics.{ListsFailing}
 use Rattle.kin_motion.specs.Merges.{slope_form}
-use Rattle.kin_motion.specs.Scene.{Scene, Holds, x_sign}
+use Rattle.kin_motion.specs.Scene.{Scene, Holds, x_sign, y_sign}
 use Rattle.kin_motion.proofs.SetLaws.{contains_map}
 use Rattle.kin_overlay.specs.declared.record.Record.{Record}
 use Rattle.kin_overlay.specs.declared.record.Next.{Next}
@@ -18,7 +19,7 @@ use Rattle.kin_overlay.specs.declared.end.End.{End}
 use Rattle.kin_overlay.specs.declared.breakpoint.Breakpoint.{Breakpoint as Pair}
 use Rattle.kin_overlay.specs.declared.standing.Standing.{Standing}
 use Rattle.kin_overlay.specs.Overlays.{names_any}
-use Rattle.kin_overlay.specs.Remembered.{Remembered, place_of, turn_fact, slope_facts_of, slope_facts, y_facts, facts_of, placed, all_placed}
+use Rattle.kin_overlay.specs.Remembered.{Remembered, place_of, turn_fact, slope_facts_of, slope_facts, y_facts, end_facts, facts_of, placed, all_placed}
 use Rattle.kin_overlay.specs.Seen.{seen}
 use Rattle.kin_overlay.specs.Standings.{IsUnfailed, StandIn}
 use Rattle.kin_overlay.proofs.HasLaws.{is-turn, is-slope, in-record, has-end}
@@ -76,3 +77,14 @@ known-end s w e a b f stand there same other own u =
     let g : Fact = record { form = Line (pos 1) (pos 0) (pos 0) e.a e.b; sign = e.x } in
     let within = has-end w.list.now e g there (contains_head g (y_facts e.a e.b e.y)) in
     sym (stand g within (subst (λ (h : Fact). IsUnfailed w.failed.now w.gone.now h) own u)) ∙ (λ i. x_sign s (same i) (other i))
+
+-- the sign by y of an end
+pub known-height : (s : Scene) (w : Standing) (e : End) (a b : ℕ) (t : Sign) (f : Fact) → StandIn s w → (w.list.now.left ≡ Some e) ⊎ (w.list.now.right ≡ Some e) → e.a ≡ a → e.b ≡ b → e.y ≡ Some t → f ∷ [] ≡ y_facts e.a e.b e.y
+    → IsUnfailed w.failed.now w.gone.now f → t ≡ y_sign s a b
+known-height s w e a b t f stand there same other high own u =
+    let g : Fact = record { form = Line (pos 0) (pos 1) (pos 0) e.a e.b; sign = t } in
+    let facts : f ∷ [] ≡ g ∷ [] = own ∙ ap (y_facts e.a e.b) high in
+    let is : f ≡ g = cc in
+    let x : Fact = record { form = Line (pos 1) (pos 0) (pos 0) e.a e.b; sign = e.x } in
+    let within : Contains (end_facts (Some e)) f = subst (λ (l : List Fact). Contains (x ∷ l) f) own (contains_tail x f (f ∷ []) (contains_head f [])) in
+    sym (ap (λ (h : Fact). h.sign) is) ∙ sym (stand f (has-end w.list.now e f there within) u) ∙ ap (λ (h : Fact). s.sign h.form) is ∙ (λ i. y_sign s (same i) (other i))

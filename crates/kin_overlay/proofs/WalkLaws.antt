@@ -22,7 +22,7 @@ use Rattle.kin_overlay.specs.Remembered.{Remembered, place_of, breakpoints}
 use Rattle.kin_overlay.specs.Fingers.{seen_next, next_for, IsNoted, AreNoted, IsMerged, end_at, right_end}
 use Rattle.kin_overlay.specs.Walks.{above_by, is_narrow_to, higher_by, left_above, right_above, last_item, seen_cell, cell_behind}
 use Rattle.kin_overlay.proofs.FingerLaws.{first-shape}
-use Rattle.kin_overlay.proofs.StepLaws.{single}
+use Rattle.kin_overlay.proofs.FingerLaws.{single}
 
 -- ---- lists without repetitions
 pub last_item-push : (xs : List ℕ) (x : ℕ) → last_item (xs ++ x ∷ []) ≡ Some x

@@ -3,7 +3,7 @@ use Rattle.std.specs.Prelude.{◌≡◌, ℕ, false, List, filter}
 use Rattle.kin_motion.specs.Edits.{Edit, dropped_by, put_by}
 use Rattle.kin_motion.specs.Numbers.{is_in, IsIn, IsOnce}
 
--- the numbers that both lists have stand in the same order in both, and none stands twice
+-- the numbers that both lists have are in the same order in both, and none is in one twice
 pub record KeepOrder (old new : List ℕ) : Type 0 where
   pub old_once : IsOnce old
   pub new_once : IsOnce new

@@ -1,64 +1,18 @@
--- How the list of breakpoints is made: what is picked next, and what is noted of it.
-use Rattle.std.specs.Prelude.{◌≡◌, ℕ, ◌<◌, true, cond, List, [], ◌∷◌, option_map, Option, Some, None, ◌⊎◌}
+-- What is noted of the list of breakpoints of a merge.
+use Rattle.std.specs.Prelude.{◌≡◌, ℕ, ◌<◌, cond, List, [], ◌∷◌, option_map, Option, Some, None}
 use Rattle.kin_algebra.specs.declared.sign.Sign.{Sign}
 use Rattle.kin_motion.specs.declared.form.Form.TheVariants.{Turn}
 use Rattle.kin_motion.specs.Numbers.{IsIn, IsChain}
 use Rattle.kin_motion.specs.Scene.{Scene, x_sign, y_sign}
 use Rattle.kin_motion.specs.Chains.{is_zero}
-use Rattle.kin_motion.specs.Merges.{Half.{A, B}, Half, Breakpoint, is_of, other, breakpoints_of, slope_form, is_placed_before, IsInterleaving, other_current, current_after, last_of}
+use Rattle.kin_motion.specs.Merges.{Half.{A, B}, Breakpoint, is_of, slope_form, IsInterleaving, other_current, current_after, last_of}
 use Rattle.kin_chain.specs.Merging.{is_in_place}
-use Rattle.kin_chain.specs.Supports.{list_of}
-use Rattle.kin_overlay.specs.declared.breakpoint.Breakpoint.{Breakpoint as Pair}
 use Rattle.kin_overlay.specs.declared.record.Record.{Record}
 use Rattle.kin_overlay.specs.declared.record.Next.{Next}
 use Rattle.kin_overlay.specs.declared.end.End.{End}
-use Rattle.kin_overlay.specs.declared.fingers.Pick.{Pick}
 use Rattle.kin_overlay.specs.Lists.{first_of, front, behind}
 use Rattle.kin_overlay.specs.Seen.{seen}
 use Rattle.kin_overlay.specs.Remembered.{Remembered, place_of, breakpoints}
-
--- what is left of the chain of a half behind a breakpoint of the half g
-abbrev pub passed : Half → Half → List ℕ → List ℕ
-passed h g xs = cond (is_of h g) (behind xs) xs
-
--- the sign of the slope form of e and the first breakpoint that is left of the other half, by which e is placed before it
-abbrev pub IsRival : Scene → Breakpoint → List Breakpoint → Option Sign → Type 0
-IsRival s e fs None = fs ≡ []
-IsRival s e fs (Some t) = (f : Breakpoint) × (first_of fs ≡ Some f) × (t ≡ s.sign (slope_form e f)) × (is_placed_before s e f ≡ true)
-
--- both points of a breakpoint are live
-abbrev pub IsBreakpointOf : List ℕ → Pair → Type 0
-IsBreakpointOf live e = IsIn e.left live × IsIn e.right live
-
--- e is picked, and f is its rival
-pub record IsBefore (s : Scene) (e f : Breakpoint) (p : Pick) : Type 0 where
-  pub at : seen p.at ≡ e
-  pub slope : p.slope ≡ Some (s.sign (slope_form e f))
-  pub before : is_placed_before s e f ≡ true
-
--- of e and f that is picked which is placed before the other
-abbrev pub IsChosen : Scene → Breakpoint → Breakpoint → Pick → Type 0
-IsChosen s e f p = IsBefore s e f p ⊎ IsBefore s f e p
-
--- a breakpoint that comes first of those that are left of both chains
-pub record IsFirstOfBoth (s : Scene) (a b : List ℕ) (p : Pick) : Type 0 where
-  pub own : first_of (breakpoints_of (seen p.at).half (list_of (seen p.at).half a b)) ≡ Some (seen p.at)
-  pub rival : IsRival s (seen p.at) (breakpoints_of (other (seen p.at).half) (list_of (other (seen p.at).half) a b)) p.slope
-
--- what comes first of what is left of both chains, if something is left
-abbrev pub IsPick : Scene → List ℕ → List ℕ → Option Pick → Type 0
-IsPick s a b None = (breakpoints_of A a ≡ []) × (breakpoints_of B b ≡ [])
-IsPick s a b (Some p) = IsFirstOfBoth s a b p
-
--- a breakpoint as a next one, with the sign of the slope form
-abbrev pub next_with : Pair → Option Sign → Option Next
-next_with f None = None
-next_with f (Some t) = Some (record { at = f; slope = t })
-
--- what is picked next, where it is of the other half
-abbrev pub next_of : Pick → Option Pick → Option Next
-next_of p None = None
-next_of p (Some q) = cond (is_of (seen q.at).half (seen p.at).half) None (next_with q.at p.slope)
 
 -- a next breakpoint as the definitions have it
 abbrev pub seen_next : Next → Breakpoint × Sign
@@ -79,13 +33,6 @@ pub record IsNoted (s : Scene) (a b : ℕ) (r : Record) (f : Option Breakpoint) 
 abbrev pub AreNoted : Scene → ℕ → ℕ → List Record → Type 0
 AreNoted s a b [] = Unit {0}
 AreNoted s a b (r ∷ rs) = IsNoted s a b r (first_of (breakpoints rs)) × AreNoted s (current_after A (place_of r) a) (current_after B (place_of r) b) rs
-
--- the right end of a list for what is left of both chains, where this is the next breakpoint
-pub record IsRest (s : Scene) (a b : List ℕ) (next : Option Pick) (rest : List Record) : Type 0 where
-  pub first : first_of (breakpoints rest) ≡ option_map (λ (p : Pick). seen p.at) next
-  pub interleaved : IsInterleaving a b (breakpoints rest)
-  pub in_place : IsChain (is_in_place s) (breakpoints rest)
-  pub noted : AreNoted s (front a) (front b) rest
 
 -- an outer end with the points a and b
 abbrev pub end_at : Scene → ℕ → ℕ → End

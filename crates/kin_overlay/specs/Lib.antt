@@ -9,3 +9,8 @@ pub mod Overlays
 pub mod Sound
 pub mod Standings
 pub mod OverlayLaws
+pub mod Sketches
+pub mod Resorting
+pub mod Sketching
+pub mod Filling
+pub mod Seats

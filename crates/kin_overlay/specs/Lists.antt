@@ -11,7 +11,7 @@ abbrev pub front : List ℕ → ℕ
 front [] = 0
 front (x ∷ xs) = x
 
--- what is behind the first number
+-- what comes after the first number
 abbrev pub behind : List ℕ → List ℕ
 behind [] = []
 behind (x ∷ xs) = xs

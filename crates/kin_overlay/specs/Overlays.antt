@@ -13,7 +13,7 @@ use Rattle.kin_overlay.specs.declared.stage.Stage.{Stage}
 use Rattle.kin_overlay.specs.declared.stage.Stage.TheVariants.{Rest, Told, Broken}
 use Rattle.kin_overlay.specs.Fingers.{AreLive}
 
--- the part of its facts, both told chains, the live facts, the merged chain as it was settled last, the edits that led to it, the numbers that waiting edits drop, and the stage
+-- the part of its facts, both given chains, the live facts, the merged chain as it was settled last, the edits that led to it, the numbers that waiting edits drop, and the stage
 pub record Merge : Type 0 where
   pub part : ℕ
   pub a : List ℕ
@@ -33,17 +33,17 @@ names_any f (i ∷ is) = names f i || names_any f is
 abbrev pub names_gone : Merge → Placed → Bool
 names_gone m p = names_any p.fact.form m.gone
 
--- the told chain of a half
+-- the given chain of a half
 abbrev pub told_chain : Half → Merge → List ℕ
 told_chain A m = m.a
 told_chain B m = m.b
 
--- after edits of a half are told
+-- after edits of a half are given
 abbrev pub told : Half → List Edit → Merge → Merge
 told A es m = record m { a = all_edited es m.a; gone = m.gone ++ dropped_by es m.a; stage = Told }
 told B es m = record m { b = all_edited es m.b; gone = m.gone ++ dropped_by es m.b; stage = Told }
 
--- both told chains are upper chains of live points, and neither is empty
+-- both given chains are upper chains of live points, and neither is empty
 pub record IsReady (m : Merge) (s : Scene) : Type 0 where
   pub whole : m.stage ≢ Broken
   pub a_some : 0 < length m.a
@@ -53,19 +53,19 @@ pub record IsReady (m : Merge) (s : Scene) : Type 0 where
   pub a_chain : IsUpperChain s m.a m.a
   pub b_chain : IsUpperChain s m.b m.b
 
--- no told edit waits
+-- no edit waits
 abbrev pub IsAtRest : Merge → Type 0
 IsAtRest m = m.stage ≡ Rest
 
--- the chain is the upper chain of both told chains together, and the facts are exactly those of their merge
+-- the chain is the upper chain of both given chains together, and the facts are exactly those of their merge
 abbrev pub IsSettled : Merge → Scene → Type 0
 IsSettled m s = IsSettledMerge s m.a m.b m.chain m.part m.facts
 
--- both told chains are upper chains
+-- both given chains are upper chains
 abbrev pub AreChains : Merge → Scene → Type 0
 AreChains m s = IsUpperChain s m.a m.a × IsUpperChain s m.b m.b
 
--- the told chains and the part stay
+-- the given chains and the part stay
 pub record IsSameMerge (old new : Merge) : Type 0 where
   pub part : new.part ≡ old.part
   pub a : new.a ≡ old.a

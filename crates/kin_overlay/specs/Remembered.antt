@@ -1,4 +1,4 @@
--- The list of breakpoints with what is remembered, and the facts that it stands for.
+-- The list of breakpoints with what is remembered, and its facts.
 use Rattle.std.specs.Prelude.{ℕ, pos, List, [], ◌∷◌, ◌++◌, map, flat_map, Option, Some, None}
 use Rattle.kin_algebra.specs.declared.sign.Sign.{Sign}
 use Rattle.kin_motion.specs.declared.form.Form.TheVariants.{Line, Turn}

@@ -6,7 +6,7 @@ use Rattle.kin_overlay.specs.declared.stage.Stage.{Stage}
 use Rattle.kin_overlay.specs.declared.stage.Stage.TheVariants.{Rest, Told, Broken}
 use Rattle.kin_overlay.specs.Fingers.{AreLess}
 
--- every number of A is less than every number of B, and no fact stands twice
+-- every number of A is less than every number of B, and no fact is there twice
 pub record IsWhole (a b : List ℕ) (facts : List Placed) : Type 0 where
   pub less : AreLess a b
   pub distinct : AreDistinct facts

@@ -21,7 +21,7 @@ abbrev pub is_narrow_to : Option Next → Bool
 is_narrow_to None = false
 is_narrow_to (Some n) = is_zero n.slope
 
--- whether the cell behind a breakpoint is narrow
+-- whether the cell after a breakpoint is narrow
 abbrev pub is_before_narrow : Record → Bool
 is_before_narrow r = is_narrow_to r.next
 
@@ -56,6 +56,6 @@ seen_cell c = record { a = c.a; b = c.b; left = c.left; right = c.right; narrow 
 abbrev pub shared_by : Step → List ℕ
 shared_by c = cond (is_zero c.left && is_zero c.right && not c.is_narrow) (c.a ∷ []) []
 
--- the cell behind a breakpoint, before its right end is known
+-- the cell after a breakpoint, before its right end is known
 abbrev pub cell_behind : Step → Record → Step
 cell_behind c r = record { a = current_after A (place_of r) c.a; b = current_after B (place_of r) c.b; left = above_by r; right = Zero; is_narrow = is_before_narrow r }

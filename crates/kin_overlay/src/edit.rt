@@ -1,7 +1,7 @@
 //! Short edits of a chain.
 
 ghost use Rattle.std.specs.Prelude.{◌≡◌, ◌+◌, ◌≤◌, ◌++◌, length, OnOk};
-ghost use Rattle.kin_motion.specs.Edits.{edited, dropped_by_one, all_edited, dropped_by, AreFitting};
+ghost use Rattle.kin_motion.specs.Edits.{edited, dropped_by_one, all_edited, dropped_by, put_by, AreFitting};
 
 use smallvec::SmallVec;
 use std::alloc::AllocError;
@@ -60,6 +60,16 @@ pub fn carry_out(
 {
     for edit in edits {
         edit.carry_out(list, gone, spare)?;
+    }
+    Ok(())
+}
+
+/// Notes the numbers that edits put.
+pub fn note_puts(edits: &[ChainEdit], put: &mut Vec<u32>) -> Result<(), AllocError>
+    ensures { OnOk result (put.new.items ≡ put.old.items ++ put_by edits.now) }
+{
+    for edit in edits {
+        put.extend_from_slice(edit.put.as_slice())?;
     }
     Ok(())
 }

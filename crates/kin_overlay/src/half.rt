@@ -1,7 +1,7 @@
 //! The two halves of a merge.
 
 ghost use Rattle.std.specs.Prelude.{◌≡◌};
-ghost use Rattle.kin_motion.specs.Merges.{is_of};
+ghost use Rattle.kin_motion.specs.Merges.{is_of, other};
 ghost use Rattle.kin_overlay.specs.Seen.{half_of};
 
 /// A half of a merge: every number of A is less than every number of B.
@@ -19,6 +19,16 @@ impl Half {
         match (self, other) {
             (Half::A, Half::A) | (Half::B, Half::B) => true,
             _ => false,
+        }
+    }
+
+    /// The other half.
+    pub fn other(self) -> Half
+        ensures { half_of result ≡ other (half_of self) }
+    {
+        match self {
+            Half::A => Half::B,
+            Half::B => Half::A,
         }
     }
 }

@@ -2,11 +2,11 @@
 //! kinetic hull that is kept by a tree of merges, with the certificates of Basch, Guibas and
 //! Hershberger, "Data Structures for Mobile Data", Journal of Algorithms 31 (1999).
 //!
-//! `Overlay` is `Kinetic`. After a `settle` its chain is the upper chain of both told chains
-//! together and its facts are those of their merge; what has changed is told exactly, each fact
-//! once; and where both told chains are upper chains, the facts alone determine the chain. `edits`
-//! are the short edits by which a merge above is told. A `settle` merges both chains anew, whatever
-//! has changed.
+//! `Overlay` is `Kinetic`. After a `settle` its chain is the upper chain of both given chains
+//! together, and its facts are those of their merge; exactly what has changed is reported, each fact
+//! once; and where both given chains are upper chains, the facts alone determine the chain. `edits`
+//! are short edits for the merge above. A `settle` begins with the old order of the breakpoints, and
+//! changes it where it fails.
 #![tactic(auto)]
 
 pub use edit::ChainEdit;
@@ -16,16 +16,22 @@ pub use stage::Stage;
 
 mod breakpoint;
 pub mod diff;
+mod draft;
 pub mod edit;
 mod end;
-mod fingers;
+mod ends;
+mod fill;
 pub mod half;
 mod list;
+mod merge;
 mod names;
 pub mod overlay;
 mod record;
 mod report;
+mod resort;
 mod shared;
+mod sketch;
 pub mod stage;
 mod standing;
 mod walk;
+mod window;

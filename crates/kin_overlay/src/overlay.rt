@@ -1,6 +1,6 @@
 //! The merge as its callers see it.
 
-ghost use Rattle.std.specs.Prelude.{◌≡◌, ◌≢◌, ◌<◌, [], length, IfOk, OnOk, OnErr};
+ghost use Rattle.std.specs.Prelude.{◌≡◌, ◌≢◌, ◌+◌, ◌*◌, ◌<◌, ◌≤◌, [], length, IfOk, IsOk, OnOk, OnErr};
 ghost use Rattle.kin_motion.specs.Chains.{IsUpperChain};
 ghost use Rattle.kin_motion.specs.Edits.{all_edited, AreFitting};
 ghost use Rattle.kin_motion.specs.Kinetics.{ListsFailing, HasChanged};
@@ -12,12 +12,14 @@ ghost use Rattle.kin_overlay.specs.Fingers.{AreLive, AreLess};
 ghost use Rattle.kin_overlay.specs.Overlays.{told, told_chain, names_any, names_gone, IsReady, IsAtRest, IsSettled, IsSameMerge};
 
 use crate::diff::diff;
-use crate::edit::{ChainEdit, carry_out};
+use crate::edit::{ChainEdit, carry_out, note_puts};
 use crate::half::Half;
 use crate::list::BreakpointList;
+use crate::merge::Work;
 use crate::names::names_any;
 use crate::report::tell_missing;
 use crate::shared::Shared;
+use crate::sketch::Puts;
 use crate::stage::Stage;
 use crate::standing::Standing;
 use crate::walk::merged_chain;
@@ -37,7 +39,7 @@ pub struct Overlay {
     alloc: Global,
     /// The part in which its facts stand.
     part: u32,
-    /// The told chains.
+    /// The given chains.
     a: Vec<u32>,
     b: Vec<u32>,
     /// The breakpoints with what is remembered, as they were settled last.
@@ -53,9 +55,13 @@ pub struct Overlay {
     spare_list: BreakpointList,
     /// A buffer for numbers.
     spare: Vec<u32>,
+    /// The numbers that the waiting edits of each half put.
+    put_a: Vec<u32>,
+    put_b: Vec<u32>,
+    work: Work,
 }
 
-/// So many more points a told chain can have before its memory is asked for again.
+/// So many more points a given chain can have before its memory is asked for again.
 const ROOM: usize = 4;
 
 /// A copy of a chain, with some room.
@@ -108,6 +114,7 @@ impl Overlay {
         ensures edits { IfOk result (λ m. m.edits ≡ []) }
         ensures gone { IfOk result (λ m. m.gone ≡ []) }
         ensures born { IfOk result (λ m. HasChanged [] m.facts out.old out.new) }
+        ensures tests { IsOk result → steps.new + 5 * length out.old.born ≤ steps.old + 5 * length out.new.born }
     {
         let mut list = BreakpointList::new(alloc);
         let none = BreakpointList::new(alloc);
@@ -116,7 +123,9 @@ impl Overlay {
             failed: &[],
             gone: &[],
         };
-        list.merge(a, b, &standing, now, steps)?;
+        let puts = Puts { a: &[], b: &[] };
+        let mut work = Work::new(alloc);
+        list.merge(a, b, puts, &standing, &mut work, now, steps)?;
         tell_missing(&list, &none, Shared::none(), part, &mut out.born)?;
         let mut chain = Vec::new(alloc);
         merged_chain(&list, &mut chain)?;
@@ -132,6 +141,9 @@ impl Overlay {
             stage: Stage::Rest,
             spare_list: none,
             spare: Vec::new(alloc),
+            put_a: Vec::new(alloc),
+            put_b: Vec::new(alloc),
+            work,
         })
     }
 
@@ -159,6 +171,7 @@ impl Overlay {
     {
         self.stage = Stage::Broken;
         carry_out(edits, &mut self.a, &mut self.gone, &mut self.spare)?;
+        note_puts(edits, &mut self.put_a)?;
         self.stage = Stage::Told;
         Ok(())
     }
@@ -172,6 +185,7 @@ impl Overlay {
     {
         self.stage = Stage::Broken;
         carry_out(edits, &mut self.b, &mut self.gone, &mut self.spare)?;
+        note_puts(edits, &mut self.put_b)?;
         self.stage = Stage::Told;
         Ok(())
     }
@@ -211,7 +225,7 @@ impl Overlay {
         swap(&mut self.edits, edits);
     }
 
-    /// Takes a list of the caller's as memory for later. What stands in it doesn't matter.
+    /// Takes a list of the caller's as memory for later. What is in it doesn't matter.
     pub fn take_memory(&mut self, numbers: Vec<u32>)
         ensures { self.new ≡ self.old }
     {
@@ -276,8 +290,19 @@ impl Kinetic for Overlay {
             failed,
             gone: &self.gone,
         };
-        self.spare_list
-            .merge(&self.a, &self.b, &standing, now, steps)?;
+        let puts = Puts {
+            a: &self.put_a,
+            b: &self.put_b,
+        };
+        self.spare_list.merge(
+            &self.a,
+            &self.b,
+            puts,
+            &standing,
+            &mut self.work,
+            now,
+            steps,
+        )?;
         let shared = Shared::between(&self.list, &self.spare_list);
         let (old, new) = (&self.list, &self.spare_list);
         tell_missing(old, new, shared, self.part, &mut out.dropped)?;
@@ -287,6 +312,8 @@ impl Kinetic for Overlay {
         merged_chain(&self.list, &mut self.chain)?;
         diff(self.alloc, &self.spare, &self.chain, &mut self.edits)?;
         self.gone.clear();
+        self.put_a.clear();
+        self.put_b.clear();
         self.stage = Stage::Rest;
         Ok(())
     }

@@ -47,7 +47,7 @@ fn shared_front(one: &BreakpointList, other: &BreakpointList) -> usize
     count
 }
 
-/// How many records stand at the end of both lists, beside these at the front.
+/// How many records are at the end of both lists, after these at the front.
 fn shared_back(one: &BreakpointList, other: &BreakpointList, front: usize) -> usize
     requires one_front { front ≤ length one.now.records }
     requires other_front { front ≤ length other.now.records }

@@ -1,9 +1,9 @@
-//! What stands before the next `settle`.
+//! What is left to do before the next `settle`.
 
-/// Whether told edits wait.
+/// Whether edits wait.
 #[derive(Clone, Copy, Debug, PartialEq, Eq)]
 pub enum Stage {
-    /// No told edit waits.
+    /// No edit waits.
     Rest,
     /// Told edits wait for the next `settle`.
     Told,

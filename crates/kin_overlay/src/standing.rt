@@ -1,26 +1,19 @@
-//! The signs that are remembered and still stand.
+//! The signs that are remembered and still hold.
 
 ghost use Rattle.std.specs.Prelude.{◌≡◌, ◌⊎◌, ℕ, IfSome, IsTrue, IsFalse, slice_get, Some};
 ghost use Rattle.kin_motion.specs.declared.fact.Placed.{Placed as Put};
 ghost use Rattle.kin_motion.specs.declared.form.Form.TheVariants.{Turn};
 ghost use Rattle.kin_motion.specs.Merges.{slope_form};
-ghost use Rattle.kin_motion.specs.Scene.{Scene, x_sign};
+ghost use Rattle.kin_motion.specs.Scene.{Scene, x_sign, y_sign};
 ghost use Rattle.kin_overlay.specs.Overlays.{names_any};
 ghost use Rattle.kin_overlay.specs.Seen.{seen};
 ghost use Rattle.kin_overlay.specs.Standings.{IsUnfailed, StandIn};
 
-use crate::breakpoint::Breakpoint;
 use crate::end::End;
 use crate::list::BreakpointList;
 use crate::names::names_any;
 use kin_motion::fact::{Fact, Placed};
 use kin_num::Sign;
-
-/// Where more facts have failed, all signs are asked anew.
-const FEW: usize = 8;
-
-/// So many records are looked at for a breakpoint, from where it is expected.
-const NEAR: usize = 4;
 
 /// A list as it was settled last, the facts of it that have failed since, and the numbers that have
 /// left its chains.
@@ -43,17 +36,6 @@ fn has_failed(failed: &[Placed], fact: Fact) -> bool
     false
 }
 
-/// Whether a fact is one of the failed ones, or may be, where these are many.
-#[inline(always)]
-fn may_have_failed(failed: &[Placed], fact: Fact) -> bool
-    ensures { IsFalse result → (k : ℕ) (p : Put) → slice_get failed.now k ≡ Some p → p.fact ≡ fact → ⊥ }
-{
-    if failed.is_empty() {
-        return false;
-    }
-    failed.len() > FEW || has_failed(failed, fact)
-}
-
 /// Whether a fact names one of the numbers that have left.
 #[inline(always)]
 fn names_gone(fact: Fact, gone: &[u32]) -> bool
@@ -64,31 +46,16 @@ fn names_gone(fact: Fact, gone: &[u32]) -> bool
 
 impl Standing<'_> {
     /// Whether a fact is known neither to have failed nor to name a number that has left.
-    fn is_unfailed(&self, fact: Fact) -> bool
+    pub fn is_unfailed(&self, fact: Fact) -> bool
         ensures { IsTrue result → IsUnfailed self.now.failed.now self.now.gone.now fact }
     {
-        if may_have_failed(self.failed, fact) {
+        if has_failed(self.failed, fact) {
             return false;
         }
         !names_gone(fact, self.gone)
     }
 
-    /// The place of the breakpoint with this left point, where it stands near, and otherwise the end
-    /// of the list.
-    pub fn find(&self, from: usize, left: u32) -> usize {
-        let mut place = from;
-        let mut tries = 0;
-        while place < self.list.len() && tries < NEAR {
-            if self.list.at(place).at.left == left {
-                return place;
-            }
-            place += 1;
-            tries += 1;
-        }
-        self.list.len()
-    }
-
-    /// The sign by x of an outer end, where it is remembered with these points and stands.
+    /// The sign by x of an outer end, where it is remembered with these points and unfailed.
     pub fn x_sign(&self, a: u32, b: u32) -> Option<Sign>
         ensures { IfSome result (λ sign. (s : Scene) → StandIn s self.now → sign ≡ x_sign s a b) }
     {
@@ -100,7 +67,7 @@ impl Standing<'_> {
         self.x_sign_of(right, a, b)
     }
 
-    /// The sign by x of one of the ends of the list, where it has these points and stands.
+    /// The sign by x of one of the ends of the list, where it has these points and is unfailed.
     fn x_sign_of(&self, end: End, a: u32, b: u32) -> Option<Sign>
         requires { (self.now.list.now.left ≡ Some end) ⊎ (self.now.list.now.right ≡ Some end) }
         ensures { IfSome result (λ sign. (s : Scene) → StandIn s self.now → sign ≡ x_sign s a b) }
@@ -117,42 +84,34 @@ impl Standing<'_> {
         Some(end.x)
     }
 
-    /// The sign of a turn, where it is remembered at this place and stands.
-    pub fn turn(&self, place: usize, at: Breakpoint, across: u32) -> Option<Sign>
-        ensures { IfSome result (λ sign. (s : Scene) → StandIn s self.now → sign ≡ s.sign (Turn at.left at.right across)) }
+    /// The sign by y of an outer end, where it is remembered with these points and unfailed.
+    pub fn y_sign(&self, a: u32, b: u32) -> Option<Sign>
+        ensures { IfSome result (λ sign. (s : Scene) → StandIn s self.now → sign ≡ y_sign s a b) }
     {
-        if place >= self.list.len() {
-            return None;
+        let left = self.list.left()?;
+        if let Some(sign) = self.y_sign_of(left, a, b) {
+            return Some(sign);
         }
-        let noted = self.list.at(place);
-        if !noted.at.is(at) || noted.across != across {
-            return None;
-        }
-        if !self.is_unfailed(noted.turn_fact()) {
-            return None;
-        }
-        Some(noted.turn)
+        let right = self.list.right()?;
+        self.y_sign_of(right, a, b)
     }
 
-    /// The sign of the slope form of two breakpoints, where it is remembered at this place and stands.
-    pub fn slope(&self, place: usize, one: Breakpoint, other: Breakpoint) -> Option<Sign>
-        ensures { IfSome result (λ sign. (s : Scene) → StandIn s self.now → sign ≡ s.sign (slope_form (seen one) (seen other))) }
+    /// The sign by y of one of the ends of the list, where it has these points and is unfailed.
+    fn y_sign_of(&self, end: End, a: u32, b: u32) -> Option<Sign>
+        requires { (self.now.list.now.left ≡ Some end) ⊎ (self.now.list.now.right ≡ Some end) }
+        ensures { IfSome result (λ sign. (s : Scene) → StandIn s self.now → sign ≡ y_sign s a b) }
     {
-        if place >= self.list.len() {
+        if end.a != a {
             return None;
         }
-        let noted = self.list.at(place);
-        let next = noted.next?;
-        if !noted.at.is(one) || !next.at.is(other) {
+        if end.b != b {
             return None;
         }
-        let fact = Fact {
-            form: one.slope(other),
-            sign: next.slope,
-        };
+        let sign = end.y?;
+        let fact = end.y_fact()?;
         if !self.is_unfailed(fact) {
             return None;
         }
-        Some(next.slope)
+        Some(sign)
     }
 }

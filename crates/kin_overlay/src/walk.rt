@@ -27,7 +27,7 @@ impl Record {
         }
     }
 
-    /// Whether the cell behind the breakpoint has no width.
+    /// Whether the cell after the breakpoint has no width.
     fn is_before_narrow(&self) -> bool
         ensures { result ≡ is_before_narrow self.now }
     {
@@ -149,7 +149,7 @@ impl Cell {
         Ok(())
     }
 
-    /// The cell behind the breakpoint at the right end. Its own right end isn't known yet.
+    /// The cell after the breakpoint at the right end. Its own right end isn't known yet.
     fn behind(&self, noted: &Record) -> Cell
         ensures { result ≡ cell_behind self.now noted.now }
     {

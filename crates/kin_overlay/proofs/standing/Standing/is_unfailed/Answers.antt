@@ -4,4 +4,4 @@ use Rattle.kin_overlay.proofs.StandingLaws.{unfailed}
 use Rattle.kin_overlay.proofs.standing.Standing.is_unfailed.Goals as goal
 
 pub returns : goal.returns
-returns c = λ t. unfailed _ _ _ (c.may_have_failed.ensures c.if-may_have_failed.false) (sym c.names_gone.ensures ∙ not-true c.names_gone.result t)
+returns c = λ t. unfailed _ _ _ (c.has_failed.ensures c.if-has_failed.false) (sym c.names_gone.ensures ∙ not-true c.names_gone.result t)

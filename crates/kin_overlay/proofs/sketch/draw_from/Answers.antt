@@ -1,0 +1,23 @@
+use Rattle.std.proofs.Common.{◌≡◌, ap, subst}
+use Rattle.kin_motion.specs.Merges.{Half}
+use Rattle.kin_overlay.specs.declared.breakpoint.Breakpoint.{Breakpoint as Pair}
+use Rattle.kin_overlay.specs.Sketching.{IsDrawn}
+use Rattle.kin_overlay.specs.Seen.{half_of}
+use Rattle.kin_overlay.proofs.SketchLaws.{drawn-none, drawn-more}
+use Rattle.kin_overlay.proofs.sketch.draw_from.Goals as goal
+
+pub returns-then-chain-lt2-clause-drawn : goal.returns-then-chain-lt2-clause-drawn
+returns-then-chain-lt2-clause-drawn c = drawn-none c.args.standing.now (half_of c.args.noted.now.at.half) c.args.chain.now c.args.out.now.items
+
+pub returns-then-chain-noted-clause-drawn : goal.returns-then-chain-noted-clause-drawn
+returns-then-chain-noted-clause-drawn c = drawn-none c.args.standing.now (half_of c.args.noted.now.at.half) c.args.chain.now c.args.out.now.items
+
+pub returns-clause-drawn : goal.returns-clause-drawn
+returns-clause-drawn c =
+    let w = c.args.standing.now in
+    let h = half_of c.args.noted.now.at.half in
+    let d = c.draft_of-draft.result in
+    let chain = c.args.chain.now in
+    let same : half_of d.at.half ≡ h = ap (λ (p : Pair). half_of p.half) c.draft_of-draft.ensures.at in
+    drawn-more w h chain c.in_ok-left.left.now c.in_ok-rest.rest.now c.args.out.now.items c.draw.new.out.items c.draw_put.new.out.items
+    (subst (λ (g : Half). IsDrawn w g chain c.in_ok-left.left.now c.args.out.now.items c.draw.new.out.items) same (c.in_ok-left.ensures.drawn w (λ s k l. c.draft_of-draft.ensures.fit s k l))) (c.in_ok-rest.ensures.drawn w)

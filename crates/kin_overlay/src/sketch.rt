@@ -1,0 +1,209 @@
+//! A sketch is drawn: the breakpoints of the given chains, in the order of the old list, with what is
+//! still known of each.
+
+ghost use Rattle.std.specs.Prelude.{◌≡◌, ℕ, ◌+◌, ◌<◌, ◌≤◌, List, [], length, get_or, drop, Contains, IfSome, OnOk, IfOk};
+ghost use Rattle.kin_motion.specs.declared.form.Form.TheVariants.{Turn};
+ghost use Rattle.kin_motion.specs.Merges.{Half.{A, B}, IsInterleaving, slope_form, breakpoints_of};
+ghost use Rattle.kin_motion.specs.Numbers.{IsIn};
+ghost use Rattle.kin_motion.specs.Scene.{Scene};
+ghost use Rattle.kin_overlay.specs.declared.standing.Standing.{Standing as Kept};
+ghost use Rattle.kin_overlay.specs.Fingers.{AreLive};
+ghost use Rattle.kin_overlay.specs.Seen.{half_of, seen};
+ghost use Rattle.kin_overlay.specs.Sketches.{IsFit, AreFit, spots};
+ghost use Rattle.kin_overlay.specs.Sketching.{IsDrawn, IsSketched};
+ghost use Rattle.kin_overlay.specs.Standings.{StandIn};
+
+use crate::breakpoint::Breakpoint;
+use crate::draft::{Across, Draft};
+use crate::half::Half;
+use crate::record::{Next, Record};
+use crate::standing::Standing;
+use kin_num::memory::NoMemory;
+
+/// The numbers that the waiting edits of each half put.
+#[derive(Clone, Copy, Debug)]
+pub struct Puts<'a> {
+    pub a: &'a [u32],
+    pub b: &'a [u32],
+}
+
+/// The turn of a record, where this point is the current one and the fact is unfailed.
+fn known_turn(noted: &Record, across: u32, standing: &Standing) -> Option<Across>
+    requires { Contains standing.now.list.now.records noted.now }
+    ensures { IfSome result (λ c. (s : Scene) → StandIn s standing.now → c.turn ≡ s.sign (Turn noted.now.at.left noted.now.at.right c.to)) }
+{
+    if noted.across != across {
+        return None;
+    }
+    if !standing.is_unfailed(noted.turn_fact()) {
+        return None;
+    }
+    Some(Across {
+        to: across,
+        turn: noted.turn,
+    })
+}
+
+/// The slope of a record with its next one, where the fact is unfailed.
+fn known_slope(noted: &Record, standing: &Standing) -> Option<Next>
+    requires { Contains standing.now.list.now.records noted.now }
+    ensures { IfSome result (λ n. (s : Scene) → StandIn s standing.now → n.slope ≡ s.sign (slope_form (seen noted.now.at) (seen n.at))) }
+{
+    let next = noted.next?;
+    let fact = noted.slope_fact()?;
+    if !standing.is_unfailed(fact) {
+        return None;
+    }
+    Some(next)
+}
+
+/// The first breakpoint of what is left of a chain.
+fn front_of(half: Half, chain: &[u32]) -> Breakpoint
+    requires { 2 ≤ length chain.now }
+    ensures { result ≡ record { half = half; left = get_or chain.now 0 0; right = get_or chain.now 1 0 } }
+{
+    Breakpoint {
+        half,
+        left: chain[0],
+        right: chain[1],
+    }
+}
+
+/// The first breakpoint of what is left of a chain, with what is still known of it by a record.
+fn draft_of(noted: &Record, chain: &[u32], across: u32, standing: &Standing) -> Draft
+    requires two { 2 ≤ length chain.now }
+    requires there { Contains standing.now.list.now.records noted.now }
+    ensures at { result.at ≡ record { half = noted.now.at.half; left = get_or chain.now 0 0; right = get_or chain.now 1 0 } }
+    ensures fit { (s : Scene) → StandIn s standing.now → AreLive s.live chain.now → IsFit s result }
+{
+    let at = front_of(noted.at.half, chain);
+    if !at.is(noted.at) {
+        return Draft::new(at);
+    }
+    Draft {
+        at,
+        across: known_turn(noted, across, standing),
+        next: known_slope(noted, standing),
+    }
+}
+
+/// Draws one breakpoint.
+fn draw<'a>(draft: Draft, chain: &'a [u32], out: &mut Vec<Draft>) -> Result<&'a [u32], NoMemory>
+    requires two { 2 ≤ length chain.now }
+    requires at { draft.at ≡ record { half = draft.at.half; left = get_or chain.now 0 0; right = get_or chain.now 1 0 } }
+    ensures drawn { IfOk result (λ left. (w : Kept) → ((s : Scene) → StandIn s w → AreLive s.live chain.now → IsFit s draft) → IsDrawn w (half_of draft.at.half) chain.now left.now out.old.items out.new.items) }
+    ensures shorter { IfOk result (λ left. length left.now + 1 ≡ length chain.now) }
+{
+    let Ok(()) = out.push(draft) else {
+        return Err(NoMemory);
+    };
+    Ok(chain.split_at(1).1)
+}
+
+/// Draws the first breakpoints of a chain that begin with numbers that were put.
+fn draw_put<'a>(
+    half: Half,
+    chain: &'a [u32],
+    put: &[u32],
+    out: &mut Vec<Draft>,
+) -> Result<&'a [u32], NoMemory>
+    requires some { 0 < length chain.now }
+    ensures drawn { IfOk result (λ left. (w : Kept) → IsDrawn w (half_of half) chain.now left.now out.old.items out.new.items) }
+    ensures some { IfOk result (λ left. 0 < length left.now) }
+{
+    let mut left = chain;
+    while left.len() > 1 && put.contains(&left[0]) {
+        left = draw(Draft::new(front_of(half, left)), left, out)?;
+    }
+    Ok(left)
+}
+
+/// Draws all breakpoints of a chain.
+fn draw_all(half: Half, chain: &[u32], out: &mut Vec<Draft>) -> Result<(), NoMemory>
+    requires some { 0 < length chain.now }
+    ensures drawn { OnOk result ((w : Kept) → (left : List ℕ) × (0 < length left) × (breakpoints_of (half_of half) left ≡ []) × IsDrawn w (half_of half) chain.now left out.old.items out.new.items) }
+{
+    let mut left = chain;
+    while left.len() > 1 {
+        left = draw(Draft::new(front_of(half, left)), left, out)?;
+    }
+    Ok(())
+}
+
+/// Draws the breakpoint that begins where a record began, if it comes next, and those after it that
+/// begin with numbers that were put.
+fn draw_from<'a>(
+    noted: &Record,
+    chain: &'a [u32],
+    across: u32,
+    put: &[u32],
+    standing: &Standing,
+    out: &mut Vec<Draft>,
+) -> Result<&'a [u32], NoMemory>
+    requires some { 0 < length chain.now }
+    requires there { Contains standing.now.list.now.records noted.now }
+    ensures drawn { IfOk result (λ left. IsDrawn standing.now (half_of noted.now.at.half) chain.now left.now out.old.items out.new.items) }
+    ensures some { IfOk result (λ left. 0 < length left.now) }
+{
+    if chain.len() < 2 {
+        return Ok(chain);
+    }
+    if chain[0] != noted.at.left {
+        return Ok(chain);
+    }
+    let draft = draft_of(noted, chain, across, standing);
+    let left = draw(draft, chain, out)?;
+    let rest = draw_put(noted.at.half, left, put, out)?;
+    Ok(rest)
+}
+
+/// Draws what belongs to the place of a record.
+fn draw_at<'a>(
+    noted: &Record,
+    first: &'a [u32],
+    second: &'a [u32],
+    puts: Puts,
+    standing: &Standing,
+    out: &mut Vec<Draft>,
+) -> Result<(&'a [u32], &'a [u32]), NoMemory>
+    requires a_some { 0 < length first.now }
+    requires b_some { 0 < length second.now }
+    requires there { Contains standing.now.list.now.records noted.now }
+    ensures { IfOk result (λ left. (a b : List ℕ) → IsSketched standing.now a b first.now second.now out.old.items → IsSketched standing.now a b left.0.now left.1.now out.new.items) }
+{
+    match noted.at.half {
+        Half::A => {
+            let left = draw_from(noted, first, second[0], puts.a, standing, out)?;
+            Ok((left, second))
+        }
+        Half::B => {
+            let left = draw_from(noted, second, first[0], puts.b, standing, out)?;
+            Ok((first, left))
+        }
+    }
+}
+
+/// Draws the breakpoints of both chains.
+pub fn sketch(
+    a: &[u32],
+    b: &[u32],
+    puts: Puts,
+    standing: &Standing,
+    out: &mut Vec<Draft>,
+) -> Result<(), NoMemory>
+    requires a_some { 0 < length a.now }
+    requires b_some { 0 < length b.now }
+    ensures interleaved { OnOk result (IsInterleaving a.now b.now (spots out.new.items)) }
+    ensures fit { OnOk result ((s : Scene) → StandIn s standing.now → AreLive s.live a.now → AreLive s.live b.now → AreFit s out.new.items) }
+{
+    out.clear();
+    let mut first = draw_put(Half::A, a, puts.a, out)?;
+    let mut second = draw_put(Half::B, b, puts.b, out)?;
+    for place in 0..standing.list.len() {
+        let noted = standing.list.at(place);
+        (first, second) = draw_at(noted, first, second, puts, standing, out)?;
+    }
+    draw_all(Half::A, first, out)?;
+    draw_all(Half::B, second, out)?;
+    Ok(())
+}
