@@ -1,4 +1,4 @@
--- What `apply` asks and does.
+-- What `apply` requires and does.
 use Rattle.std.specs.Prelude.{◌≡◌, ℕ, ◌+◌, false, List, length, Contains, ◌⊎◌}
 use Rattle.std.specs.List.{All, AllPairs}
 use Rattle.kin_num.specs.declared.instant.Moment.{Moment}
@@ -30,7 +30,7 @@ IsAmong structure ps l = (p : Placed) × Contains ps p × IsOf structure p l
 abbrev pub AreUnlike : Placed → Placed → Type 0
 AreUnlike p q = p.part ≡ q.part → p.fact.form ≡ q.fact.form → ⊥
 
--- each dropped fact is live and stands once, and each born form is free once these are gone, and stands once in its part
+-- each dropped fact is live and listed once, and each born form is free once these are gone, and listed once in its part
 pub record MayApply (structure : ℕ) (change : Change) (live : List LiveFact) : Type 0 where
   pub dropped_live : All (IsLiveIn live structure) change.dropped
   pub dropped_once : AreDistinct change.dropped

@@ -12,7 +12,7 @@ use Rattle.kin_fail.specs.Rank.{padded_rank}
 abbrev pub IsEnough : ℕ → ℕ → Type 0
 IsEnough n r = (c : ℕ) → 2 ^ c ≤ (n + 1) * (n + 1) → c ≤ r
 
--- the count rose at most by this cost, told by an r that is enough for n facts
+-- the count rose at most by this cost, for an r that is enough for n facts
 abbrev pub TakesAtMost : ℕ → (ℕ → ℕ) → ℕ → ℕ → Type 0
 TakesAtMost n cost old new = (r : ℕ) → IsEnough n r → new ≤ old + cost r
 

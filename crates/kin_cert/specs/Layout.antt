@@ -70,7 +70,7 @@ waiting e = record { owned = e.owned; fails = e.fails; is_waiting = true }
 abbrev pub timed : Entry → Option Moment → Entry
 timed e fails = record { owned = e.owned; fails = fails; is_waiting = e.is_waiting }
 
--- no owner's form stands under two ids
+-- no owner's form has two ids
 abbrev pub NoneTwice : List (Option Entry) → Type 0
 NoneTwice slots = (i j : ℕ) (e f : Entry) → entry_at slots i ≡ Some e → entry_at slots j ≡ Some f → entry_rank e ≡ entry_rank f → i ≡ j
 
@@ -93,7 +93,7 @@ pub record IsSeatOf (slots : List (Option Entry)) (rank : List ℤ) (seat : Seat
   pub ranked : entry_rank entry ≡ rank
   pub queued : seat.is_queued ≡ is_some (queued_at (Some entry))
 
--- the fact stands where that of this rank stood, and no other entry has its owner and form
+-- the fact is where that of this rank was, and no other entry has its owner and form
 pub record IsTakenOver (old : List (Option Entry)) (rank : List ℤ) (o : Owned) (seat : Seat) (new : List (Option Entry)) : Type 0 where
   pub seat_of : IsSeatOf old rank seat
   pub slots : new ≡ slice_set old seat.id (Some (fresh o))
@@ -127,13 +127,13 @@ pub record HasGiven (old new : List LiveFact) (c : LiveFact) (m : Moment) : Type
   pub least : (l : LiveFact) (n : Moment) → Contains old l → IsDueAt l n → ¬ (IsEarlier n m)
   pub exactly : (l : LiveFact) → Contains new l ↔ ((Contains old l × ¬ (l ≡ c)) ⊎ (l ≡ record c { waits = true }))
 
--- a born fact is there beside all others
+-- a born fact was added to all others
 pub record HasBorn (structure : ℕ) (scene : Moment → Scene) (now : Moment) (p : Placed) (old new : List LiveFact) : Type 0 where
   pub fact : LiveFact
   pub is_born : IsBorn structure scene now p fact
   pub exactly : (l : LiveFact) → Contains new l ↔ (Contains old l ⊎ (l ≡ fact))
 
--- a born fact stands in the stead of a dropped one, and no other has its owner and form
+-- a born fact replaced a dropped one, and no other has its owner and form
 pub record HasReplaced (structure : ℕ) (scene : Moment → Scene) (now : Moment) (dropped born : Placed) (old new : List LiveFact) : Type 0 where
   pub fact : LiveFact
   pub is_born : IsBorn structure scene now born fact
@@ -142,7 +142,7 @@ pub record HasReplaced (structure : ℕ) (scene : Moment → Scene) (now : Momen
   pub count : length new ≡ length old
   pub once : NoneAlike old
 
--- a born fact stands in the stead of a dropped one, or nothing was done; the counter stood at these two numbers
+-- a born fact replaced a dropped one, or nothing was done; the counter was at these two numbers
 pub record HasTriedToReplace (structure : ℕ) (scene : Moment → Scene) (now : Moment) (dropped born : Placed) (is : Bool) (old new : Facts) (old_steps new_steps : ℕ) : Type 0 where
   pub yes : IsTrue is → HasReplaced structure scene now dropped born old.live new.live
   pub no : ¬ (IsTrue is) → new ≡ old
@@ -157,7 +157,7 @@ pub record IsTimed (scene : Moment → Scene) (now : Moment) (o : Owned) (id : �
   pub slots_are : slots' ≡ slice_set slots id (Some (timed (fresh o) fails))
   pub moments_are : moments' ≡ with moments id fails
 
--- the same, whoever owns the new fact of the id
+-- the same, whatever the owner of the new fact of the id
 abbrev pub IsTimedFact : (Moment → Scene) → Moment → Fact → ℕ → List (Option Entry) → FinMap nat_cmp Moment → List (Option Entry) → FinMap nat_cmp Moment → Type 0
 IsTimedFact scene now fact id slots moments slots' moments' = (o : Owned) → entry_at slots id ≡ Some (fresh o) → o.fact ≡ fact → IsTimed scene now o id slots moments slots' moments'
 
@@ -165,7 +165,7 @@ IsTimedFact scene now fact id slots moments slots' moments' = (o : Owned) → en
 abbrev pub change_of : Pending → Change
 change_of p = record { dropped = p.dropped.now; born = p.born.now }
 
--- whoever applies the rest of a change has applied the whole
+-- applying the rest of a change completes the whole
 abbrev pub IsLeftToApply : ℕ → (Moment → Scene) → Moment → Change → List LiveFact → Change → List LiveFact → Type 0
 IsLeftToApply structure scene now all old rest new = (after : List LiveFact) → HasApplied structure rest scene now new after → HasApplied structure all scene now old after
 

@@ -1,4 +1,4 @@
--- What each structure is told of the facts that fail at one moment.
+-- The facts of each structure that fail at one moment.
 use Rattle.std.specs.Prelude.{◌≡◌, ℕ, ◌<◌, ◌≤◌, Bool, List, map, filter, nat_eq, length}
 use Rattle.kin_num.specs.declared.instant.Moment.{Moment}
 use Rattle.kin_motion.specs.declared.fact.Placed.{Placed}
@@ -20,14 +20,14 @@ is_of k o = nat_eq o.structure k
 abbrev pub gathered : ℕ → List Owned → List Placed
 gathered k taken = map placed_of (filter (is_of k) taken)
 
--- so many facts that are due at the moment were given out so far, and each was told to its structure
+-- so many facts that are due at the moment were given out so far, and each was put into the box of its structure
 pub record IsPostedUpTo (m : Moment) (old new : List LiveFact) (boxes : List (List Placed)) (n : ℕ) : Type 0 where
   pub given : List Owned
   pub up_to : IsGivenUpTo m old new given
   pub all : n ≡ length given
   pub told : (k : ℕ) → k < length boxes → told_to boxes k ≡ gathered k given
 
--- so many facts were given out, all that could be taken, and of so many structures each was told of its own
+-- so many facts were given out, all that could be taken, and each of so many structures got its own
 pub record HasPosted (count : ℕ) (old new : List LiveFact) (boxes : List (List Placed)) (n : ℕ) : Type 0 where
   pub given : List Owned
   pub out : HasGivenOut old new given

@@ -18,7 +18,7 @@ use Rattle.kin_cert.specs.Layout.{entry_at, live_in, fresh, timed, queued_at, Is
 abbrev pub target_of : Pointing → ℕ → Option ℕ
 target_of p slot = slice_index_or p.targets slot None
 
--- each of these numbers where it comes first, behind those before
+-- each of these numbers, or none where it comes earlier or is among those before
 abbrev pub first_named : List ℕ → List ℕ → List (Option ℕ)
 first_named before [] = []
 first_named before (n ∷ ns) = cond (is_in n before) None (Some n) ∷ first_named (n ∷ before) ns

@@ -1,4 +1,4 @@
--- What is done anew where a point turns: the facts stand, and the failure moments of those that name it are made again.
+-- What is done anew where a point turns: the facts stay, and the failure moments of those that name it are made again.
 use Rattle.std.specs.Prelude.{◌≡◌, ◌⊎◌, ℕ, ◌+◌, ◌-◌, ◌^◌, min, false, length, count_by, Contains, IsTrue, IsFalse, Bool}
 use Rattle.kin_num.specs.declared.instant.Moment.{Moment}
 use Rattle.kin_motion.specs.Forms.{names}

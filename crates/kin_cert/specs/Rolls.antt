@@ -39,7 +39,7 @@ pub record IsRoll {S T : Type 0} (slots : List (Option Entry)) (firsts : IndexMa
   pub alone : (id : ℕ) (e : Entry) → entry_at slots id ≡ Some e → IsKnownBy firsts (owned_place e.owned) id → look_up is_rank others (entry_rank e) ≡ None
   pub other : (rank : List ℤ) (id : ℕ) → look_up is_rank others rank ≡ Some id → IsOther slots firsts rank id
 
--- the place stands there with its holder
+-- the place is there with its holder
 pub record StandsAt {S : Type 0} (firsts : IndexMap (List ℕ) Holder S) (place : List ℕ) (spot : Spot) : Type 0 where
   pub at : slice_get firsts.entries spot.position ≡ Some (place, spot.holder)
   pub known : look_up is_place firsts place ≡ Some spot.holder
@@ -93,7 +93,7 @@ IsStruck slots firsts others structure part form id firsts' others' =
 abbrev pub MayFollow : {S : Type 0} → IndexMap (List ℤ) ℕ S → Holder → Owned → Owned → Type 0
 MayFollow others holder old new = (holder.is_shared ≡ false) ⊎ (new.fact.form ≡ old.fact.form) ⊎ (look_up is_rank others (owned_rank new) ≡ None)
 
--- the id holds a place at which no entry stood, and which is shared if it was
+-- the id holds a place that had no entry, and which is shared if it was
 pub record HoldsPlace {S S' : Type 0} (slots : List (Option Entry)) (firsts : IndexMap (List ℕ) Holder S) (place : List ℕ) (id : ℕ) (firsts' : IndexMap (List ℕ) Holder S') : Type 0 where
   pub holder : Holder
   pub id_is : holder.id ≡ id

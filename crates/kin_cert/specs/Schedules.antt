@@ -1,4 +1,4 @@
--- How a schedule lies in memory: a queue, and beside it ids that are all due at one moment. No public clause cites this module.
+-- How a schedule lies in memory: a queue, and a side list of ids that are all due at one moment. No public clause cites this module.
 use Rattle.std.specs.Prelude.{◌≡◌, ℕ, List, [], ◌∷◌, Some, None, Contains}
 use Rattle.std.specs.Ordering.{nat_cmp}
 use Rattle.std.specs.Coded.{Coded, coded_ℕ}
@@ -23,7 +23,7 @@ abbrev pub with_each : FinMap nat_cmp Moment → Moment → List ℕ → FinMap 
 with_each moments at [] = moments
 with_each moments at (id ∷ ids) = map.insert (with_each moments at ids) id at
 
--- each of these ids stands once, and has no moment in the map, whose moments are canonical
+-- each of these ids is listed once, and has no moment in the map, whose moments are canonical
 pub record AreBeside (moments : FinMap nat_cmp Moment) (ids : List ℕ) : Type 0 where
   pub canonical : (id : ℕ) (at : Moment) → map.get moments id ≡ Some at → IsCanonical at.at
   pub once : AreDistinct ids

@@ -59,8 +59,8 @@ impl Table {
         Ok(())
     }
 
-    // Puts born facts in the stead of dropped ones, pair by pair. Where a pair doesn't fit, but the dropped fact and the next
-    // born one do, the first born one goes by itself; else the dropped one does.
+    // Replaces dropped facts by born ones, pair by pair. Where a pair doesn't fit, but the dropped fact and
+    // the next born one do, the first born one goes by itself; else the dropped one does.
     fn replace_each<'a, L: Ledger>(
         &mut self,
         structure: u32,
@@ -85,7 +85,7 @@ impl Table {
             let Some((born, later_born)) = rest.born.split_first() else {
                 return Ok(rest);
             };
-            // Lines have a way of their own, on which no kind is asked for.
+            // Line/line pairs take a fast path, on which no kind is tested.
             let is_replaced = if is_line(dropped) && is_line(born) {
                 self.replace(structure, dropped, born, motions, now, steps)?
             } else {
@@ -107,8 +107,8 @@ impl Table {
         Ok(rest)
     }
 
-    // Puts a born fact in the stead of a dropped one, if the roll can do so. It is made in line, so that who knows the kinds of
-    // both forms doesn't ask for them again.
+    // Replaces a dropped fact by a born one, if the roll can do so. In line, so that a caller that knows the
+    // kinds of both forms doesn't test them again.
     #[inline(always)]
     fn replace<L: Ledger>(
         &mut self,
@@ -140,7 +140,7 @@ impl Table {
         Ok(true)
     }
 
-    // The same for forms of any kind, in line by itself, so that two lines have a way of their own.
+    // The same for forms of any kind, in line on its own, so that two lines keep their fast path.
     #[inline(always)]
     fn replace_curve<L: Ledger>(
         &mut self,

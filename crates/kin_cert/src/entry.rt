@@ -15,8 +15,8 @@ use std::marker::Model;
 #[derive(Drop)]
 pub(crate) struct Entry {
     owned: Owned,
-    /// The instant of the first failure, and its phase. Where the fact never fails they mean nothing. They stand one by one,
-    /// so that no gap between them is copied.
+    /// The instant of the first failure, and its phase. Where the fact never fails they mean nothing. They are two
+    /// fields, so that no gap between them is copied.
     at: Instant,
     phase: Phase,
     /// Whether the fact ever fails.
@@ -82,7 +82,7 @@ impl Entry {
         self.is_mortal && !self.is_waiting
     }
 
-    /// Puts another fact of its owner in its stead, which never fails as yet.
+    /// Replaces the fact by another one of its owner, which never fails as yet.
     pub(crate) fn replace_with(&mut self, fact: &Fact)
         ensures { self.new ≡ fresh (with_fact self.old.owned fact.now) }
     {
@@ -90,7 +90,7 @@ impl Entry {
         self.renew();
     }
 
-    /// Lets the fact be as a new one, which never fails as yet.
+    /// Lets the fact count as a new one, which never fails as yet.
     pub(crate) fn renew(&mut self)
         ensures { self.new ≡ fresh self.old.owned }
     {
@@ -135,7 +135,7 @@ fn are_same(x: &Form, y: &Form) -> bool
     }
 }
 
-// The same for forms of any kind, out of the way of lines.
+// The same for forms of any kind, out of line.
 #[inline(never)]
 fn is_one_form(x: &Form, y: &Form) -> bool
     ensures { IsTrue result ↔ (x.now ≡ y.now) }

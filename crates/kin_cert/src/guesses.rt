@@ -1,4 +1,4 @@
-//! Guesses of where places stand in their index, which spare most hashes.
+//! Guesses of the positions of places in their index, which spare most hashes.
 
 ghost use Rattle.std.specs.Prelude.{◌≡◌, [], ◌∷◌, Some, IfSome, IfNone, None, IsSome, IfOk, OnErr, MatchOption, slice_get};
 ghost use Rattle.kin_cert.specs.declared.holder.Holder.{Holder as Kept};
@@ -29,7 +29,7 @@ impl Guesses {
         }
     }
 
-    /// Where a place stands, if it does. That is guessed the next time.
+    /// The position of a place, if it has one, which is the next guess.
     #[inline(always)]
     pub(crate) fn spot_of(
         &mut self,
@@ -53,7 +53,7 @@ impl Guesses {
         })
     }
 
-    // The position by hash, out of the way of right guesses, for which the place is no array then.
+    // The position by hash. Out of line, so that a right guess makes no array of the place.
     #[inline(never)]
     fn learn(
         &mut self,
@@ -82,7 +82,7 @@ impl Guesses {
         }
     }
 
-    // Where a place stands, if the guess is right.
+    // The position of a place, if the guess is right.
     #[inline(always)]
     fn guessed(&self, firsts: &IndexMap<Place, Holder>, place: &Place) -> Option<Spot>
         ensures { IfSome result (λ spot. StandsAt firsts.now place.now spot) }
@@ -99,8 +99,8 @@ impl Guesses {
         }
     }
 
-    /// Where a place stands, or `None` where it didn't stand there, and has this holder now. Either is guessed the next time.
-    /// The place is looked for and put in by one hash.
+    /// The position of a place, or `None` where it is new, and has this holder now. Either is the next guess. The place
+    /// is looked for and put in by one hash.
     pub(crate) fn spot_or_enter(
         &mut self,
         firsts: &mut IndexMap<Place, Holder>,
@@ -123,7 +123,7 @@ impl Guesses {
         }
     }
 
-    /// Notes where a place stands. Without memory there are no guesses.
+    /// Notes the position of a place. Without memory there are no guesses.
     pub(crate) fn note(&mut self, place: &Place, position: usize) {
         if self.positions.is_empty() && self.positions.resize(COUNT, 0).is_err() {
             return;
@@ -137,7 +137,7 @@ impl Guesses {
     }
 }
 
-// Where a place stands, by hash.
+// The position of a place, by hash.
 fn asked(firsts: &IndexMap<Place, Holder>, place: &Place) -> Option<Spot>
     ensures some { IfSome result (λ spot. StandsAt firsts.now place.now spot) }
     ensures none { IfNone result (look_up is_place firsts.now place.now ≡ None) }
@@ -149,7 +149,7 @@ fn asked(firsts: &IndexMap<Place, Holder>, place: &Place) -> Option<Spot>
     })
 }
 
-// Gives a place that stands there the holder back that it had before. Answers where it stands.
+// Gives a known place the holder back that it had before. Answers its spot.
 #[inline(never)]
 fn restored(firsts: &mut IndexMap<Place, Holder>, place: &Place, holder: Holder) -> Spot
     requires there { IsSome (look_up is_place firsts.old place.now) }
@@ -165,7 +165,7 @@ fn restored(firsts: &mut IndexMap<Place, Holder>, place: &Place, holder: Holder)
     spot
 }
 
-// Where the guess of a place stands. The lists of one structure of each kind, of up to 1,024 points, share none.
+// The slot of the guess of a place. The lists of one structure of each kind, of up to 1,024 points, share none.
 fn slot_of(place: &Place) -> usize {
     let [structure, part, number] = *place;
     let mixed = number

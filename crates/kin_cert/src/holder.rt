@@ -14,14 +14,14 @@ pub(crate) struct Holder {
     pub(crate) is_shared: bool,
 }
 
-/// Where a place stands in its index, with its holder.
+/// The position of a place in its index, with its holder.
 #[derive(Clone, Copy)]
 pub(crate) struct Spot {
     pub(crate) position: usize,
     pub(crate) holder: Holder,
 }
 
-/// As many places may stand in an index as there are facts, this many times.
+/// An index may have this many times as many places as there are facts.
 const WIDTH: usize = 4;
 
 /// Fewer facts than these count as so many.
@@ -50,7 +50,7 @@ fn take_away(firsts: &mut IndexMap<Place, Holder>, place: &Place, spot: Spot)
     }
 }
 
-/// Gives a place that stands there another holder.
+/// Gives a known place another holder.
 pub(crate) fn hand_over(
     firsts: &mut IndexMap<Place, Holder>,
     place: &Place,

@@ -58,7 +58,8 @@ pub(crate) fn id_of(
     others.get(&rank(structure, part, *form)).copied()
 }
 
-/// Strikes an owner's form out of the indices. Answers its id, if it has one. Its place mostly stays known by the id.
+/// Strikes an owner's form out of the indices. Answers its id, if it has one. Its place usually stays known by the
+/// id.
 pub(crate) fn strike(
     entries: &Slab<Entry>,
     firsts: &mut IndexMap<Place, Holder>,

@@ -1,4 +1,4 @@
-//! Which failed facts each structure is told of.
+//! The failed facts of each structure.
 
 ghost use Rattle.std.specs.Prelude.{◌≡◌, ℕ, ◌<◌, ◌≤◌, [], ◌∷◌, ◌++◌, cond, length, OnOk};
 ghost use Rattle.kin_cert.specs.Mails.{gathered, is_of, placed_of, told_to};
@@ -9,7 +9,7 @@ use kin_num::NoMemory;
 use std::alloc::Global;
 use std::marker::Model;
 
-/// What each structure is told. The memory is kept from moment to moment.
+/// The failed facts of each structure, in a box each. The memory is kept from moment to moment.
 #[derive(Drop)]
 pub struct Mail {
     alloc: Global,
@@ -26,7 +26,7 @@ impl Model for Mail {
 }
 
 impl Mail {
-    /// Nobody is told anything.
+    /// No boxes.
     pub fn new(alloc: Global) -> Mail
         ensures { result ≡ [] }
     {
@@ -67,7 +67,7 @@ impl Mail {
         self.reach(count)
     }
 
-    // Tells a structure of a fact of its own, if it has a box.
+    // Puts a fact into the box of its structure, if there is one.
     #[inline(always)]
     pub(crate) fn tell(&mut self, owned: &Owned) -> Result<(), NoMemory>
         ensures told { OnOk result ((k : ℕ) → k < length self.old → told_to self.new k ≡ cond (is_of k owned.now) (told_to self.old k ++ placed_of owned.now ∷ []) (told_to self.old k)) }
@@ -80,7 +80,7 @@ impl Mail {
         self.boxes[k].add(owned.part, &owned.fact)
     }
 
-    /// Sorts failed facts out: each of so many structures is told of its own.
+    /// Sorts failed facts: each of so many structures gets its own.
     pub fn sort(&mut self, count: usize, taken: &[Owned]) -> Result<(), NoMemory>
         ensures told { OnOk result ((k : ℕ) → k < count → told_to self.new k ≡ gathered k taken.now) }
         ensures count { OnOk result (count ≤ length self.new) }
@@ -94,7 +94,7 @@ impl Mail {
         Ok(())
     }
 
-    /// What a structure is told.
+    /// The failed facts of a structure.
     pub fn told(&self, k: u32) -> &[Placed]
         requires { k < length self.now }
         ensures { result.now ≡ told_to self.now k }

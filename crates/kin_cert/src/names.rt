@@ -10,7 +10,8 @@ use kin_pointers::pointers::Pointers;
 use std::alloc::Global;
 use std::marker::Model;
 
-/// The ids of the facts that name each number, once somebody has asked for those of one.
+/// The ids of the facts that name each number, from the first time on that those of a number are asked
+/// for.
 ///
 /// Each id has four slots, from `4 * id` on. The slot `4 * id + k` points at the number that the form
 /// names in its place `k`, if there is one that it doesn't name earlier too.
@@ -30,7 +31,7 @@ impl Model for Names {
 }
 
 impl Names {
-    /// Nobody has asked yet.
+    /// No index yet.
     pub(crate) fn new(alloc: Global) -> Names
         ensures { result ≡ None }
     {
@@ -40,8 +41,8 @@ impl Names {
         }
     }
 
-    /// Gathers what the facts of the roll name, if nobody has asked before, and has this number. After
-    /// want of memory all is as if nobody had asked.
+    /// Makes the index of what the facts of the roll name, if there is none, and lets it have this
+    /// number. After want of memory there is no index.
     pub(crate) fn gather(&mut self, roll: &Roll, number: u32) -> Result<(), NoMemory>
         requires { AreNamed self.old roll.now }
         ensures named { AreNamed self.new roll.now }
@@ -67,19 +68,19 @@ impl Names {
         }
     }
 
-    /// Notes the form of an id's fact. After want of memory all is as if nobody had asked.
+    /// Notes the form of an id's fact. After want of memory there is no index.
     #[inline(always)]
     pub(crate) fn note(&mut self, id: usize, form: &Form) -> Result<(), NoMemory>
         ensures { AreKept self.old self.new id (numbers_in (Some form.now)) }
     {
-        // While nobody has asked not even a call is made.
+        // Without an index not even a call is made.
         if self.pointers.is_none() {
             return Ok(());
         }
         self.note_form(id, form)
     }
 
-    // The same, where somebody may have asked. The form is copied only here.
+    // The same, where there may be an index. The form is copied only here.
     #[inline(never)]
     fn note_form(&mut self, id: usize, form: &Form) -> Result<(), NoMemory>
         ensures { AreKept self.old self.new id (numbers_in (Some form.now)) }
@@ -87,7 +88,7 @@ impl Names {
         self.note_asked(id, Some(*form))
     }
 
-    /// Notes that an id has no fact. After want of memory all is as if nobody had asked.
+    /// Notes that an id has no fact. After want of memory there is no index.
     #[inline(always)]
     pub(crate) fn forget(&mut self, id: usize) -> Result<(), NoMemory>
         ensures { AreKept self.old self.new id (numbers_in None) }
@@ -98,7 +99,7 @@ impl Names {
         self.note_asked(id, None)
     }
 
-    // Notes the form of an id's fact, or that there is none, where somebody may have asked.
+    // Notes the form of an id's fact, or that there is none, where there may be an index.
     #[inline(never)]
     fn note_asked(&mut self, id: usize, form: Option<Form>) -> Result<(), NoMemory>
         ensures { AreKept self.old self.new id (numbers_in form) }

@@ -30,7 +30,7 @@ pub(crate) struct Roll {
     firsts: IndexMap<Place, Holder>,
     /// The ids of all other live facts, by owner and form.
     others: IndexMap<Rank, usize>,
-    /// Where in `firsts` a place may stand.
+    /// Guesses of the positions of places in `firsts`.
     guesses: Guesses,
 }
 
@@ -148,9 +148,9 @@ impl Roll {
         }
     }
 
-    /// Puts a fact of the same place in the stead of a fact, which is there, where that is the one by
-    /// which its place is known and no other fact has the owner and the form of the new one. The new
-    /// one never fails as yet. Else nothing changes. It is made in line, for lines by themselves.
+    /// Replaces a live fact by one of the same place, where the place is known by the old one and no other fact has the
+    /// owner and the form of the new one. The new one never fails as yet. Otherwise nothing changes. It is in line, for
+    /// lines on their own.
     #[inline(always)]
     pub(crate) fn take_over(&mut self, structure: u32, old: &Placed, new: &Placed) -> Option<Seat>
         ensures taken { IfSome result (λ seat. IsTakenOver self.old (owned_rank (held structure old.now)) (held structure new.now) seat self.new) }
@@ -187,7 +187,7 @@ impl Roll {
         entry.set_failure(at);
     }
 
-    /// Lets a live fact be as a new one, which never fails as yet. Answers it with what its seat was.
+    /// Lets a live fact count as a new one, which never fails as yet. Answers it with what its seat was.
     pub(crate) fn free(&mut self, id: usize) -> (Owned, Seat)
         requires { IsSome (entry_at self.old id) }
         ensures { IsFreed self.old id result.0 result.1 self.new }

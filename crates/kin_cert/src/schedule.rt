@@ -19,15 +19,15 @@ use std::sync::ledger::Ledger;
 
 /// The ids of the facts that will fail, each with its moment.
 ///
-/// Half of all failures come just after the instant at which their facts are born: a sign 0 that is left again. Such ids
-/// stand in a list of one moment beside the queue, and are never compared there. While the list has ids, an id with another
+/// Half of all failures come just after the instant at which their facts are born: a sign 0 that is left again. Such
+/// ids are in a side list of one moment, and are never compared there. While the list has ids, an id with another
 /// moment goes to the queue.
 #[derive(Drop)]
 pub(crate) struct Schedule {
     queue: Queue,
-    /// The ids beside the queue.
+    /// The ids of the side list.
     soon: Vec<usize>,
-    /// The ids beside the queue have the moment just after this instant. Where there are none it means nothing.
+    /// The ids of the side list have the moment just after this instant. Where there are none it means nothing.
     soon_from: Instant,
 }
 
@@ -69,8 +69,8 @@ impl Schedule {
         })
     }
 
-    /// Puts an id in at a moment. The id isn't there yet. Want of memory changes nothing. It is made in line, since who
-    /// calls it mostly knows the phase.
+    /// Puts in an id that isn't there yet, at a moment. Want of memory changes nothing. It is in line, since its
+    /// callers usually know the phase.
     #[inline(always)]
     pub(crate) fn insert<L: Ledger>(
         &mut self,
@@ -98,7 +98,7 @@ impl Schedule {
         Ok(())
     }
 
-    /// Takes an id out, which is there. In line, since it mostly is one call of the queue.
+    /// Takes out an id that is there. In line, since it usually is one call of the queue.
     #[inline(always)]
     pub(crate) fn remove<L: Ledger>(&mut self, id: usize, steps: &mut Steps<L>)
         requires present { IsSome (get self.old id) }
@@ -170,7 +170,7 @@ impl Schedule {
     }
 }
 
-// Whether an id with this moment may come beside the queue.
+// Whether an id with this moment may join the side list.
 fn may_join(soon: &[usize], soon_from: &Instant, at: &Moment) -> bool
     ensures after { IsTrue result → at.now ≡ just_after at.now.at }
     ensures same { IsTrue result → (soon.now ≡ []) ⊎ (soon_from.now ≡ at.now.at) }
@@ -197,7 +197,7 @@ fn is_vacant(ids: &[usize]) -> bool
     ids.is_empty()
 }
 
-// Whether there are ids beside the queue, and this is their moment.
+// Whether the side list has ids, and this is their moment.
 fn have_moment(soon: &[usize], soon_from: &Instant, moment: &Moment) -> bool
     ensures yes { IsTrue result → (soon.now ≢ []) × (just_after soon_from.now ≡ moment.now) }
     ensures other { IsFalse result → (soon.now ≡ []) ⊎ (just_after soon_from.now ≢ moment.now) }
@@ -208,7 +208,7 @@ fn have_moment(soon: &[usize], soon_from: &Instant, moment: &Moment) -> bool
     }
 }
 
-// Whether a moment is earlier than that of the ids beside the queue, or there are none.
+// Whether a moment is earlier than that of the side list, or the list is empty.
 fn comes_first(at: &Moment, soon: &[usize], soon_from: &Instant) -> bool
     ensures yes { IsTrue result → (soon.now ≡ []) ⊎ IsEarlier at.now (just_after soon_from.now) }
     ensures other { IsFalse result → (soon.now ≢ []) × ¬ (IsEarlier at.now (just_after soon_from.now)) }
@@ -216,7 +216,7 @@ fn comes_first(at: &Moment, soon: &[usize], soon_from: &Instant) -> bool
     soon.is_empty() || comes_before(at, soon_from)
 }
 
-// Where an id stands in a list.
+// The place of an id in a list.
 fn place_of(ids: &[usize], id: usize) -> Option<usize>
     ensures some { IfSome result (λ place. slice_get ids.now place ≡ Some id) }
     ensures none { IfNone result (¬ (Contains ids.now id)) }

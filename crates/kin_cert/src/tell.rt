@@ -1,4 +1,4 @@
-//! What a structure has changed is told to the table.
+//! The table takes over what a structure has changed.
 
 ghost use Rattle.std.specs.Prelude.{◌≡◌, ◌+◌, ◌-◌, ◌^◌, length, min, OnOk};
 ghost use Rattle.kin_motion.specs.Scene.{scene_at, IsReal};
@@ -11,8 +11,8 @@ use kin_num::{Moment, NoMemory, Steps};
 use std::sync::ledger::Ledger;
 
 impl Table {
-    /// Tells the table what structure `k`, whose facts it has, has dropped and born at the moment
-    /// now: it has the structure's new facts then. Those of the others stay.
+    /// Takes over what structure `k`, whose facts the table has, has dropped and born at the moment
+    /// now: then the table has the structure's new facts. Those of the others stay.
     pub fn tell<L: Ledger>(
         &mut self,
         k: u32,

@@ -52,7 +52,7 @@ pub(crate) fn time<L: Ledger>(
     }
 }
 
-// The same for a form of any degree, in line by itself, so that a line's degree is known.
+// The same for a form of any degree, in line on its own, so that a line's degree is known.
 #[inline(always)]
 fn time_curve<L: Ledger>(
     roll: &mut Roll,
@@ -103,7 +103,7 @@ fn time_by<L: Ledger>(
     Ok(())
 }
 
-/// Takes the id of a fact that is gone out, if the schedule has it.
+/// Takes out the id of a fact that is gone, if the schedule has it.
 #[inline(always)]
 pub(crate) fn unqueue<L: Ledger>(schedule: &mut Schedule, seat: Seat, steps: &mut Steps<L>)
     requires { is_some (map.get schedule.old seat.id) ≡ seat.is_queued }

@@ -5,3 +5,8 @@ pub mod Seen
 pub mod FailureRoots
 pub mod LeastFailure
 pub mod JournalExistence
+pub mod OneRoot
+pub mod Pairs
+pub mod PairKeys
+pub mod OrderFailures
+pub mod OrderCount

@@ -1,5 +1,5 @@
--- What holds of first failures. Each is promised by a function of the module `laws`.
-use Rattle.std.specs.Prelude.{◌≡◌, ◌⊎◌, ℕ, ◌^◌, List, length, Option, All, Contains}
+-- What holds of failures. Each is promised by a function of the module `laws`.
+use Rattle.std.specs.Prelude.{◌≡◌, ◌⊎◌, ℕ, ◌+◌, ◌*◌, ◌^◌, ◌≤◌, nat_eq, Bool, ℤ, List, [], ◌∷◌, ◌++◌, filter, length, slice_get, Option, Some, All, Contains}
 use Rattle.kin_algebra.specs.declared.sign.Sign.TheVariants.{Zero}
 use Rattle.kin_num.specs.declared.instant.Moment.{Moment}
 use Rattle.kin_num.specs.declared.instant.Shape.{Shape}
@@ -10,10 +10,11 @@ use Rattle.kin_num.specs.Order.{IsEarlier}
 use Rattle.kin_instant.specs.Places.{IsZeroPolynomial}
 use Rattle.kin_motion.specs.declared.fact.Fact.{Fact}
 use Rattle.kin_motion.specs.declared.keep.Keep.{Keep}
+use Rattle.kin_motion.specs.declared.keep.Keep.TheVariants.{Order}
 use Rattle.kin_motion.specs.Course.{Course, AreSlow, live_of}
 use Rattle.kin_motion.specs.Forms.{IsAskable, polynomial_of}
 use Rattle.kin_motion.specs.Scene.{scene_at}
-use Rattle.kin_motion.specs.Live.{IsSmallKeep}
+use Rattle.kin_motion.specs.Live.{IsSmallDirection, IsSmallKeep}
 use Rattle.kin_motion.specs.Moments.{HoldsAt, FailsFirst}
 use Rattle.kin_motion.specs.Journal.{setting_of, Failure, Block, IsNextBlock, NothingFails, IsJournal}
 use Rattle.kin_fail.specs.Failures.{IsFirstFailure}
@@ -58,3 +59,20 @@ abbrev pub JournalsExist : Type 0
 JournalsExist =
     (ms : List (Option Course)) (size : ℕ) (keeps : List Keep) (now last : Moment) → IsProper ms size keeps → IsCanonical now.at → IsCanonical last.at
     → ¬ (IsEarlier last now) → (bs : List Block) × IsJournal (setting_of ms size keeps) now last bs
+
+-- whether the failure is of the structure of that number
+abbrev pub is_of : ℕ → Failure → Bool
+is_of structure f = nat_eq f.was.structure structure
+
+-- the failures of a structure, block after block
+abbrev pub failures_of : ℕ → List Block → List Failure
+failures_of structure [] = []
+failures_of structure (b ∷ bs) = filter (is_of structure) b.failures ++ failures_of structure bs
+
+-- while the motions stay, a kept order of n points has at most n*(n - 1) failures between two moments
+abbrev pub OrderFailuresAreFew : Type 0
+OrderFailuresAreFew =
+    (ms : List (Option Course)) (size : ℕ) (keeps : List Keep) (now last : Moment) (bs : List Block) (structure : ℕ) (dx dy : ℤ)
+    → AreSlow ms → IsSmallDirection dx dy → IsCanonical now.at → slice_get keeps structure ≡ Some (Order dx dy)
+    → IsJournal (setting_of ms size keeps) now last bs
+    → let n = length (live_of ms) in length (failures_of structure bs) + n ≤ n * n

@@ -10,7 +10,7 @@ use kin_motion::{Fact, Form, Motion};
 use kin_num::{Moment, Poly, Sign, Steps};
 use std::sync::ledger::Ledger;
 
-/// That a clearance is above 0. Only the sign tells, and not the form.
+/// That a clearance is above 0. Only the sign matters, and not the form.
 const APART: Fact = Fact {
     form: Form::Turn { i: 0, j: 0, k: 0 },
     sign: Sign::Plus,

@@ -13,7 +13,7 @@ use kin_motion::signs::Signs;
 use kin_num::{Moment, Sign, Steps};
 use std::sync::ledger::Ledger;
 
-/// Motions at one moment, which tell the signs of forms.
+/// Motions at one moment, which give the signs of forms.
 #[derive(Drop)]
 pub struct Now<'a> {
     pub motions: &'a Motions,

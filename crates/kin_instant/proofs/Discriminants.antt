@@ -1,5 +1,6 @@
 -- The whole root of a discriminant: how large it is, and where it isn't exact.
 use Rattle.std.proofs.Common.{◌≡◌, ℕ, ◌+◌, ◌*◌, ◌<◌, ◌≤◌, ◌^◌, ℤ, pos, ◌-ℤ◌, ◌*ℤ◌, unsigned_abs, arith, ap, sym, ◌∙◌, subst, mul-le-mul, lt_of_not-le, not-le_of_lt}
+use Rattle.std.specs.Prelude.{◌<ℤ◌}
 use Rattle.std.proofs.lemmas.Int.{ints}
 use Rattle.kin_algebra.proofs.Magnitudes.{size-product}
 use Rattle.kin_num.specs.Quadratic.{IsSmall}
@@ -43,3 +44,6 @@ irrational r s d w n e k f =
 
 pub same_discriminant : (a b c a' b' c' : ℤ) → a' ≡ a → b' ≡ b → c' ≡ c → discriminant a' b' c' ≡ discriminant a b c
 same_discriminant a b c a' b' c' e f g = rw (e, f, g)
+
+pub read_real : (a b c : ℤ) {a' b' c' : ℤ} → a' ≡ a → b' ≡ b → c' ≡ c → pos 0 <ℤ discriminant a b c → pos 0 <ℤ discriminant a' b' c'
+read_real a b c e f g h = rw (e, f, g) h

@@ -65,6 +65,10 @@ clean w x h = to_z-of_z w x (record { sfits = h })
 pub clean-abs : (w : Width) (x : ℤ) → unsigned_abs x < 2 ^ hbits w → to_z w (of_z w x) ≡ x
 clean-abs w x h = to_z-of_z w x (fits_signed_from_abs w x h)
 
+-- a number within a bound is within it as the code reads it
+pub read_within : (w : Width) (x : ℤ) (k : ℕ) → unsigned_abs x ≤ k → k < 2 ^ hbits w → unsigned_abs (to_z w (of_z w x)) ≤ k
+read_within w x k h l = rw (clean-abs w x (omega arith)) h
+
 pub same_sums : (a b c d a' b' c' d' : ℤ) → a' ≡ a → b' ≡ b → c' ≡ c → d' ≡ d → a' *ℤ b' +ℤ c' *ℤ d' ≡ a *ℤ b +ℤ c *ℤ d
 same_sums a b c d a' b' c' d' p q r s = rw (p, q, r, s)
 
@@ -77,6 +81,9 @@ product-raw w a b a' b' p q h = rw (p, q) (fits_signed_from_abs w (a *ℤ b) h)
 
 pub product-value : (w : Width) (a b a' b' : ℤ) → to_z w (of_z w a') ≡ a → to_z w (of_z w b') ≡ b → unsigned_abs (a *ℤ b) < 2 ^ hbits w → to_z w (of_z w (to_z w (of_z w a') *ℤ to_z w (of_z w b'))) ≡ a *ℤ b
 product-value w a b a' b' p q h = rw (p, q) (clean-abs w (a *ℤ b) h)
+
+pub product-fits : (w : Width) (a b : ℤ) (k : ℕ) → FitsSigned w a → FitsSigned w b → unsigned_abs a * unsigned_abs b ≤ k → k < 2 ^ hbits w → FitsSigned w (to_z w (of_z w a) *ℤ to_z w (of_z w b))
+product-fits w a b k fa fb h l = product-raw w a b a b (to_z-of_z w a fa) (to_z-of_z w b fb) (omega (arith, unsigned_abs-mul a b))
 
 -- ---- tests
 pub less_out : (x y : ℤ) → lt_z x y ≡ true → x <ℤ y

@@ -1,4 +1,4 @@
--- Where an instant lies to a root, and what comes after it.
+-- Where an instant is relative to a root, and what comes after it.
 use Rattle.std.specs.Prelude.{◌≡◌, ◌≢◌, Bool, true, false, Option, MatchOption, pos}
 use Rattle.std.specs.declared.cmp.Ordering.{Ordering}
 use Rattle.std.specs.declared.cmp.Ordering.TheVariants.{Less, Equal, Greater}
@@ -11,7 +11,7 @@ use Rattle.kin_num.specs.declared.instant.Moment.{Moment}
 use Rattle.kin_num.specs.Instants.{sign_at_instant, sign_at}
 use Rattle.kin_num.specs.Order.{IsLess, IsEarlier}
 
--- the place of an instant to a root, by the signs of the root's quadratic and of its slope there
+-- the place of an instant relative to a root, by the signs of the root's quadratic and of its slope there
 abbrev pub place_of : Sign → Sign → Bool → Ordering
 place_of Minus s true = Less
 place_of Minus s false = Greater
@@ -41,7 +41,7 @@ pub record IsNextRoot (p : Quadratic) (w r : Shape) : Type 0 where
 abbrev pub HasNoRootAfter : Quadratic → Shape → Type 0
 HasNoRootAfter p w = (v : Shape) → IsCanonicalForm v → sign_at_instant p v ≡ Zero → ¬ (IsLess w v)
 
--- from a moment at w on, where the polynomial isn't 0, its sign stays as it is before the instant, or for ever where none is told
+-- from a moment at w on, where the polynomial isn't 0, its sign stays as it is before the instant, or for ever where no instant is given
 abbrev pub KeepsSign : Quadratic → Shape → Option Shape → Type 0
 KeepsSign p w until =
     (m n : Moment) → m.at ≡ w → IsCanonicalForm m.at → IsCanonicalForm n.at → sign_at p m ≢ Zero → IsEarlier m n

@@ -18,14 +18,14 @@ abbrev pub IsFraction : ℤ → ℤ → Shape → Type 0
 IsFraction n d (Ratio m e) = m *ℤ d ≡ n *ℤ e
 IsFraction n d (Root a b c upper) = ⊥
 
--- the instant stands in the answer
+-- the answer has the instant
 abbrev pub HasRoot : Roots → Shape → Type 0
 HasRoot Nowhere w = ⊥
 HasRoot (One r) w = w ≡ r
 HasRoot (Two r s) w = (w ≡ r) ⊎ (w ≡ s)
 HasRoot All w = Unit {0}
 
--- each instant that stands by itself in the answer is canonical
+-- each single instant in the answer is canonical
 abbrev pub AreCanonical : Roots → Type 0
 AreCanonical Nowhere = Unit {0}
 AreCanonical (One r) = IsCanonical r
@@ -46,7 +46,7 @@ count_of (One r) = Some 1
 count_of (Two r s) = Some 2
 count_of All = None
 
--- the number of real roots by the signs of the coefficients and of the discriminant: none is told where all instants are roots
+-- the number of real roots by the signs of the coefficients and of the discriminant: `None` where all instants are roots
 abbrev pub count_by_signs : Sign → Sign → Sign → Sign → Option ℕ
 count_by_signs Zero Zero Zero d = None
 count_by_signs Zero Zero Minus d = Some 0

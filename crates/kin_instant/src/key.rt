@@ -1,9 +1,9 @@
-//! Keys of moments, by which most moments are told apart with one comparison of whole numbers.
+//! Keys of moments, by which one comparison of whole numbers decides the order of most moments.
 //!
-//! A key has the whole part of `2^32` times the instant. Of two moments whose keys differ there, the one with the lesser
-//! number is the earlier one. Two fractions of denominators up to `2^16` lie at least `2^-32` apart, so equal numbers tell
-//! that they are one. Any other instant has a vague key: another instant may have the same number. Nothing is rounded up,
-//! and no floating point occurs.
+//! A key has the whole part of `2^32` times the instant. Of two moments whose keys differ there, the one with the
+//! lesser number is the earlier one. Two fractions of denominators up to `2^16` lie at least `2^-32` apart, so with
+//! equal numbers they are one. Any other instant has a vague key: another instant may have the same number. Nothing is
+//! rounded up, and no floating point occurs.
 
 ghost use Rattle.std.specs.Prelude.{◌≡◌, ◌⊎◌, ◌≤◌, ◌<◌, ◌^◌, ◌*◌, ◌<ℤ◌, true, pos, unsigned_abs, IfSome, IfNone};
 ghost use Rattle.std.specs.Ordering.{MatchOrdering};
@@ -55,8 +55,8 @@ pub fn key_of(m: &Moment) -> Key
     }
 }
 
-/// How a moment of one key lies to a moment of another one, as far as their keys tell: `None` where the spans are equal
-/// and one of them is vague.
+/// The order of two moments with these keys, as far as the keys decide it: `None` where the spans are equal and one of
+/// them is vague.
 pub fn order_by_keys(x: &Key, y: &Key) -> Option<Ordering>
     ensures told { (m n : Time) → IsCanonical m.at → IsCanonical n.at → IsKeyOf x.now m → IsKeyOf y.now n → IfSome result (λ o. MatchOrdering o (IsEarlier m n) (m ≡ n) (IsEarlier n m)) }
     ensures untold { IfNone result ((x.now.span ≡ y.now.span) × ((x.now.is_vague ≡ true) ⊎ (y.now.is_vague ≡ true))) }

@@ -55,9 +55,9 @@ pub fn next_root(p: &Poly, w: &Instant) -> Option<Instant>
 
 /// The least root of `p` later than the moment `m`, at which `p` has this sign, which isn't 0.
 ///
-/// No two instants are compared, and a root is made only where it is still to come. A line whose slope has its sign moves
-/// away from 0; any other line with a slope comes to its root. A curve tells by its sign whether it is between its roots,
-/// and by that of its slope whether it is before them.
+/// No two instants are compared, and a root is made only where it is still to come. A line whose slope has its sign
+/// moves away from 0; any other line with a slope comes to its root. The sign of a curve decides whether the moment is
+/// between its roots, and that of its slope whether it is before them.
 #[inline(always)]
 pub fn next_root_from(p: &Poly, m: &Moment, sign: Sign) -> Option<Instant>
     requires sign { sign_at p.now m.now ≡ sign }

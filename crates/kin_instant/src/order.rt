@@ -33,8 +33,8 @@ fn cross_order(n: i64, d: i64, m: i64, e: i64) -> Ordering
     (n * e).cmp(&(m * d))
 }
 
-/// An instant against a root, by the signs of the root's quadratic and of its slope at the instant. A negative value
-/// lies between the two roots.
+/// An instant against a root, by the signs of the root's quadratic and of its slope at the instant. Where the value is
+/// negative the instant lies between the two roots.
 fn place(value: Sign, slope: Sign, upper: bool) -> Ordering
     ensures { result ≡ place_of value slope upper }
 {
@@ -47,7 +47,7 @@ fn place(value: Sign, slope: Sign, upper: bool) -> Ordering
     }
 }
 
-/// `w` against a root of `(a, b, c)`. The slope is left alone where the value tells all.
+/// `w` against a root of `(a, b, c)`. The slope is asked only where the value doesn't decide.
 fn against_root(w: &Instant, a: i64, b: i64, c: i64, upper: bool) -> Ordering
     requires irreducible { IsIrreducible a b c }
     requires small { IsSmall (quadratic a b c) }
@@ -62,7 +62,7 @@ fn against_root(w: &Instant, a: i64, b: i64, c: i64, upper: bool) -> Ordering
     place(value, slope, upper)
 }
 
-/// How `x` lies to `y`.
+/// The order of `x` and `y`.
 fn relation(x: &Instant, y: &Instant) -> Ordering
     ensures order { MatchOrdering result (IsLess x.now y.now) (x.now ≡ y.now) (IsLess y.now x.now) }
     ensures left { IsCanonical x.now }

@@ -2,8 +2,8 @@
 //!
 //! With `(a, b, c)` the coefficients of the root's own quadratic, `a * p` leaves the remainder
 //! `slope * t + start` when it is divided by it. The sign of that line at the root is the sign of a
-//! whole number plus a multiple of the square root of the discriminant; where these two pull in
-//! opposite directions, the resultant of `p` and the root's quadratic decides.
+//! whole number plus a multiple of the square root of the discriminant; where these two have
+//! opposite signs, the resultant of `p` and the root's quadratic decides.
 
 ghost use Rattle.std.specs.Prelude.{◌≡◌, ◌≤◌, ◌^◌, ◌<◌, ◌<ℤ◌, ◌*ℤ◌, ◌-ℤ◌, pos, unsigned_abs};
 ghost use Rattle.kin_algebra.specs.Signs.{sign_of, product_of};

@@ -57,7 +57,8 @@ fn moment_sign(p: &Poly, m: &Moment) -> Sign
     }
 }
 
-/// The same where the instant is an irrational root. It is one call, so that at a fraction nothing has to outlive one.
+/// The same where the instant is an irrational root. It is one call, so that at a fraction no value has to be kept
+/// over a call.
 #[inline(never)]
 fn moment_sign_at_root(p: &Poly, m: &Moment) -> Sign
     ensures { result ≡ sign_at_moment p.now m.now }
@@ -68,7 +69,7 @@ fn moment_sign_at_root(p: &Poly, m: &Moment) -> Sign
 /// The sign of `p` at the moment `m`. Counts one step.
 ///
 /// At a fraction this takes a handful of products of 64-bit numbers, and two for a line; at an irrational root about
-/// ten. No root is taken. It is made in line, so that whoever asks about a line is spared what only curves need.
+/// ten. No root is taken. It is in line, so that a line doesn't pay for what only curves need.
 #[inline(always)]
 pub fn sign_at<L: Ledger>(p: &Poly, m: &Moment, steps: &mut Steps<L>) -> Sign
     ensures value { result ≡ sign_at_moment p.now m.now }

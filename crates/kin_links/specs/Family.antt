@@ -6,7 +6,7 @@ pub record Linked (T : Type 0) : Type 0 where
   pub node : ℕ
   pub item : T
 
--- where a node stands
+-- where a node is
 pub record Standing {T : Type 0} (lists : List (List (Linked T))) (node : ℕ) : Type 0 where
   pub list : ℕ
   pub place : ℕ
@@ -15,11 +15,11 @@ pub record Standing {T : Type 0} (lists : List (List (Linked T))) (node : ℕ) :
   pub listed : slice_get lists list ≡ Some items
   pub at : slice_get items place ≡ Some (record { node = node; item = item })
 
--- this node stands at a place
+-- this node is at a place
 abbrev pub IsNodeAt : {T : Type 0} → List (Linked T) → ℕ → ℕ → Type 0
 IsNodeAt {T} items place node = (x : Linked T) × (slice_get items place ≡ Some x) × (x.node ≡ node)
 
--- no node stands at two places
+-- no node is at two places
 abbrev pub AreApart : {T : Type 0} → List (List (Linked T)) → Type 0
 AreApart {T} lists = (node : ℕ) (s t : Standing lists node) → (s.list ≡ t.list) × (s.place ≡ t.place)
 

@@ -5,7 +5,7 @@ use Rattle.kin_links.specs.declared.node.Gap.TheVariants.{Front, Behind}
 use Rattle.kin_links.specs.declared.node.Node.{Node}
 use Rattle.kin_links.specs.Family.{Linked}
 
--- how many lists there are, a bound of all nodes, the node behind a gap, the gap before a node, and its item
+-- how many lists there are, a bound of all nodes, the node after a gap, the gap before a node, and its item
 pub record Pointers (T : Type 0) : Type 0 where
   pub count : ℕ
   pub room : ℕ
@@ -90,7 +90,7 @@ module _ {T : Type 0} where
   abbrev pub lists_of : Pointers T → List (List (Linked T))
   lists_of g = lists_from g 0 g.count
 
-  -- the node behind the gap is this one now; nothing else has changed
+  -- the node after the gap is this one now; nothing else has changed
   pub record HasNext (old new : Pointers T) (b : Gap) (m : Option ℕ) : Type 0 where
     pub next : new.next b ≡ m
     pub others : (c : Gap) → c ≢ b → new.next c ≡ old.next c
@@ -106,7 +106,7 @@ module _ {T : Type 0} where
     pub item : (k : ℕ) → new.item k ≡ old.item k
     pub count : new.count ≡ old.count
 
-  -- what is before the node and what is behind it are joined
+  -- what is before the node and what is after it are joined
   pub record IsDetached (old new : Pointers T) (node : ℕ) : Type 0 where
     pub gap : Gap
     pub at : old.prev node ≡ Some gap
@@ -117,7 +117,7 @@ module _ {T : Type 0} where
     pub item : (k : ℕ) → new.item k ≡ old.item k
     pub count : new.count ≡ old.count
 
-  -- the node stands in the gap
+  -- the node is in the gap
   pub record IsAttached (old new : Pointers T) (node : ℕ) (gap : Gap) : Type 0 where
     pub next : new.next gap ≡ Some node
     pub after : new.next (Behind node) ≡ old.next gap

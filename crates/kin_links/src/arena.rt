@@ -37,7 +37,7 @@ impl<T: Copy> Arena<T> {
         }
     }
 
-    /// The node behind a gap.
+    /// The node after a gap.
     pub fn next_of(&self, gap: Gap) -> Option<usize>
         requires { IsHeld (pointers self.now.firsts.items self.now.nodes.slots) gap }
         ensures { result ≡ (pointers self.now.firsts.items self.now.nodes.slots).next gap }

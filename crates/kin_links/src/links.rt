@@ -21,7 +21,7 @@ pub struct ListId(pub usize);
 pub struct NodeId(pub usize);
 
 /// Many doubly linked lists in one arena. A call changes one list and leaves every other list as it
-/// was. Each call takes the same few steps, whatever the lists hold.
+/// was. Each call is meant to take the same few steps, whatever the lists hold; no clause says so.
 #[derive(Drop)]
 pub struct Links<T: Copy> {
     arena: Arena<T>,
@@ -89,7 +89,7 @@ impl<T: Copy> Links<T> {
         self.link_in(Gap::Front(list.0), item)
     }
 
-    /// Puts an item in behind a node.
+    /// Puts an item in after a node.
     pub fn link_after(&mut self, node: NodeId, item: T) -> Result<NodeId, NoMemory>
         requires { Standing self.old node.0 }
         ensures ok { IfOk result (λ new. (s : Standing self.old node.0) → HasLinked self.old self.new s.list (s.place + 1) new.0 item) }
@@ -145,7 +145,7 @@ impl<T: Copy> Links<T> {
         named(self.arena.next_of(Gap::Front(list.0)))
     }
 
-    /// The node behind a node.
+    /// The node after a node.
     pub fn next(&self, node: NodeId) -> Option<NodeId>
         requires { Standing self.now node.0 }
         ensures apart { AreApart self.now }

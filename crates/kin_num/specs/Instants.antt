@@ -1,4 +1,4 @@
--- The number that an instant stands for, and signs of polynomials at instants and at moments.
+-- The number that an instant is, and signs of polynomials at instants and at moments.
 use Rattle.std.specs.Prelude.{Bool, true, false, ◌^◌, ℤ, pos, negsuc, ◌+ℤ◌, ◌*ℤ◌}
 use lib.IntN.{neg_ℤ}
 use Rattle.kin_algebra.specs.declared.sign.Sign.{Sign}
@@ -19,7 +19,7 @@ pub record Number : Type 0 where
   pub radicand : ℤ
   pub divisor : ℤ
 
--- the number that an instant stands for
+-- the number that an instant is
 abbrev pub number_of : Shape → Number
 number_of (Ratio n d) = record { whole = n; root = pos 0; radicand = pos 0; divisor = d }
 number_of (Root a b c true) = record { whole = neg_ℤ b; root = pos 1; radicand = discriminant a b c; divisor = pos 2 *ℤ a }

@@ -1,7 +1,8 @@
 //! The laws of signs and of the order.
 //!
-//! Each function does nothing: its contract is the law. A number of any size may stand for a variable, and the laws of
-//! the order hold for canonical forms of any size, but for `instants_lie_apart`.
+//! Each function does nothing: its contract is the law. The laws of the order, and of sums and products of signs, hold
+//! for canonical forms of any size. `signs_are_ordered` and `instants_lie_apart` ask for the wide bounds, which are
+//! greater than those of the types, and `moments_run_out` for the bounds of the types.
 
 ghost use Rattle.std.specs.Prelude.{ℤ};
 ghost use Rattle.kin_num.specs.declared.instant.Moment.{Moment as Time};

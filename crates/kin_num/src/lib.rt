@@ -2,7 +2,7 @@
 //!
 //! Points move along lines, so certificates are polynomials of degree at most two in the time, and fail at instants that
 //! are fractions or roots of quadratics. This crate has these as types with exact whole coefficients, and the definitions
-//! that every contract above rests on: the number an instant stands for, the sign of a polynomial at an instant and just
+//! that every contract above rests on: the number that an instant is, the sign of a polynomial at an instant and just
 //! after it, and the order of instants and moments. `laws` states what holds of them. No call takes memory or refuses.
 #![tactic(auto)]
 

@@ -26,22 +26,22 @@ target_in (Some p) = Some p.target
 abbrev pub lists_of : List (Vec ℕ) → List (List ℕ)
 lists_of lists = map (λ v. v.items) lists
 
--- what is held means to callers
+-- what callers see of what is held
 abbrev pub pointing : List (Option Pointer) → List (List ℕ) → Pointing
 pointing held lists = record { targets = map target_in held; numbers = length lists }
 
--- the slot stands at its place in the list of its number
+-- the slot is at its place in the list of its number
 pub record IsListed (lists : List (List ℕ)) (slot : ℕ) (p : Pointer) : Type 0 where
   pub slots : List ℕ
   pub listed : slice_get lists p.target ≡ Some slots
   pub at : slice_get slots p.place ≡ Some slot
 
--- each slot that points stands in its list, and each list has only such slots, each at its place
+-- each slot that points is in its list, and each list has only such slots, each at its place
 pub record AreMutual (held : List (Option Pointer)) (lists : List (List ℕ)) : Type 0 where
   pub forth : (slot : ℕ) (p : Pointer) → slice_get held slot ≡ Some (Some p) → IsListed lists slot p
   pub back : (target place slot : ℕ) (slots : List ℕ) → slice_get lists target ≡ Some slots → slice_get slots place ≡ Some slot → slice_get held slot ≡ Some (Some (record { target = target; place = place }))
 
--- what stood at a place was taken out, and the last one put there
+-- what was at a place was taken out, and the last one put there
 pub record IsStruck (old new : List ℕ) (place last : ℕ) : Type 0 where
   pub count : length new + 1 ≡ length old
   pub last_is : slice_get old (length new) ≡ Some last

@@ -1,7 +1,7 @@
 //! Slots that point at numbers, and for each number the slots that point at it.
 //!
-//! Both ways are told at once and kept up with a few writes: a list's last item takes the place of one that goes, and
-//! each slot knows its place in its list.
+//! Both look-ups are immediate, and a change takes a few writes: a list's last item takes the place of one that goes,
+//! and each slot knows its place in its list.
 #![tactic(auto)]
 
 pub mod pointers;

@@ -7,7 +7,7 @@ use kin_num::memory::NoMemory;
 use std::alloc::Global;
 use std::marker::Model;
 
-/// A slot that points: at which number, and where in that number's list the slot stands.
+/// A slot that points: at which number, and where in that number's list the slot is.
 #[derive(Clone, Copy)]
 pub struct Pointer {
     pub target: u32,
@@ -149,7 +149,7 @@ fn empty_lists(alloc: Global, count: usize) -> Result<Vec<Vec<u32>>, NoMemory>
     Ok(lists)
 }
 
-/// Puts a slot behind all others. Answers its place.
+/// Puts a slot after all others. Answers its place.
 fn append(list: &mut Vec<u32>, slot: u32) -> Result<u32, NoMemory>
     ensures ok { IfOk result (λ place. (place ≡ length list.old.items) × (list.new.items ≡ list.old.items ++ slot ∷ [])) }
     ensures err { OnErr result (list.new.items ≡ list.old.items) }

@@ -2,7 +2,16 @@
 use Rattle.std.proofs.Common.{◌≡◌, inl, inr, ◌+◌, ◌*◌, ◌^◌, ◌<◌, ◌≤◌, ℕ, arith}
 use Rattle.std.proofs.lemmas.Nat.{mul-le, pow-add}
 use Rattle.std.proofs.lemmas.Bool.{cases_eq}
+use Rattle.kin_queue.specs.Cost.{TakesSteps}
 use Rattle.kin_queue.specs.Hole.{RisesWithin}
+
+-- where nothing is compared
+pub none_taken : (n old : ℕ) → TakesSteps n old old
+none_taken n old = (0, omega arith, omega arith)
+
+-- what a hole takes on its way among at most one more entry
+pub taken : (m n old new : ℕ) → RisesWithin 1 (m * m) old new → m ≤ n + 1 → TakesSteps n old new
+taken m n old new (r, e, b) h = let square : m * m ≤ (n + 1) * (n + 1) = mul-le m m (n + 1) (n + 1) h h in (r, e, omega arith)
 
 -- at most one comparison for a half of the factor
 pub one_more : (factor less bound old at new : ℕ) → RisesWithin factor bound old at → at ≤ new → new ≤ at + 1 → 2 * less ≤ factor → RisesWithin less bound old new

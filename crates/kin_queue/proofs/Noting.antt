@@ -1,13 +1,15 @@
 -- A heap whose list of moments takes one more in.
-use Rattle.std.proofs.Common.{◌≡◌, ℕ, List, None, sym, ap, subst, ◌∙◌}
+use Rattle.std.proofs.Common.{◌≡◌, ℕ, ◌<◌, List, length, None, sym, ap, subst, ◌∙◌}
 use Rattle.std.specs.Ordering.{nat_cmp}
 use Rattle.std.specs.FinMap.{FinMap, get, insert, from_entries, get-from_entries}
 use Rattle.std.proofs.lemmas.Cmp.{nat_cmp_total}
 use Rattle.std.proofs.lemmas.List.{get_or-map}
 use Rattle.kin_num.specs.declared.instant.Moment.{Moment}
+use Rattle.kin_num.specs.Canonical.{IsCanonical}
+use Rattle.kin_instant.specs.Keys.{IsKeyOf}
 use Rattle.kin_queue.specs.Agenda.{Agenda}
 use Rattle.kin_queue.specs.declared.ticket.Ticket.{Ticket}
-use Rattle.kin_queue.specs.Tickets.{entry_of, entries_of}
+use Rattle.kin_queue.specs.Tickets.{moment_in, key_in, entry_of, entries_of, IsStamped}
 use Rattle.kin_queue.specs.Heap.{IsHeap, IsKeyed, IsNoted, Extends, agenda_of}
 use Rattle.kin_queue.proofs.Entries.{look_up, look_up-missed}
 use Rattle.kin_queue.proofs.Tickets.{entry_there, AreOthers, same_entries, same_stamps}
@@ -35,3 +37,13 @@ module _ (old new : List Moment) (id : ℕ) (at : Moment) (noted : IsNoted old i
 
   pub moments_before : from_entries {R = nat_cmp} (entries_of new ts) ≡ a.moments
   moments_before = ap (λ (l : List (ℕ × Moment)). from_entries {R = nat_cmp} l) as_before ∙ ap (λ (x : Agenda). x.moments) view
+
+-- the ticket of the id that is noted
+pub stamped_on : (old new : List Moment) (id : ℕ) (at : Moment) → IsNoted old id at new → (t : Ticket) → t.id ≡ id → IsKeyOf (key_in t) at → IsCanonical at.at → IsStamped new t
+stamped_on old new id at noted t e key canonical =
+    let here : moment_in new t.id ≡ at = ap (moment_in new) e ∙ noted.here in
+    record {
+      within = subst (λ (k : ℕ). k < length new) (sym e) noted.within;
+      canonical = subst (λ (m : Moment). IsCanonical m.at) (sym here) canonical;
+      key = subst (λ (m : Moment). IsKeyOf (key_in t) m) (sym here) key;
+    }

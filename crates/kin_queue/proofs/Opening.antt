@@ -24,6 +24,9 @@ heap_within es ps qs heap more = record {
   ordered = heap.ordered;
 }
 
+pub keyed_within : (ms : List Moment) (ts : List Ticket) (ps qs : List ℕ) → IsKeyed ms ts ps → Extends ps qs → IsKeyed ms ts qs
+keyed_within ms ts ps qs keyed more = record { heap = heap_within (entries_of ms ts) ps qs keyed.heap more; stamped = keyed.stamped }
+
 module _ (ms : List Moment) (ts : List Ticket) (t : Ticket) where
   abbrev es : List (ℕ × Moment)
   es = entries_of ms ts

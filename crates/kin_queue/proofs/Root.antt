@@ -1,7 +1,8 @@
 -- The first entry of a heap is one of least moment.
-use Rattle.std.proofs.Common.{◌/◌, ◌<◌, ◌≤◌, ℕ, zero, suc, List, [], ◌∷◌, length, get_or, slice_get, Some, cond, Bool, refl, sym, ap, subst, ◌∙◌, arith}
+use Rattle.std.proofs.Common.{◌≡◌, ◌/◌, ◌<◌, ◌≤◌, ℕ, zero, suc, List, [], ◌∷◌, length, get_or, slice_get, Some, cond, Bool, refl, sym, ap, subst, ◌∙◌, arith}
 use Rattle.std.specs.FinMap.{from_entries, get-from_entries}
 use Rattle.std.proofs.lemmas.Cmp.{nat_cmp_total}
+use Rattle.std.proofs.lemmas.Option.{same_Some}
 use Rattle.kin_num.specs.declared.instant.Moment.{Moment}
 use Rattle.kin_queue.specs.Agenda.{IsNext}
 use Rattle.kin_queue.specs.Heap.{IsHeap, IsRightBelow, MayStandAbove}
@@ -30,3 +31,8 @@ heap_next (e ∷ es) ps heap =
           let r = look_up-place (e ∷ es) id at (sym (get-from_entries nat_cmp_total (e ∷ es) id) ∙ h) in
           subst (MayStandAbove e) (r.2 e) (least_first (e ∷ es) ps heap e r.0 r.1);
     }
+
+-- an entry that is found first stands there
+pub first_there : (es : List (ℕ × Moment)) (e : ℕ × Moment) → slice_get es 0 ≡ Some e → (0 < length es) × ((d : ℕ × Moment) → get_or es 0 d ≡ e)
+first_there [] e h = absurd cc
+first_there (x ∷ es) e h = (omega arith, λ d. same_Some x e h)

@@ -20,7 +20,7 @@ IsRightBelow p c = (2 * p < c) × (c ≤ 2 * p + 2)
 abbrev pub MayStandAbove : ℕ × Moment → ℕ × Moment → Type 0
 MayStandAbove above below = ¬ (IsEarlier below.1 above.1)
 
--- the id is known to stand at this place
+-- the id is known to be at this place
 abbrev pub IsPlaceOf : List ℕ → ℕ → ℕ → Type 0
 IsPlaceOf ps id i = (id < length ps) × (slice_index ps id ≡ i)
 
@@ -34,11 +34,11 @@ pub record IsKeyed (ms : List Moment) (ts : List Ticket) (ps : List ℕ) : Type 
   pub heap : IsHeap (entries_of ms ts) ps
   pub stamped : AreStamped ms ts
 
--- the places known before stand as they were
+-- the places known before are as they were
 abbrev pub Extends : List ℕ → List ℕ → Type 0
 Extends old new = (id : ℕ) → id < length old → IsPlaceOf new id (slice_index old id)
 
--- the moment stands at its id, and the others stand as they were
+-- the moment is at its id, and the others are as they were
 pub record IsNoted (old : List Moment) (id : ℕ) (at : Moment) (new : List Moment) : Type 0 where
   pub within : id < length new
   pub here : moment_in new id ≡ at

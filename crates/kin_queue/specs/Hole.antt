@@ -32,15 +32,15 @@ FitsBelow es hole hand = (p : ℕ) (d : ℕ × Moment) → IsRightBelow p hole �
 abbrev pub FitsAbove : List (ℕ × Moment) → ℕ → ℕ × Moment → Type 0
 FitsAbove es hole hand = (c : ℕ) (d : ℕ × Moment) → IsRightBelow hole c → c < length es → MayStandAbove hand (slice_index_or es c d)
 
--- the entry stands somewhere
+-- the list has the entry
 abbrev pub Stands : List (ℕ × Moment) → ℕ × Moment → Type 0
 Stands es e = (i : ℕ) × (i < length es) × ((d : ℕ × Moment) → slice_index_or es i d ≡ e)
 
--- the entry stands somewhere else than in the hole
+-- the list has the entry outside the hole
 abbrev pub StandsOutside : List (ℕ × Moment) → ℕ → ℕ × Moment → Type 0
 StandsOutside es hole e = (i : ℕ) × (i < length es) × (i ≢ hole) × ((d : ℕ × Moment) → slice_index_or es i d ≡ e)
 
--- the hole moved from one place to another, and outside it stand the same entries
+-- the hole moved from one place to another, and outside it are the same entries
 pub record HasMoved (hand : ℕ × Moment) (old : List (ℕ × Moment)) (start : ℕ) (new : List (ℕ × Moment)) (ps : List ℕ) (hole : ℕ) : Type 0 where
   pub hollow : IsHollow new ps hole hand
   pub same : (e : ℕ × Moment) → StandsOutside old start e ↔ StandsOutside new hole e

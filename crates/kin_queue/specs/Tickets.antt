@@ -1,4 +1,4 @@
--- What the tickets of a heap stand for, where the moments stand by id. No public clause cites this module.
+-- What the tickets of a heap mean, where the moments are listed by id. No public clause cites this module.
 use Rattle.std.specs.Prelude.{ℕ, ◌<◌, List, length, slice_index_or, map, pos}
 use Rattle.std.specs.List.{All}
 use Rattle.kin_num.specs.declared.instant.Shape.TheVariants.{Ratio}

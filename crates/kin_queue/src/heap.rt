@@ -1,8 +1,8 @@
 //! The heap below the queue: entries with an earliest one first, and the place of each id.
 //!
-//! Right below place p lie the places 2p + 1 and 2p + 2, and no entry is earlier than the one above it. A hole rises or
-//! sinks to where an entry may stand, so that each other entry on its way moves once. An entry is a ticket of 16 bytes;
-//! the moments stand by id beside the heap, and are looked at only where two keys don't tell which one is earlier.
+//! Right below place p are the places 2p + 1 and 2p + 2, and no entry is earlier than the one above it. A hole rises or
+//! sinks to where an entry fits, so that each other entry on its way moves once. An entry is a ticket of 16 bytes; the
+//! moments are in a list of their own, by id, and are looked at only where two keys don't decide which one is earlier.
 
 ghost use Rattle.std.specs.Prelude.{◌≡◌, ◌≢◌, ◌⊎◌, ◌↔◌, ℕ, ◌+◌, ◌*◌, ◌<◌, ◌≤◌, length, slice_set, slice_index_or, None, IsTrue, vec_len, vec_capacity};
 ghost use Rattle.std.specs.FinMap.{get, insert, remove, from_entries};
@@ -44,7 +44,7 @@ pub fn put_in<L: Ledger>(
     lift(entries, places, moments, end, &entry, steps);
 }
 
-// Puts the last entry where it may stand. In line, as what calls it is.
+// Puts the last entry where it fits. In line, as its callers are.
 #[inline(always)]
 fn lift<L: Ledger>(
     entries: &mut [Ticket],
@@ -64,8 +64,7 @@ fn lift<L: Ledger>(
     put(entries, places, hole, *entry);
 }
 
-/// Takes the entry at a place out. The last entry comes into its stead and moves to where it may
-/// stand.
+/// Takes out the entry at a place. The last entry takes its place and moves to where it fits.
 pub fn take_out<L: Ledger>(
     entries: &mut Vec<Ticket>,
     places: &mut [usize],
@@ -86,7 +85,7 @@ pub fn take_out<L: Ledger>(
     settle(entries, places, moments, place, &last, steps);
 }
 
-// Puts the entry where it may stand, beginning at a hole.
+// Puts the entry where it fits, beginning at a hole.
 #[inline(never)]
 fn settle<L: Ledger>(
     entries: &mut [Ticket],
@@ -105,7 +104,7 @@ fn settle<L: Ledger>(
     put(entries, places, hole, *entry);
 }
 
-// Moves the hole to where the entry may stand.
+// Moves the hole to where the entry fits.
 #[inline(always)]
 fn find_hole<L: Ledger>(
     entries: &mut [Ticket],
@@ -159,7 +158,7 @@ fn rise<L: Ledger>(
     hole
 }
 
-// Moves the hole down past all earlier entries, by way of the earlier one of two. The last entry may stand alone below.
+// Moves the hole down past all earlier entries, by way of the earlier one of two. The last entry may be alone below.
 #[inline(always)]
 fn sink<L: Ledger>(
     entries: &mut [Ticket],
@@ -199,7 +198,7 @@ fn sink<L: Ledger>(
     last
 }
 
-// Where the earlier one of the two entries right below a place stands.
+// The place of the earlier one of the two entries right below a place.
 #[inline(always)]
 fn earlier_below<L: Ledger>(
     entries: &[Ticket],
@@ -238,7 +237,7 @@ fn is_earlier<L: Ledger>(x: &Ticket, y: &Ticket, moments: &[Moment], steps: &mut
     is_earlier_in_span(x, y, moments, steps)
 }
 
-// The same by all that the keys tell.
+// The same by the whole keys.
 #[inline(always)]
 fn is_earlier_in_span<L: Ledger>(
     x: &Ticket,
@@ -258,7 +257,7 @@ fn is_earlier_in_span<L: Ledger>(
     }
 }
 
-// Whether a moment is earlier than another one, out of the way of keys that tell.
+// Whether a moment is earlier than another one, where the keys don't decide. Out of line.
 #[inline(never)]
 fn is_earlier_moment<L: Ledger>(x: &Moment, y: &Moment, steps: &mut Steps<L>) -> bool
     ensures earlier { IsTrue result ↔ IsEarlier x.now y.now }

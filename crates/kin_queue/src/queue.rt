@@ -13,15 +13,15 @@ use std::alloc::Global;
 use std::marker::Model;
 use std::sync::ledger::Ledger;
 
-/// A finite map from ids to moments that gives an entry of least moment. Which one of several
-/// entries of the least moment comes next is free. `first` compares nothing, and each other call
-/// compares moments at most `2 log2(n + 1)` times on `n` entries, and only where keys don't tell. The
-/// memory grows with the greatest id, which is below `2^32`.
+/// A finite map from ids to moments that gives an entry of least moment. Which one of several entries of the least
+/// moment comes next is free. `first` compares nothing, and each other call compares moments at most `2 log2(n + 1)`
+/// times on `n` entries, and only where keys don't decide. The memory grows with the greatest id, which is below
+/// `2^32`.
 #[derive(Drop)]
 pub struct Queue {
     /// The entries, each id once. No entry is earlier than the one above it.
     entries: Vec<Ticket>,
-    /// Where the entry of each id stands. For an id that isn't there it means nothing.
+    /// The place of each id's entry. For an id that isn't there it means nothing.
     places: Vec<usize>,
     /// The moment of each id. For an id that isn't there it means nothing.
     moments: Vec<Moment>,
@@ -81,7 +81,7 @@ impl Queue {
         self.entries[known].id as usize == id
     }
 
-    /// Puts an id in that isn't there yet. Want of memory changes nothing. In line, so that its moment is written once.
+    /// Puts in an id that isn't there yet. Want of memory changes nothing. In line, so that its moment is written once.
     #[inline(always)]
     pub fn insert<L: Ledger>(
         &mut self,
@@ -111,7 +111,7 @@ impl Queue {
         Ok(())
     }
 
-    /// Takes an id out, which is there.
+    /// Takes out an id that is there.
     pub fn remove<L: Ledger>(&mut self, id: usize, steps: &mut Steps<L>)
         requires present { IsSome (get self.old.moments id) }
         ensures moments { self.new.moments ≡ remove self.old.moments id }
@@ -137,7 +137,7 @@ impl Queue {
         Some((id, self.moments[id]))
     }
 
-    /// Takes the entry out that `first` gives, or `None` exactly where the queue is empty.
+    /// Takes out the entry that `first` gives, or `None` exactly where the queue is empty.
     pub fn pop<L: Ledger>(&mut self, steps: &mut Steps<L>) -> Option<(usize, Moment)>
         ensures value { result ≡ self.old.next }
         ensures least { IsNext self.old.moments self.old.next }

@@ -81,7 +81,7 @@ fn new_starts(motion: &Motion, at: &Instant, u: i32, v: i32) -> Option<(i64, i64
     Some((x, y))
 }
 
-/// The constant part as it stands in a motion, if it is small enough.
+/// The constant part as a motion holds it, if it is small enough.
 fn in_bounds(start: i64) -> Option<i32>
     ensures { MatchOption result (¬ (unsigned_abs start ≤ 4096)) (λ narrow. (narrow ≡ start) × (unsigned_abs start ≤ 4096)) }
 {

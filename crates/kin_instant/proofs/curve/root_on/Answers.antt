@@ -9,10 +9,11 @@ use Rattle.kin_num.specs.Canonical.{discriminant}
 use Rattle.kin_instant.specs.declared.roots.Roots.TheVariants.{Nowhere}
 use Rattle.kin_instant.specs.Roots.{quadratic}
 use Rattle.kin_instant.specs.Sides.{IsRootOn}
-use Rattle.kin_instant.proofs.Widths.{clean, less_out, not_less_out}
+use Rattle.kin_instant.proofs.Widths.{clean, read_within, less_out, not_less_out}
 use Rattle.kin_instant.proofs.RootsOf.{negative_discriminant}
 use Rattle.kin_instant.proofs.Discriminants.{size, root_size, same_discriminant}
 use Rattle.kin_instant.proofs.curve.root_on.Goals as goal
+use Rattle.kin_instant.proofs.curve.root_on.Goals.{In-Some}
 
 -- the coefficients and the discriminant, as the code has them
 record IsRead (p : Quadratic) (a b c d : ℤ) : Type 0 where
@@ -31,6 +32,9 @@ read p a b c d fa fb fc fd ea eb ec ed =
     let b_is : as_read b ≡ p.b = clean w64 b fb ∙ eb in
     let c_is : as_read c ≡ p.c = clean w64 c fc ∙ ec in
     record { a_is = a_is; b_is = b_is; c_is = c_is; d_is = clean w64 d fd ∙ ed ∙ same_discriminant p.a p.b p.c _ _ _ a_is b_is c_is }
+
+read_positive : (x' x : ℤ) → mag x' < 2 ^ hbits w64 → x' ≡ x → pos 0 <ℤ x → pos 0 <ℤ as_read x'
+read_positive x' x f e h = subst (λ (z : ℤ). pos 0 <ℤ z) (sym (clean w64 x' f ∙ e)) h
 
 -- the discriminant, at least 0, and its size s
 not_negative : (d d' : ℤ) (s : ℕ) → d' ≡ d → pos 0 ≤ℤ d' → s ≡ unsigned_abs d' → pos s ≡ d
@@ -56,6 +60,15 @@ same_polynomial : (p : Quadratic) (a b c : ℤ) (u : Bool) (o : Option Shape) �
 same_polynomial p a b c u o e f g h =
     subst (λ (x : ℤ). IsRootOn (quadratic x p.b p.c) u o) e (subst (λ (y : ℤ). IsRootOn (quadratic a y p.c) u o) f (subst (λ (z : ℤ). IsRootOn (quadratic a b z) u o) g h))
 
+pub discriminant_of-discriminant-requires-clause-a_small : goal.discriminant_of-discriminant-requires-clause-a_small
+discriminant_of-discriminant-requires-clause-a_small c = read_within w64 c.a-a.result (2 ^ 29) (omega (arith, c.a-a.ensures.small)) (omega arith)
+
+pub discriminant_of-discriminant-requires-clause-b_small : goal.discriminant_of-discriminant-requires-clause-b_small
+discriminant_of-discriminant-requires-clause-b_small c = read_within w64 c.b-b.result (2 ^ 31) (omega (arith, c.b-b.ensures.small)) (omega arith)
+
+pub discriminant_of-discriminant-requires-clause-c_small : goal.discriminant_of-discriminant-requires-clause-c_small
+discriminant_of-discriminant-requires-clause-c_small c = read_within w64 c.c-c.result (2 ^ 29) (omega (arith, c.c-c.ensures.small)) (omega arith)
+
 pub returns-then-discriminant-lt0 : goal.returns-then-discriminant-lt0
 returns-then-discriminant-lt0 c =
     let p = c.args.p.now in
@@ -66,13 +79,40 @@ returns-then-discriminant-lt0 c =
       same = refl;
     }
 
-pub rational_root-requires-clause-root_small : goal.rational_root-requires-clause-root_small
-rational_root-requires-clause-root_small c =
+small_root : (c : In-Some) → c.in-Some.root < 2 ^ 30
+small_root c =
     let p = c.args.p.now in
     let r = read c.args.p.now _ _ _ _ c.a-a.type_inv c.b-b.type_inv c.c-c.type_inv c.discriminant_of-discriminant.type_inv c.a-a.ensures.value c.b-b.ensures.value c.c-c.ensures.value c.discriminant_of-discriminant.ensures in
     let s = not_negative (discriminant p.a p.b p.c) _ c.unsigned_abs.result r.d_is (not_less_out _ _ c.if-discriminant-lt0.false) c.unsigned_abs.ensures.value in
-    let l = exact_size c.in-Some.root c.unsigned_abs.result c.in-Some.ensures.some (size p.a p.b p.c c.unsigned_abs.result c.recall_small.ensures s) in
-    subst (λ (z : ℤ). unsigned_abs z < 2 ^ 30) (sym (root_read c.in-Some.root l)) l
+    exact_size c.in-Some.root c.unsigned_abs.result c.in-Some.ensures.some (size p.a p.b p.c c.unsigned_abs.result c.recall_small.ensures s)
+
+pub overflow_cast-root : goal.overflow_cast-root
+overflow_cast-root c = let l = small_root c in omega arith
+
+pub rational_root-requires-clause-a_positive : goal.rational_root-requires-clause-a_positive
+rational_root-requires-clause-a_positive c = read_positive c.a-a.result c.args.p.now.a c.a-a.type_inv c.a-a.ensures.value c.requires.a_positive
+
+pub rational_root-requires-clause-a_small : goal.rational_root-requires-clause-a_small
+rational_root-requires-clause-a_small c = read_within w64 c.a-a.result (2 ^ 28) c.a-a.ensures.small (omega arith)
+
+pub rational_root-requires-clause-b_small : goal.rational_root-requires-clause-b_small
+rational_root-requires-clause-b_small c = read_within w64 c.b-b.result (2 ^ 29) c.b-b.ensures.small (omega arith)
+
+pub rational_root-requires-clause-root_small : goal.rational_root-requires-clause-root_small
+rational_root-requires-clause-root_small c = let l = small_root c in subst (λ (z : ℤ). unsigned_abs z < 2 ^ 30) (sym (root_read c.in-Some.root l)) l
+
+pub rational_root-requires-clause-root_positive : goal.rational_root-requires-clause-root_positive
+rational_root-requires-clause-root_positive c = subst (λ (z : ℤ). pos 0 ≤ℤ z) (sym (root_read c.in-Some.root (small_root c))) (omega (arith, ints))
+
+pub irrational_root-requires-clause-a_positive : goal.irrational_root-requires-clause-a_positive
+irrational_root-requires-clause-a_positive c = read_positive c.a-a.result c.args.p.now.a c.a-a.type_inv c.a-a.ensures.value c.requires.a_positive
+
+pub irrational_root-requires-clause-small : goal.irrational_root-requires-clause-small
+irrational_root-requires-clause-small c = record {
+  a_small = read_within w64 c.a-a.result (2 ^ 28) c.a-a.ensures.small (omega arith);
+  b_small = read_within w64 c.b-b.result (2 ^ 29) c.b-b.ensures.small (omega arith);
+  c_small = read_within w64 c.c-c.result (2 ^ 28) c.c-c.ensures.small (omega arith);
+}
 
 pub irrational_root-requires-clause-real : goal.irrational_root-requires-clause-real
 irrational_root-requires-clause-real c =

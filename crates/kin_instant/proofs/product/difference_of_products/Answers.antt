@@ -1,6 +1,12 @@
-use Rattle.std.proofs.Common.{◌≤◌, ◌+◌, ◌*◌, unsigned_abs, ℤ, w64, arith, subst, sym, mul-le-mul}
-use Rattle.kin_instant.proofs.Widths.{difference-size, difference-fits, difference-value}
+use Rattle.std.proofs.Common.{◌≤◌, ◌+◌, ◌*◌, ◌^◌, unsigned_abs, ℤ, w64, arith, subst, sym, mul-le-mul}
+use Rattle.kin_instant.proofs.Widths.{product-fits, difference-size, difference-fits, difference-value}
 use Rattle.kin_instant.proofs.product.difference_of_products.Goals as goal
+
+pub overflow_mul-result : goal.overflow_mul-result
+overflow_mul-result c = product-fits w64 c.args.a c.args.b (2 ^ 31 * 2 ^ 31) c.ranges.a c.ranges.b (mul-le-mul c.requires.a_small c.requires.b_small) (omega arith)
+
+pub overflow_mul-result-2 : goal.overflow_mul-result-2
+overflow_mul-result-2 c = product-fits w64 c.args.c c.args.d (2 ^ 31 * 2 ^ 30) c.ranges.c c.ranges.d (mul-le-mul c.requires.c_small c.requires.d_small) (omega arith)
 
 pub overflow_sub-result : goal.overflow_sub-result
 overflow_sub-result c = difference-fits w64 _ _ _ _ _ _ c.ranges.a c.ranges.b c.ranges.c c.ranges.d (mul-le-mul c.requires.a_small c.requires.b_small) (mul-le-mul c.requires.c_small c.requires.d_small) (omega arith)

@@ -1,7 +1,7 @@
 use Rattle.std.proofs.Common.{◌≡◌, ◌≤◌, ◌^◌, ℤ, pos, ◌-ℤ◌, ◌*ℤ◌, unsigned_abs, to_z, of_z, w64, arith, ap, sym, ◌∙◌}
 use Rattle.std.proofs.lemmas.Int.{ints}
 use mir.Syntax.{w128}
-use Rattle.kin_instant.proofs.Widths.{clean, same_differences}
+use Rattle.kin_instant.proofs.Widths.{clean, clean-abs, read_within, same_differences}
 use Rattle.kin_algebra.specs.Signs.{sign_of, product_of}
 use Rattle.kin_num.specs.Quadratic.{Quadratic}
 use Rattle.kin_num.specs.Instants.{side}
@@ -17,6 +17,45 @@ twice a h = omega (arith, ints)
 
 same_resultant : (p : Quadratic) (b c s t b' c' s' t' : ℤ) → b' ≡ b → c' ≡ c → s' ≡ s → t' ≡ t → t' *ℤ t' -ℤ s' *ℤ (b' *ℤ p.c -ℤ p.b *ℤ c') ≡ t *ℤ t -ℤ s *ℤ (b *ℤ p.c -ℤ p.b *ℤ c)
 same_resultant p b c s t b' c' s' t' e f g h = rw (e, f, g, h)
+
+doubled : (a : ℤ) → unsigned_abs a ≤ 2 ^ 29 → unsigned_abs (pos 2 *ℤ to_z w64 (of_z w64 a)) ≤ 2 ^ 30
+doubled a h = rw (clean-abs w64 a (omega arith)) (omega (arith, ints))
+
+pub remainder_slope-slope-requires-clause-a_small : goal.remainder_slope-slope-requires-clause-a_small
+remainder_slope-slope-requires-clause-a_small c = read_within w64 c.args.a (2 ^ 29) c.requires.a_small (omega arith)
+
+pub remainder_slope-slope-requires-clause-b_small : goal.remainder_slope-slope-requires-clause-b_small
+remainder_slope-slope-requires-clause-b_small c = read_within w64 c.args.b (2 ^ 31) c.requires.b_small (omega arith)
+
+pub remainder_start-start-requires-clause-a_small : goal.remainder_start-start-requires-clause-a_small
+remainder_start-start-requires-clause-a_small c = read_within w64 c.args.a (2 ^ 29) c.requires.a_small (omega arith)
+
+pub remainder_start-start-requires-clause-c_small : goal.remainder_start-start-requires-clause-c_small
+remainder_start-start-requires-clause-c_small c = read_within w64 c.args.c (2 ^ 29) c.requires.c_small (omega arith)
+
+pub wide_difference_of_products-requires-clause-a_small : goal.wide_difference_of_products-requires-clause-a_small
+wide_difference_of_products-requires-clause-a_small c = let twice = read_within w64 (pos 2 *ℤ to_z w64 (of_z w64 c.args.a)) (2 ^ 30) (doubled c.args.a c.requires.a_small) (omega arith) in omega arith
+
+pub wide_difference_of_products-requires-clause-b_small : goal.wide_difference_of_products-requires-clause-b_small
+wide_difference_of_products-requires-clause-b_small c = let start = read_within w64 c.remainder_start-start.result (2 ^ 61) c.remainder_start-start.ensures.size (omega arith) in omega arith
+
+pub wide_difference_of_products-requires-clause-c_small : goal.wide_difference_of_products-requires-clause-c_small
+wide_difference_of_products-requires-clause-c_small c = let b = read_within w64 c.args.b (2 ^ 31) c.requires.b_small (omega arith) in omega arith
+
+pub wide_difference_of_products-requires-clause-d_small : goal.wide_difference_of_products-requires-clause-d_small
+wide_difference_of_products-requires-clause-d_small c = let slope = read_within w64 c.remainder_slope-slope.result (2 ^ 61) c.remainder_slope-slope.ensures.size (omega arith) in omega arith
+
+pub resultant_sign-requires-clause-b_small : goal.resultant_sign-requires-clause-b_small
+resultant_sign-requires-clause-b_small c = read_within w64 c.args.b (2 ^ 31) c.requires.b_small (omega arith)
+
+pub resultant_sign-requires-clause-c_small : goal.resultant_sign-requires-clause-c_small
+resultant_sign-requires-clause-c_small c = read_within w64 c.args.c (2 ^ 29) c.requires.c_small (omega arith)
+
+pub resultant_sign-requires-clause-slope_small : goal.resultant_sign-requires-clause-slope_small
+resultant_sign-requires-clause-slope_small c = read_within w64 c.remainder_slope-slope.result (2 ^ 61) c.remainder_slope-slope.ensures.size (omega arith)
+
+pub resultant_sign-requires-clause-start_small : goal.resultant_sign-requires-clause-start_small
+resultant_sign-requires-clause-start_small c = read_within w64 c.remainder_start-start.result (2 ^ 61) c.remainder_start-start.ensures.size (omega arith)
 
 pub returns-in-Minus : goal.returns-in-Minus
 returns-in-Minus c =

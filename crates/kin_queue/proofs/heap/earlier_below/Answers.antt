@@ -1,8 +1,28 @@
-use Rattle.std.proofs.Common.{◌≡◌, ◌+◌, ◌*◌, ◌<◌, true, false, length, get_or, sym, ◌∙◌, arith}
-use Rattle.kin_queue.specs.Tickets.{entry_of, entries_of}
+use Rattle.std.proofs.Common.{◌≡◌, ◌+◌, ◌*◌, ◌<◌, true, false, length, get_or, sym, subst, ◌∙◌, arith}
+use Rattle.kin_queue.specs.Tickets.{entry_of, entries_of, IsStamped}
 use Rattle.kin_queue.proofs.Tickets.{blank, entry_at, entry_there, first_from, second_from}
 use Rattle.kin_queue.proofs.Steps.{right_earliest, left_earliest}
 use Rattle.kin_queue.proofs.heap.earlier_below.Goals as goal
+
+pub is_earlier-requires-clause-left : goal.is_earlier-requires-clause-left
+is_earlier-requires-clause-left g c =
+    let ts = c.args.entries.now in
+    let left = 2 * c.args.place + 1 in
+    let low : 2 * c.args.place + 1 < length c.args.entries.now = omega arith in
+    let inside : 2 * c.args.place + 1 + 1 < length c.args.entries.now = omega arith in
+    let first = subst (IsStamped c.args.moments.now) (sym (first_from ts left low)) (c.requires.stamped left blank low) in
+    let second = subst (IsStamped c.args.moments.now) (sym (second_from ts left inside)) (c.requires.stamped (left + 1) blank inside) in
+    search (first, second)
+
+pub is_earlier-requires-clause-right : goal.is_earlier-requires-clause-right
+is_earlier-requires-clause-right g c =
+    let ts = c.args.entries.now in
+    let left = 2 * c.args.place + 1 in
+    let low : 2 * c.args.place + 1 < length c.args.entries.now = omega arith in
+    let inside : 2 * c.args.place + 1 + 1 < length c.args.entries.now = omega arith in
+    let first = subst (IsStamped c.args.moments.now) (sym (first_from ts left low)) (c.requires.stamped left blank low) in
+    let second = subst (IsStamped c.args.moments.now) (sym (second_from ts left inside)) (c.requires.stamped (left + 1) blank inside) in
+    search (first, second)
 
 pub returns-then-is_earlier-clause-child : goal.returns-then-is_earlier-clause-child
 returns-then-is_earlier-clause-child g c =

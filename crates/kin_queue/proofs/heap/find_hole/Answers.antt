@@ -1,8 +1,57 @@
-use Rattle.std.proofs.Common.{◌≡◌, ◌+◌, ◌*◌, ℕ, length, subst, arith}
+use Rattle.std.proofs.Common.{◌≡◌, ◌≤◌, ◌+◌, ◌*◌, ℕ, length, subst, arith}
+use Rattle.std.proofs.lemmas.Nat.{mul-le}
 use Rattle.kin_queue.specs.Tickets.{entry_of, entries_of}
-use Rattle.kin_queue.specs.Hole.{RisesWithin, HasMoved}
-use Rattle.kin_queue.proofs.Costs.{both_ways}
+use Rattle.kin_queue.specs.Hole.{RisesWithin, HasMoved, IsHollow, FitsBelow}
+use Rattle.kin_queue.proofs.Costs.{both_ways, more_bound}
+use Rattle.kin_queue.proofs.Tickets.{ticket_there}
 use Rattle.kin_queue.proofs.heap.find_hole.Goals as goal
+
+pub rise-hole-requires : goal.rise-hole-requires
+rise-hole-requires g c = c.requires
+
+pub returns-then-hole-start-clause-moved : goal.returns-then-hole-start-clause-moved
+returns-then-hole-start-clause-moved g c = c.rise-hole.ensures.moved
+
+pub returns-then-hole-start-clause-stamped : goal.returns-then-hole-start-clause-stamped
+returns-then-hole-start-clause-stamped g c = c.rise-hole.ensures.stamped
+
+pub returns-then-hole-start-clause-above : goal.returns-then-hole-start-clause-above
+returns-then-hole-start-clause-above g c = c.rise-hole.ensures.above
+
+pub returns-then-hole-start-clause-below : goal.returns-then-hole-start-clause-below
+returns-then-hole-start-clause-below g c = c.rise-hole.ensures.below c.if-hole-start.true
+
+pub returns-then-hole-start-clause-cost : goal.returns-then-hole-start-clause-cost
+returns-then-hole-start-clause-cost g c =
+    let n = length c.args.entries.now in
+    let inside : c.args.start + 1 ≤ length c.args.entries.now = let w = ticket_there c.args.moments.now c.args.entries.now c.args.start c.requires.hollow.within in omega arith in
+    let square : n * 1 ≤ n * n = mul-le n 1 n n (omega arith) (omega arith) in
+    more_bound 1 (c.args.start + 1) (n * n) c.args.steps.now c.rise-hole.new.steps c.rise-hole.ensures.cost (omega arith)
+
+pub sink-requires-clause-hollow : goal.sink-requires-clause-hollow
+sink-requires-clause-hollow g c =
+    let h = c.rise-hole in
+    let here : c.rise-hole.result ≡ c.args.start = omega arith in
+    record {
+      hollow = subst (λ (n : ℕ). IsHollow (entries_of c.args.moments.now h.new.entries) h.new.places n (entry_of c.args.moments.now c.args.entry.now)) here h.ensures.moved.hollow;
+      stamped = h.ensures.stamped;
+      stamped_hand = c.requires.stamped_hand;
+    }
+
+pub sink-requires-clause-above : goal.sink-requires-clause-above
+sink-requires-clause-above g c =
+    let h = c.rise-hole in
+    let here : c.rise-hole.result ≡ c.args.start = omega arith in
+    subst (λ (n : ℕ). FitsBelow (entries_of c.args.moments.now h.new.entries) n (entry_of c.args.moments.now c.args.entry.now)) here h.ensures.above
+
+pub returns-clause-stamped : goal.returns-clause-stamped
+returns-clause-stamped g c = c.sink.ensures.stamped
+
+pub returns-clause-above : goal.returns-clause-above
+returns-clause-above g c = c.sink.ensures.above
+
+pub returns-clause-below : goal.returns-clause-below
+returns-clause-below g c = c.sink.ensures.below
 
 pub returns-clause-moved : goal.returns-clause-moved
 returns-clause-moved g c =

@@ -3,9 +3,19 @@ use Rattle.std.proofs.lemmas.Nat.{mul-le}
 use Rattle.std.proofs.lemmas.Bool.{cases_eq}
 use Rattle.kin_queue.specs.Tickets.{entry_of, entries_of}
 use Rattle.kin_queue.specs.Hole.{FitsAbove}
+use Rattle.kin_queue.proofs.Tickets.{ticket_there}
 use Rattle.kin_queue.proofs.Steps.{ticket_filled, stands_there, fits_above_none}
 use Rattle.kin_queue.proofs.Costs.{more_bound}
 use Rattle.kin_queue.proofs.heap.lift.Goals as goal
+
+pub rise-hole-requires : goal.rise-hole-requires
+rise-hole-requires g c = c.requires.open
+
+pub put-requires-clause-place : goal.put-requires-clause-place
+put-requires-clause-place g c = let h = c.rise-hole in ticket_there c.args.moments.now h.new.entries h.result h.ensures.moved.hollow.within
+
+pub put-requires-clause-known : goal.put-requires-clause-known
+put-requires-clause-known g c = c.rise-hole.ensures.moved.hollow.known
 
 pub returns-clause-heap : goal.returns-clause-heap
 returns-clause-heap g c =

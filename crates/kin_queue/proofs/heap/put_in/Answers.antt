@@ -6,6 +6,7 @@ use Rattle.kin_queue.specs.Tickets.{entry_of, entries_of}
 use Rattle.kin_queue.specs.Hole.{Stands, StandsOutside}
 use Rattle.kin_queue.proofs.Opening.{open_in, outside_end}
 use Rattle.kin_queue.proofs.Contents.{heap_apart, moments_inserted}
+use Rattle.kin_queue.proofs.Costs.{taken}
 use Rattle.kin_queue.proofs.Whole.{take_whole}
 use Rattle.kin_queue.proofs.heap.put_in.Goals as goal
 
@@ -31,3 +32,11 @@ returns-clause-moments g c =
       λ s. elim ((stands e).0 s) [ inl u ↦ inl u | inr o ↦ inr ((outside_end ms ts t e).0 o) ],
       λ s. (stands e).1 (elim s [ inl u ↦ inl u | inr o ↦ inr ((outside_end ms ts t e).1 o) ]),
     )))
+
+pub returns-clause-heap : goal.returns-clause-heap
+returns-clause-heap g c =
+    let us = c.lift.new.entries in
+    rw (take_whole c.push_reserved.new.self.len us (drop (length us) c.push_reserved.new.self.items) (omega arith)) c.lift.ensures.heap
+
+pub returns-clause-cost : goal.returns-clause-cost
+returns-clause-cost g c = taken _ _ _ _ c.lift.ensures.cost (omega arith)

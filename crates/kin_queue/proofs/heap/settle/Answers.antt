@@ -1,6 +1,19 @@
 use Rattle.std.proofs.Common.{inl, inr}
+use Rattle.kin_queue.proofs.Tickets.{ticket_there}
 use Rattle.kin_queue.proofs.Steps.{ticket_filled, stands_there}
 use Rattle.kin_queue.proofs.heap.settle.Goals as goal
+
+pub find_hole-hole-requires : goal.find_hole-hole-requires
+find_hole-hole-requires g c = c.requires
+
+pub put-requires-clause-place : goal.put-requires-clause-place
+put-requires-clause-place g c = let h = c.find_hole-hole in ticket_there c.args.moments.now h.new.entries h.result h.ensures.moved.hollow.within
+
+pub put-requires-clause-known : goal.put-requires-clause-known
+put-requires-clause-known g c = c.find_hole-hole.ensures.moved.hollow.known
+
+pub returns-clause-cost : goal.returns-clause-cost
+returns-clause-cost g c = c.find_hole-hole.ensures.cost
 
 pub returns-clause-heap : goal.returns-clause-heap
 returns-clause-heap g c =

@@ -7,6 +7,7 @@ use Rattle.kin_queue.specs.Hole.{Stands, StandsOutside}
 use Rattle.kin_queue.proofs.Tickets.{entry_there}
 use Rattle.kin_queue.proofs.Opening.{keyed_front, open_out, outside_end, left_out}
 use Rattle.kin_queue.proofs.Contents.{heap_apart, moments_removed}
+use Rattle.kin_queue.proofs.Costs.{none_taken, taken}
 use Rattle.kin_queue.proofs.Whole.{take_whole}
 use Rattle.kin_queue.proofs.heap.take_out.Goals as goal
 
@@ -46,3 +47,14 @@ returns-clause-moments g c = λ d.
     rw (take_whole c.take_last-last.new.self.len us (drop (length us) ts) (omega arith), c.take_last-last.ensures.items) (
     moments_removed (entries_of ms (ts ++ t ∷ [])) (entries_of ms us) c.args.place d (heap_apart (entries_of ms (ts ++ t ∷ [])) ps keyed.heap) (heap_apart (entries_of ms us) c.settle.new.places c.settle.ensures.heap.heap) (entry_there ms (ts ++ t ∷ []) c.args.place inside)
     (λ e. (λ s. (left_out ms ts t ps keyed c.args.place low e).0 ((stands e).0 s), λ s. (stands e).1 ((left_out ms ts t ps keyed c.args.place low e).1 s))))
+
+pub returns-then-place-len-clause-cost : goal.returns-then-place-len-clause-cost
+returns-then-place-len-clause-cost g c = none_taken _ _
+
+pub returns-clause-heap : goal.returns-clause-heap
+returns-clause-heap g c =
+    let us = c.settle.new.entries in
+    rw (take_whole c.take_last-last.new.self.len us (drop (length us) c.take_last-last.new.self.items) (omega arith)) c.settle.ensures.heap
+
+pub returns-clause-cost : goal.returns-clause-cost
+returns-clause-cost g c = taken _ _ _ _ c.settle.ensures.cost (omega arith)

@@ -1,4 +1,4 @@
-use Rattle.std.proofs.Common.{refl, rules, ap}
+use Rattle.std.proofs.Common.{ap}
 use Rattle.kin_cert.specs.Layout.{waiting}
 use Rattle.kin_cert.proofs.entry.Entry.let_wait.Goals as goal
 
