@@ -31,3 +31,9 @@ pub mod MergeDetermined
 pub mod ChainLaws
 pub mod SupportLaws
 pub mod Covering
+pub mod Levels
+pub mod NodeChains
+pub mod NodeFacts
+pub mod TreeDetermined
+pub mod Upright
+pub mod HullDetermined

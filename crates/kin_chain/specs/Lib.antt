@@ -2,3 +2,4 @@ pub mod Upper
 pub mod Merging
 pub mod Supports
 pub mod Covering
+pub mod Trees

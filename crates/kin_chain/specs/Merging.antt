@@ -1,4 +1,4 @@
--- What a merge of two upper chains is told and remembers, and what follows for a scene.
+-- What a merge of two upper chains is given and remembers, and what follows for a scene.
 use Rattle.std.specs.Prelude.{◌≡◌, ℕ, ◌<◌, Bool, ◌||◌, List, ◌++◌, map, Contains, ◌↔◌}
 use Rattle.kin_motion.specs.declared.form.Form.{Form}
 use Rattle.kin_motion.specs.declared.fact.Placed.{Placed}
@@ -11,13 +11,13 @@ use Rattle.kin_motion.specs.Cells.{merged_chain}
 use Rattle.kin_motion.specs.Kinetics.{AllHold}
 use Rattle.kin_motion.specs.Contents.{IsSettledMerge}
 
--- the two told chains are the upper chains of two sets, and every number of the left set is less than every number of the right one
+-- the two given chains are the upper chains of two sets, and every number of the left set is less than every number of the right one
 pub record AreTold (s : Scene) (left right a b : List ℕ) : Type 0 where
   pub a_chain : IsUpperChain s left a
   pub b_chain : IsUpperChain s right b
   pub less : (i j : ℕ) → IsIn i left → IsIn j right → i < j
 
--- two told chains have a list of breakpoints, and only one
+-- two given chains have a list of breakpoints, and only one
 abbrev pub OneBreakpointList : Type 0
 OneBreakpointList =
     (s : Scene) (left right a b : List ℕ) → IsReal s → AreTold s left right a b
@@ -31,7 +31,7 @@ MergeGivesChain = (s : Scene) (left right a b : List ℕ) (es : List Breakpoint)
 abbrev pub is_in_place : Scene → Breakpoint → Breakpoint → Bool
 is_in_place s e f = is_of e.half f.half || is_placed_before s e f
 
--- what was seen in `old` of a merge is so in `now`: the list has the breakpoints of both chains, its neighbours are in place, and each form has its sign
+-- what was seen of a merge in `old` holds in `now`: the list has the breakpoints of both chains, its neighbours are in place, and each form has its sign
 pub record IsKept (old now : Scene) (a b : List ℕ) (es : List Breakpoint) : Type 0 where
   pub interleaved : IsInterleaving a b es
   pub in_place : IsChain (is_in_place old) es
@@ -43,7 +43,8 @@ pub record IsMergeNow (old now : Scene) (left right a b : List ℕ) (es : List B
   pub facts : (part : ℕ) → ListsExactly (map (placed_at old part) (forms_of_merge old a b es)) (IsMergeFact now left right part)
   pub chain : IsUpperChain now (left ++ right) (merged_chain old a b es)
 
--- the one theorem for both laws: where both told chains are upper chains and what was seen of the merge is so, the merge is right there; nothing is asked of `old`
+-- the one theorem for both laws: where both given chains are upper chains and what was seen of the merge holds, the merge is right there; nothing is required
+-- of `old`
 abbrev pub MergeIsRight : Type 0
 MergeIsRight = (old now : Scene) (left right a b : List ℕ) (es : List Breakpoint) → IsReal now → AreTold now left right a b → IsKept old now a b es → IsMergeNow old now left right a b es
 
@@ -51,7 +52,7 @@ MergeIsRight = (old now : Scene) (left right a b : List ℕ) (es : List Breakpoi
 abbrev pub MergeIsSettled : Type 0
 MergeIsSettled = (s : Scene) (left right a b : List ℕ) (es : List Breakpoint) → IsReal s → AreTold s left right a b → IsInterleaving a b es → IsChain (is_in_place s) es → IsMergeNow s s left right a b es
 
--- the determination law's use: where both told chains are upper chains and all facts of a settled merge hold, it is settled
+-- the determination law's use: where both given chains are upper chains and all facts of a settled merge hold, it is settled
 abbrev pub MergeIsDetermined : Type 0
 MergeIsDetermined = (old now : Scene) (a b chain : List ℕ) (part : ℕ) (facts : List Placed) → IsReal old → IsReal now → IsSettledMerge old a b chain part facts
     → IsUpperChain now a a → IsUpperChain now b b → AllHold now facts → IsSettledMerge now a b chain part facts

@@ -3,6 +3,7 @@
 ghost use Rattle.kin_chain.specs.Covering.{ChainCovers};
 ghost use Rattle.kin_chain.specs.Merging.{ChainOfChains, FactsOfChains, MergeGivesChain, MergeIsDetermined, MergeIsRight, MergeIsSettled, OneBreakpointList};
 ghost use Rattle.kin_chain.specs.Supports.{Outermost, Support, TiesAgree};
+ghost use Rattle.kin_chain.specs.Trees.{HullIsDetermined, TreeIsDetermined};
 ghost use Rattle.kin_chain.specs.Upper.{BestPoint, DifferentX, EndPoints, SmallerSet, TurningRight};
 
 /// Two different points that stay in a set have different x, three turn right from left to right, and
@@ -20,7 +21,7 @@ pub fn chain_is_highest()
     ensures ends { EndPoints }
 {}
 
-/// The breakpoints of two upper chains stand in one order by slope: there is a list of them, and only one.
+/// The breakpoints of two upper chains are in one order by slope: there is a list of them, and only one.
 pub fn one_breakpoint_list()
     ensures { OneBreakpointList }
 {}
@@ -45,9 +46,9 @@ pub fn merge_gives_chain()
     ensures { MergeGivesChain }
 {}
 
-/// Where both told chains are upper chains and what was seen of a merge is so, its list is the list of
-/// breakpoints, its facts are exactly those of the merge, and its chain is the upper chain of both
-/// sets. The settling law and the determination law of a merge are two uses of it.
+/// Where both given chains are upper chains and what is remembered of a merge holds, its list is the list of
+/// breakpoints, its facts are exactly those of the merge, and its chain is the upper chain of both sets. The
+/// settling law and the determination law of a merge are two uses of it.
 pub fn merge_is_right()
     ensures right { MergeIsRight }
     ensures settled { MergeIsSettled }
@@ -58,4 +59,14 @@ pub fn merge_is_right()
 pub fn chains_stand_for_sets()
     ensures chain { ChainOfChains }
     ensures facts { FactsOfChains }
+{}
+
+/// The facts of a tree of upper chains determine the chain of each node, and themselves.
+pub fn tree_is_determined()
+    ensures { TreeIsDetermined }
+{}
+
+/// The facts of a hull determine its cycle, and themselves.
+pub fn hull_is_determined()
+    ensures { HullIsDetermined }
 {}

@@ -13,7 +13,7 @@ use Rattle.kin_motion.specs.ClosestPairs.{Near, distance_key}
 use Rattle.kin_motion.proofs.ChangeLaws.{both_changed}
 use Rattle.kin_motion.proofs.SetLaws.{contains_mapped}
 use Rattle.kin_tourney.specs.Tournament.{Tournament, IsSettled}
-use Rattle.kin_tourney.specs.Under.{is_under-le}
+use Rattle.kin_motion.proofs.UnderNodes.{is_under-le}
 use Rattle.kin_closest.specs.DistanceKey.{pair_names}
 use Rattle.kin_motion.proofs.NodeLaws.{held_slot}
 

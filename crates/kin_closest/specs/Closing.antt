@@ -26,7 +26,7 @@ pub record Closing : Type 0 where
   pub pairs : Tournament Distance Near
   pub whole : Bool
 
--- the facts of the orders, and behind them those of the tournament
+-- the facts of the orders, and after them those of the tournament
 abbrev pub facts_of : Closing → List Placed
 facts_of k = k.wedges.facts ++ map (moved_by 8) k.pairs.facts
 
@@ -43,7 +43,7 @@ pub record IsSettledClosing (k : Closing) (s : Scene) : Type 0 where
   pub held : HoldCandidates k.wedges.size (candidate_told k.wedges) k.pairs.slots
   pub pairs : IsSettled pair_names distance_key k.pairs s
 
--- no mark stands
+-- no mark waits
 pub record IsClosingAtRest (k : Closing) : Type 0 where
   pub rest : IsWedgingAtRest k.wedges
   pub whole : IsTrue k.whole

@@ -23,7 +23,7 @@ use Rattle.kin_closest.specs.DistanceKey.{pair_names, distance_total, distance_t
 use Rattle.kin_closest.specs.Closing.{Closing, facts_of, pair_told, IsSettledClosing, IsClosingAtRest, IsReadyClosing, IsClosingFor, HasMembers, StaysClosing}
 use Rattle.kin_near.proofs.SettledPairs.{closest_is_settled}
 
--- what holds of all facts holds of the first ones, and of those behind them
+-- what holds of all facts holds of the first ones, and of those after them
 first_hold : (s : Scene) (xs ys : List Placed) → AllHold s (xs ++ ys) → AllHold s xs
 first_hold s [] ys h = All-nil (λ p. Holds s p.fact)
 first_hold s (x ∷ xs) ys h = All-cons (λ p. Holds s p.fact) x xs (All-head (λ p. Holds s p.fact) x (xs ++ ys) h) (first_hold s xs ys (All-tail (λ p. Holds s p.fact) x (xs ++ ys) h))

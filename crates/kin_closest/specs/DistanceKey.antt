@@ -24,7 +24,7 @@ distance_askable live p q here there = (first p.i p.j here, second p.i p.j here,
     second : (i j : ℕ) → AreLive live (i ∷ j ∷ []) → IsIn j live
     second i j k = All-head (λ n. IsIn n live) j [] (All-tail (λ n. IsIn n live) i (j ∷ []) k)
 
--- of two different pairs one is closer, or as close and less
+-- of two different pairs one is closer, or equally close and less
 pub distance_total : (s : Scene) (p q : Near) → IsReal s → AreLive s.live (pair_names p) → AreLive s.live (pair_names q) → p ≢ q → beats s distance_key q p ≡ not (beats s distance_key p q)
 distance_total s p q real here there n = nearer_total s (real_distance_laws s real) p q n
 

@@ -1,4 +1,4 @@
--- Slots of the tournament that are told of their candidates.
+-- Slots of the tournament that get the pairs of their candidates.
 use Rattle.std.specs.Prelude.{◌≡◌, ◌≢◌, ℕ, ◌+◌, ◌/◌, ◌%◌, ◌<◌, ◌≤◌, true, List, length, Option, Some, slice_get}
 use Rattle.kin_motion.specs.ClosestPairs.{Near}
 use Rattle.kin_motion.specs.ClosestFacts.{near_of}

@@ -90,8 +90,8 @@ impl KinClosest {
         self.wedges.remove(no);
     }
 
-    /// The closest pair, the lesser number first, or `None` exactly below two members. Of pairs that
-    /// are as close it is the one with the least first number, then with the least second one.
+    /// The closest pair, the lesser number first, or `None` exactly below two members. Of equally
+    /// close pairs it is the one with the least first number, then with the least second one.
     pub fn closest(&self) -> Option<(u32, u32)>
         requires rest { IsClosingAtRest self.now }
         ensures { (s : Scene) → IsSettledClosing self.now s → IsClosest s result }

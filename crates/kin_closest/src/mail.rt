@@ -1,4 +1,4 @@
-//! What the halves of a closest pair are told.
+//! The failed facts of the halves of a closest pair.
 
 ghost use Rattle.std.specs.Prelude.{◌≡◌, ◌+◌, ◌*◌, ◌≤◌, ◌<◌, ◌^◌, OnOk, filter, length, map, Contains};
 ghost use Rattle.kin_motion.specs.declared.fact.Placed.{Placed as Put};
@@ -37,7 +37,7 @@ impl Mail {
         }
     }
 
-    /// Sorts failed facts out.
+    /// Sorts failed facts.
     pub(crate) fn sort(&mut self, failed: &[Placed]) -> Result<(), NoMemory>
         ensures { OnOk result (IsSortedMail failed.now self.new.orders.items self.new.pairs.items) }
     {
@@ -56,7 +56,7 @@ impl Mail {
         }
     }
 
-    /// Settles the tournament, and reports its facts in their parts behind the orders.
+    /// Settles the tournament, and reports its facts in their parts after the orders.
     pub(crate) fn settle_pairs<O: Signs, L: Ledger>(
         &mut self,
         pairs: &mut Tourney<Distance>,

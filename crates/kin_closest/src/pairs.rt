@@ -10,7 +10,7 @@ use crate::pair::Pair;
 use kin_tourney::Tourney;
 use kin_wedge::Wedges;
 
-/// Tells a slot of the candidate that it has now.
+/// Gives a slot the pair of the candidate that it has now.
 fn tell(pairs: &mut Tourney<Distance>, slot: u32, candidate: Option<u32>)
     requires { slot < 2 ^ pairs.old.size }
     ensures { pairs.new ≡ record pairs.old { slots = slice_set pairs.old.slots slot (near_of slot (slot / 8) candidate); marked = slice_set pairs.old.marked slot true; winners = pairs.new.winners } }
@@ -21,7 +21,7 @@ fn tell(pairs: &mut Tourney<Distance>, slot: u32, candidate: Option<u32>)
     }
 }
 
-/// Tells these slots of their candidates.
+/// Gives these slots the pairs of their candidates.
 fn tell_each(pairs: &mut Tourney<Distance>, wedges: &Wedges, slots: &[u32])
     requires size { pairs.old.size ≡ wedges.now.size + 3 }
     requires slots_room { length pairs.old.slots ≡ 2 ^ pairs.old.size }
@@ -35,7 +35,7 @@ fn tell_each(pairs: &mut Tourney<Distance>, wedges: &Wedges, slots: &[u32])
     }
 }
 
-/// Tells all slots that have another candidate than before the last settle.
+/// Gives the pairs of their candidates to all slots whose candidate the last settle has changed.
 pub(crate) fn tell_all(pairs: &mut Tourney<Distance>, wedges: &Wedges)
     requires size { pairs.old.size ≡ wedges.now.size + 3 }
     requires slots_room { length pairs.old.slots ≡ 2 ^ pairs.old.size }

@@ -8,7 +8,7 @@ ghost use Rattle.kin_closest.specs.Sorting.{is_of_order, is_of_pair, taken_back,
 use kin_motion::fact::Placed;
 use kin_num::memory::NoMemory;
 
-/// The orders have the parts 0 to 7, and the nodes of the tournament those behind.
+/// The orders have the parts 0 to 7, and the nodes of the tournament those after.
 const ORDERS: u32 = 8;
 
 /// Puts a fact where it belongs, one of the tournament in its own part.
@@ -42,7 +42,7 @@ fn are_of_orders(facts: &[Placed]) -> bool
     true
 }
 
-/// Sorts facts out: those of the tournament in its own parts, and where there are some, those of the orders.
+/// Sorts facts: those of the tournament in its own parts, and where there are some, those of the orders.
 pub(crate) fn sort_out(
     facts: &[Placed],
     orders: &mut Vec<Placed>,
@@ -61,7 +61,7 @@ pub(crate) fn sort_out(
     Ok(())
 }
 
-/// Moves the facts from a place on, those of the tournament, to their parts behind the orders.
+/// Moves the facts from a place on, those of the tournament, to their parts after the orders.
 pub(crate) fn move_from(facts: &mut Vec<Placed>, from: usize)
     requires { (p : Put) → Contains (drop from facts.old.items) p → p.part < 2 ^ 15 }
     ensures { facts.new.items ≡ take from facts.old.items ++ map (moved_by 8) (drop from facts.old.items) }

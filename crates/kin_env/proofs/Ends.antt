@@ -27,7 +27,8 @@ use Rattle.kin_env.specs.declared.branches.Branches.{Branches}
 use Rattle.kin_env.specs.Nodes.{chain_with, facts_with, merge_from, passed_from, edits_from, failed_from, merge_at, passed_at, chain_at, edits_at, failed_at, facts_at}
 use Rattle.kin_env.specs.Joints.{Leads, IsJoint, IsSettledThere, AreSpared}
 use Rattle.kin_env.specs.Walks.{slot_in, own_chain, IsShaped, AreJoined, IsInner, IsSound, IsWalked, IsRight, AreRight, AreGiven, IsAtPeace, tree_facts}
-use Rattle.kin_env.specs.Halves.{are_halves, right_above, leaf_right}
+use Rattle.kin_chain.proofs.NodeChains.{leaf_right}
+use Rattle.kin_env.specs.Halves.{are_halves, right_above}
 use Rattle.kin_env.proofs.Idle.{settled_still}
 use Rattle.kin_env.proofs.Reports.{in_tree, part_is, tree_same}
 use Rattle.kin_env.proofs.Works.{joint_now, live_fits}

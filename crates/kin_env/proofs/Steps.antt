@@ -27,7 +27,7 @@ use Rattle.kin_env.specs.declared.branches.Branches.{Branches}
 use Rattle.kin_env.specs.Nodes.{chain_with, facts_with, merge_from, passed_from, edits_from, failed_from, merge_at, passed_at, chain_at, edits_at, failed_at, facts_at}
 use Rattle.kin_env.specs.Joints.{Leads, IsJoint, IsSettledThere}
 use Rattle.kin_env.specs.Walks.{IsSlotUnder, slot_in, AreJoined, IsInner, IsWalked, IsRight, IsQuieted, IsWorked, IsRenewed}
-use Rattle.kin_env.specs.Halves.{slot_under}
+use Rattle.kin_chain.proofs.NodeChains.{slot_under}
 use Rattle.kin_env.proofs.Works.{no_edits, stays_there, live_fits}
 
 -- ---- the doubts after a node is cleared

@@ -16,11 +16,12 @@ use Rattle.kin_motion.proofs.RealLaws.{real_line_laws}
 use Rattle.kin_motion.proofs.SetLaws.{filter-sound}
 use Rattle.kin_env.specs.declared.node.Node.{Node}
 use Rattle.kin_env.specs.declared.branches.Branches.{Branches}
-use Rattle.kin_env.specs.Halves.{at_root, facts_above, leaf_right}
+use Rattle.kin_chain.proofs.NodeChains.{at_root, leaf_right}
+use Rattle.kin_env.specs.Halves.{facts_above}
 use Rattle.kin_env.specs.Joints.{AreSpared}
 use Rattle.kin_env.specs.MarkLaws.{some_named}
 use Rattle.kin_env.specs.Nodes.{chain_of, merge_at, passed_at, chain_at, facts_at}
-use Rattle.kin_env.specs.TreeLaws.{IsFactOfNode, exact_by_node}
+use Rattle.kin_chain.proofs.NodeFacts.{IsFactOfNode, exact_by_node}
 use Rattle.kin_env.specs.Trees.{Envelope, chain_told, top_of, chain_of_slot, is_leaving, leaving_of, names_leaving, IsEnvelopeAtRest, IsReadyEnvelope, IsSettledEnvelope, seen_as}
 use Rattle.kin_env.specs.Walks.{slot_in, own_chain, IsSound, IsReady, AreRight, tree_facts}
 use Rattle.kin_env.proofs.Reports.{tree_once, in_tree, inner_part}

@@ -24,8 +24,9 @@ use Rattle.kin_env.specs.Nodes.{chain_with, chain_of, facts_with, merge_from, pa
 use Rattle.kin_env.specs.Joints.{Leads, IsJoint, IsSettledThere, AreHalves, IsTold, IsRestingWith}
 use Rattle.kin_env.specs.Walks.{slot_in, own_chain, AreJoined, IsInner, IsWalked, IsRight, IsQuieted, IsWorked, IsHeard}
 use Rattle.kin_env.proofs.Tellings.{none_failed}
-use Rattle.kin_env.specs.Levels.{halves_apart}
-use Rattle.kin_env.specs.Halves.{are_halves, right_above, leaf_right}
+use Rattle.kin_chain.proofs.Levels.{halves_apart}
+use Rattle.kin_chain.proofs.NodeChains.{leaf_right}
+use Rattle.kin_env.specs.Halves.{are_halves, right_above}
 use Rattle.kin_env.proofs.Idle.{settled_still}
 
 -- no edits lead nowhere

@@ -18,7 +18,7 @@ pub record Leads (es : List Edit) (old new : List ℕ) : Type 0 where
   pub fit : AreFitting es old
   pub lead : all_edited es old ≡ new
 
--- the merge of the told chains a and b in the part v, at rest; it was settled once
+-- the merge of the given chains a and b in the part v, at rest; it was settled once
 pub record IsMergeOf (v : ℕ) (m : Merge) (a b : List ℕ) : Type 0 where
   pub rest : IsAtRest m
   pub part : m.part ≡ v

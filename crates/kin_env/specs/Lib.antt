@@ -1,7 +1,6 @@
 pub mod Nodes
 pub mod Joints
 pub mod Walks
-pub mod Levels
 pub mod Halves
 pub mod Trees
 pub mod TreeLaws

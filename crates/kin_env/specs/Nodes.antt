@@ -19,7 +19,7 @@ facts_with (Some m) = m.facts
 abbrev pub chain_of : Node → List ℕ
 chain_of n = chain_with n.merge n.passed.items
 
--- the same of the node that stands at a number, if there is one
+-- the same of the node of this number, if there is one
 abbrev pub merge_from : Option Node → Option Merge
 merge_from None = None
 merge_from (Some n) = n.merge

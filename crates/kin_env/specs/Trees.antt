@@ -44,7 +44,7 @@ leaving_of t = filter (is_leaving t) (numbers_from 0 (2 ^ t.size))
 abbrev pub names_leaving : Envelope → Placed → Bool
 names_leaving t p = names_any p.fact.form (leaving_of t)
 
--- no mark stands: each slot is as it was when the tree was settled last
+-- no mark waits: each slot is as it was when the tree was settled last
 pub record IsEnvelopeAtRest (t : Envelope) : Type 0 where
   pub unmarked : (i : ℕ) → i < 2 ^ t.size → chain_of_slot t i ≡ own_chain i (slot_in t.slots i)
   pub room : length t.slots ≡ 2 ^ t.size

@@ -15,7 +15,7 @@ use Rattle.kin_env.specs.declared.branches.Branches.{Branches}
 use Rattle.kin_env.specs.Nodes.{merge_at, passed_at, chain_at, edits_at, failed_at, facts_at}
 use Rattle.kin_env.specs.Joints.{Leads, IsJoint, IsSettledThere, AreSpared}
 
--- a number whose slot stands under a node
+-- a number whose slot is under a node
 abbrev pub IsSlotUnder : ℕ → ℕ → ℕ → Type 0
 IsSlotUnder size v i = (i < 2 ^ size) × (is_under size v i ≡ true)
 
@@ -36,7 +36,7 @@ pub record IsShaped (t : Branches) : Type 0 where
   pub doubts_room : length t.doubts.items ≡ 2 * 2 ^ t.size
   pub closed : IsClosed t.doubts.items
 
--- an inner node has what its halves were before the edits that they tell
+-- an inner node has what its halves were before the edits that they have ready
 pub record IsInner (size : ℕ) (ns : List Node) (v : ℕ) : Type 0 where
   pub a : List ℕ
   pub b : List ℕ
@@ -98,7 +98,7 @@ pub record IsWorked (s : Scene) (size v : ℕ) (old new : List Node) (before aft
   pub right : IsRight s size new v
   pub changed : HasChanged (facts_at old v) (facts_at new v) before after
 
--- a node was renewed: it is clear, and only it and what is told of it has changed
+-- a node was renewed: it is clear, and only it and what is known of it has changed
 pub record IsRenewed (v : ℕ) (old new : Branches) (before after : Change) : Type 0 where
   pub same_size : new.size ≡ old.size
   pub same_slots : new.slots.items ≡ old.slots.items
@@ -150,7 +150,8 @@ pub record IsAtPeace (old new : Branches) : Type 0 where
   pub others : (u : ℕ) → u ≢ 1 → slice_get new.nodes.items u ≡ slice_get old.nodes.items u
   pub root : IsQuieted old.nodes.items new.nodes.items 1
 
--- what a settle is told: the slots hold the live numbers, and `failed` has exactly the facts that don't hold, but for spared ones, which name a number that isn't live
+-- what a settle is given: the slots hold the live numbers, and `failed` has exactly the facts that don't hold, but for spared ones, which name a number that
+-- isn't live
 pub record IsReady (s : Scene) (t : Branches) (failed : List Placed) : Type 0 where
   pub live : (i : ℕ) → is_in i s.live ≡ slot_in t.slots.items i
   pub spared : Placed → Bool

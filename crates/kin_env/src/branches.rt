@@ -66,8 +66,8 @@ fn no_points(alloc: Global, count: usize) -> Result<Vec<Node>, NoMemory>
     Ok(nodes)
 }
 
-/// Takes in what has changed of the halves of a node, and lets their edits go. The node stays where it
-/// stands.
+/// Takes in what has changed of the halves of a node, and drops their edits. The node stays in its
+/// place.
 fn visit_among<O: Signs, L: Ledger>(
     nodes: &mut [Node],
     alloc: Global,
@@ -314,7 +314,7 @@ impl Branches {
         self.doubts[node] = Doubt::Clear;
     }
 
-    /// Lets the edits of the root go, which nobody takes in.
+    /// Drops the edits of the root, which no node takes in.
     fn quiet_root(&mut self)
         requires shape { IsShaped self.old }
         ensures { IsAtPeace self.old self.new }

@@ -215,7 +215,7 @@ fn mend<O: Signs, L: Ledger>(
     Ok(())
 }
 
-/// Leaves out the facts that name a number that a told edit drops.
+/// Leaves out the facts that name a number that a waiting edit drops.
 fn leave_out_spared(merge: &Overlay, failed: &mut Vec<Placed>)
     ensures { failed.new.items ≡ filter (λ p. not (names_gone merge.now p)) failed.old.items }
 {

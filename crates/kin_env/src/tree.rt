@@ -17,7 +17,7 @@ use std::marker::Model;
 use std::sync::ledger::Ledger;
 
 /// The upper chain of the points of `2^size` slots, and of the points under each node of a binary
-/// tree over them. Slot s holds point s, and the facts of node v stand in part v.
+/// tree over them. Slot s holds point s, and the facts of node v are in part v.
 ///
 /// `set` and `clear` mark a slot, and the next `settle` does the work. Several slots may be marked
 /// before it. After a `settle` that answered want of memory the tree may not be used again.

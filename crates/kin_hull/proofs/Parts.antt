@@ -13,7 +13,7 @@ use Rattle.kin_motion.specs.Tournaments.{is_under}
 use Rattle.kin_motion.proofs.AgreementLaws.{kept-members}
 use Rattle.kin_motion.proofs.ChainLaws.{chain_within}
 use Rattle.kin_motion.proofs.Members.{in_head}
-use Rattle.kin_tourney.specs.Under.{is_under-le}
+use Rattle.kin_motion.proofs.UnderNodes.{is_under-le}
 use Rattle.kin_env.specs.Trees.{Envelope, IsSettledEnvelope}
 
 -- a node with a form has a live number under it

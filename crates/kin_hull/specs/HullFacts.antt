@@ -1,21 +1,17 @@
 -- The facts of both trees together are those of the hull.
 use Rattle.std.proofs.Common.{◌≡◌, ◌⊎◌, inl, inr, refl, sym, ap, ◌∙◌, List, ◌++◌, ◌+◌, ◌*◌, ℕ, map, true}
 use Rattle.std.specs.Prelude.{◌↔◌}
-use Rattle.kin_algebra.specs.declared.sign.Sign.{Sign}
 use Rattle.kin_motion.specs.declared.fact.Fact.{Fact}
 use Rattle.kin_motion.specs.declared.fact.Placed.{Placed}
-use Rattle.kin_motion.specs.declared.form.Form.{Form}
-use Rattle.kin_motion.specs.Merges.{IsMergeForm, IsTreeFact, IsUpperFact, IsLowerFact, IsHullFact}
-use Rattle.kin_motion.specs.Scene.{Scene, IsReal, fact_at, placed_at, turned}
+use Rattle.kin_motion.specs.Merges.{IsTreeFact, IsUpperFact, IsLowerFact, IsHullFact}
+use Rattle.kin_motion.specs.Scene.{Scene, IsReal, placed_at, turned}
 use Rattle.kin_motion.specs.Sets.{ListsExactly}
-use Rattle.kin_motion.specs.TurnedFacts.{turned_fact}
 use Rattle.kin_motion.proofs.SetLaws.{exactly_both, exactly_in_words, exactly_mapped}
-use Rattle.kin_motion.proofs.TurnedFactLaws.{turned_facts_hold, turned_twice}
 use Rattle.kin_hull.specs.declared.side.Side.{Side}
 use Rattle.kin_hull.specs.declared.side.Side.TheVariants.{Upper, Lower}
 use Rattle.kin_hull.specs.Sides.{outward, is_of}
 use Rattle.kin_hull.specs.SideLaws.{one_outward, outward_of, not_of_both}
-use Rattle.kin_hull.specs.Upright.{merge_upright}
+use Rattle.kin_chain.proofs.Upright.{turned_back}
 
 -- what is a fact of the tree, out in the hull
 abbrev IsOut : Side → (Placed → Type 0) → Placed → Type 0
@@ -24,12 +20,6 @@ IsOut side which z = (x : Placed) × which x × (z ≡ outward side x)
 -- a fact in a part
 abbrev placed_in : ℕ → Fact → Placed
 placed_in n f = record { part = n; fact = f }
-
--- where the turned scene shows a sign, the fact turned back has the real one
-turned_back : (s : Scene) (f : Form) → IsReal s → (left right : List ℕ) → IsMergeForm (turned s) left right f → turned_fact (fact_at (turned s) f) ≡ fact_at s f
-turned_back s f real left right m =
-    let shown = (turned_facts_hold s (fact_at s f) real (merge_upright (turned s) left right f m)).0 refl in
-    ap (λ (t : Sign). turned_fact (record { form = f; sign = t })) shown ∙ turned_twice (fact_at s f)
 
 module _ (size : ℕ) (s : Scene) (real : IsReal s) where
   upper_words : (z : Placed) → IsOut Upper (IsTreeFact size s) z ↔ IsUpperFact size s z

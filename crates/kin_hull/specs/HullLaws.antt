@@ -22,7 +22,7 @@ use Rattle.kin_hull.specs.HullFacts.{both_exact}
 use Rattle.kin_hull.specs.Hulls.{Hull, facts_of, cycle_told, IsSettledKinHull, IsHullAtRest, HasMembers, IsHullFor, StaysHull}
 use Rattle.kin_hull.specs.SideLaws.{holds_outward}
 use Rattle.kin_hull.specs.Sides.{outward, seen_from}
-use Rattle.kin_hull.specs.Upright.{tree_upright}
+use Rattle.kin_chain.proofs.Upright.{tree_upright}
 
 -- where the facts of the hull hold, those of a tree hold in its scene
 tree_holds : (side : Side) (s : Scene) (fs all : List Placed) → IsReal s → ((p : Placed) → Contains fs p → IsUpright p.fact.form) → ((p : Placed) → Contains fs p → Contains all (outward side p)) → AllHold s all → AllHold (seen_from side s) fs

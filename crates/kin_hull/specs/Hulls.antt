@@ -33,7 +33,7 @@ pub record IsSettledKinHull (k : Hull) (s : Scene) : Type 0 where
   pub lower : IsSettledEnvelope k.lower (seen_from Lower s)
   pub size : k.lower.size ≡ k.upper.size
 
--- no mark stands
+-- no mark waits
 pub record IsHullAtRest (k : Hull) : Type 0 where
   pub upper : IsEnvelopeAtRest k.upper
   pub lower : IsEnvelopeAtRest k.lower
@@ -48,7 +48,7 @@ pub record HasMembers (k : Hull) (set : List ℕ) : Type 0 where
 abbrev pub IsReadyHull : Hull → Scene → Type 0
 IsReadyHull k s = HasMembers k s.live
 
--- what is true between two calls: both trees stand over the same slots and have seen the same marks, and they were settled in one scene
+-- what is true between two calls: both trees have the same slots and have seen the same marks, and they were settled in one scene
 pub record ArePaired (upper lower : Envelope) : Type 0 where
   pub size : lower.size ≡ upper.size
   pub small : upper.size ≤ 12

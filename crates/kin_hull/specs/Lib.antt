@@ -1,7 +1,6 @@
 pub mod Meetings
 pub mod Sides
 pub mod SideLaws
-pub mod Upright
 pub mod HullFacts
 pub mod Hulls
 pub mod HullLaws

@@ -21,7 +21,7 @@ abbrev pub is_of : Side → Placed → Bool
 is_of Upper p = nat_eq (p.part % 2) 0
 is_of Lower p = not (nat_eq (p.part % 2) 0)
 
--- such a fact as it stands in the tree
+-- such a fact as it is in the tree
 abbrev pub inward : Side → Placed → Placed
 inward Upper p = record { part = p.part / 2; fact = p.fact }
 inward Lower p = record { part = p.part / 2; fact = turned_fact p.fact }

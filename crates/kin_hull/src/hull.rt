@@ -127,7 +127,7 @@ impl Kinetic for KinHull {
 
     ghost determined = { determined_lem };
 
-    /// Settles the upper tree and then the lower one, each told of its own failed facts.
+    /// Settles the upper tree and then the lower one, each by its own failed facts.
     fn settle<O: Signs, L: Ledger>(
         &mut self,
         now: &O,

@@ -1,4 +1,4 @@
-//! What the trees of a hull are told, and what they tell.
+//! The failed facts of the trees of a hull, and what the trees report.
 
 ghost use Rattle.std.specs.Prelude.{◌≡◌, ◌<◌, ◌≤◌, ◌^◌, filter, map, Contains, OnOk};
 ghost use Rattle.kin_motion.specs.declared.fact.Placed.{Placed as Put};
@@ -25,14 +25,14 @@ pub(crate) struct Mail {
 }
 
 impl Mail {
-    /// Nothing is told.
+    /// No failed facts.
     pub(crate) fn new(alloc: Global) -> Mail {
         Mail {
             failed: Failed::new(alloc),
         }
     }
 
-    /// Sorts failed facts of the hull out.
+    /// Sorts failed facts of the hull by tree.
     pub(crate) fn sort(&mut self, facts: &[Placed]) -> Result<(), NoMemory>
         ensures upper { OnOk result (self.new.failed.upper.items ≡ map (inward Side.Upper) (filter (is_of Side.Upper) facts.now)) }
         ensures lower { OnOk result (self.new.failed.lower.items ≡ map (inward Side.Lower) (filter (is_of Side.Lower) facts.now)) }
@@ -40,7 +40,7 @@ impl Mail {
         self.failed.sort(facts)
     }
 
-    /// Settles one of the trees in its scene, and lets what it reports stand as in the hull.
+    /// Settles one of the trees in its scene, and turns what it reports into facts of the hull.
     pub(crate) fn settle<O: Signs, L: Ledger>(
         &mut self,
         side: Side,

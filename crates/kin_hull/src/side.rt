@@ -1,4 +1,4 @@
-//! The upper tree and the lower tree, and where the facts of each stand among those of the hull.
+//! The upper tree and the lower tree, and the place of the facts of each among those of the hull.
 
 ghost use Rattle.std.specs.Prelude.{◌≡◌, ◌<◌, ◌^◌};
 ghost use Rattle.kin_motion.specs.TurnedFacts.{turned_fact};
@@ -53,7 +53,7 @@ impl Side {
         }
     }
 
-    /// A fact of this tree, which stands among those of the hull, as it stands in the tree.
+    /// A fact of the hull that is of this tree, as it is in the tree.
     pub(crate) fn inward(self, placed: Placed) -> Placed
         ensures { result ≡ inward self placed }
     {

@@ -9,8 +9,7 @@ use kin_motion::fact::Placed;
 use kin_num::memory::NoMemory;
 use std::alloc::Global;
 
-/// Failed facts of both trees, each as it stands in its tree. The memory is kept from settle to
-/// settle.
+/// Failed facts of both trees, each as it is in its tree. The memory is kept from settle to settle.
 #[derive(Drop)]
 pub(crate) struct Failed {
     upper: Vec<Placed>,
@@ -36,7 +35,7 @@ impl Failed {
         }
     }
 
-    /// Puts a fact of the hull to those of its tree.
+    /// Puts a fact of the hull among those of its tree.
     fn sort_one(&mut self, placed: Placed) -> Result<(), NoMemory>
         ensures upper { OnOk result (self.new.upper.items ≡ cond (is_of Side.Upper placed) (self.old.upper.items ++ inward Side.Upper placed ∷ []) self.old.upper.items) }
         ensures lower { OnOk result (self.new.lower.items ≡ cond (is_of Side.Lower placed) (self.old.lower.items ++ inward Side.Lower placed ∷ []) self.old.lower.items) }
@@ -50,7 +49,7 @@ impl Failed {
         }
     }
 
-    /// Sorts failed facts of the hull out, and forgets those before.
+    /// Sorts failed facts of the hull by tree, and forgets those before.
     pub(crate) fn sort(&mut self, facts: &[Placed]) -> Result<(), NoMemory>
         ensures upper { OnOk result (self.new.upper.items ≡ map (inward Side.Upper) (filter (is_of Side.Upper) facts.now)) }
         ensures lower { OnOk result (self.new.lower.items ≡ map (inward Side.Lower) (filter (is_of Side.Lower) facts.now)) }
@@ -64,7 +63,7 @@ impl Failed {
     }
 }
 
-/// Puts the facts of a tree that stand in a list from this place on as they stand in the hull.
+/// Turns the facts of a tree, in a list from this place on, into facts of the hull.
 pub(crate) fn put_outward(side: Side, facts: &mut Vec<Placed>, from: usize)
     requires low { (p : Put) → Contains (drop from facts.old.items) p → p.part < 2 ^ 16 }
     ensures { facts.new.items ≡ take from facts.old.items ++ map (outward side) (drop from facts.old.items) }

@@ -18,7 +18,7 @@ IsMarkable (Enters i) row = (i < row.room) × (is_in i row.items ≡ false)
 IsMarkable (Leaves i) row = is_in i row.items ≡ true
 IsMarkable Broken row = Unit {0}
 
--- but for a broken list the links are those of the neighbours, each with a sign by which they stand right
+-- but for a broken list the links are those of the neighbours, each with a sign by which they are in order
 abbrev pub IsHeldIf : Mark → List (Option Link) → List ℕ → List Sign → Type 0
 IsHeldIf Rest links items signs = IsHeld links items signs [] []
 IsHeldIf (Enters i) links items signs = IsHeld links items signs [] []

@@ -1,4 +1,4 @@
--- What a list tells of its facts in a part of a structure.
+-- What a list reports of its facts in a part of a structure.
 use Rattle.std.specs.Prelude.{◌≡◌, ◌++◌, ℕ, List, [], map}
 use Rattle.kin_motion.specs.declared.fact.Placed.{Placed}
 use Rattle.kin_motion.specs.Deltas.{Change}
@@ -8,11 +8,11 @@ use Rattle.kin_motion.specs.Parts.{moved_by}
 abbrev pub nothing_told : Change
 nothing_told = record { dropped = []; born = [] }
 
--- what is told at its end in a part, after what was told before
+-- what was reported before, and then this change with its facts in a part
 abbrev pub told_more : ℕ → Change → Change → Change
 told_more part before more = record { dropped = before.dropped ++ map (moved_by part) more.dropped; born = before.born ++ map (moved_by part) more.born }
 
--- the change of these facts, which are in part 0, is told in a part
+-- the change of these facts, which are in part 0, is reported in a part
 pub record IsToldIn (part : ℕ) (old new : List Placed) (before after : Change) : Type 0 where
   pub change : Change
   pub changed : HasChanged old new nothing_told change

@@ -58,7 +58,7 @@ impl Direction {
     }
 }
 
-/// Whether `i` stands before `j` by the sign of their line.
+/// Whether `i` comes before `j` by the sign of their line.
 pub fn stands_first(sign: Sign, i: u32, j: u32) -> bool
     ensures { result ≡ leads sign i j }
 {

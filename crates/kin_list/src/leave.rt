@@ -1,4 +1,4 @@
-//! What comes in doubt before a repair: the gap of a number that leaves, and the failed facts.
+//! What comes into doubt before a repair: the gap of a number that leaves, and the failed facts.
 
 ghost use Rattle.std.specs.Prelude.{◌≡◌, ℕ, ℤ, ◌+◌, ◌<◌, ◌≤◌, ◌^◌, ◌⊎◌, true, [], Some, length, slice_get, IfSome, OnOk};
 ghost use Rattle.kin_motion.specs.declared.form.Form.TheVariants.{Line};
@@ -12,7 +12,7 @@ use kin_motion::fact::Placed;
 use kin_motion::form::Form;
 use std::alloc::AllocError;
 
-/// Puts the places of the failed facts in doubt.
+/// Puts the places of the failed facts into doubt.
 pub fn doubt_failed(row: &Row, doubts: &mut Doubts, failed: &[Placed]) -> Result<(), AllocError>
     ensures { OnOk result (AreCovered row.now.items failed.now doubts.old doubts.new) }
 {
@@ -38,7 +38,7 @@ pub fn place_of_line(row: &Row, form: Form) -> Option<u32>
     }
 }
 
-/// Puts the place of the left number of a line in doubt.
+/// Puts the place of the left number of a line into doubt.
 fn doubt_line(row: &Row, doubts: &mut Doubts, form: Form) -> Result<(), AllocError>
     ensures covered { OnOk result ((dx dy off : ℤ) (i j p : ℕ) → form ≡ Line dx dy off i j → slice_get row.now.items p ≡ Some i → p + 1 < length row.now.items → is_in p doubts.new ≡ true) }
     ensures keeps { OnOk result ((q : ℕ) → is_in q doubts.old ≡ true → is_in q doubts.new ≡ true) }
@@ -52,7 +52,7 @@ fn doubt_line(row: &Row, doubts: &mut Doubts, form: Form) -> Result<(), AllocErr
 }
 
 impl Lineup {
-    /// Takes out a member. The place of its left neighbour comes in doubt.
+    /// Takes out a member. The place of its left neighbour comes into doubt.
     pub fn take_out(&mut self, no: u32) -> Result<(), AllocError>
         requires member { is_in no self.old.row.items ≡ true }
         requires none { self.old.doubts ≡ [] }

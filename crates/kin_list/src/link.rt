@@ -7,8 +7,8 @@ use kin_motion::fact::Placed;
 use kin_num::Sign;
 use std::alloc::{AllocError, Global};
 
-/// The right neighbour of a number, and the sign of their line. It stands for the live fact whose
-/// left number it belongs to.
+/// The right neighbour of a number, and the sign of their line. With the number it makes the live fact
+/// that names the number first.
 #[derive(Clone, Copy, Debug, PartialEq, Eq)]
 pub struct Link {
     pub right: u32,
@@ -22,7 +22,7 @@ pub fn no_links(alloc: Global, room: usize) -> Result<Vec<Option<Link>>, AllocEr
     Vec::from_elem(alloc, None, room)
 }
 
-/// A fact for each number below `room`. None of them counts.
+/// A fact for each number below `room`, to be overwritten.
 pub fn no_facts(alloc: Global, along: Direction, room: usize) -> Result<Vec<Placed>, AllocError>
     ensures { IfOk result (λ facts. length facts.items ≡ room) }
 {

@@ -31,7 +31,7 @@ pub struct KinList {
     lineup: Lineup,
     /// By number: the live fact whose left number it is.
     links: Vec<Option<Link>>,
-    /// By number: that fact as it was told, so that it is told again by a copy.
+    /// By number: that fact as it was reported, so that a further report copies it.
     facts: Vec<Placed>,
     mark: Mark,
 }
@@ -102,7 +102,7 @@ impl KinList {
         self.mark = Mark::Leaves(no);
     }
 
-    /// Whether no mark stands.
+    /// Whether no mark waits.
     pub fn is_at_rest(&self) -> bool
         ensures { IsTrue result ↔ IsAtRest self.now }
     {
@@ -112,7 +112,7 @@ impl KinList {
         }
     }
 
-    /// Forgets the exchanges of the last `settle`. Where no mark stands and no fact has failed, a
+    /// Forgets the exchanges of the last `settle`. Where no mark waits and no fact has failed, a
     /// `settle` would do nothing else.
     pub fn stand_still(&mut self)
         ensures same { self.new ≡ record self.old { swaps = [] } }
@@ -121,7 +121,7 @@ impl KinList {
         self.lineup.swaps.clear();
     }
 
-    /// `settle` as a part of a structure: the change is told as that of the facts in this part.
+    /// `settle` as a part of a structure: the change is reported as that of the facts in this part.
     pub fn settle_in<O: Signs, L: Ledger>(
         &mut self,
         part: u32,

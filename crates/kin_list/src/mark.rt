@@ -1,4 +1,4 @@
-//! What stands before the next `settle`.
+//! What waits for the next `settle`.
 
 /// The mark of a list.
 #[derive(Clone, Copy, Debug, PartialEq, Eq)]
@@ -9,6 +9,6 @@ pub enum Mark {
     Enters(u32),
     /// This number leaves.
     Leaves(u32),
-    /// A `settle` has had no memory left. The list may not be used again.
+    /// A `settle` ran out of memory. The list may not be used again.
     Broken,
 }

@@ -1,4 +1,4 @@
-//! The links of the touched numbers are brought up to date, and the change of the facts is told.
+//! The links of the touched numbers are brought up to date, and the change of the facts is reported.
 
 ghost use Rattle.std.specs.Prelude.{◌≡◌, ℕ, ℤ, ◌+◌, ◌<◌, ◌≤◌, List, Option, Some, None, true, false, length, slice_get, slice_set, vec_len, vec_capacity, OnOk};
 ghost use Rattle.kin_motion.specs.declared.fact.Placed.{Placed as Put};
@@ -28,7 +28,7 @@ fn right_of(row: &Row, no: u32) -> Option<u32>
     Some(row.at(place + 1))
 }
 
-/// Gives the fact of a line another right number and another sign, where it stands.
+/// Gives the fact of a line another right number and another sign, in place.
 fn turn(fact: &mut Fact, right: u32, sign: Sign)
     ensures { (dx dy off : ℤ) (i j : ℕ) → fact.old.form ≡ Line dx dy off i j → fact.new ≡ record { form = Line dx dy off i right; sign = sign } }
 {
@@ -38,7 +38,7 @@ fn turn(fact: &mut Fact, right: u32, sign: Sign)
     fact.sign = sign;
 }
 
-/// Links a number to this one with this sign. Where it wasn't linked so, the change is told: its
+/// Links a number to this one with this sign. Where it wasn't linked so, the change is reported: its
 /// fact is copied as it was, and as it has become.
 fn link_to(
     told: &mut Option<Link>,
@@ -74,7 +74,7 @@ fn link_to(
     *told = Some(Link { right, sign });
 }
 
-/// Takes a number's link away, and tells it where there was one.
+/// Takes a number's link away, and reports it where there was one.
 fn unlink(told: &mut Option<Link>, part: u32, along: Direction, no: u32, dropped: &mut Vec<Placed>)
     requires dropped_room { vec_len dropped.old < vec_capacity dropped.old }
     ensures told { told.new ≡ None }
@@ -87,7 +87,7 @@ fn unlink(told: &mut Option<Link>, part: u32, along: Direction, no: u32, dropped
     }
 }
 
-/// Writes the link of a number as its neighbour and its sign now are, and tells the change.
+/// Writes the link of a number as its neighbour and its sign now are, and reports the change.
 fn renew(
     links: &mut Vec<Option<Link>>,
     facts: &mut Vec<Placed>,
@@ -137,7 +137,7 @@ fn renew(
 }
 
 /// Brings the links of the touched numbers up to date. There is room for what the facts may lose and
-/// gain before any of it is told, in a part.
+/// gain before any of it is reported, in a part.
 fn renew_touched(
     lineup: &Lineup,
     part: u32,
@@ -165,8 +165,8 @@ fn renew_touched(
     Ok(())
 }
 
-/// Brings the links of the touched numbers up to date. What the facts have lost and gained is told
-/// once, in a part.
+/// Brings the links of the touched numbers up to date. What the facts have lost and gained is
+/// reported once, in a part.
 pub fn report(
     lineup: &Lineup,
     part: u32,

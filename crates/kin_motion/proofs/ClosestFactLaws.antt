@@ -86,7 +86,7 @@ module _ (size : ℕ) (s : Scene) (real : IsReal s) where
   laws : HasDistanceLaws s
   laws = real_distance_laws s real
 
-  nodes_exact : ListsExactly (tournament_facts s distance_key (size + 3) (near_slots size s)) (IsNodeFact s distance_key (size + 3) (near_slots size s))
+  pub nodes_exact : ListsExactly (tournament_facts s distance_key (size + 3) (near_slots size s)) (IsNodeFact s distance_key (size + 3) (near_slots size s))
   nodes_exact =
       let slots = near_agrees s real size in
       tournament_agrees s distance_key (nearer-otherwise s laws) (nearer_transitive s laws) (nearer-never s laws) (size + 3) (near_slots size s)

@@ -29,7 +29,7 @@ held_number live n zero i a e = absurd cc
 held_number live n (suc k) zero a e = let f = number_in live n a e in omega (arith, f)
 held_number live n (suc k) (suc i) a e = let f = held_number live (n + 1) k i a e in omega (arith, f)
 
-slot_count : (live : List ℕ) (n k : ℕ) → length (map (slot_of_point live) (numbers_from n k)) ≡ k
+pub slot_count : (live : List ℕ) (n k : ℕ) → length (map (slot_of_point live) (numbers_from n k)) ≡ k
 slot_count live n zero = refl
 slot_count live n (suc k) = let f = slot_count live (n + 1) k in omega (arith, f)
 

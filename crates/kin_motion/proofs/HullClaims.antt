@@ -1,9 +1,8 @@
 -- What a hull leaves out, and that every structure can be settled.
 use Rattle.std.proofs.Common.{◌≡◌, ◌≢◌, ◌⊎◌, inl, inr, refl, sym, ap, ◌∙◌, subst, arith, List, [], ◌∷◌, ◌++◌, map, ℕ, ◌+◌, ◌-◌, ◌^◌, ◌<◌, ◌≤◌, Bool, true, false, cond, not}
-use Rattle.std.specs.Prelude.{ℤ, pos, Option, Some, None, reverse, filter, flat_map, slice_get, option_and_then, Contains}
+use Rattle.std.specs.Prelude.{ℤ, pos, Option, Some, None, reverse, filter, flat_map, slice_get, option_and_then}
 use Rattle.std.proofs.lemmas.List.{reverse-append}
 use Rattle.std.proofs.lemmas.Bool.{and_parts}
-use Rattle.kin_algebra.proofs.Members.{contains_none}
 use Rattle.kin_algebra.specs.declared.sign.Sign.{Sign}
 use Rattle.kin_algebra.specs.declared.sign.Sign.TheVariants.{Zero, Plus}
 use Rattle.kin_algebra.specs.Signs.{opposite_of}
@@ -14,7 +13,7 @@ use Rattle.kin_motion.specs.Numbers.{is_in, IsIn, numbers_from}
 use Rattle.kin_motion.specs.Sets.{ListsExactly}
 use Rattle.kin_motion.specs.Scene.{Scene, IsReal, turned, placed_at}
 use Rattle.kin_motion.specs.Orders.{order_of, order_facts, IsOrderFact}
-use Rattle.kin_motion.specs.Tournaments.{best_of, items_under, is_under, item_in}
+use Rattle.kin_motion.specs.Tournaments.{best_of, items_under, item_in}
 use Rattle.kin_motion.specs.Extremes.{along_key, point_slots, extreme_facts}
 use Rattle.kin_motion.specs.Chains.{upper_chain_of, cycle_of, round}
 use Rattle.kin_motion.specs.Merges.{IsNodeForm, node_forms, IsTreeFact, hull_facts}
@@ -24,6 +23,7 @@ use Rattle.kin_motion.specs.ClosestFacts.{closest_facts, wedge_facts_from}
 use Rattle.kin_motion.specs.Octants.{eight_directions}
 use Rattle.kin_motion.specs.Agreements.{FitsSize}
 use Rattle.kin_motion.specs.Contents.{IsWinner, IsRangeFact}
+use Rattle.kin_motion.proofs.Winners.{winner_agrees}
 use Rattle.kin_motion.specs.Claims.{HullIsStrict, HullHasLeast, SettledStatesExist}
 use Rattle.kin_motion.proofs.SetLaws.{exactly_in_words, exactly_in_turn, exactly_mapped, exactly_both}
 use Rattle.kin_motion.proofs.RealLaws.{real_line_laws}
@@ -32,8 +32,7 @@ use Rattle.kin_motion.proofs.ClaimLaws.{chain_is_strict, chain_has_least}
 use Rattle.kin_motion.proofs.AgreementLaws.{kept-members}
 use Rattle.kin_motion.proofs.CandidateLaws.{candidate_agrees}
 use Rattle.kin_motion.proofs.ClosestLaws.{closest_proved}
-use Rattle.kin_motion.proofs.BestLaws.{none_there, farther-otherwise}
-use Rattle.kin_motion.proofs.NodeLaws.{best_agrees, under-complete}
+use Rattle.kin_motion.proofs.BestLaws.{farther-otherwise}
 use Rattle.kin_motion.proofs.ExtremeFactLaws.{held_number, extreme_facts_agree, farther-through, farther-never}
 use Rattle.kin_motion.proofs.ClosestFactLaws.{order_facts_agree, closest_facts_agree, part_of_order, wedge_exact}
 use Rattle.kin_motion.proofs.HullFactLaws.{hull_facts_agree, node_exact, node_is_inner, one_form, part_of}
@@ -120,20 +119,9 @@ points_apart : (s : Scene) (size : ℕ) (i j a : ℕ) → item_in (point_slots s
 points_apart s size i j a e f = let g = held_number s.live 0 (2 ^ size) i a e in let h = held_number s.live 0 (2 ^ size) j a f in omega (arith, g, h)
 
 winner_told : (size : ℕ) (s : Scene) → IsReal s → (dx dy : ℤ) (v : ℕ) → IsWinner s (along_key dx dy) size (point_slots size s.live) v (best_of s (along_key dx dy) (items_under size v (point_slots size s.live)))
-winner_told size s real dx dy v = at (best_of s (along_key dx dy) (items_under size v (point_slots size s.live))) refl
-  where
-    at : (w : Option ℕ) → best_of s (along_key dx dy) (items_under size v (point_slots size s.live)) ≡ w → IsWinner s (along_key dx dy) size (point_slots size s.live) v w
-    at None e = λ i under. nothing i (item_in (point_slots size s.live) i) under refl
-      where
-        nothing : (i : ℕ) (o : Option ℕ) → is_under size v i ≡ true → item_in (point_slots size s.live) i ≡ o → item_in (point_slots size s.live) i ≡ None
-        nothing i None under held = held
-        nothing i (Some a) under held =
-            let laws = real_line_laws s real in
-            let none = none_there s (along_key dx dy) (farther-otherwise s laws dx dy) (farther-through s laws dx dy) (items_under size v (point_slots size s.live)) e in
-            absurd (contains_none a (subst (λ xs. Contains xs a) none (under-complete size v (point_slots size s.live) i a under held)))
-    at (Some a) e =
-        let laws = real_line_laws s real in
-        best_agrees s (along_key dx dy) (farther-otherwise s laws dx dy) (farther-through s laws dx dy) (farther-never s laws dx dy) size (point_slots size s.live) (points_apart s size) v a e
+winner_told size s real dx dy =
+    let laws = real_line_laws s real in
+    winner_agrees s (along_key dx dy) (farther-otherwise s laws dx dy) (farther-through s laws dx dy) (farther-never s laws dx dy) size (point_slots size s.live) (points_apart s size)
 
 range_exact : (s : Scene) → IsReal s → ListsExactly (order_facts s (pos 1) (pos 0) 0 ++ order_facts s (pos 0) (pos 1) 1) (IsRangeFact s)
 range_exact s real =

@@ -20,7 +20,7 @@ use Rattle.kin_motion.proofs.ExtremeFactLaws.{extreme_facts_agree}
 use Rattle.kin_motion.proofs.ClosestFactLaws.{order_facts_agree, part_of_order, closest_facts_agree}
 
 module _ (size : ℕ) (s : Scene) (real : IsReal s) (fits : FitsSize size s) where
-  keep_exact : (keep : Keep) → ListsExactly (keep_facts size s keep) (IsKeepFact size s keep)
+  pub keep_exact : (keep : Keep) → ListsExactly (keep_facts size s keep) (IsKeepFact size s keep)
   keep_exact (Order dx dy) = order_facts_agree s dx dy 0 real
   keep_exact (Extreme dx dy) = extreme_facts_agree size s dx dy real
   keep_exact Hull = hull_facts_agree size s real fits

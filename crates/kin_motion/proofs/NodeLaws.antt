@@ -59,7 +59,7 @@ node_with_slot size v i low e =
     let most = not_above size (2 ^ size + i) (2 * v) e in
     (omega (arith, some), omega (arith, most, low))
 
-within_slots : {A : Type 0} (slots : List (Option A)) (i : ℕ) (a : A) → item_in slots i ≡ Some a → i < length slots
+pub within_slots : {A : Type 0} (slots : List (Option A)) (i : ℕ) (a : A) → item_in slots i ≡ Some a → i < length slots
 within_slots {A} [] i a e = absurd cc
 within_slots {A} (x ∷ xs) zero a e = omega arith
 within_slots {A} (x ∷ xs) (suc i) a e = let h = within_slots xs i a e in omega (arith, h)

@@ -19,7 +19,7 @@ pub record Cell : Type 0 where
   pub right : Sign
   pub narrow : Bool
 
--- which half is above at a breakpoint beside which a and b are current
+-- which half is above at a breakpoint, by the current points a and b there
 abbrev pub above_at : Scene → ℕ → ℕ → Breakpoint → Sign
 above_at s a b e = cond (is_of Half.A e.half) (opposite_of (s.sign (Turn e.left e.right b))) (s.sign (Turn e.left e.right a))
 
@@ -36,7 +36,7 @@ abbrev pub is_narrow : Scene → Option Breakpoint → Breakpoint → Bool
 is_narrow s None e = false
 is_narrow s (Some d) e = not (is_of d.half e.half) && is_zero (s.sign (slope_form d e))
 
--- the cells from an end on, with the breakpoint there, the sign there, and the points that are current behind it
+-- the cells from an end on, with the breakpoint there, the sign there, and the points that are current after it
 abbrev pub cells_from : Scene → Option Breakpoint → Sign → ℕ → ℕ → List Breakpoint → List Cell
 cells_from s before left a b [] = record { a = a; b = b; left = left; right = above_right s a b; narrow = false } ∷ []
 cells_from s before left a b (e ∷ es) =

@@ -1,4 +1,4 @@
--- What is said of the answers beside their definitions, as statements.
+-- What holds of the answers besides their definitions, as statements.
 use Rattle.std.specs.Prelude.{◌≡◌, ◌≢◌, ◌⊎◌, ℕ, ◌<◌, ℤ, ◌<ℤ◌, List, [], Option}
 use Rattle.kin_algebra.specs.declared.sign.Sign.TheVariants.{Zero, Plus}
 use Rattle.kin_num.specs.declared.instant.Moment.{Moment}

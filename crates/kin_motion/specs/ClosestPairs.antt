@@ -7,7 +7,7 @@ use Rattle.kin_motion.specs.Numbers.{IsIn}
 use Rattle.kin_motion.specs.Scene.{Scene}
 use Rattle.kin_motion.specs.Tournaments.{Key, best_of}
 
--- two live numbers i < j: no other pair is closer, and none that is as close is less
+-- two live numbers i < j: no other pair is closer, and no equally close one is less
 pub record IsClosestPair (s : Scene) (i j : ℕ) : Type 0 where
   pub i_live : IsIn i s.live
   pub j_live : IsIn j s.live
@@ -29,7 +29,7 @@ pub record Near : Type 0 where
 abbrev pub is_less_pair : Near → Near → Bool
 is_less_pair p q = nat_lt p.i q.i || (nat_eq p.i q.i && (nat_lt p.j q.j || (nat_eq p.j q.j && nat_lt p.slot q.slot)))
 
--- the left pair wins where it is closer, or as close and less
+-- the left pair wins where it is closer, or equally close and less
 abbrev pub left_is_nearer : Sign → Near → Near → Bool
 left_is_nearer Plus p q = true
 left_is_nearer Zero p q = is_less_pair p q
@@ -39,7 +39,7 @@ left_is_nearer Minus p q = false
 abbrev pub distance_key : Key Near
 distance_key = record { form = λ p q. Dist p.i p.j q.i q.j; left_wins = left_is_nearer }
 
--- i with each of the numbers behind it
+-- i with each of the numbers after it
 abbrev pub pairs_with : ℕ → List ℕ → List Near
 pairs_with i [] = []
 pairs_with i (j ∷ js) = record { i = i; j = j; slot = 0 } ∷ pairs_with i js

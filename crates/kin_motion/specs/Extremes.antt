@@ -8,7 +8,7 @@ use Rattle.kin_motion.specs.Numbers.{is_in, IsIn, numbers_from}
 use Rattle.kin_motion.specs.Scene.{Scene}
 use Rattle.kin_motion.specs.Tournaments.{Key, best_of, IsNodeFact, tournament_facts}
 
--- a number of the set: no other lies farther, and none that lies as far is less
+-- a number of the set: no other lies farther, and no equally far one is less
 pub record IsExtreme (s : Scene) (dx dy : ℤ) (set : List ℕ) (i : ℕ) : Type 0 where
   pub member : IsIn i set
   pub farthest : (j : ℕ) → IsIn j set → s.sign (Line dx dy (pos 0) i j) ≢ Plus
@@ -18,7 +18,7 @@ pub record IsExtreme (s : Scene) (dx dy : ℤ) (set : List ℕ) (i : ℕ) : Type
 abbrev pub IsExtremePoint : Scene → ℤ → ℤ → Option ℕ → Type 0
 IsExtremePoint s dx dy answer = MatchOption answer (s.live ≡ []) (λ i. IsExtreme s dx dy s.live i)
 
--- the left number wins where it lies farther, or as far and is less
+-- the left number wins where it lies farther, or equally far and is less
 abbrev pub left_is_farther : Sign → ℕ → ℕ → Bool
 left_is_farther Minus i j = true
 left_is_farther Zero i j = nat_lt i j

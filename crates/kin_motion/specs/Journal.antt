@@ -34,14 +34,14 @@ pub record Block : Type 0 where
   pub moment : Moment
   pub failures : List Failure
 
--- structure, part, kind of form and its numbers, from the one that weighs most on
+-- kind of form and its numbers, the most significant first
 abbrev pub form_rank : Form → List ℤ
 form_rank (Line dx dy off i j) = pos 0 ∷ dx ∷ dy ∷ off ∷ pos i ∷ pos j ∷ []
 form_rank (Turn i j k) = pos 1 ∷ pos i ∷ pos j ∷ pos k ∷ []
 form_rank (Slope i j k l) = pos 2 ∷ pos i ∷ pos j ∷ pos k ∷ pos l ∷ []
 form_rank (Dist i j k l) = pos 3 ∷ pos i ∷ pos j ∷ pos k ∷ pos l ∷ []
 
--- the numbers by which a failure is ordered, from the one that weighs most on
+-- the numbers by which a failure is ordered: structure, part and those of the form, the most significant first
 abbrev pub rank_of : Failure → List ℤ
 rank_of f = pos f.was.structure ∷ pos f.was.placed.part ∷ form_rank f.was.placed.fact.form
 

@@ -18,7 +18,7 @@ is_alike Closest Closest = true
 is_alike Range Range = true
 is_alike _ _ = false
 
--- at most 16 orders and extreme points together, and beside them one hull, one closest pair and one range at most
+-- at most 16 orders and extreme points together, and also at most one hull, one closest pair and one range
 abbrev pub are_few : List Keep → Bool
 are_few keeps =
     nat_le (count_by is_along keeps) 16 && nat_le (count_by (is_alike Hull) keeps) 1

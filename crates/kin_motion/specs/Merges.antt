@@ -38,7 +38,7 @@ breakpoints_of h (i ∷ j ∷ ps) = record { half = h; left = i; right = j } ∷
 abbrev pub slope_form : Breakpoint → Breakpoint → Form
 slope_form e f = Slope e.left e.right f.left f.right
 
--- the first is steeper, or as steep and alone of A
+-- the first is steeper, or equally steep and alone of A
 abbrev pub goes_first : Sign → Half → Half → Bool
 goes_first Plus g h = true
 goes_first Zero g h = is_of A g && is_of B h
@@ -77,7 +77,8 @@ merged s (e ∷ es) fs = put_before s e (merged s es fs)
 abbrev pub breakpoint_list : Scene → List ℕ → List ℕ → List Breakpoint
 breakpoint_list s a b = merged s (breakpoints_of A a) (breakpoints_of B b)
 
--- p is the current point of a half behind these breakpoints: the first point of its chain where none of them is of that half, otherwise the right point of the last one that is
+-- p is the current point of a half after these breakpoints: the first point of its chain where none of them is of that half, otherwise the right point of the
+-- last one that is
 abbrev pub IsCurrent : Half → ℕ → List Breakpoint → ℕ → Type 0
 IsCurrent h first es p = ((own_of h es ≡ []) × (p ≡ first)) ⊎ ((ds : List Breakpoint) × (e : Breakpoint) × (own_of h es ≡ ds ++ e ∷ []) × (p ≡ e.right))
 
@@ -141,7 +142,7 @@ pub record IsMergeForm (s : Scene) (left right : List ℕ) (f : Form) : Type 0 w
   pub sorted : IsBreakpointList s a b breakpoints
   pub listed : IsListedForm s a b breakpoints f
 
--- the current point of a half behind one more breakpoint
+-- the current point of a half after one more breakpoint
 abbrev pub current_after : Half → Breakpoint → ℕ → ℕ
 current_after h e p = cond (is_of h e.half) e.right p
 
@@ -186,7 +187,7 @@ pub record IsTreeFact (size : ℕ) (s : Scene) (p : Placed) : Type 0 where
   pub merge : IsNodeForm size s p.part form
   pub fact : p ≡ placed_at s p.part form
 
--- a fact of one merge of two told chains
+-- a fact of one merge, of two sets or of two chains
 pub record IsMergeFact (s : Scene) (a b : List ℕ) (part : ℕ) (p : Placed) : Type 0 where
   pub form : Form
   pub merge : IsMergeForm s a b form

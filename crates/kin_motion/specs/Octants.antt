@@ -24,7 +24,7 @@ eight_directions =
 abbrev pub direction_of : ℕ → Direction
 direction_of part = slice_index_or eight_directions part (direction (pos 0) (pos 0))
 
--- the order of one of the parts 0 to 7 as it is read, from the front or from the end
+-- the order of one of the parts 0 to 7, read forward or backward
 pub record Reading : Type 0 where
   pub part : ℕ
   pub from_end : Bool
@@ -37,11 +37,11 @@ is_before_in s part i j = is_before s (direction_of part).dx (direction_of part)
 abbrev pub comes_after : Scene → Reading → ℕ → ℕ → Bool
 comes_after s r p q = cond r.from_end (is_before_in s r.part q p) (is_before_in s r.part p q)
 
--- the order of a part from the front
+-- the order of a part, read forward
 abbrev pub forward : ℕ → Reading
 forward part = record { part = part; from_end = false }
 
--- the order of a part from the end
+-- the order of a part, read backward
 abbrev pub back : ℕ → Reading
 back part = record { part = part; from_end = true }
 
@@ -99,7 +99,7 @@ first_in s r (p ∷ ps) = earlier_of s r p (first_in s r ps)
 abbrev pub candidate_of : Scene → Octant → ℕ → Option ℕ
 candidate_of s o p = first_in s o.third (octant_members s o p)
 
--- What is told of each apex p and octant w is `candidate p w`.
+-- Below, `candidate p w` is the answer for the apex p and the octant w.
 
 -- it is the candidate of each live apex, and none for the other numbers below 2^size
 pub record AreCandidates (size : ℕ) (s : Scene) (candidate : ℕ → ℕ → Option ℕ) : Type 0 where

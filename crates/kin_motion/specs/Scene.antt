@@ -1,4 +1,4 @@
--- What can be seen at one moment. Every answer and every fact is a matter of one scene.
+-- What can be seen at one moment. Every answer but that of a rectangle, and every fact, depends on one scene.
 use Rattle.std.specs.Prelude.{◌≡◌, ℕ, pos, List, Option}
 use lib.IntN.{neg_ℤ}
 use Rattle.kin_algebra.specs.declared.sign.Sign.{Sign}

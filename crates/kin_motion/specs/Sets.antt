@@ -1,7 +1,7 @@
--- Lists in the place of sets.
+-- Lists used as sets.
 use Rattle.std.specs.Prelude.{◌≡◌, ℕ, List, slice_get, Some, Contains, ◌↔◌}
 
--- no item stands at two places
+-- no item is at two places
 abbrev pub AreDistinct : {A : Type 0} → List A → Type 0
 AreDistinct {A} xs = (i j : ℕ) (x : A) → slice_get xs i ≡ Some x → slice_get xs j ≡ Some x → i ≡ j
 

@@ -15,8 +15,9 @@ use Rattle.kin_motion.specs.Scene.{Scene, IsReal, scene_at, turned}
 use Rattle.kin_motion.specs.Laws.{HasLineLaws, HasTurnLaws, HasDistanceLaws, HasSlopeLaws}
 use Rattle.kin_motion.specs.Kinetics.{AllHold, HaveSameLive}
 use Rattle.kin_motion.specs.Orders.{IsOrder, IsOrderFact}
-use Rattle.kin_motion.specs.Extremes.{IsExtremePoint}
+use Rattle.kin_motion.specs.Extremes.{IsExtremePoint, IsExtremeFact}
 use Rattle.kin_motion.specs.Chains.{IsUpperChain, IsHullCycle}
+use Rattle.kin_motion.specs.Agreements.{FitsSize}
 use Rattle.kin_motion.specs.Octants.{Octant, octants, is_in_octant, IsCandidate}
 use Rattle.kin_motion.specs.ClosestPairs.{IsClosest}
 use Rattle.kin_motion.specs.Live.{Certificate, IsLiveFact, IsSmallKeep}
@@ -89,6 +90,12 @@ abbrev pub OrderIsDetermined : Type 0
 OrderIsDetermined = (v w : Scene) (dx dy : ℤ) (part : ℕ) (xs : List ℕ) (facts : List Placed) → IsReal w → HaveSameLive v w
     → IsOrder v dx dy xs → ListsExactly facts (IsOrderFact v dx dy part) → AllHold w facts
     → IsOrder w dx dy xs × ListsExactly facts (IsOrderFact w dx dy part)
+
+-- where the same numbers are live, all with slots, and all facts of an extreme point hold, it is the extreme point there, and the facts are those of the extreme point there
+abbrev pub ExtremeIsDetermined : Type 0
+ExtremeIsDetermined = (size : ℕ) (v w : Scene) (dx dy : ℤ) (point : Option ℕ) (facts : List Placed) → IsReal v → IsReal w → FitsSize size v → HaveSameLive v w
+    → IsExtremePoint v dx dy point → ListsExactly facts (IsExtremeFact size v dx dy) → AllHold w facts
+    → IsExtremePoint w dx dy point × ListsExactly facts (IsExtremeFact size w dx dy)
 
 -- a fact has one first failure at most
 abbrev pub OneFirstFailure : Type 0

@@ -41,7 +41,7 @@ abbrev pub comes_to : ℕ → ℕ → ℕ → Bool
 comes_to zero u v = nat_eq u v
 comes_to (suc h) u v = nat_eq u v || comes_to h (u / 2) v
 
--- whether a slot stands under a node, in a tree over 2^size slots; slot i is node 2^size + i
+-- whether a slot is under a node, in a tree over 2^size slots; slot i is node 2^size + i
 abbrev pub is_under : ℕ → ℕ → ℕ → Bool
 is_under size v i = comes_to size (2 ^ size + i) v
 

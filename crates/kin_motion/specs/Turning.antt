@@ -43,7 +43,7 @@ pub record HaveSamePlaces (w : Shape) (before after : List (Option Course)) : Ty
   pub x : (i : ℕ) → AreEqualAt w (x_of before i) (x_of after i)
   pub y : (i : ℕ) → AreEqualAt w (y_of before i) (y_of after i)
 
--- what is seen at an instant is a matter of who is live and where each point is: the signs of all forms are the same
+-- what is seen at an instant depends on which numbers are live and where each point is: the signs of all forms are the same
 abbrev pub SceneIsByPlaces : Type 0
 SceneIsByPlaces = (w : Shape) (before after : List (Option Course)) → IsCanonical w → live_of before ≡ live_of after → HaveSamePlaces w before after
     → scene_at before (just_at w) ≡ scene_at after (just_at w)

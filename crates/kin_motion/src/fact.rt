@@ -16,7 +16,7 @@ pub struct Fact {
 }
 
 impl Fact {
-    /// Whether it is the same fact, in the words of a contract.
+    /// Whether it is the same fact, as contracts see it.
     pub fn is(self, other: Fact) -> bool
         ensures { IsTrue result ↔ (self ≡ other) }
     {
@@ -32,7 +32,7 @@ pub struct Placed {
 }
 
 impl Placed {
-    /// Whether it is the same fact in the same part, in the words of a contract.
+    /// Whether it is the same fact in the same part, as contracts see it.
     pub fn is(self, other: Placed) -> bool
         ensures { IsTrue result ↔ (self ≡ other) }
     {

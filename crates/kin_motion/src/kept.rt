@@ -51,7 +51,7 @@ pub trait Kept: Steady {
         ensures members { OnOk result ((before after : List ℕ) → has_members self.old before → HasEntered no before after → has_members self.new after) }
         ensures facts { OnOk result (Self.facts self.new ≡ Self.facts self.old) };
 
-    /// Marks a number as leaving. Each fact that isn't spared from now on doesn't name it.
+    /// Marks a number as leaving. From then on a fact that isn't spared doesn't name it.
     fn mark_leaving(&mut self, no: u32)
         requires rest { Self.at_rest self.old }
         requires room { (size : ℕ) × (keep : Kind) × is_for self.old size keep × (no < 2 ^ size) }
@@ -76,12 +76,12 @@ pub trait Kept: Steady {
     /// Settled over the live numbers, it has the facts of its keep.
     ghost exact: { (k : Self) (size : ℕ) (keep : Kind) (s : Scene) → is_for k size keep → has_members k s.live → Self.settled k s → ListsExactly (Self.facts k) (IsKeepFact size s keep) };
 
-    /// The determination law asks nothing of a scene but the facts.
+    /// The determination law requires nothing of a scene but the facts.
     ghost stands_alone: { (k : Self) (s : Scene) → Self.grounded k s };
 }
 
-/// Repairs everything that has failed at one moment together. No mark stands, and the members are
-/// the live numbers. `failed` lists exactly the facts that don't hold now. `out` gains what changed.
+/// Repairs everything that has failed at one moment together. No mark waits, and the members are the
+/// live numbers. `failed` lists exactly the facts that don't hold now. `out` gains what changed.
 pub fn repair<K: Kept, O: Signs, L: Ledger>(
     kept: &mut K,
     now: &O,
@@ -102,7 +102,7 @@ pub fn repair<K: Kept, O: Signs, L: Ledger>(
     kept.settle_steadily(now, failed, out, steps)
 }
 
-/// Takes a number in that has become live. No mark stands, the members were the other live numbers,
+/// Takes in a number that has become live. No mark waits, the members were the other live numbers,
 /// and no fact has failed. `out` gains what changed.
 pub fn enter<K: Kept, O: Signs, L: Ledger>(
     kept: &mut K,
@@ -126,8 +126,8 @@ pub fn enter<K: Kept, O: Signs, L: Ledger>(
     kept.settle_steadily(now, &[], out, steps)
 }
 
-/// Lets a number go that isn't live any more. No mark stands, the members were the live numbers and
-/// this one, and no fact has failed that doesn't name it. `out` gains what changed.
+/// Lets go of a number that isn't live any more. No mark waits, the members were the live numbers
+/// and this one, and no fact has failed that doesn't name it. `out` gains what changed.
 pub fn leave<K: Kept, O: Signs, L: Ledger>(
     kept: &mut K,
     leaving: u32,

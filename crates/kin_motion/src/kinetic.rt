@@ -21,18 +21,18 @@ pub trait Kinetic {
     /// as leaving.
     ghost is_spared: { Self → Placed → Bool };
 
-    /// What `settle` asks of the scene: the members, with the entering numbers and without the
+    /// What `settle` requires of the scene: the members, with the entering numbers and without the
     /// leaving ones, are exactly the live numbers, and no call has answered want of memory.
     ghost ready: { Self → Scene → Type 0 };
 
-    /// No mark and no told edit stands.
+    /// No mark and no edit waits.
     ghost at_rest: { Self → Type 0 };
 
     /// The content and the facts are those of the definition in this scene.
     ghost settled: { Self → Scene → Type 0 };
 
-    /// What the determination law asks of a scene besides the facts: nothing, but for a merge that
-    /// both told chains are upper chains there.
+    /// What the determination law requires of a scene besides the facts: nothing, but for a merge
+    /// that both given chains are upper chains there.
     ghost grounded: { Self → Scene → Type 0 };
 
     /// The settling law: repairs everything that has failed at one moment together. Of the facts

@@ -2,10 +2,12 @@
 
 ghost use Rattle.kin_motion.specs.Agreements.{CandidateAgrees, ChainAgrees, ClosestAgrees, ClosestFactsAgree, CycleAgrees, ExtremeAgrees, ExtremeFactsAgree, FailuresAgree, HullFactsAgree, LiveFactsAgree, MergeFormsAgree, OrderAgrees, OrderFactsAgree};
 ghost use Rattle.kin_motion.specs.Claims.{ChainHasLeast, ChainIsStrict, HullHasLeast, HullIsStrict, SettledStatesExist, WrongRectIsEmpty};
+ghost use Rattle.kin_motion.specs.FactCounts.{FewFacts, FewLiveFacts};
 ghost use Rattle.kin_motion.specs.Parts.{MovedFactsChange, MovedFactsFail, MovedOrderFacts};
+ghost use Rattle.kin_motion.specs.RecordFacts.{FactsAreRecorded, FewFactsAreReported, FewFactsChange};
 ghost use Rattle.kin_motion.specs.TurnedFacts.{TurnedFactsHold, TurnedTwiceIsSame};
 ghost use Rattle.kin_motion.specs.Turning.{OneTurn, SceneIsByPlaces, TurnKeepsScene};
-ghost use Rattle.kin_motion.specs.Theorems.{LiveFactsAreAskable, OctantsAreOpposite, OneCandidate, OneClosest, OneExtreme, OneFirstFailure, OneHullCycle, OneJournal, OneNextBlock, OneOctant, OneOrder, OneUpperChain, OrderIsDetermined, PolynomialsAreSmall, RealScenesHaveLaws, TurnedIsMirrored, TurnedIsReal};
+ghost use Rattle.kin_motion.specs.Theorems.{ExtremeIsDetermined, LiveFactsAreAskable, OctantsAreOpposite, OneCandidate, OneClosest, OneExtreme, OneFirstFailure, OneHullCycle, OneJournal, OneNextBlock, OneOctant, OneOrder, OneUpperChain, OrderIsDetermined, PolynomialsAreSmall, RealScenesHaveLaws, TurnedIsMirrored, TurnedIsReal};
 
 /// Where motions are slow, the polynomial of each form that may be asked for is within the bounds.
 pub fn polynomials_are_small()
@@ -40,9 +42,9 @@ pub fn moved_facts_agree()
     ensures order { MovedOrderFacts }
 {}
 
-/// What is seen at an instant is a matter of who is live and where each point is. So a turn to
-/// another velocity leaves every fact and every answer at its instant; there is one motion to turn
-/// to at most.
+/// What is seen at an instant depends on which numbers are live and where each point is. So a turn to
+/// another velocity leaves every fact and every answer at its instant; there is one motion to turn to
+/// at most.
 pub fn turns_keep_the_scene()
     ensures places { SceneIsByPlaces }
     ensures turn { TurnKeepsScene }
@@ -94,6 +96,11 @@ pub fn order_is_determined()
     ensures { OrderIsDetermined }
 {}
 
+/// The facts of an extreme point determine it, and themselves.
+pub fn extreme_is_determined()
+    ensures { ExtremeIsDetermined }
+{}
+
 /// Seen from one moment, a fact has one first failure at most, there is one next block at most, and
 /// one journal up to a later moment.
 pub fn one_journal()
@@ -125,18 +132,36 @@ pub fn computed_facts_agree()
     ensures failures { FailuresAgree }
 {}
 
+/// Without live numbers there is no fact. With n of them, all with slots, an order or an extreme point
+/// has at most n - 1, a range twice as many, a closest pair 16n, and a hull 4n times the size. So all
+/// kept structures together have at most the sum.
+pub fn few_facts_are_live()
+    ensures structure { FewFacts }
+    ensures all { FewLiveFacts }
+{}
+
 /// A rectangle whose sides are the wrong way round has no point.
 pub fn wrong_rect_is_empty()
     ensures { WrongRectIsEmpty }
 {}
 
-/// Of points at one place a hull has the least number, and no point of it is collinear with one to
-/// its left and one to its right. The same holds of an upper chain.
+/// A point of a hull is the least number at its place, and it is collinear with no two points of which
+/// one is to its left and one to its right. The same holds of an upper chain.
 pub fn hulls_are_strict()
     ensures strict { HullIsStrict }
     ensures least { HullHasLeast }
     ensures strict_chain { ChainIsStrict }
     ensures least_chain { ChainHasLeast }
+{}
+
+/// The facts of a merge are those of its records, of which each has three at most: a turn and two
+/// slopes, or the lines of an outer end. A fact that one state alone has is in a record that it alone
+/// has. So between two states of a merge at most three facts change for each touched record, whatever
+/// the scenes, the chains and the lists of breakpoints are, and no more are reported.
+pub fn few_facts_change()
+    ensures recorded { FactsAreRecorded }
+    ensures changed { FewFactsChange }
+    ensures reported { FewFactsAreReported }
 {}
 
 /// In each real scene whose numbers have slots every kept structure, and the tree of upper chains, can

@@ -1,4 +1,4 @@
-//! Facts that somebody is told of.
+//! Facts that are handed to a receiver.
 
 ghost use Rattle.std.specs.Prelude.{◌≡◌, [], ◌∷◌, ◌++◌, OnOk};
 
@@ -7,7 +7,7 @@ use kin_num::memory::NoMemory;
 use std::alloc::Global;
 use std::marker::Model;
 
-/// The facts that one receiver is told of. The memory is kept when they are taken out.
+/// The facts for one receiver. The memory is kept when they are taken out.
 #[derive(Drop)]
 pub struct Letters {
     facts: Vec<Placed>,

@@ -180,8 +180,7 @@ fn of_dist(motions: &Motions, i: u32, j: u32, k: u32, l: u32) -> Poly
     difference(square(second), square(first))
 }
 
-/// The polynomial of a line. It is made in line, and whoever asks for it knows that its degree is at
-/// most one.
+/// The polynomial of a line. It is made in line, so that its degree, at most one, is known at the call.
 #[inline(always)]
 #[tactic(auto, unfolding(crate::specs::Forms::polynomial_of))]
 pub fn poly_of_line(motions: &Motions, dx: i32, dy: i32, off: i32, i: u32, j: u32) -> Poly

@@ -9,7 +9,7 @@ use kin_num::Sign;
 use kin_num::steps::Steps;
 use std::sync::ledger::Ledger;
 
-/// Motions and one moment, which tell the signs of forms. A structure that asks only these never
+/// Motions at one moment, which give the signs of forms. A structure that asks only these never
 /// sees an instant.
 pub trait Signs {
     /// The live numbers and the sign of each form at that moment.

@@ -1,4 +1,4 @@
-//! Structures of which it is known what a settle leaves as it is.
+//! Structures with a clause on what a settle leaves as it is.
 
 ghost use Rattle.std.specs.Prelude.{OnOk};
 ghost use Rattle.kin_motion.specs.Kinetics.{ListsFailing, HasChanged};
@@ -11,7 +11,7 @@ use kin_num::memory::NoMemory;
 use kin_num::steps::Steps;
 use std::sync::ledger::Ledger;
 
-/// A kinetic structure whose settle leaves something as it is: its size, say, or what it is of.
+/// A kinetic structure whose settle leaves something as it is, such as its size or its direction.
 pub trait Steady: Kinetic + Drop {
     /// What a settle leaves as it is.
     ghost stays: { Self → Self → Type 0 };

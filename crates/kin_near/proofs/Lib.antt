@@ -7,3 +7,4 @@ pub mod SwappedPairs
 pub mod ClosestPoints
 pub mod BestPairs
 pub mod SettledPairs
+pub mod DeterminedPairs

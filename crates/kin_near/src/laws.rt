@@ -1,7 +1,7 @@
 //! What holds of candidates in octants and of the closest pair. Each function's contract is one law; none of them does
 //! anything.
 
-ghost use Rattle.kin_near.specs.BestPairs.{BestPairIsClosest, ClosestIsSettled};
+ghost use Rattle.kin_near.specs.BestPairs.{BestPairIsClosest, ClosestIsDetermined, ClosestIsSettled};
 ghost use Rattle.kin_near.specs.Candidates.{ClosestIsCandidate, FirstIsNearer};
 
 /// Of two members of an octant the one that comes first in the third order is nearer to the other than the
@@ -25,4 +25,9 @@ pub fn best_pair_is_closest()
 /// winner is the closest pair, and the facts of both are those of the closest pair.
 pub fn closest_is_settled()
     ensures { ClosestIsSettled }
+{}
+
+/// The facts of a closest pair determine it, and themselves.
+pub fn closest_is_determined()
+    ensures { ClosestIsDetermined }
 {}

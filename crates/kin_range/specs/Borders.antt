@@ -1,4 +1,4 @@
--- Coordinates of a moving point, held against the border of a rectangle.
+-- Coordinates of a moving point, compared with the border of a rectangle.
 use Rattle.std.specs.Prelude.{◌≤◌, unsigned_abs, ℤ, pos, ◌-ℤ◌, Bool, ◌&&◌}
 use Rattle.kin_num.specs.declared.instant.Moment.{Moment}
 use Rattle.kin_num.specs.Instants.{sign_at}

@@ -30,7 +30,7 @@ members_of r = r.by_x.items
 abbrev pub IsSettledRanging : Ranging → Scene → Type 0
 IsSettledRanging r s = IsSettledRange s r.by_x.items r.by_y.items (facts_of r)
 
--- no mark stands
+-- no mark waits
 pub record IsRangingAtRest (r : Ranging) : Type 0 where
   pub rest : r.by_x.mark ≡ Rest
   pub whole : IsTrue r.whole

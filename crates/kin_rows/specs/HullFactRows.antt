@@ -17,7 +17,7 @@ four =
     ∷ point (pos 2) (pos 3) (pos 0) (pos 0)
     ∷ []
 
--- two points straight above each other, and one beside them: the upper and the lower chain of the first two differ
+-- two points straight above each other, and one next to them: the upper and the lower chain of the first two differ
 abbrev pub stacked : List (Option Course)
 stacked =
     point (pos 0) (pos 0) (pos 0) (pos 0)

@@ -1,4 +1,4 @@
--- Words for writing examples.
+-- Short names for writing examples.
 use Rattle.std.specs.Prelude.{ℕ, ℤ, pos, Bool, List, ◌∷◌, length, Option, Some}
 use Rattle.kin_algebra.specs.declared.sign.Sign.{Sign}
 use Rattle.kin_num.specs.declared.instant.Shape.TheVariants.{Ratio}

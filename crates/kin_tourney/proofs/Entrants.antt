@@ -13,7 +13,7 @@ use Rattle.kin_motion.specs.declared.fact.Placed.{Placed}
 use Rattle.kin_motion.specs.Scene.{Scene, placed_at}
 use Rattle.kin_motion.specs.Tournaments.{Key, beats, item_in}
 use Rattle.kin_tourney.specs.declared.entry.Entry.{Entry}
-use Rattle.kin_tourney.specs.Locals.{HasNoFact, IsMatch, IsPlayed}
+use Rattle.kin_motion.proofs.Matches.{HasNoFact, IsMatch, IsPlayed}
 use Rattle.kin_tourney.specs.Standings.{Standings, IsTree, IsRight, best_in, fact_in, named_at, entry_at, entry_in, entry_with, item_of, match_of, winners_of, placed_facts}
 use Rattle.kin_tourney.proofs.Entries.{entry_in_slot, named_inner}
 use Rattle.kin_tourney.proofs.Placements.{fact_of_placed, placed_of_fact, placed_facts_once}

@@ -8,7 +8,7 @@ use Rattle.kin_motion.specs.declared.form.Form.{Form}
 use Rattle.kin_motion.specs.Tournaments.{Key, item_in, is_under}
 use Rattle.kin_tourney.specs.declared.entry.Entry.{Entry}
 use Rattle.kin_tourney.specs.Standings.{Standings, IsTree, best_in, named_at, entry_at, entry_in, entry_with, match_of, match_at}
-use Rattle.kin_tourney.specs.Under.{is_under-leaf, is_under-left, is_under-right}
+use Rattle.kin_motion.proofs.UnderNodes.{is_under-leaf, is_under-left, is_under-right}
 
 -- the slot of an entry is the one that the node names, and holds its item
 entry_with_slot : {Item : Type 0} (i : ℕ) (o : Option Item) (e : Entry Item) → entry_with i o ≡ Some e → (i ≡ e.slot) × (o ≡ Some e.item)

@@ -12,7 +12,7 @@ use Rattle.kin_motion.proofs.PointSlots.{slot_holds}
 use Rattle.kin_tourney.specs.declared.along.Along.{Along}
 use Rattle.kin_tourney.specs.Points.{HasPoints, IsSettledAlong}
 use Rattle.kin_tourney.specs.Tournament.{Tournament, is_above_mark, is_above_mark_from}
-use Rattle.kin_tourney.specs.Under.{is_under-left, is_under-right, is_under-le, is_under-none}
+use Rattle.kin_motion.proofs.UnderNodes.{is_under-left, is_under-right, is_under-le, is_under-none}
 
 -- a node over a marked slot is above a mark
 above_marked : (size v i k : ℕ) (marked : List Bool) → k < length marked → is_under size v (i + k) ≡ true → is_above_mark_from size v i (slice_set marked k true) ≡ true

@@ -1,19 +1,20 @@
 -- Doubts above a marked slot: the matches that it had won are to be played again.
-use Rattle.std.proofs.Common.{◌≡◌, ◌≢◌, ◌⊎◌, inl, inr, refl, sym, ap, ◌∙◌, subst, arith, ℕ, zero, suc, ◌+◌, ◌*◌, ◌/◌, ◌<◌, ◌≤◌, length, true, nat_eq, set, ◌^◌, Bool, false, nat_lt}
+use Rattle.std.proofs.Common.{◌≡◌, ◌≢◌, ◌⊎◌, inl, inr, refl, sym, ap, ◌∙◌, subst, arith, ℕ, zero, suc, ◌+◌, ◌*◌, ◌/◌, ◌<◌, ◌≤◌, length, true, nat_eq, set, ◌^◌, Bool, false, nat_lt, List}
 use Rattle.std.specs.Prelude.{Some}
 use Rattle.std.proofs.lemmas.Bool.{or_cases, cases_eq, cases_lt}
 use Rattle.std.proofs.lemmas.Bool.Decides.{nat_tests}
-use Rattle.std.proofs.lemmas.List.{get_or-set_same, length-set}
+use Rattle.std.proofs.lemmas.List.{get_or-set_same, length-set, set-get_or}
 use Rattle.kin_motion.specs.Tournaments.{comes_to, is_under}
 use Rattle.kin_motion.proofs.NodeLaws.{not_above}
 use Rattle.kin_tourney.specs.declared.doubt.Doubt.TheVariants.{Clear, Below, Here}
 use Rattle.kin_tourney.specs.Standings.{Standings, IsTree, doubt_in, doubt_count, named_at}
+use Rattle.kin_tourney.specs.Tournament.{mark_in}
 use Rattle.kin_tourney.specs.Repairs.{IsSpread, IsMarkedUp, IsFed}
-use Rattle.kin_tourney.specs.Under.{is_under-leaf, is_under-left, is_under-right, is_under-one_half}
+use Rattle.kin_motion.proofs.UnderNodes.{is_under-leaf, is_under-left, is_under-right, is_under-one_half}
 use Rattle.kin_tourney.proofs.Entries.{named_inner, named_under}
 use Rattle.kin_tourney.proofs.AfterWrite.{read_set}
 use Rattle.kin_tourney.proofs.Doubts.{count_kept, here_is_doubt}
-use Rattle.kin_tourney.proofs.Trees.{above_in_doubt}
+use Rattle.kin_tourney.proofs.Trees.{above_in_doubt, tree_marked}
 
 -- on the way up from a slot: the nodes that are passed are done
 pub record IsRaising {Item : Type 0} (slot : ℕ) (start now : Standings Item) (node : ℕ) : Type 0 where
@@ -223,3 +224,27 @@ raising_done slot old mid now node tree inside first among same spread ended h =
     at (inr low) e = raising_ends slot old mid now node tree inside same spread low h
     at (inl big) (inl low) = absurd (omega (arith, big, low))
     at (inl big) (inr lost) = raising_ends slot old mid now 0 tree inside same spread (omega arith) (stopped slot mid now now node big h h.tree first among refl lost)
+
+-- a slot is marked, and where it wasn't so before, the nodes above it came into doubt
+pub record IsMarking {Item : Type 0} (slot : ℕ) (old new : Standings Item) : Type 0 where
+  pub tree : IsTree new
+  pub same : new ≡ record old { marked = set old.marked slot true; doubts = new.doubts }
+  pub spread : mark_in old.marked slot ≡ false → IsMarkedUp slot old new.doubts
+  pub again : mark_in old.marked slot ≡ true → new.doubts ≡ old.doubts
+
+module _ {Item : Type 0} (slot : ℕ) (old : Standings Item) (mark : Bool) (was : mark ≡ mark_in old.marked slot) where
+  pub marked_before : IsTree old → mark ≡ true → IsMarking slot old old
+  marked_before tree on = record {
+    tree = tree;
+    same = ap (λ (m : List Bool). record old { marked = m }) (sym (ap (set old.marked slot) (sym on ∙ was) ∙ set-get_or old.marked slot false));
+    spread = λ off. absurd (let e : true ≡ false = sym on ∙ was ∙ off in cc);
+    again = λ e. refl;
+  }
+
+  pub marked_now : (doubted : Standings Item) → mark ≡ false → IsTree doubted → doubted ≡ record old { doubts = doubted.doubts } → IsMarkedUp slot old doubted.doubts → IsMarking slot old (record doubted { marked = set doubted.marked slot true })
+  marked_now doubted off tree same spread = record {
+    tree = tree_marked doubted tree slot;
+    same = ap (λ (t : Standings Item). record t { marked = set t.marked slot true }) same;
+    spread = λ e. spread;
+    again = λ e. absurd (let f : false ≡ true = sym off ∙ was ∙ e in cc);
+  }

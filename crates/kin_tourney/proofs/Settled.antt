@@ -13,7 +13,7 @@ use Rattle.kin_tourney.specs.declared.doubt.Doubt.TheVariants.{Clear, Below, Her
 use Rattle.kin_tourney.specs.Names.{AreLive, IsTotal, IsTransitive}
 use Rattle.kin_tourney.specs.Tournament.{Tournament, IsAtRest, IsReady, IsSettled, mark_in, is_above_mark, winner_at, CoversFailing, CoversAskable}
 use Rattle.kin_tourney.specs.Ready.{fair_when_ready}
-use Rattle.kin_tourney.specs.Played.{settled_from_played}
+use Rattle.kin_motion.proofs.PlayedTournaments.{settled_from_played}
 use Rattle.kin_tourney.specs.Standings.{Standings, IsTree, doubt_in, entry_at, item_of, placed_facts, seen_as}
 use Rattle.kin_tourney.specs.Repairs.{IsMarkedUp, IsDoubtful, IsDoubted, needs_play}
 use Rattle.kin_tourney.specs.Sound.{IsSound}

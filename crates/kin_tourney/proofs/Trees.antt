@@ -52,6 +52,42 @@ tree_changed {Item} t h marked best facts doubts marked_room best_room facts_roo
   closed = closed;
 }
 
+-- a tree whose doubts were written over, where another value is seen as that tree
+pub tree_doubted : {Item : Type 0} (seen t : Standings Item) → seen ≡ t → IsTree t → (doubts : List Doubt) → length doubts ≡ length seen.doubts → IsClosed doubts → IsTree (record seen { doubts = doubts })
+tree_doubted {Item} seen t view h doubts room closed =
+    let k = subst (λ (x : Standings Item). IsTree x) (sym view) h in
+    tree_changed seen k seen.marked seen.best seen.facts doubts refl refl refl room (λ v i e. (k.best_low v i e, k.best_under v i e)) closed
+
+-- only facts changed
+pub tree_retold : {Item : Type 0} (t new : Standings Item) → IsTree t → new ≡ record t { facts = new.facts } → length new.facts ≡ length t.facts → IsTree new
+tree_retold {Item} t new h same room =
+    subst (λ (x : Standings Item). IsTree x) (sym same) (tree_changed t h t.marked t.best new.facts t.doubts refl refl room refl (λ v i e. (h.best_low v i e, h.best_under v i e)) h.closed)
+
+-- a slot was marked
+pub tree_marked : {Item : Type 0} (t : Standings Item) → IsTree t → (slot : ℕ) → IsTree (record t { marked = set t.marked slot true })
+tree_marked {Item} t h slot = tree_changed t h (set t.marked slot true) t.best t.facts t.doubts (length-set t.marked slot true) refl refl refl (λ v i e. (h.best_low v i e, h.best_under v i e)) h.closed
+
+-- a slot holds something else
+pub tree_filled : {Item : Type 0} (t : Standings Item) → IsTree t → (slot : ℕ) (item : Option Item) → IsTree (record t { items = set t.items slot item })
+tree_filled {Item} t h slot item =
+    let room = length-set t.items slot item in
+    record {
+      small = h.small;
+      items_room = room ∙ h.items_room;
+      marked_room = h.marked_room ∙ sym room;
+      best_room = h.best_room ∙ sym room;
+      facts_room = h.facts_room ∙ sym room;
+      doubts_room = h.doubts_room ∙ sym room;
+      best_low = λ v i e. subst (λ (n : ℕ). i < n) (sym room) (h.best_low v i e);
+      best_under = h.best_under;
+      closed = h.closed;
+    }
+
+-- a match in doubt has to be played again
+pub tree_raised : {Item : Type 0} (t : Standings Item) → IsTree t → (node : ℕ) → node < length t.items → doubt_in t.doubts node ≢ Clear → IsTree (record t { doubts = set t.doubts node Here })
+tree_raised {Item} t h node inside doubted =
+    tree_doubted t t refl h (set t.doubts node Here) (length-set t.doubts node Here) (closed_raised t.doubts node h.closed (let r = h.doubts_room in omega arith) doubted)
+
 -- a node got another best slot, its fact may have changed, and the node above it has to be played again
 pub tree_replayed : {Item : Type 0} (t : Standings Item) → IsTree t → (node : ℕ) → 0 < node → node < length t.items → doubt_in t.doubts node ≢ Clear
     → (best : Option ℕ) (facts : List (Option Fact)) → length facts ≡ length t.facts → ((i : ℕ) → best ≡ Some i → (i < length t.items) × (is_under t.size node i ≡ true))

@@ -6,7 +6,7 @@ use Rattle.std.proofs.lemmas.List.{get_or_past}
 use Rattle.kin_algebra.specs.declared.sign.Sign.{Sign}
 use Rattle.kin_motion.specs.Tournaments.{Key, item_in, is_under}
 use Rattle.kin_tourney.specs.declared.entry.Entry.{Entry}
-use Rattle.kin_tourney.specs.Under.{is_under-leaf, is_under-leaf_alone, is_under-left, is_under-right, is_under-cases}
+use Rattle.kin_motion.proofs.UnderNodes.{is_under-leaf, is_under-leaf_alone, is_under-left, is_under-right, is_under-cases}
 use Rattle.kin_tourney.specs.Standings.{Standings, IsTree, IsRight, entry_at, item_of}
 use Rattle.kin_tourney.proofs.Entrants.{entry_right, entry_leaf, winning}
 

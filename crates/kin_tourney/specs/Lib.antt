@@ -1,14 +1,9 @@
 pub mod Names
 pub mod AlongLaws
-pub mod Fair
-pub mod Locals
 pub mod Tournament
 pub mod Standings
 pub mod Repairs
 pub mod Sound
-pub mod Under
-pub mod Bests
-pub mod Played
 pub mod Ready
 pub mod Determined
 pub mod Points

@@ -1,4 +1,4 @@
--- A tournament of points along a direction, which stand in the slots of their numbers.
+-- A tournament of points along a direction, which are in the slots of their numbers.
 use Rattle.std.specs.Prelude.{◌≡◌, ℕ, ◌^◌, List, [], ◌∷◌, length, IsTrue}
 use Rattle.kin_motion.specs.declared.keep.Keep.{Keep}
 use Rattle.kin_motion.specs.declared.keep.Keep.TheVariants as keep
@@ -20,7 +20,7 @@ IsExtremeKeep _ = ⊥
 abbrev pub IsTournamentFor : Tournament Along ℕ → ℕ → Keep → Type 0
 IsTournamentFor t size kept = (kept ≡ keep.Extreme t.key.dx t.key.dy) × (t.size ≡ size)
 
--- each of these numbers stands in its slot, and nothing else, and each slot can be marked
+-- each of these numbers is in its slot, and nothing else, and each slot can be marked
 pub record HasPoints (t : Tournament Along ℕ) (set : List ℕ) : Type 0 where
   pub whole : IsTrue t.whole
   pub slots : t.slots ≡ point_slots t.size set

@@ -5,7 +5,7 @@ use Rattle.kin_motion.specs.Scene.{Scene, IsReal}
 use Rattle.kin_motion.specs.Kinetics.{HaveSameLive}
 use Rattle.kin_motion.specs.Tournaments.{Key}
 use Rattle.kin_tourney.specs.Names.{AreLive, IsTotal, IsTransitive}
-use Rattle.kin_tourney.specs.Fair.{IsFair}
+use Rattle.kin_motion.proofs.FairKeys.{IsFair}
 use Rattle.kin_tourney.specs.Tournament.{Tournament, IsReady}
 
 pub fair_when_ready : {K Item : Type 0} (names : Item → List ℕ) (key : Key Item) → IsTotal names key → IsTransitive names key

@@ -101,7 +101,7 @@ pub record IsClosed (doubts : List Doubt) : Type 0 where
   pub top : doubt_in doubts 0 ≡ Here
   pub below : (v : ℕ) → 0 < v → doubt_in doubts (v / 2) ≡ Clear → doubt_in doubts v ≡ Clear
 
--- each list has its room, a best slot stands under its node, and the doubts are closed
+-- each list has its room, a best slot is under its node, and the doubts are closed
 pub record IsTree {Item : Type 0} (t : Standings Item) : Type 0 where
   pub small : t.size ≤ 15
   pub items_room : length t.items ≡ 2 ^ t.size

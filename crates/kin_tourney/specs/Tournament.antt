@@ -30,12 +30,12 @@ mark_in marked i = slice_index_or marked i false
 abbrev pub mark_count : List Bool → ℕ
 mark_count marked = count_by (λ m. m) marked
 
--- whether one of these slots, from slot i on, is marked and stands under a node
+-- whether one of these slots, from slot i on, is marked and is under a node
 abbrev pub is_above_mark_from : ℕ → ℕ → ℕ → List Bool → Bool
 is_above_mark_from size v i [] = false
 is_above_mark_from size v i (m ∷ ms) = (m && is_under size v i) || is_above_mark_from size v (i + 1) ms
 
--- whether a node stands above a marked slot
+-- whether a node is above a marked slot
 abbrev pub is_above_mark : ℕ → List Bool → ℕ → Bool
 is_above_mark size marked v = is_above_mark_from size v 0 marked
 

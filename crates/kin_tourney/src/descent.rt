@@ -61,8 +61,7 @@ pub fn first_doubt(doubts: &[Doubt], near: usize) -> usize
     }
 }
 
-/// The other half of the node above this one. The halves of a node are its double and the number
-/// behind that.
+/// The other half of the node above this one. The halves of a node are its double and the next number.
 fn other_half(node: usize) -> usize
     ensures { result + node ≡ 4 * (node / 2) + 1 }
 {

@@ -25,8 +25,8 @@ use kin_num::steps::Steps;
 use std::sync::ledger::Ledger;
 
 impl<I: Copy> Tree<I> {
-    /// Plays the match of two entries, the halves of a node, by the sign of their form where it is
-    /// known, and tells of its fact. The winner's slot is the result.
+    /// Plays the match of two entries, the halves of a node, by the sign of their form where it is known, and reports
+    /// its fact. The winner's slot is the result.
     fn meet<K: Keyed<Item = I>, O: Signs, L: Ledger>(
         &mut self,
         node: usize,
@@ -63,8 +63,8 @@ impl<I: Copy> Tree<I> {
         }
     }
 
-    /// Plays the match of the two halves of a node, by the sign of their form where it is known, and
-    /// tells of its fact. The winner's slot is the result.
+    /// Plays the match of the two halves of a node, by the sign of their form where it is known, and reports its fact.
+    /// The winner's slot is the result.
     #[inline(always)]
     fn play<K: Keyed<Item = I>, O: Signs, L: Ledger>(
         &mut self,
@@ -86,7 +86,7 @@ impl<I: Copy> Tree<I> {
         ensures reported { OnOk result (IsReported node (fact_in self.old.facts node) (fact_in self.new.facts node) out.old out.new) }
         ensures cost { steps.new ≤ steps.old + asked_for known }
     {
-        // One half after the other, so that an empty one leaves the way at once.
+        // One half after the other, so that an empty one returns at once.
         match self.entry(2 * node) {
             Some(left) => match self.entry(2 * node + 1) {
                 Some(right) => self.meet(node, left, right, known, key, now, out, steps),

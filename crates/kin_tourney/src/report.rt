@@ -1,4 +1,4 @@
-//! What is told of the fact of a node.
+//! What is reported of the fact of a node.
 
 ghost use Rattle.std.specs.Prelude.{◌≡◌, ◌<◌, ◌≤◌, ◌^◌, ◌↔◌, IsTrue, Some, None, length, slice_set, OnOk};
 ghost use Rattle.kin_tourney.specs.Repairs.{IsReported};
@@ -7,7 +7,7 @@ ghost use Rattle.kin_tourney.specs.Standings.{fact_in};
 use kin_motion::fact::{Delta, Fact, Placed};
 use kin_num::memory::NoMemory;
 
-/// Whether it is the same fact. Mostly the sign differs.
+/// Whether it is the same fact. Usually the sign differs.
 fn is_same(old: &Fact, new: &Fact) -> bool
     ensures { IsTrue result ↔ (old.now ≡ new.now) }
 {
@@ -30,7 +30,7 @@ pub fn tell(
 {
     let part = node as u32;
     let told = &mut facts[node];
-    // Room is reserved first, so that what is told is written straight to its place.
+    // Room is reserved first, so that what is reported is written straight to its place.
     if let Some(old) = told {
         if is_same(old, &fact) {
             return Ok(());

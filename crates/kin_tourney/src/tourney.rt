@@ -143,8 +143,8 @@ impl<K: Keyed> Kinetic for Tourney<K> {
 
     ghost determined = { λ t v w rest real before same real' grounded hold. determined_law K.names (K.key t.key) (K.total t.key) (K.transitive t.key) t v w real before same real' hold };
 
-    /// Repairs the marked slots and the failed facts, each along the levels above it. The tree is
-    /// not visited elsewhere.
+    /// Repairs the marked slots and the failed facts, each along the levels above it. No other node is
+    /// visited.
     fn settle<O: Signs, L: Ledger>(
         &mut self,
         now: &O,

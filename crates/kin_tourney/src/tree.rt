@@ -116,7 +116,7 @@ impl<I: Copy> Tree<I> {
         self.doubts[node].is_here()
     }
 
-    /// Whether no slot is marked, and no failed fact told.
+    /// Whether no slot is marked, and no failed fact was given.
     pub fn is_untouched(&self) -> bool
         requires tree { IsTree self.now }
         requires some { 1 ≤ self.now.size }
@@ -152,7 +152,7 @@ impl<I: Copy> Tree<I> {
         doubt_path(&mut self.doubts, node, Doubt::Below);
     }
 
-    /// Has the match of a node in doubt played again.
+    /// Marks the match of a node in doubt as one to play again.
     fn raise(&mut self, node: usize)
         requires tree { IsTree self.old }
         requires inner { node < length self.old.items }

@@ -30,7 +30,7 @@ use Rattle.kin_wedge.specs.Rows.{row_of, AreAlike, AreOrders, AreRanked, AreRows
 use Rattle.kin_wedge.specs.Seen.{rows_of}
 use Rattle.kin_wedge.specs.Sides.{AreParted}
 use Rattle.kin_wedge.specs.Wedging.{Wedging, candidate_at, members_of, AreKept, AreWedges, IsListOf, IsMarkable}
-use Rattle.kin_wedge.specs.WedgingLaws.{way_known, way_of}
+use Rattle.kin_motion.proofs.SameOctants.{way_known, way_of}
 use Rattle.kin_wedge.proofs.AllRows.{items_there, swaps_there, row_past}
 use Rattle.kin_wedge.proofs.Keeping.{kept_marked, wedging}
 use Rattle.kin_wedge.proofs.Parting.{AllAtNought, among_part, fact_there, has_fact, here_in, here_out}

@@ -10,6 +10,6 @@ use Rattle.kin_wedge.specs.Rows.{WereExchanged}
 abbrev pub MembersComeAfter : Type 0
 MembersComeAfter = (s : Scene) (w : ℕ) (o : Octant) (p q : ℕ) → IsReal s → slice_get octants w ≡ Some o → p ≢ q → is_in_octant s o p q ≡ true → comes_after s o.third p q ≡ true
 
--- after some exchanges of neighbours two numbers stand as they stood before, or they were exchanged with each other
+-- after some exchanges of neighbours two numbers are in the order that they had before, or they were exchanged with each other
 abbrev pub ExchangesTell : Type 0
 ExchangesTell = (places row : List ℕ) (a b : ℕ) → (stands_before (exchanged places row) a b ≡ stands_before row a b) ⊎ (WereExchanged places row a b ⊎ WereExchanged places row b a)

@@ -49,7 +49,7 @@ is_of_part part p = nat_eq p.part part
 abbrev pub AreAtNought : List Placed → Type 0
 AreAtNought facts = (p : Placed) → Contains facts p → p.part ≡ 0
 
--- the list has forgotten its exchanges, and where no mark stands and no fact has failed it has settled by that
+-- the list has forgotten its exchanges, and where no mark waits and no fact has failed it has settled by that
 pub record StandsStill (l m : Listing) : Type 0 where
   pub same : m ≡ record l { swaps = [] }
   pub settled : IsAtRest l → (s : Scene) → IsReal s → IsReadyListing l s → ListsFailing l.facts (names_leaving l.mark) s [] → IsSettledListing m s
@@ -61,6 +61,6 @@ pub record IsResettled (s : Scene) (l m : Listing) : Type 0 where
   pub exchanges : exchanged m.swaps (staying l.mark l.items) ≡ lasting l.mark m.items
   pub same : (m.dx ≡ l.dx) × (m.dy ≡ l.dy) × (m.room ≡ l.room)
 
--- a list that was told nothing and had no mark has exchanged nothing
+-- a list that had no failed fact and no mark has exchanged nothing
 abbrev pub AreQuiet : Mark → List (List Placed) → List Listing → Type 0
 AreQuiet mark boxes lists = (part : ℕ) (l : Listing) → slice_get lists part ≡ Some l → told_to boxes part ≡ [] → mark ≡ Rest → l.swaps ≡ []

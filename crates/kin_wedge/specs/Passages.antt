@@ -34,11 +34,11 @@ AreExchangesOffered mark swaps old new candidates ts = (part a b : ℕ) → Were
 abbrev pub IsLookedUp : ℕ → List Touch → Type 0
 IsLookedUp i ts = (w : ℕ) → w < 8 → IsOffered ts (8 * i + w) None
 
--- a number is offered to each octant that it is in, where no candidate stands before it
+-- a number is offered to each octant that it is in, where no candidate comes before it
 abbrev pub IsOfferedAround : List (List ℕ) → List (Option ℕ) → ℕ → List Touch → Type 0
 IsOfferedAround rows candidates i ts = (p w : ℕ) (o : Octant) → slice_get octants w ≡ Some o → ComesFirst rows candidates o p w i → IsOffered ts (8 * p + w) (Some i)
 
--- the same at the apexes that stand in the first order from one place to before another
+-- the same at the apexes that the first order has from one place to before another
 abbrev pub IsOfferedFrom : List (List ℕ) → List (Option ℕ) → ℕ → ℕ → ℕ → List Touch → Type 0
 IsOfferedFrom rows candidates i from to ts = (k p w : ℕ) (o : Octant) → from ≤ k → k < to → slice_get (row_of rows 0) k ≡ Some p → slice_get octants w ≡ Some o → ComesFirst rows candidates o p w i → IsOffered ts (8 * p + w) (Some i)
 

@@ -7,7 +7,7 @@ use Rattle.kin_wedge.specs.declared.sides.Sides.{Sides}
 use Rattle.kin_wedge.specs.declared.sides.Spot.{Spot}
 use Rattle.kin_wedge.specs.Rows.{row_of, is_in_wedge}
 
--- whether q stands behind p in each of the first four orders
+-- for each of the first four orders, whether q comes after p in it
 pub record AreSides (rows : List (List ℕ)) (p q : ℕ) (s : Sides) : Type 0 where
   pub y : s.y ≡ stands_before (row_of rows 0) p q
   pub difference : s.difference ≡ stands_before (row_of rows 1) p q
@@ -34,7 +34,7 @@ pub record AreRanks (rows : List (List ℕ)) (who : ℕ) (ranks : List ℕ) : Ty
 abbrev pub octant_by : Sides → ℕ
 octant_by s = cond s.y (cond s.difference 0 (cond s.x 1 (cond s.sum 2 3))) (cond s.difference (cond s.x (cond s.sum 7 6) 5) 4)
 
--- who lies in an octant lies in the one that its sides tell
+-- a number that lies in an octant lies in the one that its sides decide
 abbrev pub AreParted : List (List ℕ) → Type 0
 AreParted rows = (w p q : ℕ) (o : Octant) (s : Sides) → slice_get octants w ≡ Some o → AreSides rows p q s → is_in_wedge rows o p q ≡ true → octant_by s ≡ w
 

@@ -40,7 +40,7 @@ pub record HasTouched (candidates : List (Option ℕ)) (old new : List Touch) : 
 abbrev pub IsBoundedBy : Octant → ℕ → Type 0
 IsBoundedBy o part = (o.first.part ≡ part) ⊎ (o.second.part ≡ part)
 
--- by the new orders b is in the octant of p, and no candidate that the slot had stands before it there
+-- by the new orders b is in the octant of p, and no candidate that the slot had comes before it there
 abbrev pub ComesFirst : List (List ℕ) → List (Option ℕ) → Octant → ℕ → ℕ → ℕ → Type 0
 ComesFirst rows candidates o p w b = (is_in_wedge rows o p b ≡ true) × ((c : ℕ) → slice_get candidates (8 * p + w) ≡ Some (Some c) → stands_after rows o.third c b ≡ false)
 
@@ -54,7 +54,7 @@ pub record IsLeftOut (rows : List (List ℕ)) (o : Octant) (part p b : ℕ) : Ty
   pub bound : IsBoundedAs o (record { part = part; from_end = from_end })
   pub out : stands_after rows (record { part = part; from_end = from_end }) p b ≡ false
 
--- by the new orders b is in the octant of p, and a doesn't stand before it there
+-- by the new orders b is in the octant of p, and a doesn't come before it there
 abbrev pub HasPassedBy : List (List ℕ) → Octant → ℕ → ℕ → ℕ → Type 0
 HasPassedBy rows o p a b = (is_in_wedge rows o p b ≡ true) × (stands_after rows o.third a b ≡ false)
 
@@ -70,7 +70,8 @@ AreLeft candidates ts r a b = (w : ℕ) (o : Octant) → slice_get octants w ≡
 abbrev pub IsOfferedWithin : List (List ℕ) → List (Option ℕ) → List Touch → ℕ → ℕ → ℕ → Type 0
 IsOfferedWithin rows candidates ts part a b = (w : ℕ) (o : Octant) → slice_get octants w ≡ Some o → IsBoundedBy o part → ComesFirst rows candidates o a w b → IsOffered ts (8 * a + w) (Some b)
 
--- of the exchange of a and b in an order, b is offered to those slots of a in the octants that the order bounds where it comes, and those from which it goes are looked up; and b is offered to the slots whose candidate a is in the octants that it ranks where b has passed by
+-- of the exchange of a and b in an order: in the octants that the order bounds, b is offered to the slots of a where it comes first now, and those that it
+-- has left are looked up; in the octants that the order ranks, b is offered to the slots whose candidate is a, where it has passed by a
 pub record HasOffered (rows : List (List ℕ)) (candidates : List (Option ℕ)) (part a b : ℕ) (ts : List Touch) : Type 0 where
   pub comes : IsOfferedWithin rows candidates ts part a b
   pub goes : (w : ℕ) (o : Octant) → slice_get octants w ≡ Some o → IsLeftOut rows o part a b → slice_get candidates (8 * a + w) ≡ Some (Some b) → IsOffered ts (8 * a + w) None

@@ -37,7 +37,7 @@ candidate_told k p w = candidate_at k.candidates p w
 abbrev pub IsReadyWedging : Wedging → Scene → Type 0
 IsReadyWedging k s = HasMarked k.mark (members_of k) s.live
 
--- no mark stands
+-- no mark waits
 abbrev pub IsWedgingAtRest : Wedging → Type 0
 IsWedgingAtRest k = k.mark ≡ Rest
 

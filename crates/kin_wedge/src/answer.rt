@@ -9,7 +9,7 @@ ghost use Rattle.kin_wedge.specs.Touched.{IsRenewed};
 use crate::octant::Octant;
 use crate::orders::Orders;
 
-/// How many places are behind a place, as the list is read.
+/// How many places come after a place, as the list is read.
 fn steps_in(from_end: bool, place: usize, len: usize) -> usize
     requires { place < len }
     ensures { result ≡ steps_in from_end place len }
@@ -17,7 +17,7 @@ fn steps_in(from_end: bool, place: usize, len: usize) -> usize
     if from_end { place } else { len - place - 1 }
 }
 
-/// The place that is k + 1 steps behind a place, as the list is read.
+/// The place that is k + 1 steps after a place, as the list is read.
 fn step_to(from_end: bool, place: usize, k: usize, len: usize) -> usize
     requires place { place < len }
     requires steps { k < steps_in from_end place len }
@@ -32,7 +32,7 @@ fn step_to(from_end: bool, place: usize, k: usize, len: usize) -> usize
 }
 
 impl Orders {
-    /// The first number of an octant in its third order, by a scan that begins behind the apex.
+    /// The first number of an octant in its third order, by a scan that begins after the apex.
     #[inline(always)]
     fn scan(&self, octant: Octant, apex: u32) -> Option<u32>
         requires rows { AreRows (rows_of self.now.lists.items) }
@@ -47,7 +47,7 @@ impl Orders {
             return None;
         };
         let place = place as usize;
-        // Who has no place in them is the apex of no octant.
+        // A number that isn't a member is the apex of no octant.
         let Some(first) = self.place_in(octant.first.part, apex) else {
             return None;
         };
@@ -71,7 +71,7 @@ impl Orders {
         requires behind { (q : ℕ) → is_in_wedge (rows_of self.now.lists.items) (octant_seen octant) apex q ≡ true → stands_after (rows_of self.now.lists.items) (octant_seen octant).third apex q ≡ true }
         ensures { IsFirstAnswer (rows_of self.now.lists.items) (octant_seen octant) apex result }
     {
-        // Each way has a loop of its own, so that no step of it asks for the way.
+        // Each direction has a loop of its own, so that no step tests for it.
         if octant.third.from_end {
             self.scan(octant.ranked(true), apex)
         } else {

@@ -63,7 +63,7 @@ fn offer_to_all(
     ensures offered { OnOk result (IsOfferedAround (rows_of orders.now.lists.items) table.now no touches.new.all.items) }
     ensures touched { OnOk result (HasTouched table.now touches.old.all.items touches.new.all.items) }
 {
-    // Who is no member is in no octant.
+    // A number that isn't a member is in no octant.
     let Some(place) = orders.place_in(0, no) else {
         return Ok(());
     };
@@ -71,7 +71,7 @@ fn offer_to_all(
     let spot = orders.spot_at(place, no);
     let ranks = orders.ranks(no);
     let end = orders.list(0).items().len();
-    // On which side of an apex it lies in the first order, each half of the apexes has in common.
+    // In the first order it lies on one side of all apexes before it, and on the other side of all others.
     offer_from(orders, table, touches, no, spot, ranks, 0, place)?;
     offer_from(orders, table, touches, no, spot, ranks, place, end)?;
     Ok(())

@@ -69,7 +69,7 @@ impl Candidates {
         Ok(())
     }
 
-    /// Brings the candidates to the orders as they are now. `mark` stood before they settled.
+    /// Brings the candidates to the orders as they are now. `mark` was set before they settled.
     pub fn follow(&mut self, mark: Mark, orders: &Orders) -> Result<(), NoMemory>
         requires rows { AreRows (rows_of orders.now.lists.items) }
         requires ranked { AreRanked (rows_of orders.now.lists.items) }

@@ -3,13 +3,13 @@
 ghost use Rattle.kin_wedge.specs.Laws.{ExchangesTell, MembersComeAfter};
 
 /// A member of an octant comes after the apex in the octant's third order. So a look-up of a candidate
-/// may begin behind the apex.
+/// may begin after the apex.
 pub fn members_come_after()
     ensures { MembersComeAfter }
 {}
 
-/// After some exchanges of neighbours two numbers stand as they stood before, or they were exchanged
-/// with each other. So only slots that an exchange names can have another candidate.
+/// After some exchanges of neighbours two numbers are in the order that they had before, or they were
+/// exchanged with each other. So only slots that an exchange names can have another candidate.
 pub fn exchanges_tell()
     ensures { ExchangesTell }
 {}

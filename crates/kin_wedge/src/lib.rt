@@ -1,12 +1,12 @@
 //! Candidates of moving points in octants: for each point, and each of the eight octants around it, the
-//! point of that octant that comes first in the octant's third order. They are what a kinetic closest
-//! pair is found by, as in Basch, Guibas and Hershberger, "Data Structures for Mobile Data", Journal of
+//! point of that octant that comes first in the octant's third order. A kinetic closest pair is found
+//! by them, as in Basch, Guibas and Hershberger, "Data Structures for Mobile Data", Journal of
 //! Algorithms 31 (1999).
 //!
 //! `Wedges` is `Kinetic`. It keeps eight kinetic lists, the candidate of each point in each octant, and
 //! for each point the list of the slots that it is the candidate of. After a `settle` only those slots
 //! are looked at that an exchange, or the number that enters or leaves, can have touched: a lost
-//! candidate is looked up by a scan that begins behind the apex, every other one is compared with what
+//! candidate is looked up by a scan that begins after the apex, every other one is compared with what
 //! is offered to its slot. The sign tests of a `settle` are those of its eight lists.
 #![tactic(auto)]
 

@@ -1,4 +1,4 @@
-//! What each list is told.
+//! The failed facts of each list.
 
 ghost use Rattle.std.specs.Prelude.{◌≡◌, ℕ, ◌<◌, ◌≤◌, [], ◌∷◌, ◌++◌, cond, filter, map, length, IfOk, OnOk};
 ghost use Rattle.kin_wedge.specs.Parts.{in_part, is_of_part, told_to};
@@ -9,11 +9,11 @@ use kin_num::memory::NoMemory;
 use std::alloc::Global;
 use std::marker::Model;
 
-/// What each list of a structure is told. The memory is kept from settle to settle.
+/// The failed facts of each list of a structure. The memory is kept from settle to settle.
 #[derive(Drop)]
 pub struct Mail {
     boxes: Vec<Letters>,
-    /// All that are told something are of the parts from this one on,
+    /// All lists that have failed facts are of the parts from this one on,
     from: usize,
     /// and before this one.
     end: usize,
@@ -24,7 +24,7 @@ pub struct Mail {
 }
 
 impl Mail {
-    /// Nothing is told to so many lists.
+    /// No failed facts, for so many lists.
     pub fn new(alloc: Global, count: u32) -> Result<Mail, NoMemory>
         ensures { IfOk result (λ m. length m.boxes.items ≡ count) }
     {
@@ -52,7 +52,7 @@ impl Mail {
         self.end = 0;
     }
 
-    /// Tells the list of its part of a fact, if there is one.
+    /// Gives a fact to the list of its part, if there is one.
     fn tell(&mut self, placed: &Placed) -> Result<(), NoMemory>
         ensures told { OnOk result ((part : ℕ) → part < length self.old.boxes.items → told_to self.new.boxes.items part ≡ cond (is_of_part part placed.now) (told_to self.old.boxes.items part ++ in_part 0 placed.now ∷ []) (told_to self.old.boxes.items part)) }
         ensures count { length self.new.boxes.items ≡ length self.old.boxes.items }
@@ -66,7 +66,7 @@ impl Mail {
         self.boxes[part].add(0, &placed.fact)
     }
 
-    /// Sorts failed facts out: each list is told those of its part.
+    /// Sorts failed facts: each list gets those of its part.
     pub fn sort(&mut self, failed: &[Placed]) -> Result<(), NoMemory>
         ensures told { OnOk result ((part : ℕ) → part < length self.old.boxes.items → told_to self.new.boxes.items part ≡ map (in_part 0) (filter (is_of_part part) failed.now)) }
         ensures count { length self.new.boxes.items ≡ length self.old.boxes.items }
@@ -78,7 +78,7 @@ impl Mail {
         Ok(())
     }
 
-    /// The parts from the first that is told something to behind the last.
+    /// From the first of these parts to before the second: no other list has a failed fact.
     pub(crate) fn span(&self) -> (usize, usize)
         ensures from { result.0 ≤ length self.now.boxes.items }
         ensures end { result.1 ≤ length self.now.boxes.items }
@@ -88,7 +88,7 @@ impl Mail {
         (self.from, self.end)
     }
 
-    /// What the list of a part is told.
+    /// The failed facts of the list of a part.
     pub fn told(&self, part: u32) -> &[Placed]
         requires { part < length self.now.boxes.items }
         ensures { result.now ≡ told_to self.now.boxes.items part }

@@ -5,7 +5,7 @@ ghost use Rattle.kin_motion.specs.Octants.{Octant as Bounds, octants, direction_
 ghost use Rattle.kin_wedge.specs.Seen.{octant_seen, reading_seen, IsOfEight};
 ghost use Rattle.kin_wedge.specs.Sides.{bounded_first, bounded_second};
 
-/// An order as it is read, from the front or from the end.
+/// An order as it is read, forward or backward.
 #[derive(Clone, Copy, Debug, PartialEq, Eq)]
 pub struct Reading {
     /// Which of the eight orders.
@@ -22,7 +22,7 @@ pub struct Octant {
 }
 
 impl Octant {
-    /// The octant with its members ranked from the front or from the end.
+    /// The octant with its members ranked forward or backward.
     #[inline(always)]
     pub fn ranked(self, from_end: bool) -> Octant
         ensures { result ≡ record self { third = record self.third { from_end = from_end } } }
@@ -37,7 +37,7 @@ impl Octant {
     }
 }
 
-/// The order of a part from the front.
+/// The order of a part, read forward.
 pub fn forward(part: u32) -> Reading
     ensures { result ≡ record { part = part; from_end = false } }
 {
@@ -47,7 +47,7 @@ pub fn forward(part: u32) -> Reading
     }
 }
 
-/// The order of a part from the end.
+/// The order of a part, read backward.
 pub fn back(part: u32) -> Reading
     ensures { result ≡ record { part = part; from_end = true } }
 {

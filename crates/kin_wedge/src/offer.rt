@@ -10,7 +10,8 @@ use crate::octant::{orders_of, third_of};
 use crate::orders::Orders;
 use crate::table::Table;
 
-/// Whether no candidate stands before the member that has this place in the order that ranks an octant.
+/// Whether no candidate comes before the member that has this place in the order that ranks an octant.
+/// A true answer promises nothing: a false one only saves work.
 #[inline(always)]
 pub fn leads(orders: &Orders, table: &Table, apex: u32, w: u32, rank: usize) -> bool
     requires rows { AreRows (rows_of orders.now.lists.items) }
@@ -25,7 +26,8 @@ pub fn leads(orders: &Orders, table: &Table, apex: u32, w: u32, rank: usize) -> 
     }
 }
 
-/// Whether an octant is the one that is asked for, and a number is in it.
+/// Whether an octant is the one that is asked for, and a number is in it. A true answer promises
+/// nothing: a false one only saves work.
 #[inline(always)]
 pub fn is_within(orders: &Orders, apex: u32, v: u32, w: u32, no: u32) -> bool
     requires rows { AreRows (rows_of orders.now.lists.items) }

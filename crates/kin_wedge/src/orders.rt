@@ -15,7 +15,7 @@ use kin_list::KinList;
 use kin_num::memory::NoMemory;
 use std::alloc::Global;
 
-/// The eight kinetic lists, by part, and what each is told.
+/// The eight kinetic lists, by part, and the failed facts of each.
 #[derive(Drop)]
 pub struct Orders {
     pub(crate) lists: Vec<KinList>,
@@ -85,8 +85,8 @@ impl Orders {
         first < second
     }
 
-    /// Whether the number that has the first place stands before the one that has the second in the
-    /// order of a part.
+    /// Whether the number that has the first place comes before the one that has the second in the order of a
+    /// part.
     pub fn places_rise(&self, part: u32, first: Option<u32>, second: Option<u32>) -> bool
         requires rows { AreRows (rows_of self.now.lists.items) }
         requires part { part < 8 }
@@ -98,7 +98,7 @@ impl Orders {
         }
     }
 
-    /// Whether a number stands before the one that has this place in the order of a part.
+    /// Whether a number comes before the one that has this place in the order of a part.
     pub fn stands_before_place(&self, part: u32, first: u32, place: Option<u32>) -> bool
         requires rows { AreRows (rows_of self.now.lists.items) }
         requires part { part < 8 }
@@ -107,7 +107,7 @@ impl Orders {
         self.places_rise(part, self.place_in(part, first), place)
     }
 
-    /// Whether a number stands before another in the order of a part.
+    /// Whether a number comes before another in the order of a part.
     pub fn stands_before(&self, part: u32, first: u32, second: u32) -> bool
         requires rows { AreRows (rows_of self.now.lists.items) }
         requires part { part < 8 }

@@ -15,8 +15,8 @@ use kin_num::memory::NoMemory;
 use kin_num::steps::Steps;
 use std::sync::ledger::Ledger;
 
-/// Settles the list of a part by the failed facts that it is told, in its own part 0. Where none is
-/// and no mark stands, the list isn't visited.
+/// Settles the list of a part by its failed facts, in its own part 0. Where there are none and no
+/// mark waits, the list is skipped.
 pub fn settle_list<O: Signs, L: Ledger>(
     list: &mut KinList,
     part: u32,

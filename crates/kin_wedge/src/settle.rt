@@ -57,8 +57,8 @@ impl Orders {
         }
     }
 
-    /// All lists that have something to do are of the parts from the first of these to before the second.
-    /// With a mark all have.
+    /// All lists with work are of the parts from the first of these to before the second. With a mark all
+    /// have work.
     pub fn span(&self, mark: Mark) -> (usize, usize)
         ensures from { result.0 ≤ 8 }
         ensures end { result.1 ≤ 8 }
@@ -71,8 +71,8 @@ impl Orders {
         }
     }
 
-    /// Settles all lists, in which this mark stands. Each is told those of the failed facts that are in its
-    /// part, and one that is told none and has no mark only stands still.
+    /// Settles all lists, which have this mark. Each gets those of the failed facts that are in its part,
+    /// and one without any and without a mark only forgets its exchanges.
     pub fn settle<O: Signs, L: Ledger>(
         &mut self,
         mark: Mark,

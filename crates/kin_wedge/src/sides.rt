@@ -12,8 +12,7 @@ ghost use Rattle.kin_wedge.specs.Touched.{IsBoundedBy};
 use crate::octant::{bounded_by, forward, orders_of};
 use crate::orders::Orders;
 
-/// Whether a number stands behind another in the orders of y, x - y, x and x + y, which bound the
-/// octants.
+/// Whether a number comes after another in the orders of y, x - y, x and x + y, which bound the octants.
 #[derive(Clone, Copy)]
 pub struct Sides {
     pub y: bool,
@@ -41,7 +40,7 @@ impl Sides {
     }
 }
 
-/// Where a member stands in these four orders.
+/// The places of a member in these four orders.
 #[derive(Clone, Copy)]
 pub struct Spot {
     pub y: usize,
@@ -51,7 +50,7 @@ pub struct Spot {
 }
 
 impl Orders {
-    /// Where the member at a place of the first order stands.
+    /// The places of the member at a place of the first order.
     #[inline(always)]
     pub fn spot_at(&self, y: usize, no: u32) -> Spot
         requires rows { AreRows (rows_of self.now.lists.items) }
@@ -67,7 +66,7 @@ impl Orders {
         }
     }
 
-    /// Where a member stands in the orders that rank the members of octants.
+    /// The places of a member in the orders that rank the members of octants.
     pub fn ranks(&self, no: u32) -> [usize; 4]
         requires rows { AreRows (rows_of self.now.lists.items) }
         requires alike { AreAlike (rows_of self.now.lists.items) }
@@ -82,7 +81,7 @@ impl Orders {
         ]
     }
 
-    /// On which sides of a number another one lies, by where they stand.
+    /// On which sides of a number another one lies, by their places.
     fn sides(&self, apex: Spot, other: Spot) -> Sides
         requires { AreRows (rows_of self.now.lists.items) }
         ensures { (p q : ℕ) → IsSpot (rows_of self.now.lists.items) p apex → IsSpot (rows_of self.now.lists.items) q other → AreSides (rows_of self.now.lists.items) p q result }
@@ -95,7 +94,7 @@ impl Orders {
         }
     }
 
-    /// Two members as they stand in an order, the first one first.
+    /// Two members as an order has them, the first one first.
     #[inline(always)]
     pub fn as_they_stand(&self, part: u32, a: u32, b: u32) -> (u32, u32)
         requires rows { AreRows (rows_of self.now.lists.items) }
@@ -116,7 +115,7 @@ impl Orders {
     }
 
     /// The octant of a member in which another one lies, if it lies in one of the two that an order bounds and
-    /// that read it from the front. The other stands behind the member in the order.
+    /// that read it forward. The other comes after the member in the order.
     #[inline(always)]
     pub fn octant_behind(&self, part: u32, apex: u32, no: u32) -> Option<u32>
         requires rows { AreRows (rows_of self.now.lists.items) }
@@ -137,7 +136,7 @@ impl Orders {
         }
     }
 
-    /// The octant of a number in which another one lies, if it lies in one, by where they stand.
+    /// The octant of a number in which another one lies, if it lies in one, by their places.
     #[inline(always)]
     pub fn octant_of(&self, apex: Spot, other: Spot) -> u32
         requires rows { AreRows (rows_of self.now.lists.items) }

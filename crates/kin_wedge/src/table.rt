@@ -35,7 +35,8 @@ impl Table {
         self.pointers.target(slot)
     }
 
-    /// Whether a number is the candidate of a slot.
+    /// Whether a number is the candidate of a slot. That it is so where the answer is true is no
+    /// clause: a false answer only saves work.
     pub fn holds(&self, slot: u32, no: u32) -> bool
         requires { slot < length self.now }
         ensures { slice_get self.now slot ≡ Some (Some no) → result ≡ true }

@@ -72,7 +72,7 @@ impl Touches {
             .map_err(|_| NoMemory)
     }
 
-    /// Offers a number to the slot of an apex and an octant, where that is wanted.
+    /// Offers a number to the slot of an apex and an octant, where that is asked for.
     pub fn add_if(
         &mut self,
         is_wanted: bool,
@@ -93,7 +93,7 @@ impl Touches {
         }
     }
 
-    /// Has all slots of an apex looked up.
+    /// Notes all slots of an apex for a look-up.
     pub fn add_apex(&mut self, table: &Table, apex: u32) -> Result<(), NoMemory>
         requires slot { 8 * apex + 7 < length table.now }
         requires small { length table.now < 2 ^ 32 }
@@ -106,7 +106,7 @@ impl Touches {
         Ok(())
     }
 
-    /// Has all slots looked up whose candidate a number is.
+    /// Notes all slots whose candidate a number is for a look-up.
     pub fn add_lost(&mut self, table: &Table, no: u32) -> Result<(), NoMemory>
         requires small { length table.now < 2 ^ 32 }
         ensures offered { OnOk result ((slot : ℕ) → slice_get table.now slot ≡ Some (Some no) → IsOffered self.new.all.items slot None) }
@@ -142,7 +142,7 @@ impl Touches {
     }
 
     /// Offers two members to the slots whose candidate the other is, in the octants that an order ranks. The
-    /// second stands behind the first in the order.
+    /// second comes after the first in the order.
     #[inline(always)]
     fn offer_past(
         &mut self,
@@ -160,14 +160,14 @@ impl Touches {
         ensures offered { OnOk result (HasOfferedBoth (rows_of orders.now.lists.items) table.now part first second self.new.all.items) }
         ensures touched { OnOk result (HasTouched table.now self.old.all.items self.new.all.items) }
     {
-        // Of the two octants that the order ranks, one reads it from the front and one from the end.
+        // Of the two octants that the order ranks, one reads it forward and one backward.
         self.offer_in(orders, table, part - 4, second, first)?;
         self.offer_in(orders, table, part, first, second)?;
         Ok(())
     }
 
-    /// Offers a member to an octant of an apex, where no candidate stands before it. It is in no other
-    /// octant of the apex, and has this place in the order that ranks this one.
+    /// Offers a member to an octant of an apex, where no candidate comes before it. It is in no other octant of
+    /// the apex, and has this place in the order that ranks this one.
     #[inline(always)]
     pub fn offer(
         &mut self,
@@ -192,7 +192,7 @@ impl Touches {
         Ok(())
     }
 
-    /// Has a slot of an apex looked up, if a number was the candidate there.
+    /// Notes a slot of an apex for a look-up, if a number was the candidate there.
     #[inline(always)]
     fn leave(&mut self, table: &Table, apex: u32, w: u32, no: u32) -> Result<(), NoMemory>
         requires slot { 8 * apex + w < length table.now }
@@ -207,8 +207,8 @@ impl Touches {
         }
     }
 
-    /// Has the slots of an apex looked up whose candidate a number was, in the octants that an order as it is
-    /// read bounds.
+    /// Notes the slots of an apex whose candidate a number was for a look-up, in the octants that an order as it
+    /// is read bounds.
     #[inline(always)]
     fn leave_both(
         &mut self,
@@ -229,8 +229,8 @@ impl Touches {
         Ok(())
     }
 
-    /// Offers two members to each other's slots in the octants that an order bounds, where they come. The
-    /// second stands behind the first in the order.
+    /// Offers two members to each other's slots in the octants that an order bounds and that they are in now.
+    /// The second comes after the first in the order.
     #[inline(always)]
     fn offer_within(
         &mut self,
@@ -263,8 +263,8 @@ impl Touches {
         Ok(())
     }
 
-    /// Offers two members to each other's slots where they come by an exchange in an order that bounds octants,
-    /// and has those looked up from which they go. The second stands behind the first in the order.
+    /// Offers two members to each other's slots that they enter by an exchange in an order that bounds octants,
+    /// and notes those that they leave for a look-up. The second comes after the first in the order.
     fn offer_across(
         &mut self,
         orders: &Orders,

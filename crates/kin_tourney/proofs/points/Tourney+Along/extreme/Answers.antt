@@ -1,6 +1,7 @@
 use Rattle.std.proofs.Common.{sym, subst}
 use Rattle.kin_motion.specs.Extremes.{IsExtremePoint}
-use Rattle.kin_tourney.proofs.ExtremePoints.{root_low, extreme_point}
+use Rattle.kin_motion.proofs.UnderNodes.{root_low}
+use Rattle.kin_tourney.proofs.ExtremePoints.{extreme_point}
 use Rattle.kin_tourney.proofs.points.Tourney+Along.extreme.Goals as goal
 
 pub winner-requires-clause-high : goal.winner-requires-clause-high

@@ -1,4 +1,5 @@
-use Rattle.std.proofs.Common.{◌∙◌, sym, subst}
+use Rattle.std.proofs.Common.{◌∙◌, sym, subst, ap, length}
+use Rattle.std.proofs.lemmas.List.{length-map}
 use Rattle.kin_motion.specs.Kinetics.{ListsFailing}
 use Rattle.kin_motion.specs.Octants.{ListsChanged}
 use Rattle.kin_list.specs.Listing.{names_leaving}
@@ -38,6 +39,11 @@ follow-requires-clause-members g c = slots_now (may_settle c.requires.real c.sel
 
 pub follow-requires-clause-passage : goal.follow-requires-clause-passage
 follow-requires-clause-passage g c = passage (may_settle c.requires.real c.self.invariant c.self.view_is c.requires.ready) c.in_ok-settle.ensures.settled
+
+pub follow-requires-clause-old_rows : goal.follow-requires-clause-old_rows
+follow-requires-clause-old_rows g c =
+    let k = kept (may_settle c.requires.real c.self.invariant c.self.view_is c.requires.ready) in
+    ap length k.same ∙ length-map _ _ ∙ k.count
 
 pub invariant_of-self-2 : goal.invariant_of-self-2
 invariant_of-self-2 g c =

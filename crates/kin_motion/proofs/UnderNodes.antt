@@ -1,6 +1,7 @@
--- Which slots stand under a node.
-use Rattle.std.proofs.Common.{refl, ◌≡◌, ◌⊎◌, inl, inr, sym, ◌∙◌, arith, ℕ, zero, suc, ◌+◌, ◌*◌, ◌/◌, ◌^◌, ◌<◌, ◌≤◌, true, nat_eq}
+-- Which slots are under a node.
+use Rattle.std.proofs.Common.{refl, ◌≡◌, ◌≢◌, ◌⊎◌, inl, inr, sym, ◌∙◌, arith, ℕ, zero, suc, ◌+◌, ◌*◌, ◌/◌, ◌^◌, ◌<◌, ◌≤◌, Bool, true, false, nat_eq}
 use Rattle.std.proofs.lemmas.Bool.Decides.{nat_tests}
+use Rattle.std.proofs.lemmas.Nat.{pow-add}
 use Rattle.std.proofs.Math.Pow.{pow_pos}
 use Rattle.std.proofs.lemmas.Bool.{or_cases, or_left, or_right, eq-eqb}
 use Rattle.std.proofs.Math.Nat.{pow-succ'}
@@ -57,3 +58,20 @@ is_under-right size v i some inner low e = is_under-halves size v i some inner l
 
 pub is_under-cases : (size v i : ℕ) → 0 < v → v < 2 ^ size → i < 2 ^ size → is_under size v i ≡ true → (is_under size (2 * v) i ≡ true) ⊎ (is_under size (2 * v + 1) i ≡ true)
 is_under-cases size v i some inner low e = or_cases (is_under size (2 * v) i) (is_under size (2 * v + 1) i) (sym (is_under-halves size v i some inner low) ∙ e)
+
+-- ---- the root
+comes_to-root : (h u : ℕ) → 1 ≤ u → u < 2 * 2 ^ h → comes_to h u 1 ≡ true
+comes_to-root zero u some low = let same : u ≡ 1 = omega arith in grind (arith, nat_tests, same)
+comes_to-root (suc h) u some low = at (nat_eq u 1) refl (λ l. comes_to-root h (u / 2) l (let p = pow-succ' 2 h in omega arith))
+  where
+    at : (b : Bool) → nat_eq u 1 ≡ b → (1 ≤ u / 2 → comes_to h (u / 2) 1 ≡ true) → comes_to (suc h) u 1 ≡ true
+    at true e rest = or_left (nat_eq u 1) (comes_to h (u / 2) 1) e
+    at false e rest = let n : u ≢ 1 = grind (arith, nat_tests, e) in or_right (nat_eq u 1) (comes_to h (u / 2) 1) (rest (omega arith))
+
+-- every slot is under the root
+pub under_root : (size i : ℕ) → i < 2 ^ size → is_under size 1 i ≡ true
+under_root size i low = comes_to-root size (2 ^ size + i) (omega (arith, pow_pos size)) (omega arith)
+
+-- the root is a node
+pub root_low : (size : ℕ) → 1 < 2 ^ (size + 1)
+root_low size = let p = pow-add 2 size 1 in omega (arith, p, pow_pos size)

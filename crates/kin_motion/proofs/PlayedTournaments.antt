@@ -14,13 +14,13 @@ use Rattle.kin_motion.specs.Kinetics.{AllHold}
 use Rattle.kin_motion.specs.Tournaments.{Key, beats, IsBest, IsNodeFact, item_in, is_under}
 use Rattle.kin_motion.specs.Contents.{IsWinner, IsSettledTournament}
 use Rattle.kin_motion.proofs.NodeLaws.{node_with_slot}
-use Rattle.kin_tourney.specs.Fair.{IsFair}
-use Rattle.kin_tourney.specs.Locals.{HasNoFact, IsMatch, IsPlayed}
-use Rattle.kin_tourney.specs.Under.{is_under-leaf, is_under-leaf_alone, is_under-left, is_under-right, is_under-cases}
-use Rattle.kin_tourney.specs.Bests.{other_false, one_best, best_of_left, joined, joined_same}
+use Rattle.kin_motion.proofs.FairKeys.{IsFair}
+use Rattle.kin_motion.proofs.Matches.{HasNoFact, IsMatch, IsPlayed}
+use Rattle.kin_motion.proofs.UnderNodes.{is_under-leaf, is_under-leaf_alone, is_under-left, is_under-right, is_under-cases}
+use Rattle.kin_motion.proofs.SlotBests.{other_false, one_best, best_of_left, joined, joined_same}
 
 module _ {Item : Type 0} (s : Scene) (key : Key Item) (size : ℕ) (slots : List (Option Item)) (room : length slots ≡ 2 ^ size) (fair : IsFair s key slots) where
-  -- an item stands in a slot of the tree
+  -- an item is in a slot of the tree
   low : (i : ℕ) (c : Item) → item_in slots i ≡ Some c → i < 2 ^ size
   low i c e = at (nat_lt i (2 ^ size)) refl
     where
@@ -223,3 +223,9 @@ module _ {Item : Type 0} (v w : Scene) (key : Key Item) (facts : List Placed) (h
     one_fact = played.one_fact;
     inner = played.inner;
   }
+
+-- a settled tournament is settled in every scene in which its facts hold
+pub tournament_is_determined : {Item : Type 0} (v w : Scene) (key : Key Item) (size : ℕ) (slots : List (Option Item)) → length slots ≡ 2 ^ size → IsFair v key slots → IsFair w key slots
+    → (winner : ℕ → Option Item) (facts : List Placed) → IsSettledTournament v key size slots winner facts → AllHold w facts → IsSettledTournament w key size slots winner facts
+tournament_is_determined v w key size slots room here there winner facts settled hold =
+    settled_from_played w key size slots room there winner facts (played_elsewhere v w key facts hold size slots winner (played_from_settled v key size slots room here winner facts settled))

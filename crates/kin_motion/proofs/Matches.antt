@@ -5,7 +5,7 @@ use Rattle.kin_motion.specs.Scene.{Scene, placed_at}
 use Rattle.kin_motion.specs.Kinetics.{AreDistinct}
 use Rattle.kin_motion.specs.Tournaments.{Key, beats, item_in}
 
--- no fact stands in this part
+-- no fact is in this part
 abbrev pub HasNoFact : List Placed → ℕ → Type 0
 HasNoFact facts v = (p : Placed) → Contains facts p → p.part ≡ v → ⊥
 

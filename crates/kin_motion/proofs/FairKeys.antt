@@ -1,4 +1,4 @@
--- What a tournament asks of the items in its slots.
+-- What a tournament requires of the items in its slots.
 use Rattle.std.specs.Prelude.{◌≡◌, ◌≢◌, ℕ, true, not, List, Option, Some}
 use Rattle.kin_motion.specs.Scene.{Scene}
 use Rattle.kin_motion.specs.Tournaments.{Key, beats, item_in}

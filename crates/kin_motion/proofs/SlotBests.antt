@@ -7,7 +7,7 @@ use Rattle.kin_algebra.proofs.Options.{none_or_some}
 use Rattle.kin_motion.specs.Scene.{Scene}
 use Rattle.kin_motion.specs.Tournaments.{Key, beats, IsBest, item_in}
 use Rattle.kin_motion.proofs.NodeLaws.{one_best_of}
-use Rattle.kin_tourney.specs.Fair.{IsFair}
+use Rattle.kin_motion.proofs.FairKeys.{IsFair}
 
 pub other_false : (a b : Bool) → b ≡ not a → a ≡ false → b ≡ true
 other_false a b e f = e ∙ ap not f
@@ -56,7 +56,7 @@ module _ {Item : Type 0} (s : Scene) (key : Key Item) (slots : List (Option Item
         → (a b : Item) → IsBest s key slots left a → IsBest s key slots right b → beats s key a b ≡ true → IsBest s key slots both a
     joined up a b l r win = best_of_both up a l (λ i c n e h. beats_all right l.slot a b l.held r win i c h e)
 
-    -- the same where both bests stand in one slot
+    -- the same where both bests are in one slot
     pub joined_same : ((i : ℕ) (c : Item) → item_in slots i ≡ Some c → right i ≡ true → both i ≡ true)
         → (a b : Item) → (l : IsBest s key slots left a) → (r : IsBest s key slots right b) → l.slot ≡ r.slot → IsBest s key slots both b
     joined_same up a b l r same = record {

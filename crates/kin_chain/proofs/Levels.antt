@@ -3,9 +3,8 @@ use Rattle.std.proofs.Common.{◌≡◌, ◌⊎◌, inl, inr, refl, ap, arith, �
 use Rattle.std.proofs.lemmas.Bool.{or_cases}
 use Rattle.std.proofs.lemmas.Bool.Decides.{nat_tests}
 use Rattle.std.proofs.lemmas.Nat.{pow-add}
-use Rattle.kin_motion.specs.Tournaments.{comes_to}
+use Rattle.kin_motion.specs.Tournaments.{comes_to, is_under}
 use Rattle.kin_motion.proofs.NodeLaws.{not_above}
-use Rattle.kin_env.specs.Walks.{IsSlotUnder}
 
 -- two nodes of one level, which has 2^m nodes
 record IsOnLevel (m u : ℕ) : Type 0 where
@@ -39,7 +38,7 @@ apart (suc m) (suc h) u w v some a b e f = at (or_cases (nat_eq u (2 * v)) (come
     at (inr k) (inr j) rest = let r = rest k j in omega arith
 
 -- a slot under the left half of a node has a lesser number than one under the right half
-pub halves_apart : (size v i j : ℕ) → 0 < v → IsSlotUnder size (2 * v) i → IsSlotUnder size (2 * v + 1) j → i < j
+pub halves_apart : (size v i j : ℕ) → 0 < v → (i < 2 ^ size) × (is_under size (2 * v) i ≡ true) → (j < 2 ^ size) × (is_under size (2 * v + 1) j ≡ true) → i < j
 halves_apart size v i j some a b =
     let low = apart size size (2 ^ size + i) (2 ^ size + j) v some (record { low = omega arith; high = omega (arith, a.0) }) (record { low = omega arith; high = omega (arith, b.0) }) a.1 b.1 in
     omega arith
