@@ -10,7 +10,13 @@ pub mod MailLaws
 pub mod OneMore
 pub mod MarkLaws
 pub mod Inside
+pub mod LiveCounts
 pub mod StartLaws
 pub mod AskLaws
 pub mod RootLaws
 pub mod TurnLaws
+pub mod TwoOrders
+pub mod NoJumps
+pub mod HullSights
+pub mod ChainOrder
+pub mod Sufficiency

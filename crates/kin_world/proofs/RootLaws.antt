@@ -1,11 +1,10 @@
 -- What holds of the motions, keeps and moment of every whole world: the laws of failures apply to it.
-use Rattle.kin_world.proofs.Vocabulary.{rules, slice_get-get_or, IsWhole, World}
-use Rattle.kin_fail.specs.Laws.{IsProper}
+use Rattle.kin_world.proofs.Vocabulary.{rules, slice_get-get_or}
 use Rattle.kin_fail.proofs.FailureRoots as cert
 use Rattle.kin_fail.proofs.JournalExistence as cert_journal
-use Rattle.kin_world.specs.Laws.{BlocksAreAtRoots, JournalsExist}
+use Rattle.kin_world.specs.Laws.{BlocksAreAtRoots, JournalsExist, WholeWorldsAreProper}
 
-pub proper : (w : World) → IsWhole w → IsProper w.motions w.size w.keeps
+pub proper : WholeWorldsAreProper
 proper w whole = search (rules, slice_get-get_or)
 
 pub blocks_are_at_roots : BlocksAreAtRoots

@@ -41,7 +41,7 @@ IsFor size keep (Hull k) = hull.IsHullFor k size keep
 IsFor size keep (Closest k) = closing.IsClosingFor k size keep
 IsFor size keep (Range r) = ranging.IsRangingFor r size keep
 
--- no mark stands
+-- no mark waits
 abbrev pub IsAtRest : Structure → Type 0
 IsAtRest (Order k) = listing.IsAtRest k
 IsAtRest (Extreme t) = tournament.IsAtRest t

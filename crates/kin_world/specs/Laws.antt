@@ -5,7 +5,7 @@ use Rattle.kin_num.specs.Canonical.{IsCanonical}
 use Rattle.kin_num.specs.Order.{IsEarlier}
 use Rattle.kin_motion.specs.Forms.{polynomial_of}
 use Rattle.kin_motion.specs.Journal.{Failure, Block, IsNextBlock, IsJournal}
-use Rattle.kin_fail.specs.Laws.{IsProperRoot}
+use Rattle.kin_fail.specs.Laws.{IsProperRoot, IsProper}
 use Rattle.kin_world.specs.Worlds.{World, IsWhole, world_setting}
 
 -- the next block of a whole world is at or just after a root of the polynomial of each of its failures
@@ -15,3 +15,7 @@ BlocksAreAtRoots = (w : World) (b : Block) (f : Failure) → IsWhole w → IsNex
 -- a whole world has a journal up to each moment that isn't before its own
 abbrev pub JournalsExist : Type 0
 JournalsExist = (w : World) (last : Moment) → IsWhole w → IsCanonical last.at → ¬ (IsEarlier last w.moment) → (bs : List Block) × IsJournal (world_setting w) w.moment last bs
+
+-- a whole world's motions, size and keeps are such as the laws of journals ask for
+abbrev pub WholeWorldsAreProper : Type 0
+WholeWorldsAreProper = (w : World) → IsWhole w → IsProper w.motions w.size w.keeps

@@ -1,4 +1,4 @@
--- What is told of a kept structure, whatever its kind.
+-- What is known of a kept structure, whatever its kind.
 use Rattle.std.specs.Prelude.{◌≡◌, ℕ, false, List, [], Some, slice_get, Contains}
 use Rattle.kin_motion.specs.declared.fact.Placed.{Placed}
 use Rattle.kin_motion.specs.declared.keep.Keep.{Keep}
@@ -57,7 +57,7 @@ pub record IsVacant (size : ℕ) (keep : Keep) (st : Structure) : Type 0 where
   pub settled : (s : Scene) → s.live ≡ [] → IsSettledIn s st
   pub facts : placed_facts st ≡ []
 
--- one stands for each keep, without members
+-- there is one for each keep, without members
 abbrev pub AreVacant : ℕ → List Keep → List Structure → Type 0
 AreVacant size keeps structures = (j : ℕ) (keep : Keep) (st : Structure) → slice_get keeps j ≡ Some keep → slice_get structures j ≡ Some st → IsVacant size keep st
 

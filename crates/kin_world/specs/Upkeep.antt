@@ -77,7 +77,7 @@ pub record IsTimedOrFailed (scene : Moment → Scene) (now : Moment) (l : LiveFa
   pub timed : l.waits ≡ false → IsTimed scene now l
   pub failed : IsTrue l.waits → ¬ (HoldsAt scene now l.certificate.placed.fact)
 
--- one structure stands for each keep, no live fact is anyone else's, and each is timed or has failed
+-- there is one structure for each keep, each live fact is of one of them, and each is timed or has failed
 pub record IsInOrder (is_fine : ℕ → Keep → Structure → Type 0) (s : Stage) : Type 0 where
   pub fit : IsFit s.size s.keeps s.motions
   pub canonical : IsCanonical s.moment.at
@@ -97,7 +97,7 @@ pub record IsSound (s : Stage) : Type 0 where
 abbrev pub IsUnderRepair : Stage → Type 0
 IsUnderRepair s = IsInOrder (λ j keep st. IsSettledWhereAllHold s.size keep (sight s) st) s
 
--- the structures below k are settled in the scene now, and the others stand as they were in the scene before
+-- the structures below k are settled in the scene now, and the others are as they were in the scene before
 pub record HasGoneOver (size k : ℕ) (before now : Scene) (j : ℕ) (keep : Keep) (st : Structure) : Type 0 where
   pub done : j < k → IsSettledFor size keep now st
   pub ahead : k ≤ j → IsSettledFor size keep before st
@@ -140,7 +140,7 @@ pub record AreWaiting (live : List LiveFact) (taken : List Owned) : Type 0 where
   pub each : (l : LiveFact) → Contains live l → IsTrue l.waits → (o : Owned) × Contains taken o × (l.certificate ≡ certificate_of o)
   pub only : (o : Owned) → Contains taken o → (l : LiveFact) × Contains live l × IsTrue l.waits × (l.certificate ≡ certificate_of o)
 
--- each structure from k on is told of its facts that wait, and none of those below waits
+-- each structure from k on has its waiting facts in its box, and no fact of those below waits
 pub record AreTold (k : ℕ) (s : Stage) (boxes : List (List Placed)) : Type 0 where
   pub told : (j : ℕ) → k ≤ j → j < length s.structures → ListsWaiting j s.table.live (told_to boxes j)
   pub none_below : (l : LiveFact) → Contains s.table.live l → l.certificate.structure < k → l.waits ≡ false
@@ -155,7 +155,7 @@ pub record HasTimedNew (old new : Facts) : Type 0 where
 abbrev pub AreLeft : ℕ → List LiveFact → List LiveFact → Type 0
 AreLeft k old new = (l : LiveFact) → l.certificate.structure ≢ k → Contains old l ↔ Contains new l
 
--- the structure k has become another, which is settled in the scene now, and the table was told what has changed
+-- the structure k has become another, which is settled in the scene now, and the table took over what has changed
 pub record HasUpdated (k : ℕ) (now : Scene) (s : Stage) (keep : Keep) (st after : Structure) (table : Facts) : Type 0 where
   pub kept : slice_get s.keeps k ≡ Some keep
   pub here : slice_get s.structures k ≡ Some st

@@ -1,4 +1,4 @@
-//! A counter of steps for who counts none.
+//! A counter of steps for callers that count none.
 
 ghost use Rattle.std.specs.Prelude.{◌≡◌, ◌<◌};
 
@@ -8,13 +8,13 @@ use std::sync::ledger::{Blank, Ledger};
 
 /// What is done with a counter that it is handed.
 pub trait Work {
-    /// What comes of it.
+    /// The outcome.
     type Outcome;
 
     /// When it may be done.
     ghost can_run: { Self → Type 0 } = { λ _. Unit {0} };
 
-    /// What is known of what comes of it.
+    /// What is known of the outcome.
     ghost run_gives: { Self → Self.Outcome → Type 0 } = { λ _ _. Unit {0} };
 
     /// Does it. The counter takes no memory and no time.
@@ -23,7 +23,7 @@ pub trait Work {
         ensures { run_gives self result };
 }
 
-/// Does the work with a counter that nobody reads.
+/// Does the work with a counter that is never read.
 pub fn uncounted<W: Work>(work: W) -> W::Outcome
     requires { W.can_run work }
     ensures { W.run_gives work result }

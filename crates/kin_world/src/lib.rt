@@ -6,7 +6,7 @@
 //! and its live facts (`specs/Worlds`). `Upkeep` is written for any kind of structure; what all kinds meet is said once,
 //! in `specs/Structures`.
 //!
-//! Who uses a world names nothing of the crates below it but from here.
+//! A program that uses a world takes the names of the crates below from here.
 #![tactic(auto)]
 
 pub use counter::{Work, uncounted};

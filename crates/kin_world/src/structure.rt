@@ -1,6 +1,6 @@
 //! The structures that a world keeps.
 //!
-//! This is the one place where a structure is told of failures and of a number that enters. What all
+//! Only here does a structure get its failed facts and the number that enters or leaves. What all
 //! kinds meet is said once, in `specs/Structures`.
 
 ghost use Rattle.std.specs.Prelude.{◌≡◌, ◌≤◌, ◌<◌, ◌^◌, ℕ, ℤ, List, [], Contains, IfOk, OnOk};
@@ -97,8 +97,8 @@ impl Structure {
         }
     }
 
-    /// Takes a number in that has become live, or lets one go that isn't live any more. No fact has
-    /// failed, but for those that name a number that leaves. `out` gains what changed.
+    /// Takes in a number that has become live, or lets go of one that isn't live any more. No fact
+    /// has failed, but for those that name a number that leaves. `out` gains what changed.
     pub fn carry_out<O: Signs, L: Ledger>(
         &mut self,
         mark: Mark,
@@ -123,7 +123,7 @@ impl Structure {
         }
     }
 
-    // Takes a number in that has become live. No fact has failed.
+    // Takes in a number that has become live. No fact has failed.
     fn enter<O: Signs, L: Ledger>(
         &mut self,
         entering: u32,
@@ -151,7 +151,7 @@ impl Structure {
         }
     }
 
-    // Lets a number go that isn't live any more. Each fact that doesn't name it holds.
+    // Lets go of a number that isn't live any more. Each fact that doesn't name it holds.
     fn leave<O: Signs, L: Ledger>(
         &mut self,
         leaving: u32,
@@ -260,7 +260,7 @@ fn repair_all<K: Kept, O: Signs, L: Ledger>(
     repair(kept, now, failed, out, steps)
 }
 
-// Lets a number go that isn't live any more, of a structure at rest.
+// Lets go of a number that isn't live any more, of a structure at rest.
 fn let_go<K: Kept, O: Signs, L: Ledger>(
     kept: &mut K,
     leaving: u32,

@@ -30,11 +30,11 @@ pub struct Upkeep {
     pub table: Table,
     pub motions: Motions,
     pub moment: Moment,
-    /// What a structure reports; kept for the next one.
+    /// What a structure reports. The memory is used again.
     delta: Delta,
-    /// The facts that fail at one moment, by structure; kept for the next one.
+    /// The facts that fail at one moment, by structure. The memory is used again.
     mail: Mail,
-    /// The facts that fail at one moment; kept for the next one.
+    /// The facts that fail at one moment. The memory is used again.
     given: Vec<Owned>,
 }
 
@@ -70,7 +70,7 @@ impl Upkeep {
         })
     }
 
-    // Repairs the structure `k`, if it is told of failed facts.
+    // Repairs the structure `k`, if it has failed facts.
     fn repair<L: Ledger>(&mut self, k: u32, steps: &mut Steps<L>) -> Result<(), NoMemory>
         requires within { k < length self.old.structures.items }
         requires told { k < length self.old.mail }
@@ -94,7 +94,7 @@ impl Upkeep {
             .tell(k, &self.delta, &self.motions, &self.moment, steps)
     }
 
-    // Repairs each structure that is told of failed facts.
+    // Repairs each structure that has failed facts.
     fn repair_told<L: Ledger>(&mut self, steps: &mut Steps<L>) -> Result<(), NoMemory>
         requires repair { IsUnderRepair (stage_of self.old) }
         requires told { AreTold 0 (stage_of self.old) self.old.mail }
@@ -188,7 +188,7 @@ impl Upkeep {
         Ok(())
     }
 
-    // Lets the structure `k` carry the mark out, after those below it.
+    // Lets the structure `k` carry out the mark, after those below it.
     fn carry_out_one<L: Ledger>(
         &mut self,
         k: u32,
@@ -227,7 +227,7 @@ fn vacant_structures(alloc: Global, size: u32, keeps: &[Keep]) -> Result<Vec<Str
     Ok(structures)
 }
 
-// How many facts these keeps have over all numbers below `2^size`, as a rule.
+// How many facts these keeps usually have over all numbers below `2^size`.
 fn room_for_facts(size: u32, keeps: &[Keep]) -> usize
     requires { size ≤ 12 }
 {

@@ -5,7 +5,8 @@ ghost use Rattle.kin_algebra.specs.declared.sign.Sign.{Sign as Signum};
 ghost use Rattle.kin_num.specs.Grains.{moments_left};
 ghost use Rattle.kin_num.specs.Order.{IsEarlier};
 ghost use Rattle.kin_motion.specs.declared.keep.Keep.TheVariants as keep;
-ghost use Rattle.kin_motion.specs.Course.{Course, is_live, motion_of};
+ghost use Rattle.kin_motion.specs.Course.{Course, is_live, live_of, motion_of};
+ghost use Rattle.kin_motion.specs.FactCounts.{most_live};
 ghost use Rattle.kin_motion.specs.Journal.{Block as Listed, NothingFails};
 ghost use Rattle.kin_motion.specs.Turning.{IsNotWhole, IsOutOfBounds};
 ghost use Rattle.kin_turn.specs.declared.turned.TurnError.TheVariants.{NotWhole as Broken, OutOfBounds as Outside};
@@ -92,8 +93,8 @@ impl World {
         no < 1 << self.upkeep.size && self.upkeep.motions.get(no).is_none()
     }
 
-    /// Gives a number this motion, from the moment now on. Each structure takes it in, and tells
-    /// the table only what has changed. After want of memory the world isn't whole.
+    /// Gives a number this motion, from the moment now on. Each structure takes it in, and the table
+    /// takes over only what has changed. After want of memory the world isn't whole.
     pub fn insert<L: Ledger>(
         &mut self,
         no: u32,
@@ -114,8 +115,8 @@ impl World {
         Ok(())
     }
 
-    /// Takes a live number's motion away. Each structure lets it go, and tells the table only what has
-    /// changed, so no fact of it is left. After want of memory the world isn't whole.
+    /// Takes a live number's motion away. Each structure lets it go, and the table takes over only what
+    /// has changed, so no fact of it is left. After want of memory the world isn't whole.
     pub fn remove<L: Ledger>(&mut self, no: u32, steps: &mut Steps<L>) -> Result<(), NoMemory>
         requires whole { IsTrue self.old.whole }
         requires live { IsTrue (is_live self.old.motions no) }
@@ -198,10 +199,10 @@ impl World {
     }
 
     /// Moves to the first moment, not after the limit, at which live facts fail, and repairs all
-    /// structures there. `None` exactly where no live fact fails at or before the limit: then the
-    /// moment is the limit, and want of memory isn't answered. A loop over steps ends, since fewer
-    /// moments are left after each block. Structures without a failed fact aren't visited. After
-    /// want of memory the world isn't whole.
+    /// structures there. `None` exactly where no live fact fails at or before the limit: then the moment
+    /// is the limit, and want of memory isn't answered. A loop over steps ends, since fewer moments are
+    /// left after each block. That structures without a failed fact are skipped is no clause. After want
+    /// of memory the world isn't whole.
     pub fn step<L: Ledger>(
         &mut self,
         limit: &Moment,
@@ -252,10 +253,10 @@ impl World {
         Ok(Some(count))
     }
 
-    /// Moves to a later moment up to the limit, over one or more failures, or to the limit where there
-    /// are none; answers whether there were any. It may leave an instant out and go to just after it,
-    /// where none of the facts that fail at the instant holds again and that moment isn't after the
-    /// limit. After want of memory the world isn't whole.
+    /// Moves to a moment up to the limit by which a live fact has failed, or to the limit where none
+    /// fails up to it; answers whether one has. It may go from before an instant to just after it. Where
+    /// it lands is no clause, but `fewer` says that it is later. After want of memory the world isn't
+    /// whole.
     pub fn leap<L: Ledger>(
         &mut self,
         limit: &Moment,
@@ -298,10 +299,13 @@ impl World {
         self.upkeep.table.failing()
     }
 
-    /// How many facts are live.
+    /// How many facts are live. Without live numbers there are none. With n of them an order or an
+    /// extreme point has at most n - 1, a range twice as many, a closest pair 16n, and a hull 4n times
+    /// the size: `most_facts`.
     pub fn live(&self) -> usize
         requires { IsTrue self.now.whole }
         ensures count { result ≡ length self.now.live }
+        ensures few { result ≤ most_live self.now.size self.now.keeps (length (live_of self.now.motions)) }
         ensures whole { IsWhole self.now }
     {
         self.upkeep.table.live()

@@ -1,7 +1,7 @@
-//! Failures that nobody learns of are left behind, an instant at a time.
+//! Failures that are neither listed nor counted are left behind, an instant at a time.
 //!
-//! Mostly what fails at an instant fails just after it, too: a sign goes from + by 0 to -. Then the structures need not
-//! be repaired twice, and no fact that holds at that one instant alone is ever made.
+//! Usually what fails at an instant fails just after it, too: a sign goes from + by 0 to -. Then the structures need
+//! not be repaired twice, and no fact that holds at that one instant alone is ever made.
 
 ghost use Rattle.std.specs.Prelude.{◌≡◌, ◌↔◌, IsTrue, false, OnOk};
 ghost use Rattle.std.specs.List.{All};

@@ -1,4 +1,5 @@
-//! What a world answers of each kind of structure that it keeps.
+//! What a world answers of each kind of structure that it keeps. The live facts imply each answer but that of a rectangle:
+//! clause `suffices`.
 
 ghost use Rattle.std.specs.Prelude.{◌≡◌, ℕ, ℤ, Some, slice_get, IsTrue, IfOk};
 ghost use Rattle.kin_motion.specs.declared.keep.Keep.{Keep as Kind};
@@ -8,9 +9,11 @@ ghost use Rattle.kin_motion.specs.Chains.{IsHullCycle};
 ghost use Rattle.kin_motion.specs.ClosestPairs.{IsClosest};
 ghost use Rattle.kin_motion.specs.Extremes.{IsExtremePoint};
 ghost use Rattle.kin_motion.specs.Orders.{IsOrder};
+ghost use Rattle.kin_motion.specs.Scene.{Scene};
 ghost use Rattle.kin_world.specs.Kinds.{IsAtRest};
 ghost use Rattle.kin_world.specs.Structures.{IsKept};
-ghost use Rattle.kin_world.specs.Worlds.{scene_of};
+ghost use Rattle.kin_world.specs.Sufficiency.{LiveFactsHoldIn};
+ghost use Rattle.kin_world.specs.Worlds.{IsWhole, scene_of};
 
 use crate::places::place_of;
 use crate::structure::Structure;
@@ -24,6 +27,7 @@ impl World {
         requires whole { IsTrue self.now.whole }
         requires kept { (dx : ℤ) × (dy : ℤ) × (slice_get self.now.keeps s ≡ Some (keep.Order dx dy)) }
         ensures order { IfOk result (λ list. (dx dy : ℤ) → slice_get self.now.keeps s ≡ Some (keep.Order dx dy) → IsOrder (scene_of self.now) dx dy list.items) }
+        ensures suffices { IfOk result (λ list. (dx dy : ℤ) → slice_get self.now.keeps s ≡ Some (keep.Order dx dy) → (v : Scene) → LiveFactsHoldIn self.now v → IsOrder v dx dy list.items) }
     {
         let Ok(list) = Vec::from_slice(self.alloc, self.structure(s).order()) else {
             return Err(NoMemory);
@@ -36,6 +40,7 @@ impl World {
         requires whole { IsTrue self.now.whole }
         requires kept { (dx : ℤ) × (dy : ℤ) × (slice_get self.now.keeps s ≡ Some (keep.Extreme dx dy)) }
         ensures extreme { (dx dy : ℤ) → slice_get self.now.keeps s ≡ Some (keep.Extreme dx dy) → IsExtremePoint (scene_of self.now) dx dy result }
+        ensures suffices { (dx dy : ℤ) → slice_get self.now.keeps s ≡ Some (keep.Extreme dx dy) → (v : Scene) → LiveFactsHoldIn self.now v → IsExtremePoint v dx dy result }
     {
         self.structure(s).extreme()
     }
@@ -46,16 +51,18 @@ impl World {
         requires whole { IsTrue self.now.whole }
         requires kept { (k : ℕ) × (slice_get self.now.keeps k ≡ Some keep.Hull) }
         ensures hull { IfOk result (λ list. IsHullCycle (scene_of self.now) list.items) }
+        ensures suffices { IfOk result (λ list. (v : Scene) → LiveFactsHoldIn self.now v → IsHullCycle v list.items) }
     {
         self.structure(self.place_of(&Keep::Hull)).hull()
     }
 
-    /// The closest pair, the lesser number first, or `None` exactly below two points. Of pairs that
-    /// are as close it is the one with the least first number, then with the least second one.
+    /// The closest pair, the lesser number first, or `None` exactly below two points. Of equally close
+    /// pairs it is the one with the least first number, then with the least second one.
     pub fn closest(&self) -> Option<(u32, u32)>
         requires whole { IsTrue self.now.whole }
         requires kept { (k : ℕ) × (slice_get self.now.keeps k ≡ Some keep.Closest) }
         ensures closest { IsClosest (scene_of self.now) result }
+        ensures suffices { (v : Scene) → LiveFactsHoldIn self.now v → IsClosest v result }
     {
         self.structure(self.place_of(&Keep::Closest)).closest()
     }
@@ -72,7 +79,7 @@ impl World {
         lists.inside(&self.upkeep.motions, &self.upkeep.moment, rect)
     }
 
-    // Where a structure is kept. There are at most 19.
+    // The place of a keep. There are at most 19.
     fn place_of(&self, keep: &Keep) -> u32
         requires whole { IsTrue self.now.whole }
         requires kept { (k : ℕ) × (slice_get self.now.keeps k ≡ Some keep.now) }
@@ -85,6 +92,7 @@ impl World {
     fn structure(&self, s: u32) -> &Structure
         requires whole { IsTrue self.now.whole }
         requires kept { (keep : Kind) × (slice_get self.now.keeps s ≡ Some keep) }
+        ensures whole { IsWhole self.now }
         ensures rest { IsAtRest result.now }
         ensures kept { (keep : Kind) → slice_get self.now.keeps s ≡ Some keep → IsKept self.now.size keep (scene_of self.now) result.now }
     {

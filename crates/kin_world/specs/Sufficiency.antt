@@ -1,0 +1,44 @@
+-- The live facts imply the answers. The function `live_facts_imply_answers` promises both laws. Clause `suffices` of an answer is about `LiveFactsHoldIn`.
+use Rattle.std.specs.Prelude.{◌≡◌, ℕ, ℤ, List, Option, Some, slice_get}
+use Rattle.std.specs.List.{All}
+use Rattle.kin_motion.specs.declared.keep.Keep.{Keep}
+use Rattle.kin_motion.specs.declared.keep.Keep.TheVariants.{Order, Extreme, Hull, Closest}
+use Rattle.kin_motion.specs.Agreements.{FitsSize}
+use Rattle.kin_motion.specs.Chains.{IsHullCycle}
+use Rattle.kin_motion.specs.ClosestPairs.{IsClosest}
+use Rattle.kin_motion.specs.Extremes.{IsExtremePoint}
+use Rattle.kin_motion.specs.Kinetics.{HaveSameLive}
+use Rattle.kin_motion.specs.Live.{Certificate, ListsLive}
+use Rattle.kin_motion.specs.Orders.{IsOrder}
+use Rattle.kin_motion.specs.Scene.{Scene, IsReal, Holds}
+use Rattle.kin_world.specs.Worlds.{World, scene_of}
+
+-- the answer of each kept structure in the one scene is its answer in the other
+pub record HaveSameAnswers (keeps : List Keep) (v w : Scene) : Type 0 where
+  pub order : (n : ℕ) (dx dy : ℤ) (xs : List ℕ) → slice_get keeps n ≡ Some (Order dx dy) → IsOrder v dx dy xs → IsOrder w dx dy xs
+  pub extreme : (n : ℕ) (dx dy : ℤ) (point : Option ℕ) → slice_get keeps n ≡ Some (Extreme dx dy) → IsExtremePoint v dx dy point → IsExtremePoint w dx dy point
+  pub hull : (n : ℕ) (cycle : List ℕ) → slice_get keeps n ≡ Some Hull → IsHullCycle v cycle → IsHullCycle w cycle
+  pub closest : (n : ℕ) (pair : Option (ℕ × ℕ)) → slice_get keeps n ≡ Some Closest → IsClosest v pair → IsClosest w pair
+
+-- the same numbers are live in both scenes, all with slots, and all facts that are live in the one hold in the other
+pub record LiveFactsHoldThere (size : ℕ) (keeps : List Keep) (v w : Scene) (cs : List Certificate) : Type 0 where
+  pub real : IsReal v
+  pub real_there : IsReal w
+  pub fits : FitsSize size v
+  pub same : HaveSameLive v w
+  pub live : ListsLive size keeps v cs
+  pub hold : All (λ c. Holds w c.placed.fact) cs
+
+-- then each kept structure has the same answer in both
+abbrev pub LiveFactsImplyAnswers : Type 0
+LiveFactsImplyAnswers = (size : ℕ) (keeps : List Keep) (v w : Scene) (cs : List Certificate) → LiveFactsHoldThere size keeps v w cs → HaveSameAnswers keeps v w
+
+-- and the same facts are live
+abbrev pub LiveFactsStay : Type 0
+LiveFactsStay = (size : ℕ) (keeps : List Keep) (v w : Scene) (cs : List Certificate) → LiveFactsHoldThere size keeps v w cs → ListsLive size keeps w cs
+
+-- a real scene with the world's live numbers, in which all its live facts hold; the motions and the moment there may be any
+pub record LiveFactsHoldIn (w : World) (v : Scene) : Type 0 where
+  pub real : IsReal v
+  pub same : HaveSameLive (scene_of w) v
+  pub hold : All (λ c. Holds v c.placed.fact) w.live
