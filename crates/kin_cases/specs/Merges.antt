@@ -1,4 +1,4 @@
--- A merge of two chains with what it was told.
+-- A merge of two chains with what it was given.
 use Rattle.std.specs.Prelude.{◌≡◌, ℕ, ◌<◌, List, [], length}
 use Rattle.kin_motion.specs.Chains.{IsUpperChain}
 use Rattle.kin_motion.specs.Edits.{Edit, all_edited}
@@ -9,13 +9,13 @@ use Rattle.kin_overlay.specs.declared.stage.Stage.TheVariants.{Rest}
 use Rattle.kin_overlay.specs.Fingers.{AreLive, AreLess}
 use Rattle.kin_overlay.specs.Overlays.{Merge, told, told_chain}
 
--- the list may be told as a chain of a merge
+-- the list may be given as a chain of a merge
 pub record IsTellable (s : Scene) (chain : List ℕ) : Type 0 where
   pub some : 0 < length chain
   pub live : AreLive s.live chain
   pub is_chain : IsUpperChain s chain chain
 
--- both may be told as the chains of a merge
+-- both may be given as the chains of a merge
 pub record MayBeTold (s : Scene) (a b : List ℕ) : Type 0 where
   pub of_a : IsTellable s a
   pub of_b : IsTellable s b
@@ -26,7 +26,7 @@ abbrev pub AreApart : Half → List ℕ → List ℕ → Type 0
 AreApart A own other = AreLess own other
 AreApart B own other = AreLess other own
 
--- the told chain of the other half
+-- the given chain of the other half
 abbrev pub other_chain : Half → Merge → List ℕ
 other_chain A m = m.b
 other_chain B m = m.a
@@ -37,7 +37,7 @@ pub record IsToldOf (half : Half) (old : Merge) (chain : List ℕ) (new : Merge)
   pub told : new ≡ told half edits old
   pub lead : all_edited edits (told_chain half old) ≡ chain
 
--- a merge at rest whose told chains are these
+-- a merge at rest whose given chains are these
 pub record IsRun (a b : List ℕ) (m : Merge) : Type 0 where
   pub rest : m.stage ≡ Rest
   pub a_is : m.a ≡ a

@@ -1,5 +1,5 @@
-//! Upper chains, straight from their definition: a point of a set stands in the chain where no point
-//! of the set keeps it off. Nothing is taken from the code of merges, not even its forms, so that a
+//! Upper chains, straight from their definition: a point of a set is in the chain where no point of
+//! the set keeps it off. Nothing is taken from the code of merges, not even its forms, so that a
 //! slip there can't hide itself here.
 
 ghost use Rattle.std.specs.Prelude.{◌≡◌, ◌≤◌, pos, length, IsTrue, IfOk};
@@ -155,7 +155,7 @@ impl<O: Signs> Sight<'_, O> {
         Ok(!is_double && !is_below && !is_under)
     }
 
-    /// Whether exactly those points of the set that are bare stand in the chain.
+    /// Whether the chain has exactly those points of the set that are bare.
     fn has_the_bare(&self, set: &[u32], chain: &[u32]) -> Result<bool, Fault>
         ensures { IfOk result (λ b. IsTrue b → All (λ p. is_in p chain.now ≡ is_bare_in (O.scene self.now.signs.now) set.now p) set.now) }
     {

@@ -183,7 +183,7 @@ impl Contest {
         }
     }
 
-    /// The winner of a node, or `None` where it has none, or where a mark stands.
+    /// The winner of a node, or `None` where it has none, or where a mark waits.
     pub fn winner(&self, node: u32) -> Option<u32> {
         if !self.is_settled || node == 0 || node >= 2 << self.size {
             return None;

@@ -1,5 +1,5 @@
 //! The facts of a merge and the effect of edits, straight from their definitions. Each breakpoint
-//! finds by itself which breakpoints of the other chain stand before it.
+//! finds by itself which breakpoints of the other chain come before it.
 
 use crate::ask::Sight;
 use crate::chains::{x_line, y_line};
@@ -21,7 +21,7 @@ struct Edge {
 }
 
 impl Edge {
-    /// The neighbours at a place of a chain and behind it, if there are two.
+    /// The neighbours at a place of a chain and the next, if there are two.
     fn at(chain: &[u32], place: usize, is_of_a: bool) -> Option<Edge> {
         let left = *chain.get(place)?;
         let right = *chain.get(place.checked_add(1)?)?;
@@ -51,7 +51,8 @@ impl Edge {
 }
 
 impl<O: Signs> Sight<'_, O> {
-    /// Whether an edge stands before one of the other chain: it is steeper, or as steep and of A.
+    /// Whether an edge comes before one of the other chain: it is steeper, or equally steep and of
+    /// A.
     fn stands_before(&self, edge: Edge, other: Edge) -> Result<bool, Fault> {
         let sign = self.sign(&edge.slope(other))?;
         Ok(match sign {
@@ -61,7 +62,7 @@ impl<O: Signs> Sight<'_, O> {
         })
     }
 
-    /// How many edges of the other chain stand before this one.
+    /// How many edges of the other chain come before this one.
     fn before(&self, edge: Edge, other: &[u32]) -> Result<usize, Fault> {
         let mut count = 0;
         for place in 0..other.len() {
@@ -164,7 +165,7 @@ pub fn facts_of_merge<O: Signs>(
     Ok(facts)
 }
 
-/// Whether both lists have the same facts, where no fact stands twice in one.
+/// Whether both lists have the same facts, where no fact is twice in one.
 pub fn are_same(facts: &[Placed], others: &[Placed]) -> bool {
     facts.len() == others.len() && facts.iter().all(|fact| is_among(fact, others))
 }
@@ -185,7 +186,7 @@ fn is_lacking(list: &[Placed], facts: &[Placed], others: &[Placed]) -> bool {
     are_missing && are_all && is_once(list)
 }
 
-/// Whether no fact stands twice.
+/// Whether no fact is in it twice.
 fn is_once(list: &[Placed]) -> bool {
     for place in 0..list.len() {
         if is_among(&list[place], &list[place + 1..]) {

@@ -52,7 +52,7 @@ pub fn failing<S: Spares, O: Signs>(
     Ok(failed)
 }
 
-/// The facts that a structure wants to be handed at the moment of a watch.
+/// The facts to hand to a structure at the moment of a watch.
 pub fn failing_at<S: Spares>(
     alloc: Global,
     facts: &[Placed],

@@ -2,7 +2,7 @@
 //!
 //! A `Driver` has a structure and the list of its live facts, which it keeps by the structure's
 //! reports alone. To settle at a moment it hands the structure exactly the facts that fail there.
-//! A `Watch` tells signs and counts its calls by itself.
+//! A `Watch` gives signs and counts its calls by itself.
 #![tactic(auto)]
 
 pub mod ask;
@@ -19,6 +19,7 @@ pub mod moments;
 pub mod octants;
 pub mod order;
 pub mod random;
+pub mod scene;
 pub mod spares;
 pub mod watch;
 pub mod written;

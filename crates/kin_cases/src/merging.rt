@@ -48,7 +48,7 @@ fn are_less(a: &[u32], b: &[u32]) -> bool
     true
 }
 
-/// Whether a chain may be told.
+/// Whether a chain may be given.
 fn is_tellable<O: Signs>(now: &Sight<'_, O>, chain: &[u32]) -> Result<bool, Fault>
     ensures { IfOk result (λ t. IsTrue t → IsTellable (O.scene now.now.signs.now) chain.now) }
 {
@@ -59,7 +59,7 @@ fn is_tellable<O: Signs>(now: &Sight<'_, O>, chain: &[u32]) -> Result<bool, Faul
     Ok(is_chain)
 }
 
-/// Tests that both may be told as the chains of a merge.
+/// Tests that both may be given as the chains of a merge.
 fn ask_chains<O: Signs>(now: &Sight<'_, O>, a: &[u32], b: &[u32]) -> Result<(), Fault>
     ensures { OnOk result (MayBeTold (O.scene now.now.signs.now) a.now b.now) }
 {
@@ -72,7 +72,7 @@ fn ask_chains<O: Signs>(now: &Sight<'_, O>, a: &[u32], b: &[u32]) -> Result<(), 
 }
 
 impl Driver<Overlay> {
-    /// Tells the new chain of a half, and notes the numbers that are dropped.
+    /// Gives the new chain of a half, and notes the numbers that are dropped.
     fn tell(
         self,
         half: Half,
@@ -146,7 +146,7 @@ impl Driver<Overlay> {
 pub struct Merging {
     alloc: Global,
     overlay: Driver<Overlay>,
-    /// The told chains.
+    /// The given chains.
     a: Vec<u32>,
     b: Vec<u32>,
     report: Delta,
@@ -276,7 +276,7 @@ impl Merging {
         self.overlay.structure().edits()
     }
 
-    /// The told chains.
+    /// The given chains.
     pub fn told(&self) -> (&[u32], &[u32]) {
         (&self.a, &self.b)
     }

@@ -96,7 +96,7 @@ impl Octants {
         })
     }
 
-    /// Marks a new point as entering, where no mark stands.
+    /// Marks a new point as entering, where no mark waits.
     pub fn enter(self, no: u32, motion: Motion) -> Result<Octants, Fault> {
         let Octants {
             size,
@@ -117,7 +117,7 @@ impl Octants {
         })
     }
 
-    /// Marks a point as leaving, where no mark stands.
+    /// Marks a point as leaving, where no mark waits.
     pub fn leave(mut self, no: u32) -> Result<Octants, Fault> {
         if !is_rest(self.mark) || no >= 1 << self.size || !is_live(&self.motions, no) {
             return Err(Fault::NotLive);
@@ -128,7 +128,7 @@ impl Octants {
         Ok(self)
     }
 
-    /// Goes on to a moment, and carries the mark out.
+    /// Goes on to a moment, and carries out the mark.
     pub fn go<L: Ledger>(
         self,
         moment: &Moment,

@@ -62,7 +62,7 @@ impl Order {
         })
     }
 
-    /// Marks a new point as entering, where no mark stands.
+    /// Marks a new point as entering, where no mark waits.
     pub fn enter(mut self, no: u32, motion: Motion) -> Result<Order, Fault> {
         let is_at_rest = self.list.structure().is_at_rest();
         if !is_at_rest || no >= 1 << self.size || self.motions.get(no).is_some() {
@@ -73,7 +73,7 @@ impl Order {
         Ok(self)
     }
 
-    /// Goes on to a moment, and carries the mark out.
+    /// Goes on to a moment, and carries out the mark.
     pub fn go<L: Ledger>(
         self,
         moment: &Moment,

@@ -26,7 +26,7 @@ impl<L: Ledger> Ledger for Callers<L> {
     ghost parts = { L.parts };
 }
 
-/// How many bytes a value of a ledger's type would take, if there were one.
+/// How many bytes a value of a ledger's type would take.
 fn room_of<L: Ledger>() -> usize {
     let none: Option<L> = None;
     let room = size_of_val(&none);

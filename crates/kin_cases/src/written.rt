@@ -64,7 +64,7 @@ fn moment(text: &str) -> Option<Moment> {
     }
 }
 
-/// The moment of a line as `5: 0 1 2 / 3`, and what is told of it, behind the colon.
+/// The moment of a line as `5: 0 1 2 / 3`, and what follows the colon.
 pub fn told_at(line: &str) -> Option<(Moment, &str)> {
     let (text, told) = line.split_once(':')?;
     let moment = moment(text.trim())?;

@@ -1,4 +1,4 @@
--- A table whose facts are listed beside it.
+-- A table with a list of its facts.
 use Rattle.std.specs.Prelude.{◌≡◌, false, List, Contains}
 use Rattle.kin_motion.specs.declared.fact.Placed.{Placed}
 use Rattle.kin_cert.specs.Facts.{LiveFact}

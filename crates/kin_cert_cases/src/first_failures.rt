@@ -13,7 +13,7 @@ use std::marker::Brand;
 use std::sync::ledger::{Blank, Ledger};
 
 /// The sign of a polynomial now, and the first failure of the fact that it has that sign. Only the
-/// sign of the fact tells, and not its form.
+/// sign of the fact matters, and not its form.
 fn failure_from<L: Ledger>(p: &Poly, now: &Moment, blank: Blank) -> (Sign, Option<Moment>)
     requires name { blank.name ≡ L.name }
     requires parts { blank.parts ≡ L.parts }

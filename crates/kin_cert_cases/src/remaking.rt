@@ -126,7 +126,7 @@ fn is_shown<L: Ledger>(
     holds_of(case, &mut trial, before, after)
 }
 
-/// Four points on the x axis: the first stands at 0, the third comes from 30 with the speed -1.
+/// Four points on the x axis: the first rests at 0, the third comes from 30 with the speed -1.
 fn points(alloc: Global, second: Motion, fourth: Motion) -> Result<Motions, NoMemory> {
     let mut all = Motions::new(alloc, 2)?;
     all.set(0, Motion::new(0, 0, 0, 0));

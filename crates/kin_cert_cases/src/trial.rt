@@ -80,7 +80,7 @@ fn all_hold<L: Ledger>(
     true
 }
 
-/// Bears one fact and lists it, too.
+/// Bears one fact and also lists it.
 fn bear_listed<L: Ledger>(
     alloc: Global,
     table: &mut Table,

@@ -1,5 +1,5 @@
-//! The command. It takes the words after the program's name, the standard input and the standard
-//! output, runs the words, and ends with the exit status of the run.
+//! The command. It takes the arguments, the standard input and the standard output, runs what the
+//! arguments ask for, and ends with the exit status of the run.
 //!
 //! What it does before it calls `run` is in no contract. It writes nothing to standard error.
 #![tactic(auto)]
@@ -13,7 +13,7 @@ use std::rt::Env;
 use std::{env, io};
 use thiserror::Error;
 
-/// Why there are no words to run. It tells two statuses apart, and is never printed.
+/// Why there are no arguments to run. It only distinguishes two statuses, and is never printed.
 #[derive(Debug, Drop, Error)]
 enum WordsFault {
     #[error("no memory for the words")]
@@ -31,7 +31,7 @@ impl From<io::Error> for WordsFault {
     }
 }
 
-/// The words after the program's name.
+/// The arguments.
 fn words_of<R: Env + AllocGlobal>(rt: &R) -> Result<Vec<String>, WordsFault> {
     Ok(env::args(rt)?.skip(1).collect(rt.alloc())?)
 }

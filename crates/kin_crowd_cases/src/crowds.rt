@@ -110,7 +110,7 @@ fn a_point_on_a_border_is_in_one_octant_by_its_number(rt: HostRuntime) -> Result
     Ok(())
 }
 
-/// What is told of two points: of each its candidates, and the slots that have changed.
+/// What is seen of two points: of each its candidates, and the slots that have changed.
 type Told = (Around, Around, Vec<u32>);
 
 fn told(alloc: Global, octants: &Octants) -> Result<Told, Fault> {
@@ -119,7 +119,7 @@ fn told(alloc: Global, octants: &Octants) -> Result<Told, Fault> {
 }
 
 /// Point 0 runs into point 1 at 5 and through it, and all eight orders exchange them just after 5.
-/// Point 2 stands far to the right, and may leave just after 5.
+/// Point 2 is far to the right, and may leave just after 5.
 fn meeting_by<L: Ledger>(alloc: Global, leaves: bool, blank: Blank) -> Result<[Told; 2], Fault>
     requires name { blank.name ≡ L.name }
     requires parts { blank.parts ≡ L.parts }

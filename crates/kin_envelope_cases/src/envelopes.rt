@@ -5,7 +5,8 @@ ghost use Rattle.std.specs.Prelude.{◌≡◌, ◌<◌};
 use crate::under::go;
 use kin_cases::envelope::Envelope;
 use kin_cases::fault::Fault;
-use kin_cases::watch::{Callers, Tally};
+use kin_cases::scene::{Scene, first_wrong};
+use kin_cases::watch::Tally;
 use kin_cases::written::{are_written, motions, told_at};
 use kin_motion::Motion;
 use kin_num::Steps;
@@ -47,7 +48,7 @@ fn goes_to<L: Ledger>(
 
 /// Points that move, and what is to be seen of them.
 #[derive(Clone, Copy)]
-enum Scene {
+enum Upper {
     RootOfTwo,
     TouchingTurn,
     OneLineAtRest,
@@ -58,30 +59,30 @@ enum Scene {
     OneLineForEver,
 }
 
-impl Scene {
+impl Upper {
     /// The points, and the chain at moments with its number of facts.
     fn written(self) -> (&'static str, &'static str) {
         match self {
-            Scene::RootOfTwo => (
+            Upper::RootOfTwo => (
                 "0 0 0 0, 0 2 1 0, 1 0 0 1",
                 "0: 1 2 / 3; 0+: 0 1 2 / 4; 1: 0 1 / 5; 1+: 0 1 / 4; root: 0 1 / 4",
             ),
-            Scene::TouchingTurn => (
+            Upper::TouchingTurn => (
                 "0 0 0 0, -1 0 1 0, 0 -1 0 1",
                 "0: 1 0 / 5; 1: 0 / 4; 1+: 2 1 / 5; 2: 2 1 / 5",
             ),
-            Scene::OneLineAtRest => ("0 0 0 0, 5 0 0 0, 10 0 0 0", "0: 0 2 / 4; 9: 0 2 / 4"),
-            Scene::OneMotionTwice => ("3 4 1 1, 3 4 1 1", "0: 0 / 2; 7: 0 / 2"),
-            Scene::OneMotionEightTimes => (
+            Upper::OneLineAtRest => ("0 0 0 0, 5 0 0 0, 10 0 0 0", "0: 0 2 / 4; 9: 0 2 / 4"),
+            Upper::OneMotionTwice => ("3 4 1 1, 3 4 1 1", "0: 0 / 2; 7: 0 / 2"),
+            Upper::OneMotionEightTimes => (
                 "1 2 3 4, 1 2 3 4, 1 2 3 4, 1 2 3 4, 1 2 3 4, 1 2 3 4, 1 2 3 4, 1 2 3 4",
                 "0: 0 / 14; 5: 0 / 14",
             ),
-            Scene::UnitSquare => ("0 0 0 0, 1 0 0 0, 1 1 0 0, 0 1 0 0", "0: 3 2 / 9"),
-            Scene::AllMeet => (
+            Upper::UnitSquare => ("0 0 0 0, 1 0 0 0, 1 1 0 0, 0 1 0 0", "0: 3 2 / 9"),
+            Upper::AllMeet => (
                 "-2 0 1 0, 2 0 -1 0, 0 -2 0 1, 0 2 0 -1, -2 -2 1 1, 2 -2 -1 1, -4 2 2 -1, 4 2 -2 -1",
                 "0: 6 7 / 20; 1: 6 7 / 20; 2: 0 / 14; 2+: 7 5 4 6 / 24; 3: 7 5 4 6 / 24",
             ),
-            Scene::OneLineForEver => (
+            Upper::OneLineForEver => (
                 "0 0 1 1, 3 3 -1 -1, 5 5 0 0, 1 1 2 2, 4 4 -2 -2, 2 2 1 1, 7 7 0 0, 6 6 -1 -1",
                 "0: 0 6 / 19; 1: 0 6 / 19; 1+: 0 6 / 19; 2: 4 6 / 18; 3: 4 3 / 20",
             ),
@@ -89,63 +90,46 @@ impl Scene {
     }
 }
 
-/// Whether a scene goes through its moments as it is written, and asks with the caller's counter
-/// alone.
-fn goes_by<L: Ledger>(alloc: Global, scene: Scene, blank: Blank) -> Result<bool, Fault>
-    requires name { blank.name ≡ L.name }
-    requires parts { blank.parts ≡ L.parts }
-    requires some { 0 < L.parts }
-{
-    let (points, text) = scene.written();
-    let mut steps = Steps::<Callers<L>>::open(blank);
-    let tally = Tally::new();
-    let mut envelope = written_points(alloc, points)?;
-    for line in text.split(';') {
-        envelope = goes_to(alloc, envelope, line, &tally, &mut steps)?;
+impl Scene for Upper {
+    fn points(self) -> &'static str {
+        self.written().0
     }
-    let (all, counted) = tally.take();
-    Ok(all > 0 && all == counted)
-}
 
-/// The same with a counter that is made here.
-fn goes(alloc: Global, scene: Scene) -> Result<bool, Fault> {
-    goes_by::<Brand>(alloc, scene, Blank::new(1))
-}
-
-/// The points of the first scene that goes otherwise, if there is one.
-fn first_wrong(alloc: Global, scenes: &[Scene]) -> Option<&'static str> {
-    for scene in scenes {
-        if !matches!(goes(alloc, *scene), Ok(true)) {
-            return Some(scene.written().0);
+    fn go<L: Ledger>(self, alloc: Global, steps: &mut Steps<L>) -> Result<(u64, u64), Fault> {
+        let (points, text) = self.written();
+        let tally = Tally::new();
+        let mut envelope = written_points(alloc, points)?;
+        for line in text.split(';') {
+            envelope = goes_to(alloc, envelope, line, &tally, steps)?;
         }
+        Ok(tally.take())
     }
-    None
 }
 
 #[test]
 fn a_point_leaves_the_chain_at_the_root_of_two(rt: HostRuntime) {
-    let scenes = [Scene::RootOfTwo];
+    let scenes = [Upper::RootOfTwo];
     assert_eq!(rt; first_wrong(rt.alloc(), &scenes), None);
 }
 
 #[test]
 fn points_at_one_place(rt: HostRuntime) {
-    let scenes = [Scene::TouchingTurn, Scene::AllMeet];
+    let scenes = [Upper::TouchingTurn, Upper::AllMeet];
     assert_eq!(rt; first_wrong(rt.alloc(), &scenes), None);
 }
 
 #[test]
 fn one_motion_of_many_points(rt: HostRuntime) {
-    let scenes = [Scene::OneMotionTwice, Scene::OneMotionEightTimes];
+    let scenes = [Upper::OneMotionTwice, Upper::OneMotionEightTimes];
     assert_eq!(rt; first_wrong(rt.alloc(), &scenes), None);
 }
 
 #[test]
 fn points_on_one_line(rt: HostRuntime) {
     let scenes = [
-        Scene::OneLineAtRest,
-        Scene::OneLineForEver,
-        Scene::UnitSquare,
+        Upper::OneLineAtRest,
+        Upper::OneLineForEver,
+        Upper::UnitSquare,
     ];
     assert_eq!(rt; first_wrong(rt.alloc(), &scenes), None);
 }

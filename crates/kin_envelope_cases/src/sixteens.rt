@@ -23,7 +23,7 @@ fn few(seed: u64) -> i32
     (seed % 5) as i32 - 2
 }
 
-/// A motion on a small lattice for a seed, so that points meet and stand on lines often.
+/// A motion on a small lattice for a seed, so that points meet and are on lines often.
 fn lattice_motion(seed: u64) -> Motion {
     Motion::new(
         few(seed >> 20),

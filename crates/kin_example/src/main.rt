@@ -1,5 +1,5 @@
-//! Vehicles on two roads that cross: how a program uses a `World`. It goes from event to event, and tells when another
-//! pair becomes the closest one and when the closest two come within 20. Each time is exact.
+//! Vehicles on two roads that cross: how a program uses a `World`. It goes from event to event, and prints when
+//! another pair becomes the closest one and when the closest two come within 20. Each time is exact.
 #![tactic(auto)]
 
 ghost use Rattle.std.specs.Prelude.{◌≤◌, unsigned_abs, OnOk};
@@ -16,7 +16,7 @@ use std::io::{self, Write};
 /// What a change answers: want of memory is all that can go wrong, and then the world is lost.
 type Done = Result<(), NoMemory>;
 
-/// The whole run, which gives the text. It is handed a counter of steps, which nobody reads here.
+/// The whole run, which gives the text. It is handed a counter of steps, which is never read here.
 struct Run(Global);
 
 impl Work for Run {
@@ -24,13 +24,13 @@ impl Work for Run {
 
     fn run<L: Ledger>(self, steps: &mut Steps<L>) -> Result<Vec<u8>, NoMemory> {
         let Run(alloc) = self;
-        // Numbers below 2^2 may be given out, and two structures are kept.
+        // Vehicles have numbers below 2^2, and two structures are kept.
         let mut world = World::new(alloc, 2, &[Keep::Closest, Keep::Range])?;
         text_of(alloc, &mut world, steps)
     }
 }
 
-/// What is told of the run.
+/// What is printed of the run.
 fn text_of<L: Ledger>(
     alloc: Global,
     world: &mut World,
@@ -43,7 +43,7 @@ fn text_of<L: Ledger>(
     Ok(text)
 }
 
-/// Two vehicles go east, one of them behind the other, one north, and one against them; 50 seconds go by.
+/// Two vehicles go east, one far behind the other, one north, and one against them; 50 seconds go by.
 fn play<L: Ledger>(world: &mut World, text: &mut Vec<u8>, steps: &mut Steps<L>) -> Done
     requires { IsWatched world.old }
 {
@@ -106,7 +106,7 @@ fn go_on<L: Ledger>(world: &mut World, limit: &Moment, steps: &mut Steps<L>) -> 
     Ok(())
 }
 
-/// Goes from event to event until this second, and tells what happens on the way.
+/// Goes from event to event until this second, and prints what happens on the way.
 fn watch<L: Ledger>(world: &mut World, until: u16, text: &mut Vec<u8>, steps: &mut Steps<L>) -> Done
     requires { IsWatched world.old }
     ensures { OnOk result (IsWatched world.new) }
@@ -137,14 +137,14 @@ fn approach<L: Ledger>(world: &World, steps: &mut Steps<L>) -> Option<Moment>
     first_within(&one, &other, 20, world.now(), steps).filter(|near| near != world.now())
 }
 
-/// Tells what happens to two vehicles, and when.
+/// Prints what happens to two vehicles, and when.
 fn tell(text: &mut Vec<u8>, moment: &Moment, event: &[u8], pair: Option<(u32, u32)>) -> Done {
     put_moment(text, moment)?;
     put_bytes(text, event)?;
     put_pair(text, pair)
 }
 
-/// Tells who is on the crossing now.
+/// Prints which vehicles are on the crossing now.
 fn tell_crossing(world: &World, text: &mut Vec<u8>) -> Done
     requires { IsWatched world.now }
 {

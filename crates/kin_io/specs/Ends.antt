@@ -13,6 +13,6 @@ ends_after before (Err e) (suc n) = false
 abbrev pub WritesSome : {E : Type 0} → Result ℕ E → ℕ → Type 0
 WritesSome result n = IfOk result (λ k. 0 < n → 0 < k)
 
--- some of the bytes from the front were appended
+-- a prefix of the bytes was appended
 abbrev pub AppendsFront : Option (List ℕ) → Option (List ℕ) → List ℕ → Type 0
 AppendsFront old new bytes = (k : ℕ) × Appends old new (take k bytes)

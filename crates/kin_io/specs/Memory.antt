@@ -7,16 +7,16 @@ pub record Schedule : Type 0 where
   pub failing : List ℕ  -- the numbers of the calls that fail
   pub faults : ℕ  -- how many calls have failed, at most 2^64 - 1
 
--- the next call's number stands among those that fail
+-- the next call's number is among those that fail
 abbrev pub IsDue : Schedule → Type 0
 IsDue s = IsSomeAnd s.number (Contains s.failing)
 
--- the number behind a number
+-- the number after a number
 abbrev pub number_after : Option ℕ → Option ℕ
 number_after None = None
 number_after (Some n) = if nat_lt (n + 1) (2 ^ 64) then Some (n + 1) else None
 
--- the schedule behind one more call
+-- the schedule after one more call
 abbrev pub after_call : Schedule → Bool → Schedule
 after_call s failed = record {
   number = number_after s.number;

@@ -37,7 +37,7 @@ impl Schedule {
         }
     }
 
-    /// Whether the next call's number stands among those that fail.
+    /// Whether the next call's number is among those that fail.
     pub fn is_due(&self) -> bool
         ensures { IsTrue result ↔ IsDue self.now }
     {

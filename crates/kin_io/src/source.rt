@@ -10,7 +10,7 @@ ghost use Rattle.kin_io.specs.declared.source.Untaken.TheVariants.{Fault, NoMemo
 
 use std::alloc::{AllocError, Global};
 
-/// A read or a write failed, and no byte went over.
+/// A read or a write failed, and no byte got through.
 #[derive(Clone, Copy, Debug, PartialEq, Eq)]
 pub struct Failed;
 
@@ -35,7 +35,7 @@ pub trait Source {
         ensures cause { HasCause (faults self.old) (faults self.new) result };
 }
 
-/// Why not all bytes were taken. Some from the front may have been.
+/// Why not all bytes were taken. A prefix of them may have been.
 #[derive(Clone, Copy, Debug, PartialEq, Eq)]
 pub enum Untaken {
     /// A read failed.

@@ -1,4 +1,4 @@
-//! The standard reader and writer as a source and a sink. They tell no bytes, since no contract
+//! The standard reader and writer as a source and a sink. They expose no bytes, since no contract
 //! can say what the outside gives or takes.
 
 ghost use Rattle.std.specs.Prelude.{◌≡◌, ◌≤◌, ◌<◌, ℕ, None, false, length, Ok};

@@ -1,16 +1,13 @@
 //! Merges of two chains, at moments that are written out.
 
-ghost use Rattle.std.specs.Prelude.{◌≡◌, ◌<◌};
-
 use crate::visits::{Side, Stage};
 use kin_cases::fault::Fault;
 use kin_cases::merging::Merging;
-use kin_cases::watch::Callers;
+use kin_cases::scene::{Scene, first_wrong};
 use kin_cases::written::{are_written, told_at};
 use kin_num::Steps;
 use std::alloc::Global;
-use std::marker::Brand;
-use std::sync::ledger::{Blank, Ledger};
+use std::sync::ledger::Ledger;
 
 /// The merge, if its chain and the number of its facts are as they are written.
 fn as_written(merging: Merging, text: &str) -> Result<Merging, Fault> {
@@ -21,7 +18,7 @@ fn as_written(merging: Merging, text: &str) -> Result<Merging, Fault> {
     }
 }
 
-/// What is told of one side.
+/// What a line says of one side.
 fn part_of(told: &str, side: Side) -> Option<&str> {
     let (upper, lower) = told.split_once(',')?;
     Some(match side {
@@ -64,7 +61,7 @@ fn goes_on<L: Ledger>(
 
 /// Points that move, and what is to be seen of their merges.
 #[derive(Clone, Copy)]
-enum Scene {
+enum Merge {
     RootOfTwo,
     RightTouches,
     LeftTouches,
@@ -78,61 +75,61 @@ enum Scene {
     BothChains,
 }
 
-impl Scene {
+impl Merge {
     /// The points, how many the left half has, and the chains at moments with their numbers of facts.
     fn written(self) -> (&'static str, u32, &'static str) {
         match self {
-            Scene::RootOfTwo => (
+            Merge::RootOfTwo => (
                 "0 0 0 0, 0 2 1 0, 1 0 0 1",
                 2,
                 "0: 1 2 / 1, 0 2 / 1; 0+: 0 1 2 / 3, 0 2 / 3; root: 0 1 / 3, 0 1 / 3",
             ),
-            Scene::RightTouches => (
+            Merge::RightTouches => (
                 "0 0 0 0, 8 0 0 0, 2 -3 0 0, 4 0 0 0, 6 -3 0 0",
                 2,
                 "0: 0 1 / 7, 0 2 4 1 / 5",
             ),
-            Scene::LeftTouches => (
+            Merge::LeftTouches => (
                 "2 -3 0 0, 4 0 0 0, 6 -3 0 0, 0 0 0 0, 8 0 0 0",
                 3,
                 "0: 3 4 / 7, 3 0 2 4 / 5",
             ),
-            Scene::SideBySide => (
+            Merge::SideBySide => (
                 "0 0 1 0, 1 0 0 0",
                 1,
                 "0: 0 1 / 1, 0 1 / 1; 1: 0 / 2, 0 / 2; 1+: 1 0 / 1, 1 0 / 1",
             ),
-            Scene::OneAbove => (
+            Merge::OneAbove => (
                 "0 0 0 0, 0 1 0 -1",
                 1,
                 "0: 1 / 2, 0 / 2; 1: 0 / 2, 0 / 2; 1+: 0 / 2, 1 / 2",
             ),
-            Scene::SameFirsts => (
+            Merge::SameFirsts => (
                 "0 0 0 0, 2 1 0 0, 0 0 0 0, 3 -1 0 0",
                 2,
                 "0: 0 1 3 / 6, 0 3 / 6",
             ),
-            Scene::SameSlopes => (
+            Merge::SameSlopes => (
                 "0 0 0 0, 2 1 0 0, 1 1 0 0, 5 3 0 -1",
                 2,
                 "0: 0 2 3 / 5, 0 1 3 / 5; 0+: 0 2 3 / 5, 0 1 3 / 5; 1: 0 2 3 / 5, 0 3 / 5",
             ),
-            Scene::OneLine => (
+            Merge::OneLine => (
                 "0 0 0 0, 4 0 0 0, 1 0 0 0, 6 0 0 0",
                 2,
                 "0: 0 3 / 5, 0 3 / 5",
             ),
-            Scene::Ties => (
+            Merge::Ties => (
                 "0 0 0 0, 2 2 1 0, 4 0 0 1, 0 0 0 1, 2 2 0 -1, 4 0 -1 0",
                 3,
                 "0: 0 1 2 / 11, 0 2 / 7; 0+: 3 1 2 / 10, 0 5 2 / 6; 2: 3 1 / 6, 0 4 1 / 6; 2+: 3 2 1 / 7, 0 4 1 / 7",
             ),
-            Scene::Meeting => (
+            Merge::Meeting => (
                 "0 0 1 0, 5 5 0 -1, 10 0 -1 0",
                 2,
                 "0: 0 1 2 / 3, 0 2 / 3; 5: 0 / 2, 0 / 2; 5+: 2 0 / 3, 2 1 0 / 3",
             ),
-            Scene::BothChains => (
+            Merge::BothChains => (
                 "0 0 0 0, 2 1 0 -1, 4 0 0 0, 10 0 0 0, 12 1 0 -1, 14 0 0 0",
                 3,
                 "0: 0 1 4 5 / 9, 0 5 / 5; 1: 0 5 / 5, 0 5 / 5; 1+: 0 5 / 5, 0 1 4 5 / 9",
@@ -141,70 +138,54 @@ impl Scene {
     }
 }
 
-/// Whether both merges of a scene go through its moments as it is written, and ask with the
-/// caller's counter alone.
-fn goes_by<L: Ledger>(alloc: Global, scene: Scene, blank: Blank) -> Result<bool, Fault>
-    requires name { blank.name ≡ L.name }
-    requires parts { blank.parts ≡ L.parts }
-    requires some { 0 < L.parts }
-{
-    let (points, split, text) = scene.written();
-    let mut steps = Steps::<Callers<L>>::open(blank);
-    let stage = Stage::written(alloc, points, split)?;
-    for side in [Side::Upper, Side::Lower] {
-        goes_on(&stage, side, text, &mut steps)?;
+impl Scene for Merge {
+    fn points(self) -> &'static str {
+        self.written().0
     }
-    let (all, counted) = stage.tally.take();
-    Ok(all > 0 && all == counted)
-}
 
-/// The same with a counter that is made here.
-fn goes(alloc: Global, scene: Scene) -> Result<bool, Fault> {
-    goes_by::<Brand>(alloc, scene, Blank::new(1))
-}
-
-/// The points of the first scene that goes otherwise, if there is one.
-fn first_wrong(alloc: Global, scenes: &[Scene]) -> Option<&'static str> {
-    for scene in scenes {
-        if !matches!(goes(alloc, *scene), Ok(true)) {
-            return Some(scene.written().0);
+    /// Both merges, of the upper and of the lower chains.
+    fn go<L: Ledger>(self, alloc: Global, steps: &mut Steps<L>) -> Result<(u64, u64), Fault> {
+        let (points, split, text) = self.written();
+        let stage = Stage::written(alloc, points, split)?;
+        for side in [Side::Upper, Side::Lower] {
+            goes_on(&stage, side, text, steps)?;
         }
+        Ok(stage.tally.take())
     }
-    None
 }
 
 #[test]
 fn the_middle_point_leaves_at_the_root_of_two(rt: HostRuntime) {
-    let scenes = [Scene::RootOfTwo];
+    let scenes = [Merge::RootOfTwo];
     assert_eq!(rt; first_wrong(rt.alloc(), &scenes), None);
 }
 
 #[test]
 fn what_only_touches_is_not_kept(rt: HostRuntime) {
-    let scenes = [Scene::RightTouches, Scene::LeftTouches];
+    let scenes = [Merge::RightTouches, Merge::LeftTouches];
     assert_eq!(rt; first_wrong(rt.alloc(), &scenes), None);
 }
 
 #[test]
 fn one_point_against_one_has_one_end(rt: HostRuntime) {
-    let scenes = [Scene::SideBySide, Scene::OneAbove];
+    let scenes = [Merge::SideBySide, Merge::OneAbove];
     assert_eq!(rt; first_wrong(rt.alloc(), &scenes), None);
 }
 
 #[test]
 fn points_at_one_place_and_equal_slopes(rt: HostRuntime) {
-    let scenes = [Scene::SameFirsts, Scene::SameSlopes, Scene::OneLine];
+    let scenes = [Merge::SameFirsts, Merge::SameSlopes, Merge::OneLine];
     assert_eq!(rt; first_wrong(rt.alloc(), &scenes), None);
 }
 
 #[test]
 fn tied_points_part(rt: HostRuntime) {
-    let scenes = [Scene::Ties];
+    let scenes = [Merge::Ties];
     assert_eq!(rt; first_wrong(rt.alloc(), &scenes), None);
 }
 
 #[test]
 fn three_points_meet_and_both_chains_change_at_once(rt: HostRuntime) {
-    let scenes = [Scene::Meeting, Scene::BothChains];
+    let scenes = [Merge::Meeting, Merge::BothChains];
     assert_eq!(rt; first_wrong(rt.alloc(), &scenes), None);
 }

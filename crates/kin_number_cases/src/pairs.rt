@@ -1,9 +1,9 @@
 //! Pairs of instants and their order.
 //!
 //! Four numbers name an instant: `0, n, d, 0` the fraction `n/d`, and `a, b, c, k` the lesser root (`k` is 0) or the greater
-//! one (`k` is 1) of `a*t^2 + b*t + c`. The pairs lie close together or at the bounds: quadratics that differ by one in a
-//! coefficient or by multiples of a small prime, both roots of one quadratic, roots beside the best fractions on either
-//! side of them. The orders were computed with whole numbers of any width.
+//! one (`k` is 1) of `a*t^2 + b*t + c`. The pairs lie close together or at the bounds: quadratics that differ by one in
+//! a coefficient or by multiples of a small prime, both roots of one quadratic, roots next to the best fractions on
+//! either side of them. The orders were computed with whole numbers of any width.
 
 use std::cmp::Ordering;
 use std::cmp::Ordering::{Equal, Greater, Less};

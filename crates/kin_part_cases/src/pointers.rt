@@ -1,4 +1,4 @@
-//! Slots point, let go and point again, beside lists written down by hand.
+//! Slots point, let go and point again, and are compared with lists written down by hand.
 
 use kin_num::NoMemory;
 use kin_pointers::pointers::Pointers;

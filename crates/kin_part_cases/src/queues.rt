@@ -62,7 +62,7 @@ fn comes<L: Ledger>(queue: &mut Queue, entry: &Entry, steps: &mut Steps<L>) -> b
     queue.first() == Some(*entry) && queue.pop(steps) == Some(*entry)
 }
 
-/// Whether these entries come one behind the other.
+/// Whether these entries come one after the other.
 fn all_come<L: Ledger>(queue: &mut Queue, entries: &[Entry], steps: &mut Steps<L>) -> bool {
     for entry in entries {
         if !comes(queue, entry, steps) {

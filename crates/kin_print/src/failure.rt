@@ -97,7 +97,7 @@ fn put_line_kind(out: &mut Vec<u8>, dx: i32, dy: i32, off: i32) -> Result<(), No
     put_pieces(out, &[b"line(", dx, b",", dy, b",", off, b")"])
 }
 
-/// Appends the numbers of a form, each behind a space.
+/// Appends the numbers of a form, each after a space.
 fn put_points(out: &mut Vec<u8>, form: &Form) -> Result<(), NoMemory>
     ensures ok { OnOk result (out.new.items ≡ out.old.items ++ flat_map spaced (numbers_of form.now)) }
     ensures err { OnErr result (PutsFront out.old.items out.new.items (flat_map spaced (numbers_of form.now))) }

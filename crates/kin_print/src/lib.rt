@@ -1,7 +1,7 @@
 //! The printed text, appended to a buffer of the caller's.
 //!
 //! Each call appends exactly the bytes that the definitions of the printed text say, or, where
-//! memory runs out, a front of them.
+//! memory runs out, a prefix of them.
 #![tactic(auto)]
 
 pub use failure::put_failure;

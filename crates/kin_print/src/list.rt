@@ -23,7 +23,7 @@ pub fn put_list(out: &mut Vec<u8>, list: &[u32]) -> Result<(), NoMemory>
     }
 }
 
-/// Appends the numbers behind the first, and the line end.
+/// Appends the numbers after the first, and the line end.
 fn put_rest(out: &mut Vec<u8>, list: &[u32]) -> Result<(), NoMemory>
     ensures ok { OnOk result (out.new.items ≡ out.old.items ++ (flat_map spaced list.now ++ codes "\n")) }
     ensures err { OnErr result (PutsFront out.old.items out.new.items (flat_map spaced list.now ++ codes "\n")) }
@@ -32,7 +32,7 @@ fn put_rest(out: &mut Vec<u8>, list: &[u32]) -> Result<(), NoMemory>
     put_bytes(out, b"\n")
 }
 
-/// Appends the numbers, each behind a space.
+/// Appends the numbers, each after a space.
 pub(crate) fn put_each(out: &mut Vec<u8>, list: &[u32]) -> Result<(), NoMemory>
     ensures ok { OnOk result (out.new.items ≡ out.old.items ++ flat_map spaced list.now) }
     ensures err { OnErr result (PutsFront out.old.items out.new.items (flat_map spaced list.now)) }

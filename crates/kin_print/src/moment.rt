@@ -51,7 +51,7 @@ fn put_instant(out: &mut Vec<u8>, at: &Instant) -> Result<(), NoMemory>
     }
 }
 
-/// Appends a moment: its instant, and a `+` behind it for just after.
+/// Appends a moment: its instant, and a `+` for just after.
 pub fn put_moment(out: &mut Vec<u8>, m: &Moment) -> Result<(), NoMemory>
     ensures ok { OnOk result (out.new.items ≡ out.old.items ++ moment_text m.now) }
     ensures err { OnErr result (PutsFront out.old.items out.new.items (moment_text m.now)) }
@@ -60,7 +60,7 @@ pub fn put_moment(out: &mut Vec<u8>, m: &Moment) -> Result<(), NoMemory>
     put_bytes(out, mark(m.phase))
 }
 
-/// What stands behind the instant of a moment.
+/// What follows the instant of a moment.
 fn mark(phase: Phase) -> &'static [u8]
     ensures { result.now ≡ phase_text phase }
 {

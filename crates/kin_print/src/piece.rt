@@ -16,7 +16,7 @@ pub fn put_bytes(out: &mut Vec<u8>, bytes: &[u8]) -> Result<(), NoMemory>
     Ok(())
 }
 
-/// Appends pieces, one behind the other.
+/// Appends pieces, one after the other.
 pub fn put_pieces(out: &mut Vec<u8>, pieces: &[&[u8]]) -> Result<(), NoMemory>
     ensures ok { OnOk result (out.new.items ≡ out.old.items ++ joined pieces.now) }
     ensures err { OnErr result (PutsFront out.old.items out.new.items (joined pieces.now)) }
@@ -27,7 +27,7 @@ pub fn put_pieces(out: &mut Vec<u8>, pieces: &[&[u8]]) -> Result<(), NoMemory>
     Ok(())
 }
 
-/// The decimal digits of a number, behind a minus where it is negative.
+/// The decimal digits of a number, after a minus where it is negative.
 pub(crate) fn digits<I: Integer>(buffer: &mut Buffer, n: I) -> &[u8]
     ensures { result.now ≡ I.text n }
 {

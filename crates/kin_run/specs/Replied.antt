@@ -7,6 +7,6 @@ use Rattle.kin_status.specs.Performed.{IsReply}
 use Rattle.kin_world.specs.Worlds.{World}
 use Rattle.kin_run.specs.States.{state_of}
 
--- what came of a question, before anything is put: whether the journal is on doesn't matter
+-- what came of a question, before anything is appended: whether the journal is on doesn't matter
 pub record RepliesTo (w : World) (q : Command) (result : Result Reply Halt) : Type 0 where
   pub reply : (journal : Bool) → IsReply (state_of journal w) q result

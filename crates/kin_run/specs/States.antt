@@ -3,6 +3,6 @@ use Rattle.std.specs.Prelude.{Bool}
 use Rattle.kin_script.specs.States.{State}
 use Rattle.kin_world.specs.Worlds.{World}
 
--- what stands between two commands, as a world has it
+-- what there is between two commands, as a world has it
 abbrev pub state_of : Bool → World → State
 state_of journal w = record { size = w.size; keeps = w.keeps; journal = journal; motions = w.motions; moment = w.moment }

@@ -1,12 +1,8 @@
 //! The run of a generated script.
 
-ghost use Rattle.std.specs.Prelude.{◌≡◌, ◌≤◌, ◌<◌, ◌^◌, OnOk, OnErr, IsErrOf};
-ghost use Rattle.std.specs.Io.KnownBytes.{Appends};
+ghost use Rattle.std.specs.Prelude.{◌≡◌, ◌≤◌, ◌<◌, ◌^◌};
 ghost use Rattle.kin_io.specs.Causes.{Rose};
-ghost use Rattle.kin_io.specs.Ends.{AppendsFront};
-ghost use Rattle.kin_status.specs.declared.stop.Stop.TheVariants.{Fault as FaultOf};
 ghost use Rattle.kin_status.specs.Demo.{WritesDemo};
-ghost use Rattle.kin_status.specs.Tallies.{tally_line};
 ghost use Rattle.kin_status.specs.Written.{Wrote};
 
 use crate::play::play_script;

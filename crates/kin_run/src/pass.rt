@@ -1,12 +1,10 @@
 //! The failures on the way to an instant, each block written before the next is computed.
 
-ghost use Rattle.std.specs.Prelude.{◌≡◌, ◌≤◌, ◌++◌, length, OnOk, OnErr, IsErrOf};
+ghost use Rattle.std.specs.Prelude.{◌≡◌, ◌≤◌, OnOk, IsErrOf};
 ghost use Rattle.kin_num.specs.Canonical.{IsCanonical};
 ghost use Rattle.kin_num.specs.Order.{IsEarlier};
 ghost use Rattle.kin_motion.specs.Journal.{IsJournal};
 ghost use Rattle.kin_io.specs.Causes.{Rose};
-ghost use Rattle.kin_script.specs.Printed.{PutsFront};
-ghost use Rattle.kin_script.specs.PrintedJournal.{block_lines};
 ghost use Rattle.kin_script.specs.States.{at, state_setting};
 ghost use Rattle.kin_script.specs.Text.{IsPassedText};
 ghost use Rattle.kin_status.specs.declared.stop.Stop.TheVariants.{Fault as FaultOf};
@@ -26,7 +24,7 @@ use kin_status::write::flush_if_due;
 use kin_world::world::World;
 use std::sync::ledger::Ledger;
 
-/// Leaves all failures up to the limit behind, of which nobody learns.
+/// Leaves all failures up to the limit behind, neither listed nor counted.
 fn leap_to<L: Ledger>(
     world: &mut World,
     limit: &Moment,
@@ -41,8 +39,8 @@ fn leap_to<L: Ledger>(
 }
 
 /// Passes all failures up to the asked instant, which isn't before now. Where the journal is on,
-/// the sink is given each block before the next is computed. Else no block is listed, and where
-/// nobody asks for the counts either, the world leaps.
+/// the sink is given each block before the next is computed. Otherwise no block is listed, and
+/// where the counts aren't asked for either, the world leaps.
 pub fn pass<K: Sink, L: Ledger>(
     world: &mut World,
     journal: bool,

@@ -2,7 +2,6 @@
 
 ghost use Rattle.std.specs.Prelude.{◌≡◌, ◌≤◌, ◌<◌, [], None, All, IfOk, OnErr, IsErrOf};
 ghost use Rattle.kin_io.specs.Causes.{Rose};
-ghost use Rattle.kin_io.specs.Ends.{AppendsFront};
 ghost use Rattle.kin_script.specs.Ranges.{IsCommandInRange, IsInRange};
 ghost use Rattle.kin_script.specs.Text.{Text};
 ghost use Rattle.kin_status.specs.declared.stop.Stop.TheVariants.{Fault as FaultOf};
@@ -29,7 +28,7 @@ use kin_world::world::World;
 use std::alloc::Global;
 use std::sync::ledger::{Blank, Ledger};
 
-/// Whether the command printed a block that the sink hasn't been given. `at` gives each of its own.
+/// Whether the command printed a block that the sink hasn't been given. `at` gives its blocks itself.
 fn prints_block(journal: bool, command: &Command) -> bool {
     journal && matches!(command, Command::Next)
 }

@@ -50,7 +50,7 @@ fn run_script<K: Sink, L: Ledger>(
     }
 }
 
-/// Holds a whole input against the grammar, and runs it.
+/// Reads a whole input by the grammar, and runs it.
 fn run_bytes<K: Sink>(alloc: Global, input: &[u8], sink: &mut K) -> Status
     requires { length input.now ≤ 2 ^ 20 }
     ensures writes { Wrote (K.held sink.old) (K.held sink.new) (Writes input.now result) }
@@ -64,7 +64,7 @@ fn run_bytes<K: Sink>(alloc: Global, input: &[u8], sink: &mut K) -> Status
     }
 }
 
-/// Takes the whole input, holds it against the grammar and runs it.
+/// Takes the whole input, reads it by the grammar and runs it.
 fn run_input<S: Source, K: Sink>(alloc: Global, source: &mut S, sink: &mut K) -> Status
     ensures headline { Answers (S.left source.old) (S.left source.new) (S.ended source.new) (K.held sink.old) (K.held sink.new) result }
     ensures read_fault { result ≡ Status.Fault Side.Read → Rose (S.faults source.old) (S.faults source.new) }
@@ -78,17 +78,17 @@ fn run_input<S: Source, K: Sink>(alloc: Global, source: &mut S, sink: &mut K) ->
     }
 }
 
-/// With the word `run`: takes the whole input, holds it against the grammar and runs its commands up
-/// to the first that is refused. Nothing is written before the whole input is known to be in the
-/// grammar or not; then the bytes are written in pieces of some 64 KiB, each command's text behind
-/// that of the one before. With the journal on, each block is written before the next is computed.
+/// With the argument `run`: takes the whole input, reads it by the grammar and runs its commands up to the
+/// first that is refused. Nothing is written before the whole input is known to be in the grammar or not.
+/// Then the bytes are written in pieces of some 64 KiB, each command's text after that of the one before.
+/// With the journal on, each block is written before the next is computed; no clause says so.
 pub fn run<S: Source, K: Sink>(
     alloc: Global,
     words: &[String],
     source: &mut S,
     sink: &mut K,
 ) -> Status
-    // The words alone decide whether there is a run.
+    // The arguments alone decide whether there is a run.
     ensures words { (result ≡ Status.Words) ↔ (asked_of words.now ≡ None) }
     ensures untouched { result ≡ Status.Words → (source.new ≡ source.old) × (sink.new ≡ sink.old) }
 
@@ -111,7 +111,8 @@ pub fn run<S: Source, K: Sink>(
         S.left source.old ≡ Some input → 2 ^ 20 < length input →
         (result ≡ Status.TooLong) ⊎ IsBrokenOff result }
 
-    // A generated run writes its own text, or is broken off at a front of it. It asks nothing of the source.
+    // A generated run writes its own text, or is broken off at a prefix of it. It reads nothing from the
+    // source.
     ensures demo { (seed count : ℕ) → asked_of words.now ≡ Some (Asked.Demo seed count) →
         Wrote (K.held sink.old) (K.held sink.new) (WritesDemo seed count result) }
     ensures no_input { (seed count : ℕ) → asked_of words.now ≡ Some (Asked.Demo seed count) → source.new ≡ source.old }

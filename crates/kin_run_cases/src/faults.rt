@@ -78,7 +78,7 @@ fn a_sink_without_room_holds_a_front(rt: HostRuntime) -> Result<(), Fail> {
 }
 
 /// Each block is a write of its own, so that the sink has all blocks before the one whose write
-/// fails, or for which there is no room, and none behind it. Answers are gathered.
+/// fails, or for which there is no room, and none after it. Answers are gathered.
 #[test]
 fn each_block_is_written_before_the_next(rt: HostRuntime) -> Result<(), Fail> {
     for (script, texts) in [

@@ -11,7 +11,7 @@ pub const CLOSE: [(&str, &str, Status); 7] = [
         "0 2\n1 2\n0 1\n",
         Status::Done,
     ),
-    // The border belongs to a rectangle; one whose sides are the wrong way round has no point.
+    // A rectangle includes its border; one whose sides are the wrong way round has no point.
     (
         "size 2\nkeep range\ninsert 0 0 0 2 0\ninsert 1 0 0 4 4\ninsert 2 5 1 -2 0\ninsert 3 0 1 1 0\nat 1/2\nbox 1 4 0 2\nat 1\nbox 1 4 0 2\nbox 4 1 0 2\n",
         "0 1 2\n0 2 3\nnone\n",
@@ -23,7 +23,8 @@ pub const CLOSE: [(&str, &str, Status); 7] = [
         "now 1\n0 1\nnow 1+\n1\nnone\n",
         Status::Done,
     ),
-    // Two pairs are as close at an irrational instant, and just after it the other one is closer.
+    // Two pairs are equally close at an irrational instant, and just after it the other one is
+    // closer.
     (
         "size 2\nkeep closest\nkeep range\ninsert 0 0 0 0 0\ninsert 1 5 0 0 0\ninsert 2 2 10 0 -1\nclosest\nat 5\nclosest\nnext\nclosest\nbox 0 2 0 4\nbox 0 2 0 5\nnext\nclosest\nbox 0 2 0 5\n",
         "0 1\n0 1\nnow r(1,-20,79,lo)\n0 1\n0\n0 2\nnow r(1,-20,79,lo)+\n0 2\n0 2\n",
@@ -49,7 +50,7 @@ pub const CLOSE: [(&str, &str, Status); 7] = [
     ),
 ];
 
-/// Hulls, alone and beside others.
+/// Hulls, alone and with others.
 pub const HULLS: [(&str, &str, Status); 11] = [
     // A turn is 0 at an irrational instant.
     (
@@ -69,7 +70,7 @@ pub const HULLS: [(&str, &str, Status); 11] = [
         "6\n! 0+ 0/4 line(1,0) 0 1 0 +\n! 0+ 0/5 line(1,0) 0 1 0 +\n! 1 0/2 line(1,0) 1 2 + 0\n! 1 0/3 line(1,0) 1 2 + 0\n! 1+ 0/2 line(1,0) 1 2 0 -\n! 1+ 0/3 line(1,0) 1 2 0 -\n! r(1,0,-2,hi) 0/2 turn 0 1 2 - 0\n! r(1,0,-2,hi) 0/3 turn 0 1 2 - 0\n0 1\n",
         Status::Done,
     ),
-    // Just before the instant, and just behind it.
+    // Just before the instant, and just after it.
     (
         "size 2\nkeep hull\ninsert 0 0 0 0 0\ninsert 1 0 2 1 0\ninsert 2 1 0 0 1\nat 1414213562/1000000000\nhull\nat 1414213563/1000000000\nhull\n",
         "0 2 1\n0 1 2\n",
@@ -93,7 +94,7 @@ pub const HULLS: [(&str, &str, Status); 11] = [
         "0\n0 1\n13\nnone\n",
         Status::Done,
     ),
-    // A square, whose four sides are as long.
+    // A square, whose four sides are equally long.
     (
         "size 2\nkeep hull\nkeep closest\ninsert 0 0 0 0 0\ninsert 1 1 0 0 0\ninsert 2 1 1 0 0\ninsert 3 0 1 0 0\nhull\nclosest\n",
         "0 1 2 3\n0 1\n",
@@ -139,7 +140,7 @@ pub const CHANGES: [(&str, &str, Status); 6] = [
         "now 5\n0 1\nnow 5+\n1 0\nrefused 9 NotWhole\n",
         Status::Command(9, Refusal::NotWhole),
     ),
-    // Nobody is there to leave, to start anew or to turn.
+    // No point is there to leave, to start anew or to turn.
     (
         "size 1\nremove 1\n",
         "refused 2 Absent\n",

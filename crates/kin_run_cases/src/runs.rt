@@ -8,7 +8,7 @@ use kin_run::status::Status;
 use std::alloc::Global;
 use std::test::Fail;
 
-/// The word of a run.
+/// The one argument `run`.
 pub fn word(alloc: Global) -> Result<Vec<String>, Fail> {
     let run = String::from_str(alloc, "run")?;
     Ok(vec![in alloc; run]?)

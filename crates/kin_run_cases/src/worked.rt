@@ -14,7 +14,7 @@ pub const THREE: &str =
 pub const THREE_TEXT: &str =
     "! 5 0/0 line(1,0) 0 1 + 0\n! 5 0/0 line(1,0) 1 2 + 0\n0 1 2\n! 5+ 0/0 line(1,0) 0 1 0 -\n! 5+ 0/0 line(1,0) 1 2 0 -\n2 1 0\n";
 
-/// A point meets two others, one after the other, with the question `live` behind.
+/// A point meets two others, one after the other, with the question `live` at the end.
 pub const MEETINGS: &str =
     "size 2\nkeep order 1 0\njournal on\ninsert 0 0 0 1 0\ninsert 1 10 0 -1 0\ninsert 2 30 0 -1 0\nat 20\nlive\n";
 
@@ -51,7 +51,7 @@ pub const WORKED: [(&str, &str, Status); 28] = [
         "1\n! 5 0/1 line(1,0) 0 1 + 0\n0\n! 5+ 0/1 line(1,0) 0 1 0 -\n0\n",
         Status::Done,
     ),
-    // No way back behind the moment of `next`.
+    // No way back before the moment of `next`.
     (
         "size 1\nkeep order 1 0\ninsert 0 0 0 1 0\ninsert 1 10 0 -1 0\nnext\norder 0\nnext\norder 0\nat 5\n",
         "now 5\n0 1\nnow 5+\n1 0\nrefused 9 Past\n",

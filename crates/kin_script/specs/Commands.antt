@@ -11,7 +11,7 @@ use Rattle.kin_script.specs.Lines.{Word}
 use Rattle.kin_script.specs.Numbers.{◌>>=◌, ratio_of}
 use Rattle.kin_script.specs.Words.{natural_at, integer_at, side_at, last}
 
--- the coefficients A B C, with A not 0, and the words behind them
+-- the coefficients A B C, with A not 0, and the words after them
 unfoldable pub quadratic_at : List Word → Option ((ℤ × ℤ × ℤ) × List Word)
 quadratic_at ws = do
   a ← integer_at 268435456 ws
@@ -60,7 +60,7 @@ journal_of (word ∷ ws) =
     else if bytes_eq word (codes "off") then last false ws
     else None
 
--- a line of the header behind the size line
+-- a line of the header after the size line
 unfoldable pub header_line_of : List Word → Option HeaderLine
 header_line_of [] = None
 header_line_of (name ∷ ws) =

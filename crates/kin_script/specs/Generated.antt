@@ -7,11 +7,11 @@ use Rattle.kin_script.specs.declared.command.Command.{Command}
 use Rattle.kin_script.specs.declared.command.Command.TheVariants.{Insert, AtRatio, Extreme, Hull, Closest, Inside, Live}
 use Rattle.kin_script.specs.declared.script.Script.{Script}
 
--- the state of the generator behind another one
+-- the state of the generator after another one
 unfoldable pub next_state : ℕ → ℕ
 next_state z = (1664525 * z + 1013904223) % 2 ^ 32
 
--- the state behind so many draws
+-- the state after so many draws
 unfoldable pub state_after : ℕ → ℕ → ℕ
 state_after zero z = z
 state_after (suc n) z = next_state (state_after n z)
@@ -24,7 +24,7 @@ drawn z = z / 2 ^ 16
 unfoldable pub picked : ℕ → ℕ → ℤ
 picked reach draw = pos (draw % (2 * reach + 1)) -ℤ pos reach
 
--- the course that the four draws behind a state give: the place, and then the speed
+-- the course that the four draws after a state give: the place, and then the speed
 unfoldable pub course_behind : ℕ → Course
 course_behind z = record {
   x = picked 1000 (drawn (state_after 1 z));
@@ -33,7 +33,7 @@ course_behind z = record {
   v = picked 10 (drawn (state_after 4 z));
 }
 
--- the line that inserts the point of this number, from 0 on: four draws are made for each point, and seven lines stand before the first
+-- the line that inserts the point of this number, from 0 on: four draws are made for each point, and there are seven lines before the first
 abbrev pub insertion : ℕ → ℕ → ℕ × Command
 insertion seed number = (8 + number, Insert number (course_behind (state_after (4 * number) seed)))
 
@@ -46,7 +46,7 @@ insertions seed (suc n) = insertions seed n ++ insertion seed n ∷ []
 abbrev pub one_of_each : List Keep
 one_of_each = keep.Order (pos 1) (pos 0) ∷ keep.Extreme (pos 1) (pos 1) ∷ keep.Hull ∷ keep.Closest ∷ keep.Range ∷ []
 
--- the lines behind the points: all that is kept is asked for at the time 20
+-- the lines after the points: all that is kept is asked for at the time 20
 abbrev pub questions : ℕ → List (ℕ × Command)
 questions line =
     (line, AtRatio (pos 20) (pos 1))

@@ -1,4 +1,4 @@
--- What a reader answers, beside what the grammar says.
+-- What a reader answers, relative to what the grammar says.
 use Rattle.std.specs.Prelude.{◌≡◌, ℕ, Result, Ok, Err}
 use Rattle.kin_script.specs.declared.read.ReadError.{ReadError}
 use Rattle.kin_script.specs.declared.read.ReadError.TheVariants.{BadLine, NoMemory}

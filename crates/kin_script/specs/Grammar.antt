@@ -32,7 +32,7 @@ pub record Header : Type 0 where
   pub keeps : List Keep
   pub journal : Option Bool
 
--- the script of a header and of the lines behind it; without a journal line the journal is off
+-- the script of a header and of the lines after it; without a journal line the journal is off
 abbrev pub with_commands : Header → List Numbered → Result Script ℕ
 with_commands h ls = commands_of h.size ls >> λ cs. Ok (record { size = h.size; keeps = h.keeps; journal = unwrap_or h.journal false; lines = cs })
 

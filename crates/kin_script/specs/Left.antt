@@ -19,6 +19,6 @@ pub record Left : Type 0 where
 abbrev pub with_words : Left → List Numbered
 with_words l = numbered l.number l.lines
 
--- the number of the line behind them
+-- the number of the line after them
 abbrev pub after : Left → ℕ
 after l = l.number + length l.lines

@@ -8,7 +8,7 @@ Word = List ℕ
 abbrev pub is_line_feed : ℕ → Bool
 is_line_feed b = b == 10
 
--- an empty piece behind the last line feed is no line
+-- an empty piece after the last line feed is no line
 abbrev pub without_empty_end : List (List ℕ) → List (List ℕ)
 without_empty_end [] = []
 without_empty_end ([] ∷ []) = []

@@ -12,7 +12,7 @@ None >>= f = None
 abbrev pub is_digit : ℕ → Bool
 is_digit b = nat_le 48 b && nat_le b 57
 
--- the number that these digits write behind those of n
+-- the number that these digits write after those of n
 unfoldable pub digits_after : ℕ → Word → Option ℕ
 digits_after n [] = Some n
 digits_after n (d ∷ ds) = if is_digit d then digits_after (10 * n + (d - 48)) ds else None
@@ -33,7 +33,7 @@ at_least low (Some n) = if nat_lt n low then None else Some n
 abbrev pub starts_with_minus : Word → Bool
 starts_with_minus w = slice_index w 0 == 45
 
--- a number from low to high; behind a minus it can only be 0
+-- a number from low to high; after a minus it can only be 0
 unfoldable pub natural_of : ℕ → ℕ → Word → Option ℕ
 natural_of low high w = at_least low (if starts_with_minus w then up_to 0 (numeral_of (drop 1 w)) else up_to high (numeral_of w))
 

@@ -42,7 +42,7 @@ abbrev pub phase_text : Phase → List ℕ
 phase_text At = []
 phase_text After = codes "+"
 
--- an instant, and a + behind it for just after
+-- an instant, with a + for just after
 abbrev pub moment_text : Moment → List ℕ
 moment_text m = instant_text m.at ++ phase_text m.phase
 
@@ -59,7 +59,7 @@ abbrev pub list_line : List ℕ → List ℕ
 list_line [] = codes "none\n"
 list_line (x ∷ xs) = join_by decimal (codes " ") (x ∷ xs) ++ codes "\n"
 
--- a front of the text was put behind what was there
+-- a prefix of the text was appended to what was there
 pub record PutsFront (before now text : List ℕ) : Type 0 where
   pub front : List ℕ
   pub rest : List ℕ

@@ -70,7 +70,7 @@ box_of ws = do
   y2 ← integer_at 16777216 y1.1
   last (Inside (record { x1 = x1.0; x2 = x2.0; y1 = y1.0; y2 = y2.0 })) y2.1
 
--- the question of this name, with the words behind it
+-- the question of this name, with the words after it
 unfoldable pub question_of : Word → List Word → Option Command
 question_of name ws =
     if bytes_eq name (codes "order") then order_of ws

@@ -12,7 +12,7 @@ use Rattle.kin_script.specs.Grammar.{◌>>◌, Header, commands_of, behind_size}
 abbrev pub header : Draft → Header
 header d = record { size = d.size; keeps = d.keeps; journal = d.journal }
 
--- the script of a draft, with these commands behind those that it has
+-- the script of a draft, with these commands after those that it has
 abbrev pub finished : Draft → List (ℕ × Command) → Script
 finished d cs = record { size = d.size; keeps = d.keeps; journal = unwrap_or d.journal false; lines = d.commands ++ cs }
 
@@ -25,7 +25,7 @@ by_place (c ∷ cs) in_header behind = behind
 abbrev pub reads : Draft → List Numbered → Result Script ℕ
 reads d ls = by_place d.commands (behind_size (header d) ls) (commands_of d.size ls >> λ cs. Ok (finished d cs))
 
--- one line further the script reads as before, or the line is the first outside
+-- after one line more the script reads as before, or the line is the first outside
 abbrev pub Continues : Result (Unit {0}) ReadError → Result Script ℕ → Result Script ℕ → Type 0
 Continues (Ok x) before now = before ≡ now
 Continues (Err (BadLine n)) before now = before ≡ Err n

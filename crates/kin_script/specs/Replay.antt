@@ -40,7 +40,7 @@ IsRefused s (goes_to upper p) r = ((r ≡ NoRoot) × HasNoRoot p) ⊎ ((r ≡ Pa
 IsRefused s goes_on r = ⊥
 IsRefused s (asks q) r = (r ≡ NotKept) × ¬ (IsProvided s q)
 
--- no refusal stands
+-- it isn't refused
 abbrev pub IsAllowed : State → Deed → Type 0
 IsAllowed s d = (r : Refusal) → ¬ (IsRefused s d r)
 

@@ -1,4 +1,4 @@
--- What stands between two commands.
+-- What there is between two commands.
 use Rattle.std.specs.Prelude.{ℕ, ◌^◌, pos, Bool, List, Option, None, replicate}
 use Rattle.kin_num.specs.declared.instant.Shape.{Shape}
 use Rattle.kin_num.specs.declared.instant.Shape.TheVariants.{Ratio}
@@ -9,7 +9,7 @@ use Rattle.kin_motion.specs.Course.{Course}
 use Rattle.kin_motion.specs.Scene.{Scene, scene_at}
 use Rattle.kin_motion.specs.Journal.{Setting, setting_of}
 
--- what is kept, and where the replay of a script stands
+-- what is kept, and how far the replay of a script is
 pub record State : Type 0 where
   pub size : ℕ
   pub keeps : List Keep

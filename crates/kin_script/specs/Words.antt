@@ -5,7 +5,7 @@ use Rattle.kin_motion.specs.Course.{Course}
 use Rattle.kin_script.specs.Lines.{Word, is_nil}
 use Rattle.kin_script.specs.Numbers.{◌>>=◌, natural_of, integer_of}
 
--- the first word as a number, and the words behind it
+-- the first word as a number, and the words after it
 unfoldable pub natural_at : ℕ → ℕ → List Word → Option (ℕ × List Word)
 natural_at low high [] = None
 natural_at low high (w ∷ ws) = natural_of low high w >>= λ n. Some (n, ws)
@@ -18,11 +18,11 @@ integer_at far (w ∷ ws) = integer_of far w >>= λ z. Some (z, ws)
 abbrev pub last : {A : Type 0} → A → List Word → Option A
 last x ws = if is_nil ws then Some x else None
 
--- the number of a point, which the size bounds, and the words behind it
+-- the number of a point, which the size bounds, and the words after it
 unfoldable pub number_at : ℕ → List Word → Option (ℕ × List Word)
 number_at size ws = natural_at 0 (2 ^ size - 1) ws
 
--- four numbers as a motion, and the words behind them
+-- four numbers as a motion, and the words after them
 unfoldable pub motion_at : List Word → Option (Course × List Word)
 motion_at ws = do
   x ← integer_at 4096 ws
@@ -31,14 +31,14 @@ motion_at ws = do
   v ← integer_at 4096 u.1
   Some (record { x = x.0; y = y.0; u = u.0; v = v.0 }, v.1)
 
--- two numbers as a velocity, and the words behind them
+-- two numbers as a velocity, and the words after them
 unfoldable pub velocity_at : List Word → Option ((ℤ × ℤ) × List Word)
 velocity_at ws = do
   u ← integer_at 4096 ws
   v ← integer_at 4096 u.1
   Some ((u.0, v.0), v.1)
 
--- lo or hi, and the words behind it: whether the greater root is meant
+-- lo or hi, and the words after it: whether the greater root is meant
 unfoldable pub side_at : List Word → Option (Bool × List Word)
 side_at [] = None
 side_at (w ∷ ws) =
@@ -46,7 +46,7 @@ side_at (w ∷ ws) =
     else if bytes_eq w (codes "hi") then Some (true, ws)
     else None
 
--- the direction DX DY, not both 0, and no word behind it
+-- the direction DX DY, not both 0, and no word after it
 unfoldable pub direction_at : List Word → Option (ℤ × ℤ)
 direction_at ws = do
   dx ← integer_at 16 ws

@@ -1,4 +1,4 @@
--- A script and its lines, as a relation: which line says what, and which line is the first that may not stand there.
+-- A script and its lines, as a relation: which line says what, and which line is the first that isn't allowed at its place.
 use Rattle.std.specs.Prelude.{◌≡◌, ◌⊎◌, ◌↔◌, ℕ, ◌+◌, Bool, false, List, [], ◌∷◌, ◌++◌, Some, length, IsTrue}
 use Rattle.std.specs.List.{AllZip}
 use Rattle.kin_motion.specs.declared.keep.Keep.{Keep}
@@ -34,7 +34,7 @@ IsJournal (b ∷ c ∷ bs) on = ⊥
 abbrev pub SaysHeaderLine : Numbered → HeaderLine → Type 0
 SaysHeaderLine l s = header_line_of l.1 ≡ Some s
 
--- a line behind the header says this command
+-- a line after the header says this command
 abbrev pub SaysCommand : ℕ → Numbered → ℕ × Command → Type 0
 SaysCommand size l c = (l.0 ≡ c.0) × (command_of size l.1 ≡ Some c.1)
 
@@ -52,7 +52,8 @@ pub record IsWritten (lines : List Numbered) (s : Script) : Type 0 where
   pub journal : IsJournal (journals_of header_lines) s.journal
   pub commands_say : AllZip (SaysCommand s.size) commands s.lines
 
--- a line of these that may not stand where it stands, and has this number: the lines before it write a script, unless there are none, and with it they write none, however they go on
+-- a line of these that isn't allowed at its place, and has this number: the lines before it write a script, unless there are none, and with it they write none,
+-- however they go on
 pub record IsFirstBad (lines : List Numbered) (n : ℕ) : Type 0 where
   pub before : List Numbered
   pub bad : Numbered
@@ -70,7 +71,7 @@ worded_lines bytes = numbered 1 (lines_of bytes)
 abbrev pub ScriptsAreWritten : Type 0
 ScriptsAreWritten = (bytes : List ℕ) (s : Script) → IsScript bytes s ↔ IsWritten (worded_lines bytes) s
 
--- the first line outside is the first that may not stand where it stands; without words it is the line behind the last
+-- the first line outside is the first that isn't allowed at its place; without words it is the line after the last
 abbrev pub FirstOutsideIsFirst : Type 0
 FirstOutsideIsFirst = (bytes : List ℕ) (n : ℕ)
     → IsFirstOutside bytes n ↔ (((worded_lines bytes ≡ []) × (n ≡ 1 + length (lines_of bytes))) ⊎ IsFirstBad (worded_lines bytes) n)

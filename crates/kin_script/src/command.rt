@@ -2,7 +2,7 @@
 
 use kin_motion::{Motion, Rect};
 
-/// What one line behind the header asks for.
+/// What one line after the header asks for.
 #[derive(Clone, Copy, Debug, PartialEq, Eq)]
 pub enum Command {
     /// A point of this number starts, with this motion.

@@ -9,8 +9,8 @@ pub fn scripts_are_written()
     ensures { ScriptsAreWritten }
 {}
 
-/// The first line outside the grammar is the first that may not stand where it stands: the lines
-/// before it write a script, and with it they write none, however they go on.
+/// The first line outside the grammar is the first that isn't allowed at its place: the lines before it write a
+/// script, and with it they write none, however they go on.
 pub fn first_outside_is_first()
     ensures { FirstOutsideIsFirst }
 {}

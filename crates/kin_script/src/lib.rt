@@ -1,9 +1,9 @@
 //! The motion script: what a script is, and its reader.
 //!
-//! The grammar stands in `specs/`, as a function of whole lines: from bytes to the script that they
-//! are, or to the number of the first line outside; `laws` says what holds of it. [`read::read`] goes
-//! over the bytes once and answers what the grammar says; every number of a script that it gives is
-//! in its range.
+//! The grammar is in `specs/`, as a function of whole lines: from bytes to the script that they are,
+//! or to the number of the first line outside; `laws` says what holds of it. [`read::read`] goes over
+//! the bytes once and answers what the grammar says; every number of a script that it gives is in its
+//! range.
 #![tactic(auto)]
 
 pub use command::Command;

@@ -12,7 +12,7 @@ use crate::number::ratio;
 use crate::words::Words;
 use kin_motion::{Keep, Rect};
 
-/// A line of the header, behind the size line.
+/// A line of the header, after the size line.
 pub enum HeaderLine {
     Keep(Keep),
     Journal(bool),
@@ -259,7 +259,7 @@ fn journal(words: &mut Words<'_>) -> Option<bool>
     }
 }
 
-/// What a line of the header says, behind the size line.
+/// What a line of the header says, after the size line.
 #[tactic(auto, unfolding(crate::specs::Commands::header_line_of))]
 pub fn header_line_of(mut words: Words<'_>) -> Option<HeaderLine>
     ensures { result ≡ header_line_of words.entry }

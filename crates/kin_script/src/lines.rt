@@ -72,7 +72,7 @@ impl<'a> Lines<'a> {
     }
 }
 
-/// The first line, and the bytes behind it.
+/// The first line, and the bytes after it.
 fn first_line(bytes: &[u8]) -> Option<(&[u8], &[u8])>
     ensures line { MatchOption result (lines_of bytes.now ≡ []) (λ r. lines_of bytes.now ≡ r.0.now ∷ lines_of r.1.now) }
     ensures shorter { MatchOption result (bytes.now ≡ []) (λ r. length r.1.now < length bytes.now) }

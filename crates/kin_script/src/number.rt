@@ -29,7 +29,7 @@ pub fn numeral(word: &[u8], most: u32) -> Option<u32>
     Some(value as u32)
 }
 
-/// A number from `low` to `high`. Behind a minus only 0 is one.
+/// A number from `low` to `high`. After a minus only 0 is one.
 #[tactic(auto, unfolding(crate::specs::Numbers::natural_of))]
 pub fn natural(word: &[u8], low: u32, high: u32) -> Option<u32>
     ensures value { result ≡ natural_of low high word.now }

@@ -89,7 +89,7 @@ impl Draft {
         Ok(())
     }
 
-    /// Takes a line behind the size line.
+    /// Takes a line after the size line.
     fn take(&mut self, line: Line<'_>) -> Result<(), ReadError>
         requires range { IsDraftInRange self.old }
         ensures line { (ls : List Numbered) → Continues result (reads self.old ((line.entry.number, line.entry.words) ∷ ls)) (reads self.new ls) }
@@ -122,7 +122,7 @@ impl Draft {
     }
 }
 
-/// The script of the lines behind the size line.
+/// The script of the lines after the size line.
 fn read_behind_size(alloc: Global, size: u32, lines: &mut Lines<'_>) -> Result<Script, ReadError>
     requires low { 1 ≤ size }
     requires high { size ≤ 12 }

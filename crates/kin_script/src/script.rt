@@ -58,7 +58,7 @@ impl<T: Drop> Row<T> {
         self.items.as_slice()
     }
 
-    /// Adds an item behind the others.
+    /// Adds an item after the others.
     pub fn push(&mut self, item: T) -> Result<(), AllocError>
         ensures ok { OnOk result (self.new ≡ self.old ++ item ∷ []) }
         ensures err { OnErr result (self.new ≡ self.old) }

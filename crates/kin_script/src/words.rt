@@ -134,7 +134,7 @@ impl<'a> Words<'a> {
     }
 }
 
-/// Where the byte stands first.
+/// The first place of the byte.
 pub fn place(bytes: &[u8], mark: u8) -> Option<usize>
     ensures { result ≡ position (λ b. b == mark) bytes.now }
 {
@@ -156,14 +156,14 @@ fn text_of(line: &[u8]) -> &[u8]
     }
 }
 
-/// Whether the byte parts two words: a space or a tab.
+/// Whether the byte separates words: a space or a tab.
 fn is_blank_byte(b: u8) -> bool
     ensures { result ≡ is_blank b }
 {
     b == b' ' || b == b'\t'
 }
 
-/// The bytes behind the blanks at the front.
+/// The bytes after the blanks at the front.
 fn skip_blanks(bytes: &[u8]) -> &[u8]
     ensures same { pieces_of bytes.now ≡ pieces_of result.now }
     ensures word { 0 < length result.now → is_blank (slice_index result.now 0) ≡ false }
@@ -176,14 +176,14 @@ fn skip_blanks(bytes: &[u8]) -> &[u8]
     &[]
 }
 
-/// Where the first blank stands.
+/// The place of the first blank.
 fn blank_place(bytes: &[u8]) -> Option<usize>
     ensures { result ≡ position is_blank bytes.now }
 {
     bytes.iter().position(|b| is_blank_byte(*b))
 }
 
-/// The first word, and the bytes behind it.
+/// The first word, and the bytes after it.
 fn first_word(bytes: &[u8]) -> Option<(&[u8], &[u8])>
     ensures { MatchOption result (pieces_of bytes.now ≡ []) (λ r. pieces_of bytes.now ≡ r.0.now ∷ pieces_of r.1.now) }
 {

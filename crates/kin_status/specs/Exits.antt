@@ -3,7 +3,7 @@ use Rattle.std.specs.Prelude.{ℕ}
 use Rattle.kin_status.specs.declared.status.Status.{Status}
 use Rattle.kin_status.specs.declared.status.Status.TheVariants as status
 
--- 0 where the whole text was written, and a number of its own for each kind of refusal
+-- 0 where the whole text was written; 2 for a script with a bad line and for one that is too long
 abbrev pub exit_status_of : Status → ℕ
 exit_status_of status.Done = 0
 exit_status_of (status.Fault side) = 1

@@ -28,7 +28,7 @@ IsAnswer input status.TooLong text = ⊥
 IsAnswer input status.Words text = ⊥
 IsAnswer input status.NoMemory text = ⊥
 
--- a front of the input's text, whichever that is
+-- a prefix of the input's text, whichever that is
 abbrev pub IsCut : List ℕ → List ℕ → Type 0
 IsCut input written = (answer : Status) (text : List ℕ) → IsAnswer input answer text → IsFront written text
 
@@ -45,7 +45,7 @@ pub record TakesWhole (left : Option (List ℕ)) (ended : Bool) (input : List �
   pub nothing_left : IsAtEnd left
   pub within : length input ≤ 2 ^ 20
 
--- what was written beside what was taken, by the status
+-- what was written with what was taken, by the status
 abbrev pub Outcome : Option (List ℕ) → Bool → List ℕ → Status → List ℕ → Type 0
 Outcome left ended input (status.Fault Read) written = (written ≡ []) × (length input ≤ 2 ^ 20)
 Outcome left ended input status.TooLong written = (written ≡ []) × (length input ≡ 2 ^ 20 + 1)

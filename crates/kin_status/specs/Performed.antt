@@ -15,11 +15,11 @@ use Rattle.kin_status.specs.declared.stop.Stop.{Stop}
 use Rattle.kin_status.specs.declared.stop.Stop.TheVariants.{Fault, NoMemory}
 use Rattle.kin_status.specs.Written.{Printer, IsFront, GainsSome, LosesSome}
 
--- a front of each such text
+-- a prefix of each such text
 abbrev pub IsFrontOfEach : (List ℕ → Type 0) → List ℕ → Type 0
 IsFrontOfEach IsText front = (text : List ℕ) → IsText text → IsFront front text
 
--- a line was put behind what was there; or memory ran out, and a front of each such line was put there
+-- a line was appended to what was there; or memory ran out, and a prefix of each such line was appended
 abbrev pub PutsLine : {E : Type 0} → (List ℕ → Type 0) → Result (Unit {0}) E → List ℕ → List ℕ → Type 0
 PutsLine IsLine (Ok x) before now = (text : List ℕ) × (now ≡ before ++ text) × IsLine text
 PutsLine IsLine (Err e) before now = (front : List ℕ) × (now ≡ before ++ front) × IsFrontOfEach IsLine front
@@ -31,24 +31,25 @@ IsReply s q (Err (Refused r)) = (r ≡ NotKept) × ¬ (IsProvided s q)
 IsReply s q (Err (Broken NoMemory)) = IsProvided s q
 IsReply s q (Err (Broken Fault)) = ⊥
 
--- the line of a question was put behind what was there; or what it asks for is not kept, and nothing was put; or memory ran out at a front of its line
+-- the line of a question was appended to what was there; or what it asks for is not kept, and nothing was appended; or memory ran out at a prefix of its line
 abbrev pub Replies : {E : Type 0} → State → Command → Result E Halt → List ℕ → List ℕ → Type 0
 Replies s q (Ok x) before now = IsProvided s q × ((text : List ℕ) × (now ≡ before ++ text) × IsReplyLine s q text)
 Replies s q (Err (Refused r)) before now = (r ≡ NotKept) × ¬ (IsProvided s q) × (now ≡ before)
 Replies s q (Err (Broken NoMemory)) before now = IsProvided s q × ((front : List ℕ) × (now ≡ before ++ front) × IsFrontOfEach (IsReplyLine s q) front)
 Replies s q (Err (Broken Fault)) before now = ⊥
 
--- a run was broken off behind such a text: want of memory left it gathered, and a fault lost some of it
+-- a run was broken off after such a text: at want of memory all of it is written or gathered, and at a fault only a prefix may have been written
 abbrev pub BreaksOff : (List ℕ → Type 0) → Stop → Printer → Printer → Type 0
 BreaksOff IsText NoMemory p q = GainsSome IsText p q
 BreaksOff IsText Fault p q = LosesSome IsText p q
 
--- such a text was put behind all bytes so far; or the run was broken off at a front of each such text
+-- such a text was appended to all bytes so far; or the run was broken off at a prefix of each such text
 abbrev pub Puts : {E : Type 0} → (List ℕ → Type 0) → Result E Stop → Printer → Printer → Type 0
 Puts IsText (Ok x) p q = GainsSome IsText p q
 Puts IsText (Err stop) p q = BreaksOff (IsFrontOfEach IsText) stop p q
 
--- it was done and its text put behind all bytes so far; or it is refused and nothing is changed; or it is not refused and the run was broken off at a front of its text
+-- it was done and its text appended to all bytes so far; or it is refused and nothing is changed; or it is not refused and the run was broken off at a prefix
+-- of its text
 abbrev pub Performs : {E : Type 0} → State → Deed → Result E Halt → Printer → Printer → State → Type 0
 Performs s d (Ok x) p q t = GainsSome (λ text. Step s d text t) p q
 Performs s d (Err (Refused r)) p q t = IsRefused s d r × (q ≡ p) × (t ≡ s)
@@ -60,11 +61,11 @@ OnRefused (Ok x) P = Unit {0}
 OnRefused (Err (Refused r)) P = P
 OnRefused (Err (Broken stop)) P = Unit {0}
 
--- a front of whatever the commands print
+-- a prefix of whatever the commands print
 abbrev pub IsCutOfText : State → List (ℕ × Command) → List ℕ → Type 0
 IsCutOfText s cs front = (text : List ℕ) (ending : Ending) → Text s cs text ending → IsFront front text
 
--- the text of the commands was put behind all bytes so far, with its ending; or the run was broken off at a front of it
+-- the text of the commands was appended to all bytes so far, with its ending; or the run was broken off at a prefix of it
 abbrev pub PutsAll : State → List (ℕ × Command) → Result Ending Stop → Printer → Printer → Type 0
 PutsAll s cs (Ok ending) p q = GainsSome (λ text. Text s cs text ending) p q
 PutsAll s cs (Err stop) p q = BreaksOff (IsCutOfText s cs) stop p q

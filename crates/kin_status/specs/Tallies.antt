@@ -8,7 +8,7 @@ use Rattle.kin_status.specs.declared.tally.Tally.{Tally}
 abbrev pub one_more : ℕ → Tally → Tally
 one_more failures t = record { moments = min (t.moments + 1) (2 ^ 64 - 1); failures = min (t.failures + failures) (2 ^ 64 - 1) }
 
--- one more block, if anybody asks for the counts
+-- one more block, if the counts are asked for
 abbrev pub counted_on : ℕ → Option Tally → Option Tally
 counted_on failures None = None
 counted_on failures (Some t) = Some (one_more failures t)
@@ -17,7 +17,7 @@ counted_on failures (Some t) = Some (one_more failures t)
 abbrev pub tallied_on : Option Tally → List Block → Option Tally
 tallied_on t bs = fold (λ u b. counted_on (length b.failures) u) t bs
 
--- such blocks were passed, and counted if anybody asks for the counts
+-- such blocks were passed, and counted if the counts are asked for
 pub record HasTallied (IsPassed : List Block → Type 0) (old new : Option Tally) : Type 0 where
   pub blocks : List Block
   pub passed : IsPassed blocks

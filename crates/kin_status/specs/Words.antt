@@ -1,4 +1,4 @@
--- What the words ask for.
+-- What the arguments ask for.
 use Rattle.std.specs.Prelude.{ℕ, ◌≤◌, ◌^◌, List, [], ◌∷◌, Option, Some, None, string_bytes, codes, String, if◌then◌else◌}
 use Rattle.std.specs.Global.{Global}
 use Rattle.std.specs.Str.{bytes_eq}
@@ -10,7 +10,7 @@ use Rattle.kin_status.specs.declared.words.Asked.TheVariants as asked
 abbrev pub demo_of : List ℕ → List ℕ → Option Asked
 demo_of seed count = up_to 4294967295 (numeral_of seed) >>= λ s. at_least 1 (up_to 1024 (numeral_of count)) >>= λ n. Some (asked.Demo s n)
 
--- the one word run; or the word demo, a seed and a count
+-- the one argument run; or the argument demo, a seed and a count
 abbrev pub asked_of : List (String Global) → Option Asked
 asked_of [] = None
 asked_of (word ∷ []) = if bytes_eq (string_bytes word) (codes "run") then Some asked.Run else None

@@ -3,7 +3,7 @@ use Rattle.std.specs.Prelude.{◌≡◌, ℕ, List, ◌++◌, Option}
 use Rattle.std.specs.Io.KnownBytes.{Appends}
 use Rattle.kin_io.specs.Ends.{AppendsFront}
 
--- a front of the text
+-- a prefix of the text
 pub record IsFront (front text : List ℕ) : Type 0 where
   pub more : List ℕ
   pub joined : text ≡ front ++ more
@@ -12,7 +12,7 @@ pub record IsFront (front text : List ℕ) : Type 0 where
 abbrev pub Wrote : Option (List ℕ) → Option (List ℕ) → (List ℕ → Type 0) → Type 0
 Wrote before now property = (bytes : List ℕ) × Appends before now bytes × property bytes
 
--- a sink and the buffer behind it: what the sink holds, where that is known, and what is gathered and not yet written
+-- a sink and the buffer before it: what the sink holds, where that is known, and what is gathered and not yet written
 pub record Printer : Type 0 where
   pub held : Option (List ℕ)
   pub gathered : List ℕ
@@ -32,7 +32,7 @@ pub record GainsSome (IsText : List ℕ → Type 0) (p q : Printer) : Type 0 whe
   pub gained : Gains p q text
   pub is : IsText text
 
--- a write has failed: a front of what was gathered and then such a text has reached the sink
+-- a write has failed: a prefix of what was gathered and then such a text has reached the sink
 pub record LosesSome (IsText : List ℕ → Type 0) (p q : Printer) : Type 0 where
   pub text : List ℕ
   pub reached : AppendsFront p.held q.held (p.gathered ++ text)

@@ -24,7 +24,7 @@ pub fn is_before(instant: &Instant, moment: &Moment) -> bool
     }
 }
 
-/// The one of two roots that the word names.
+/// The one of two roots that `upper` names.
 fn named(lesser: Instant, greater: Instant, upper: bool) -> Instant
     ensures { result ≡ (if upper then greater else lesser) }
 {

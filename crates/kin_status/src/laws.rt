@@ -9,8 +9,8 @@ pub fn one_answer()
     ensures { OneAnswer }
 {}
 
-/// Every input has a text, and a status with it. So a front of each text of an input is a front of
-/// one that exists.
+/// Every input has a text, and a status with it. So a prefix of each text of an input is a prefix
+/// of one that exists.
 #[tactic(auto, using(crate::proofs::Existence::texts_exist))]
 pub fn texts_exist()
     ensures { TextsExist }

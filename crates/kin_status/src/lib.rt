@@ -1,9 +1,9 @@
 //! How a run ends, and what it has written until then.
 //!
-//! The words of the contract of `kin_run`: which text and which status an input has, and what was written where a run
-//! was broken off. [`laws`] says that every input has both, and no others. Here are also the parts of a run that know no
-//! world: what its words ask for, which instant a line asks for, how passed blocks are counted, and how lines are
-//! gathered and written.
+//! The definitions in the contract of `kin_run`: which text and which status an input has, and what was written where a
+//! run was broken off. [`laws`] says that every input has both, and no others. Here are also the parts of a run that
+//! know no world: what its arguments ask for, which instant a line asks for, how passed blocks are counted, and how
+//! lines are gathered and written.
 #![tactic(auto)]
 
 pub mod asked;

@@ -27,7 +27,7 @@ pub enum Status {
     Command(u32, Refusal),
     /// The input has more than 2^20 bytes.
     TooLong,
-    /// The words are no written form.
+    /// The arguments have neither form.
     Words,
     /// There was no memory.
     NoMemory,

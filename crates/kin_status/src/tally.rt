@@ -30,7 +30,7 @@ impl Tally {
     }
 }
 
-/// Counts one more block, with so many failures, if anybody asks for the counts.
+/// Counts one more block, with so many failures, if the counts are asked for.
 pub fn count_on(tally: &mut Option<Tally>, failures: usize)
     ensures { tally.new ≡ counted_on failures tally.old }
 {

@@ -1,4 +1,4 @@
-//! What the words ask for.
+//! What the arguments ask for.
 
 ghost use Rattle.std.specs.Prelude.{◌≡◌, ◌≤◌, ◌^◌, IfSome};
 ghost use Rattle.kin_status.specs.Words.{asked_of, demo_of, IsAskable};
@@ -33,7 +33,7 @@ fn demo(seed: &[u8], count: &[u8]) -> Option<Asked>
     Some(Asked::Demo { seed, count })
 }
 
-/// What the words ask for, or `None` where they are no written form.
+/// What the arguments ask for, or `None` where they have neither form.
 pub fn parse(words: &[String]) -> Option<Asked>
     ensures form { result ≡ asked_of words.now }
     ensures range { IfSome result IsAskable }

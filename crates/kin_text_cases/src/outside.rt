@@ -17,7 +17,7 @@ fn first_outside(alloc: Global, bytes: &[u8]) -> Result<u32, NoMemory> {
     }
 }
 
-/// The line that stands beside a text has to be the first outside, or none where 0 does.
+/// The line that is given with a text has to be the first outside, or none where it is 0.
 pub fn are_outside(rt: &impl Abort, alloc: Global, rows: &[(&[u8], u32)]) -> Result<(), NoMemory> {
     for (bytes, line) in rows {
         let first = first_outside(alloc, bytes)?;

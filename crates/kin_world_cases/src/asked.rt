@@ -6,7 +6,7 @@ use kin_motion::{Keep, Rect};
 use kin_num::Phase;
 use std::test::Fail;
 
-/// Of three points two coincide at 2. At 1, and at 5/2, two pairs are as close as each other.
+/// Of three points two coincide at 2. At 1, and at 5/2, two pairs are equally close.
 const COINCIDING: Script = (
     2,
     &[Keep::Closest],
@@ -47,7 +47,7 @@ const ONE_MOTION_TWICE: Script = (
     ],
 );
 
-/// Four pairs of a unit square are as close as each other. An order is kept beside.
+/// Four pairs of a unit square are equally close. An order is kept, too.
 const SQUARE: Script = (
     2,
     &[ORDER_EAST, Keep::Closest, Keep::Hull],
@@ -103,7 +103,7 @@ const NARROW: Rect = Rect {
 };
 
 /// The turn of 0, 1, 2 is `(t - 1)^2`: it touches 0 at 1, where all three are collinear. At 2 the
-/// points stand where they stood at 0, turned about.
+/// points are where they were at 0, turned about.
 const TOUCHING: Script = (
     2,
     &[Keep::Hull],
@@ -171,8 +171,8 @@ const AROUND: Rect = Rect {
     y2: 9,
 };
 
-/// Of three numbers in a row the middle one leaves, so a fact of the outer two is new. Who returns
-/// has facts made anew.
+/// Of three numbers in a row the middle one leaves, so a fact of the outer two is new. A number that
+/// returns has facts made anew.
 const LEAVING: Script = (
     2,
     &[ORDER_EAST],
