@@ -175,8 +175,8 @@ module _ (s : Scene) (real : IsReal s) (t x : Branches) (w : IsWalked s t) (root
   failed_same : (v : ℕ) → failed_at x.nodes.items v ≡ failed_at t.nodes.items v
   failed_same = same_read failed_from q.root.failed
 
-  chain_is : (v : ℕ) → chain_at x.nodes.items v ≡ chain_at t.nodes.items v
-  chain_is v = ap₂ chain_with (merge_is v) (passed_is v)
+  pub chains_stay : (v : ℕ) → chain_at x.nodes.items v ≡ chain_at t.nodes.items v
+  chains_stay v = ap₂ chain_with (merge_is v) (passed_is v)
 
   edits_none : (v : ℕ) → 0 < v → edits_at x.nodes.items v ≡ []
   edits_none v some = at (cases_eq v 1)
@@ -198,7 +198,7 @@ module _ (s : Scene) (real : IsReal s) (t x : Branches) (w : IsWalked s t) (root
   right_of v some low =
       let r = w.right v some low (clear v some) in
       record {
-        chain = subst (λ (c : List ℕ). IsUpperChain s (points_under t.size s v) c) (sym (chain_is v)) r.chain;
+        chain = subst (λ (c : List ℕ). IsUpperChain s (points_under t.size s v) c) (sym (chains_stay v)) r.chain;
         now = subst (IsSettledThere s) (sym (merge_is v)) r.now;
       }
 

@@ -8,8 +8,8 @@ use Rattle.kin_motion.specs.Deltas.{Change}
 use Rattle.kin_motion.specs.Kinetics.{HasChanged}
 use Rattle.kin_motion.specs.Scene.{Scene}
 use Rattle.kin_env.specs.declared.node.Node.{Node}
-use Rattle.kin_env.specs.Nodes.{chain_with, chain_of, merge_from, passed_from, edits_from, failed_from, chain_at, facts_at, facts_with}
-use Rattle.kin_env.specs.Joints.{Leads, IsJoint, IsSettledThere, IsVisited}
+use Rattle.kin_env.specs.Nodes.{chain_with, chain_of, merge_from, passed_from, edits_from, failed_from, merge_at, chain_at, facts_at, facts_with}
+use Rattle.kin_env.specs.Joints.{Leads, IsJoint, IsSettledThere, HalvesKeepOrder, IsVisited}
 use Rattle.kin_env.specs.Walks.{IsQuieted, IsHeard}
 
 pub chain_read : (ns : List Node) (u : ℕ) (n : Node) → slice_get ns u ≡ Some n → chain_at ns u ≡ chain_of n
@@ -25,6 +25,14 @@ get_behind (x ∷ xs) ys (suc n) k e =
 -- what a node is that is read where it stands
 pub read_there : (ns : List Node) (u : ℕ) (n : Node) → u < length ns → n ≡ get_or ns u n → slice_get ns u ≡ Some n
 read_there ns u n inside e = slice_get_read ns (length ns) u n refl inside e
+
+-- what is asked of a node and its halves is so where they are read
+pub halves_read : (ns : List Node) (v : ℕ) (n l r : Node) → slice_get ns v ≡ Some n → slice_get ns (2 * v) ≡ Some l → slice_get ns (2 * v + 1) ≡ Some r
+    → HalvesKeepOrder (merge_at ns v) (chain_at ns (2 * v)) (chain_at ns (2 * v + 1)) → HalvesKeepOrder n.merge (chain_of l) (chain_of r)
+halves_read ns v n l r here left right h =
+    subst (λ (o : Option Node). HalvesKeepOrder (merge_from o) (chain_of l) (chain_of r)) here
+    (subst (λ (a : List ℕ). HalvesKeepOrder (merge_at ns v) a (chain_of r)) (chain_read ns (2 * v) l left)
+    (subst (λ (b : List ℕ). HalvesKeepOrder (merge_at ns v) (chain_at ns (2 * v)) b) (chain_read ns (2 * v + 1) r right) h))
 
 -- the nodes in two pieces: those above the halves of a node, and those from its halves on
 module _ (ns : List Node) (v : ℕ) (some : 0 < v) (room : 2 * v + 1 < length ns) (above below : List Node) (whole : above ++ below ≡ ns) (above_room : length above ≡ 2 * v) where

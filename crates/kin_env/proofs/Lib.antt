@@ -4,6 +4,8 @@ pub mod Idle
 pub mod Works
 pub mod Steps
 pub mod Reports
+pub mod Paid
+pub mod Mending
 pub mod Ends
 pub mod Gifts
 pub mod Trees

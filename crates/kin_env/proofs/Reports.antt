@@ -17,7 +17,7 @@ use Rattle.kin_tourney.specs.declared.doubt.Doubt.TheVariants.{Clear}
 use Rattle.kin_tourney.specs.Standings.{doubt_in}
 use Rattle.kin_env.specs.declared.node.Node.{Node}
 use Rattle.kin_env.specs.declared.branches.Branches.{Branches}
-use Rattle.kin_env.specs.Nodes.{facts_with, merge_at, passed_at, facts_at}
+use Rattle.kin_env.specs.Nodes.{facts_with, merge_at, passed_at, chain_at, facts_at}
 use Rattle.kin_env.specs.Joints.{IsJoint}
 use Rattle.kin_env.specs.Walks.{AreJoined, IsRenewed, tree_facts}
 
@@ -122,11 +122,12 @@ pub record IsReporting (start t : Branches) (before after : Change) : Type 0 whe
   pub joined : AreJoined start.size start.nodes.items
   pub same_size : t.size ≡ start.size
   pub same_slots : t.slots.items ≡ start.slots.items
-  pub untouched : (v : ℕ) → doubt_in t.doubts.items v ≢ Clear → facts_at t.nodes.items v ≡ facts_at start.nodes.items v
+  pub same_merge : (v : ℕ) → doubt_in t.doubts.items v ≢ Clear → merge_at t.nodes.items v ≡ merge_at start.nodes.items v
+  pub same_chain : (v : ℕ) → doubt_in t.doubts.items v ≢ Clear → chain_at t.nodes.items v ≡ chain_at start.nodes.items v
   pub changed : HasChanged (tree_facts start.size start.nodes.items) (tree_facts start.size t.nodes.items) before after
 
 pub reporting_starts : (t : Branches) (c : Change) → AreJoined t.size t.nodes.items → IsReporting t t c c
-reporting_starts t c joined = record { joined = joined; same_size = refl; same_slots = refl; untouched = λ v d. refl; changed = nothing_changed (tree_facts t.size t.nodes.items) c }
+reporting_starts t c joined = record { joined = joined; same_size = refl; same_slots = refl; same_merge = λ v d. refl; same_chain = λ v d. refl; changed = nothing_changed (tree_facts t.size t.nodes.items) c }
 
 -- one node more
 pub reporting_on : (start t x : Branches) (before middle after : Change) (v : ℕ) → doubt_in t.doubts.items v ≢ Clear → AreJoined t.size t.nodes.items → AreJoined x.size x.nodes.items
@@ -135,11 +136,12 @@ reporting_on start t x before middle after v doubted tj xj h r = record {
   joined = h.joined;
   same_size = r.same_size ∙ h.same_size;
   same_slots = r.same_slots ∙ h.same_slots;
-  untouched = λ u d. at u d (cases_eq u v);
+  same_merge = λ u d. merge u d (cases_eq u v);
+  same_chain = λ u d. chain u d (cases_eq u v);
   changed = changed_part (tree_facts start.size start.nodes.items) (tree_facts start.size t.nodes.items) (tree_facts start.size x.nodes.items) (facts_at t.nodes.items v) (facts_at x.nodes.items v) v
       (part_is t.size t.nodes.items tj v) (part_is x.size x.nodes.items xj v)
-      (λ p m. both p p.part (facts_at x.nodes.items p.part) refl (in_t p) (in_x p) (sym (r.facts p.part m)))
-      (λ p e. through start.nodes.items p e (in_start p) (sym (h.untouched v doubted)))
+      (λ p m. both p p.part (facts_at x.nodes.items p.part) refl (in_t p) (in_x p) (ap facts_with (sym (r.merge p.part m))))
+      (λ p e. through start.nodes.items p e (in_start p) (ap facts_with (sym (h.same_merge v doubted))))
       (λ p e. through t.nodes.items p e (in_t p) refl)
       (λ p e. through x.nodes.items p e (in_x p) refl)
       before middle after h.changed r.changed;
@@ -160,6 +162,10 @@ reporting_on start t x before middle after v doubted tj xj h r = record {
     through : {A : Type 0} (ns : List Node) {l : List Placed} (p : Placed) → p.part ≡ v → (A ↔ Contains (facts_at ns p.part) p) → facts_at ns v ≡ l → A ↔ Contains l p
     through {A} ns {l} p e f k = (λ a. subst (λ (q : List Placed). Contains q p) k (subst (λ u. Contains (facts_at ns u) p) e (f.0 a)), λ c. f.1 (subst (λ u. Contains (facts_at ns u) p) (sym e) (subst (λ (q : List Placed). Contains q p) (sym k) c)))
 
-    at : (u : ℕ) → doubt_in x.doubts.items u ≢ Clear → (u ≡ v) ⊎ (u ≢ v) → facts_at x.nodes.items u ≡ facts_at start.nodes.items u
-    at u d (inl e) = absurd (d (ap (doubt_in x.doubts.items) e ∙ r.cleared))
-    at u d (inr m) = r.facts u m ∙ h.untouched u (λ e. d (r.clear_stays u m e))
+    merge : (u : ℕ) → doubt_in x.doubts.items u ≢ Clear → (u ≡ v) ⊎ (u ≢ v) → merge_at x.nodes.items u ≡ merge_at start.nodes.items u
+    merge u d (inl e) = absurd (d (ap (doubt_in x.doubts.items) e ∙ r.cleared))
+    merge u d (inr m) = r.merge u m ∙ h.same_merge u (λ e. d (r.clear_stays u m e))
+
+    chain : (u : ℕ) → doubt_in x.doubts.items u ≢ Clear → (u ≡ v) ⊎ (u ≢ v) → chain_at x.nodes.items u ≡ chain_at start.nodes.items u
+    chain u d (inl e) = absurd (d (ap (doubt_in x.doubts.items) e ∙ r.cleared))
+    chain u d (inr m) = r.chain u m ∙ h.same_chain u (λ e. d (r.clear_stays u m e))

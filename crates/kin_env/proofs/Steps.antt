@@ -153,9 +153,6 @@ module _ (s : Scene) (real : IsReal s) (t t' : Branches) (w : IsWalked s t) (v :
   chain_kept : (u : ℕ) → u ≢ v → chain_at ms u ≡ chain_at ns u
   chain_kept u m = let q = kept u m in ap₂ chain_with q.merge q.passed
 
-  facts_kept : (u : ℕ) → u ≢ v → facts_at ms u ≡ facts_at ns u
-  facts_kept u m = ap facts_with (kept u m).merge
-
   -- a node that is clear now was so before, but for the one
   clear_was : (u : ℕ) → u ≢ v → new_doubt u ≡ Clear → old_doubt u ≡ Clear
   clear_was u m e = at (d.others u m)
@@ -316,7 +313,8 @@ module _ (s : Scene) (real : IsReal s) (t t' : Branches) (w : IsWalked s t) (v :
     others = λ u m h e. h (clear_was u m e);
     clear_stays = clear_is;
     count = d.count;
-    facts = facts_kept;
+    merge = λ u m. (kept u m).merge;
+    chain = chain_kept;
     changed = k.changed;
   }
 

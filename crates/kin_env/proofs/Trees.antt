@@ -14,6 +14,7 @@ use Rattle.kin_motion.specs.Sets.{ListsExactly}
 use Rattle.kin_motion.proofs.ChainLaws.{one_upper_chain}
 use Rattle.kin_motion.proofs.RealLaws.{real_line_laws}
 use Rattle.kin_motion.proofs.SetLaws.{filter-sound}
+use Rattle.kin_overlay.specs.Diffs.{KeepOrder}
 use Rattle.kin_env.specs.declared.node.Node.{Node}
 use Rattle.kin_env.specs.declared.branches.Branches.{Branches}
 use Rattle.kin_chain.proofs.NodeChains.{at_root, leaf_right}
@@ -22,8 +23,8 @@ use Rattle.kin_env.specs.Joints.{AreSpared}
 use Rattle.kin_env.specs.MarkLaws.{some_named}
 use Rattle.kin_env.specs.Nodes.{chain_of, merge_at, passed_at, chain_at, facts_at}
 use Rattle.kin_chain.proofs.NodeFacts.{IsFactOfNode, exact_by_node}
-use Rattle.kin_env.specs.Trees.{Envelope, chain_told, top_of, chain_of_slot, is_leaving, leaving_of, names_leaving, IsEnvelopeAtRest, IsReadyEnvelope, IsSettledEnvelope, seen_as}
-use Rattle.kin_env.specs.Walks.{slot_in, own_chain, IsSound, IsReady, AreRight, tree_facts}
+use Rattle.kin_env.specs.Trees.{Envelope, chain_told, top_of, chain_of_slot, is_leaving, leaving_of, names_leaving, IsEnvelopeAtRest, IsReadyEnvelope, IsSettledEnvelope, ChainsKeepOrder, seen_as}
+use Rattle.kin_env.specs.Walks.{slot_in, own_chain, IsSound, IsReady, AreRight, NodesKeepOrder, tree_facts}
 use Rattle.kin_env.proofs.Reports.{tree_once, in_tree, inner_part}
 use Rattle.kin_env.proofs.Works.{joint_now, live_fits}
 
@@ -32,6 +33,13 @@ pub told_is : (ns : List Node) (v : ℕ) → slice_index_or (map chain_of ns) v 
 told_is [] v = refl
 told_is (n ∷ ns) zero = refl
 told_is (n ∷ ns) (suc v) = told_is ns v
+
+-- where callers see that the chains keep their order, those of the nodes do
+pub orders_within : (b x : Branches) (whole whole' : Bool) (seen : Envelope) → seen_as b whole ≡ seen → ChainsKeepOrder seen (seen_as x whole') → NodesKeepOrder b.size b.nodes.items x.nodes.items
+orders_within b x whole whole' seen view keep v some low =
+    subst (λ (c : List ℕ). KeepOrder c (chain_at x.nodes.items v)) (told_is b.nodes.items v)
+    (subst (λ (c : List ℕ). KeepOrder (chain_told (seen_as b whole) v) c) (told_is x.nodes.items v)
+    (subst (λ (t : Envelope). ChainsKeepOrder t (seen_as x whole')) (sym view) keep v some low))
 
 -- ---- before
 -- a leaving number isn't live

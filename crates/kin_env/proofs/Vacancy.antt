@@ -1,6 +1,6 @@
 -- A tree without points.
 use Rattle.std.proofs.Common.{◌≡◌, refl, sym, ap, ◌∙◌, subst, List, [], ◌∷◌, ◌++◌, ℕ, zero, suc, ◌+◌, ◌-◌, ◌*◌, ◌^◌, true, false, replicate, flat_map, length}
-use Rattle.std.specs.Prelude.{filter}
+use Rattle.std.specs.Prelude.{Option, Some, None, filter, slice_get}
 use Rattle.std.proofs.lemmas.List.{length-replicate}
 use Rattle.kin_algebra.proofs.Places.{get_or-replicate_any}
 use Rattle.kin_motion.specs.declared.fact.Placed.{Placed}
@@ -14,7 +14,8 @@ use Rattle.kin_motion.proofs.ChainLaws.{chain_within}
 use Rattle.kin_motion.proofs.Members.{in_head}
 use Rattle.kin_motion.proofs.SetLaws.{exactly_none}
 use Rattle.kin_env.specs.declared.branches.Branches.{Branches}
-use Rattle.kin_env.specs.Nodes.{chain_with, passed_at, chain_at, facts_with, facts_at}
+use Rattle.kin_env.specs.declared.node.Node.{Node}
+use Rattle.kin_env.specs.Nodes.{chain_with, merge_from, passed_from, edits_from, failed_from, passed_at, chain_at, facts_with, facts_at}
 use Rattle.kin_env.specs.Trees.{chain_told, IsEnvelopeAtRest, IsSettledEnvelope, seen_as}
 use Rattle.kin_env.specs.Walks.{AreBlank, slot_in, own_chain, tree_facts}
 use Rattle.kin_env.proofs.Trees.{told_is}
@@ -22,6 +23,24 @@ use Rattle.kin_env.proofs.Trees.{told_is}
 nothing_in_turn : (f : ℕ → List Placed) → ((v : ℕ) → f v ≡ []) → (a n : ℕ) → flat_map f (numbers_from a n) ≡ []
 nothing_in_turn f h a zero = refl
 nothing_in_turn f h a (suc n) = ap (λ (l : List Placed). l ++ flat_map f (numbers_from (a + 1) n)) (h a) ∙ nothing_in_turn f h (a + 1) n
+
+-- ---- one node more without points
+read_more : {A : Type 0} (read : Option Node → A) (z : A) (ns : List Node) (n : Node) → read None ≡ z → read (Some n) ≡ z → ((v : ℕ) → read (slice_get ns v) ≡ z) → (v : ℕ) → read (slice_get (ns ++ n ∷ []) v) ≡ z
+read_more {A} read z [] n none some h zero = some
+read_more {A} read z [] n none some h (suc v) = none
+read_more {A} read z (m ∷ ns) n none some h zero = h 0
+read_more {A} read z (m ∷ ns) n none some h (suc v) = read_more read z ns n none some (λ u. h (suc u)) v
+
+pub blank_none : AreBlank []
+blank_none = record { merge = λ v. refl; passed = λ v. refl; edits = λ v. refl; failed = λ v. refl }
+
+pub blank_more : (ns : List Node) (n : Node) → n.merge ≡ None → n.passed.items ≡ [] → n.edits.items ≡ [] → n.failed.items ≡ [] → AreBlank ns → AreBlank (ns ++ n ∷ [])
+blank_more ns n merge passed edits failed h = record {
+  merge = read_more merge_from None ns n refl merge h.merge;
+  passed = read_more passed_from [] ns n refl passed h.passed;
+  edits = read_more edits_from [] ns n refl edits h.edits;
+  failed = read_more failed_from [] ns n refl failed h.failed;
+}
 
 module _ (b : Branches) (blank : AreBlank b.nodes.items) where
   chain_none : (v : ℕ) → chain_at b.nodes.items v ≡ []

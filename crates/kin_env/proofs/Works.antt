@@ -35,7 +35,7 @@ no_edits [] a b e l = l.lead
 no_edits (x ∷ es) a b e l = absurd cc
 
 pub stays_there : (es : List Edit) (a : List ℕ) → es ≡ [] → Leads es a a
-stays_there es a e = subst (λ (l : List Edit). Leads l a a) (sym e) (record { fit = tt; lead = refl })
+stays_there es a e = subst (λ (l : List Edit). Leads l a a) (sym e) (record { fit = tt; lead = refl; apart = λ k x h. refl })
 
 -- the merge of a node is at rest
 pub resting : (v : ℕ) (o : Option Merge) (xs a b : List ℕ) → IsJoint v o xs a b → IsRestingWith o

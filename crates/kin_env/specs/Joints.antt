@@ -1,5 +1,5 @@
 -- What a node has of its halves, and what a visit makes of it.
-use Rattle.std.specs.Prelude.{◌≡◌, ◌⊎◌, ℕ, List, [], Bool, true, false, Option, Some, None}
+use Rattle.std.specs.Prelude.{◌≡◌, ◌⊎◌, ℕ, ◌+◌, ◌*◌, ◌≤◌, List, [], length, Bool, true, false, Option, Some, None}
 use Rattle.kin_motion.specs.declared.fact.Placed.{Placed}
 use Rattle.kin_motion.specs.Chains.{IsUpperChain}
 use Rattle.kin_motion.specs.Deltas.{Change}
@@ -8,19 +8,22 @@ use Rattle.kin_motion.specs.Forms.{names}
 use Rattle.kin_motion.specs.Kinetics.{ListsFailing, HasChanged}
 use Rattle.kin_motion.specs.Numbers.{is_in}
 use Rattle.kin_motion.specs.Scene.{Scene, IsReal}
+use Rattle.kin_overlay.specs.Diffs.{KeepOrder, ArePutApart}
 use Rattle.kin_overlay.specs.Fingers.{AreLive, AreLess}
-use Rattle.kin_overlay.specs.Overlays.{Merge, IsAtRest, IsSettled}
+use Rattle.kin_overlay.specs.Overlays.{Merge, IsAtRest, IsSettled, IsUnedited}
 use Rattle.kin_env.specs.declared.node.Node.{Node}
 use Rattle.kin_env.specs.Nodes.{chain_of, facts_with}
 
--- edits lead from one chain to another
+-- edits lead from one chain to another; where its order is kept they put no number that they drop
 pub record Leads (es : List Edit) (old new : List ℕ) : Type 0 where
   pub fit : AreFitting es old
   pub lead : all_edited es old ≡ new
+  pub apart : KeepOrder old new → ArePutApart es old
 
--- the merge of the given chains a and b in the part v, at rest; it was settled once
+-- the merge of the given chains a and b in the part v, at rest: settled in some real scene, and given no edit since
 pub record IsMergeOf (v : ℕ) (m : Merge) (a b : List ℕ) : Type 0 where
   pub rest : IsAtRest m
+  pub unedited : IsUnedited m
   pub part : m.part ≡ v
   pub a_is : m.a ≡ a
   pub b_is : m.b ≡ b
@@ -46,11 +49,20 @@ pub record AreHalves (s : Scene) (a b : List ℕ) : Type 0 where
   pub b_live : AreLive s.live b
   pub less : AreLess a b
 
+-- where there is a merge, the chains of its halves have kept their order since it was settled
+abbrev pub HalvesKeepOrder : Option Merge → List ℕ → List ℕ → Type 0
+HalvesKeepOrder None a b = Unit {0}
+HalvesKeepOrder (Some m) a b = KeepOrder m.a a × KeepOrder m.b b
+
+-- at most five signs were asked for each fact that was born, and at most one for each that was dropped
+abbrev pub ArePaid : Change → Change → ℕ → ℕ → Type 0
+ArePaid before after asked now = now + (5 * length before.born + length before.dropped) ≤ asked + (5 * length after.born + length after.dropped)
+
 -- a spared fact names a number that isn't live
 abbrev pub AreSpared : Scene → (Placed → Bool) → Type 0
 AreSpared s spared = (p : Placed) → spared p ≡ true → (i : ℕ) × (names p.fact.form i ≡ true) × (is_in i s.live ≡ false)
 
--- before a merge is repaired: the same of the merge alone
+-- before a merge is repaired: it is the merge of the chains that its halves had, the edits of the halves lead to those that they have now, and `failed` has its failed facts but for spared ones
 pub record IsMergeTold (v : ℕ) (s : Scene) (m : Merge) (failed : List Placed) (left right : Node) : Type 0 where
   pub a : List ℕ
   pub b : List ℕ

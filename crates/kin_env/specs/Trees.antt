@@ -7,6 +7,7 @@ use Rattle.kin_motion.specs.Contents.{IsSettledTree}
 use Rattle.kin_motion.specs.Merges.{points_under}
 use Rattle.kin_motion.specs.Numbers.{is_in, numbers_from}
 use Rattle.kin_motion.specs.Scene.{Scene}
+use Rattle.kin_overlay.specs.Diffs.{KeepOrder}
 use Rattle.kin_overlay.specs.Overlays.{names_any}
 use Rattle.kin_env.specs.declared.branches.Branches.{Branches}
 use Rattle.kin_env.specs.Nodes.{chain_of}
@@ -60,6 +61,10 @@ pub record IsSettledEnvelope (t : Envelope) (s : Scene) : Type 0 where
   pub tree : IsSettledTree s t.size (top_of t) t.facts
   pub chains : (v : ℕ) → 0 < v → v < 2 * 2 ^ t.size → IsUpperChain s (points_under t.size s v) (chain_told t v)
   pub fits : FitsSize t.size s
+
+-- at each node, the numbers that its chain has before and after are in the same order in both
+abbrev pub ChainsKeepOrder : Envelope → Envelope → Type 0
+ChainsKeepOrder old new = (v : ℕ) → 0 < v → v < 2 * 2 ^ old.size → KeepOrder (chain_told old v) (chain_told new v)
 
 -- what callers see of the nodes of a tree
 abbrev pub seen_as : Branches → Bool → Envelope

@@ -9,6 +9,7 @@ use Rattle.kin_motion.specs.Numbers.{is_in, IsIn, numbers_from}
 use Rattle.kin_motion.specs.Scene.{Scene}
 use Rattle.kin_motion.specs.Tournaments.{is_under}
 use Rattle.kin_tourney.specs.declared.doubt.Doubt.TheVariants.{Clear, Here}
+use Rattle.kin_overlay.specs.Diffs.{KeepOrder}
 use Rattle.kin_tourney.specs.Standings.{IsClosed, doubt_in, doubt_count}
 use Rattle.kin_env.specs.declared.node.Node.{Node}
 use Rattle.kin_env.specs.declared.branches.Branches.{Branches}
@@ -106,7 +107,8 @@ pub record IsRenewed (v : ℕ) (old new : Branches) (before after : Change) : Ty
   pub others : (u : ℕ) → u ≢ v → doubt_in old.doubts.items u ≢ Clear → doubt_in new.doubts.items u ≢ Clear
   pub clear_stays : (u : ℕ) → u ≢ v → doubt_in old.doubts.items u ≡ Clear → doubt_in new.doubts.items u ≡ Clear
   pub count : doubt_count new.doubts.items + 1 ≡ doubt_count old.doubts.items
-  pub facts : (u : ℕ) → u ≢ v → facts_at new.nodes.items u ≡ facts_at old.nodes.items u
+  pub merge : (u : ℕ) → u ≢ v → merge_at new.nodes.items u ≡ merge_at old.nodes.items u
+  pub chain : (u : ℕ) → u ≢ v → chain_at new.nodes.items u ≡ chain_at old.nodes.items u
   pub changed : HasChanged (facts_at old.nodes.items v) (facts_at new.nodes.items v) before after
 
 -- the facts of the tree, node by node
@@ -138,6 +140,10 @@ pub record IsHeard (v : ℕ) (s : Scene) (old new : List Node) (before after : C
   pub leads : Leads (edits_at new v) (chain_at old v) (chain_at new v)
   pub failed : failed_at new v ≡ []
   pub changed : HasChanged (facts_at old v) (facts_at new v) before after
+
+-- at each node, the numbers that its chain has before and after are in the same order in both
+abbrev pub NodesKeepOrder : ℕ → List Node → List Node → Type 0
+NodesKeepOrder size old new = (v : ℕ) → 0 < v → v < 2 * 2 ^ size → KeepOrder (chain_at old v) (chain_at new v)
 
 -- every node is as it is in the scene
 abbrev pub AreRight : Scene → Branches → Type 0

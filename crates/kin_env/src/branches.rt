@@ -9,14 +9,15 @@ ghost use Rattle.kin_tourney.specs.Standings.{IsClosed, doubt_in};
 ghost use Rattle.kin_tourney.specs.Repairs.{IsSpread, IsDoubted, IsLowest};
 ghost use Rattle.kin_env.specs.declared.node.Node.{Node as Knot};
 ghost use Rattle.kin_env.specs.Nodes.{merge_at, passed_at, chain_at, edits_at, failed_at};
-ghost use Rattle.kin_env.specs.Joints.{Leads, IsTold, IsRestingWith};
-ghost use Rattle.kin_env.specs.Walks.{IsShaped, IsSound, IsWalked, IsWorked, IsRenewed, AreBlank, AreGiven, IsHeard, IsAtPeace, AreRight, IsReady, slot_in, own_chain, tree_facts};
+ghost use Rattle.kin_env.specs.Joints.{Leads, IsTold, IsRestingWith, HalvesKeepOrder, ArePaid};
+ghost use Rattle.kin_env.specs.Walks.{IsShaped, IsSound, IsWalked, IsWorked, IsRenewed, AreBlank, AreGiven, IsHeard, IsAtPeace, NodesKeepOrder, AreRight, IsReady, slot_in, own_chain, tree_facts};
 
 use crate::node::Node;
 use kin_motion::fact::{Delta, Placed};
 use kin_motion::signs::Signs;
 use kin_num::memory::NoMemory;
 use kin_num::steps::Steps;
+use kin_overlay::work::Work;
 use kin_tourney::descent::{first_doubt, next_doubt};
 use kin_tourney::doubt::{Doubt, doubt_failed, doubt_path, no_doubts};
 use std::alloc::Global;
@@ -34,6 +35,8 @@ pub struct Branches {
     /// Which nodes have to be looked at. Where one isn't clear, none above it is. Node 0 never is,
     /// so that every way upwards ends there.
     pub doubts: Vec<Doubt>,
+    /// For the repair of each merge, one after another.
+    pub buffers: Work,
 }
 
 /// The number of slots.
@@ -70,6 +73,7 @@ fn no_points(alloc: Global, count: usize) -> Result<Vec<Node>, NoMemory>
 /// place.
 fn visit_among<O: Signs, L: Ledger>(
     nodes: &mut [Node],
+    work: &mut Work,
     alloc: Global,
     node: usize,
     now: &O,
@@ -82,10 +86,20 @@ fn visit_among<O: Signs, L: Ledger>(
     requires room { 2 * node + 1 < length nodes.old }
     requires told { (n l r : Knot) → slice_get nodes.old node ≡ Some n → slice_get nodes.old (2 * node) ≡ Some l → slice_get nodes.old (2 * node + 1) ≡ Some r
         → IsTold node (O.scene now.now) n l r × IsRestingWith l.merge × IsRestingWith r.merge }
-    ensures { OnOk result (IsHeard node (O.scene now.now) nodes.old nodes.new out.old out.new) }
+    ensures heard { OnOk result (IsHeard node (O.scene now.now) nodes.old nodes.new out.old out.new) }
+    ensures tests { OnOk result (HalvesKeepOrder (merge_at nodes.old node) (chain_at nodes.old (2 * node)) (chain_at nodes.old (2 * node + 1)) → ArePaid out.old out.new steps.old steps.new) }
 {
     let (above, below) = nodes.split_at_mut(2 * node);
-    above[node].visit(alloc, node as u32, &below[0], &below[1], now, out, steps)?;
+    above[node].visit(
+        work,
+        alloc,
+        node as u32,
+        &below[0],
+        &below[1],
+        now,
+        out,
+        steps,
+    )?;
     below[0].edits.clear();
     below[1].edits.clear();
     Ok(())
@@ -111,6 +125,7 @@ impl Branches {
             slots,
             nodes,
             doubts,
+            buffers: Work::new(alloc),
         })
     }
 
@@ -168,6 +183,7 @@ impl Branches {
         ensures sound { OnOk result (IsSound self.new) }
         ensures right { OnOk result (AreRight (O.scene now.now) self.new) }
         ensures delta { OnOk result (HasChanged (tree_facts self.old.size self.old.nodes.items) (tree_facts self.new.size self.new.nodes.items) out.old out.new) }
+        ensures tests { OnOk result (NodesKeepOrder self.old.size self.old.nodes.items self.new.nodes.items → steps.new + (5 * length out.old.born + length out.old.dropped) ≤ steps.old + (5 * length out.new.born + length out.new.dropped)) }
     {
         self.give_failed(failed)?;
         self.repair(now, out, steps)
@@ -244,8 +260,17 @@ impl Branches {
             → IsTold node (O.scene now.now) n l r × IsRestingWith l.merge × IsRestingWith r.merge }
         ensures same { self.new ≡ record self.old { nodes = self.new.nodes } }
         ensures visited { OnOk result (IsHeard node (O.scene now.now) self.old.nodes.items self.new.nodes.items out.old out.new) }
+        ensures tests { OnOk result (HalvesKeepOrder (merge_at self.old.nodes.items node) (chain_at self.old.nodes.items (2 * node)) (chain_at self.old.nodes.items (2 * node + 1)) → ArePaid out.old out.new steps.old steps.new) }
     {
-        visit_among(&mut self.nodes, self.alloc, node, now, out, steps)
+        visit_among(
+            &mut self.nodes,
+            &mut self.buffers,
+            self.alloc,
+            node,
+            now,
+            out,
+            steps,
+        )
     }
 
     /// Visits a node where it has work, and clears it. Where its chain has changed, the node above
@@ -262,6 +287,7 @@ impl Branches {
         requires next { IsLowest self.old.doubts.items node }
         ensures walked { OnOk result (IsWalked (O.scene now.now) self.new) }
         ensures renewed { OnOk result (IsRenewed node self.old self.new out.old out.new) }
+        ensures tests { OnOk result (HalvesKeepOrder (merge_at self.old.nodes.items node) (chain_at self.old.nodes.items (2 * node)) (chain_at self.old.nodes.items (2 * node + 1)) → ArePaid out.old out.new steps.old steps.new) }
     {
         self.work(node, now, out, steps)?;
         self.clear(node);
@@ -281,6 +307,7 @@ impl Branches {
         requires next { IsLowest self.old.doubts.items node }
         ensures same { self.new ≡ record self.old { nodes = self.new.nodes } }
         ensures worked { OnOk result (IsWorked (O.scene now.now) self.old.size node self.old.nodes.items self.new.nodes.items out.old out.new) }
+        ensures tests { OnOk result (HalvesKeepOrder (merge_at self.old.nodes.items node) (chain_at self.old.nodes.items (2 * node)) (chain_at self.old.nodes.items (2 * node + 1)) → ArePaid out.old out.new steps.old steps.new) }
     {
         if node >= self.slots.len() {
             return self.visit_leaf(node);
@@ -332,11 +359,13 @@ impl Branches {
     ) -> Result<(), NoMemory>
         requires real { IsReal (O.scene now.now) }
         requires walked { IsWalked (O.scene now.now) self.old }
+        requires quiet { (v : ℕ) → 0 < v → edits_at self.old.nodes.items v ≡ [] }
         ensures size { OnOk result (self.new.size ≡ self.old.size) }
         ensures slots { OnOk result (self.new.slots.items ≡ self.old.slots.items) }
         ensures sound { OnOk result (IsSound self.new) }
         ensures right { OnOk result (AreRight (O.scene now.now) self.new) }
         ensures delta { OnOk result (HasChanged (tree_facts self.old.size self.old.nodes.items) (tree_facts self.new.size self.new.nodes.items) out.old out.new) }
+        ensures tests { OnOk result (NodesKeepOrder self.old.size self.old.nodes.items self.new.nodes.items → ArePaid out.old out.new steps.old steps.new) }
     {
         let mut node = first_doubt(&self.doubts, 1);
         while node > 0 {

@@ -1,14 +1,14 @@
 //! One node of the tree: the merge of its halves, or the chain of the half that isn't empty.
 
-ghost use Rattle.std.specs.Prelude.{◌≡◌, ◌≢◌, ◌<◌, not, [], ◌∷◌, ◌++◌, length, filter, None, OnOk};
+ghost use Rattle.std.specs.Prelude.{◌≡◌, ◌≢◌, ◌<◌, not, [], ◌∷◌, ◌++◌, length, filter, Some, None, OnOk};
 ghost use Rattle.kin_motion.specs.Kinetics.{HasChanged};
 ghost use Rattle.kin_motion.specs.Scene.{IsReal};
-ghost use Rattle.kin_overlay.specs.Overlays.{names_gone, IsSettled};
+ghost use Rattle.kin_overlay.specs.Diffs.{KeepOrder};
+ghost use Rattle.kin_overlay.specs.Overlays.{names_gone, IsAtRest, IsSettled};
 ghost use Rattle.kin_env.specs.Nodes.{chain_of, facts_with};
-ghost use Rattle.kin_env.specs.Joints.{Leads, IsMergeOf, IsJoint, IsSettledThere, AreHalves, IsMergeTold, IsTold, IsVisited, IsRestingWith};
+ghost use Rattle.kin_env.specs.Joints.{Leads, IsMergeOf, IsJoint, IsSettledThere, AreHalves, IsMergeTold, IsTold, IsVisited, IsRestingWith, HalvesKeepOrder, ArePaid};
 
 use kin_motion::fact::{Delta, Placed};
-use kin_motion::kinetic::Kinetic;
 use kin_motion::signs::Signs;
 use kin_num::memory::NoMemory;
 use kin_num::steps::Steps;
@@ -16,6 +16,7 @@ use kin_overlay::diff::diff;
 use kin_overlay::edit::ChainEdit;
 use kin_overlay::half::Half;
 use kin_overlay::overlay::Overlay;
+use kin_overlay::work::Work;
 use std::alloc::Global;
 use std::mem::replace;
 use std::sync::ledger::Ledger;
@@ -106,8 +107,19 @@ impl Node {
         ensures leads { OnOk result (Leads self.new.edits.items self.old.passed.items (chain_of self.new)) }
         ensures failed { OnOk result (self.new.failed.items ≡ self.old.failed.items) }
         ensures changed { OnOk result (HasChanged [] (facts_with self.new.merge) out.old out.new) }
+        ensures tests { OnOk result (ArePaid out.old out.new steps.old steps.new) }
     {
-        let mut merge = Overlay::build(alloc, a, b, part, now, out, steps)?;
+        let merge = Overlay::build(alloc, a, b, part, now, out, steps)?;
+        self.begin(alloc, merge)
+    }
+
+    /// Has this merge from now on, in place of the chain that was passed on.
+    fn begin(&mut self, alloc: Global, mut merge: Overlay) -> Result<(), NoMemory>
+        requires rest { IsAtRest merge }
+        ensures taken { OnOk result (self.new.merge ≡ Some merge) }
+        ensures leads { OnOk result (Leads self.new.edits.items self.old.passed.items merge.chain) }
+        ensures failed { OnOk result (self.new.failed.items ≡ self.old.failed.items) }
+    {
         diff(alloc, &self.passed, merge.chain(), &mut self.edits)?;
         merge.take_memory(replace(&mut self.passed, Vec::new(alloc)));
         self.merge = Some(merge);
@@ -124,14 +136,26 @@ impl Node {
         ensures failed { OnOk result (self.new.failed.items ≡ []) }
         ensures changed { OnOk result (HasChanged (facts_with self.old.merge) [] out.old out.new) }
     {
-        let Some(merge) = self.merge.take() else {
+        let Some(merge) = &self.merge else {
             unreachable!()
         };
         diff(alloc, merge.chain(), chain, &mut self.edits)?;
         self.passed.clear();
         self.passed.extend_from_slice(chain)?;
         self.failed.clear();
-        merge.retire(out)
+        self.retire(out)
+    }
+
+    /// Lets the merge go, if there is one. Its facts are reported as dropped.
+    fn retire(&mut self, out: &mut Delta) -> Result<(), NoMemory>
+        requires rest { IsRestingWith self.old.merge }
+        ensures same { self.new ≡ record self.old { merge = None } }
+        ensures changed { OnOk result (HasChanged (facts_with self.old.merge) [] out.old out.new) }
+    {
+        match self.merge.take() {
+            Some(merge) => merge.retire(out),
+            None => Ok(()),
+        }
     }
 
     /// Passes a chain on from now on, where only one half holds points, or neither does.
@@ -150,9 +174,10 @@ impl Node {
         self.pass(alloc, chain)
     }
 
-    /// Takes in what has changed of the halves, and repairs what has failed.
+    /// Takes in what has changed of the halves, and repairs what has failed. `work` is memory for it.
     pub fn visit<O: Signs, L: Ledger>(
         &mut self,
+        work: &mut Work,
         alloc: Global,
         part: u32,
         left: &Node,
@@ -165,7 +190,8 @@ impl Node {
         requires left_rest { IsRestingWith left.now.merge }
         requires right_rest { IsRestingWith right.now.merge }
         requires told { IsTold part (O.scene now.now) self.old left.now right.now }
-        ensures { OnOk result (IsVisited part (O.scene now.now) self.old self.new left.now right.now out.old out.new) }
+        ensures visited { OnOk result (IsVisited part (O.scene now.now) self.old self.new left.now right.now out.old out.new) }
+        ensures tests { OnOk result (HalvesKeepOrder self.old.merge (chain_of left.now) (chain_of right.now) → ArePaid out.old out.new steps.old steps.new) }
     {
         let (a, b) = (left.chain(), right.chain());
         if a.is_empty() {
@@ -176,7 +202,9 @@ impl Node {
         }
         if let Some(merge) = &mut self.merge {
             let (failed, edits) = (&mut self.failed, &mut self.edits);
-            return mend(merge, part, left, right, failed, edits, now, out, steps);
+            return mend(
+                merge, work, part, left, right, failed, edits, now, out, steps,
+            );
         }
         self.join(alloc, part, a, b, now, out, steps)
     }
@@ -186,6 +214,7 @@ impl Node {
 /// memory of those of the node.
 fn mend<O: Signs, L: Ledger>(
     merge: &mut Overlay,
+    work: &mut Work,
     part: u32,
     left: &Node,
     right: &Node,
@@ -204,12 +233,13 @@ fn mend<O: Signs, L: Ledger>(
     ensures leads { OnOk result (Leads edits.new.items merge.old.chain merge.new.chain) }
     ensures failed { OnOk result (failed.new.items ≡ []) }
     ensures changed { OnOk result (HasChanged merge.old.facts merge.new.facts out.old out.new) }
+    ensures tests { OnOk result (KeepOrder merge.old.a (chain_of left.now) → KeepOrder merge.old.b (chain_of right.now) → ArePaid out.old out.new steps.old steps.new) }
 {
     merge.edit(Half::A, &left.edits)?;
     merge.edit(Half::B, &right.edits)?;
     leave_out_spared(merge, failed);
     merge.swap_edits(edits);
-    merge.settle(now, failed, out, steps)?;
+    merge.repair(work, now, failed, out, steps)?;
     merge.swap_edits(edits);
     failed.clear();
     Ok(())

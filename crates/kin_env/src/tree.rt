@@ -1,9 +1,9 @@
 //! The envelope tree as its callers see it.
 
-ghost use Rattle.std.specs.Prelude.{◌≡◌, ◌≤◌, ◌<◌, ◌^◌, ℕ, [], true, false, replicate, slice_set, IsTrue, IfOk, OnOk, OnErr};
+ghost use Rattle.std.specs.Prelude.{◌≡◌, ◌+◌, ◌*◌, ◌≤◌, ◌<◌, ◌^◌, ℕ, [], true, false, length, replicate, slice_set, IsTrue, IfOk, OnOk, OnErr};
 ghost use Rattle.kin_motion.specs.Kinetics.{ListsFailing, HasChanged};
 ghost use Rattle.kin_motion.specs.Scene.{Scene, IsReal};
-ghost use Rattle.kin_env.specs.Trees.{IsEnvelopeAtRest, IsReadyEnvelope, IsSettledEnvelope, chain_told, top_of};
+ghost use Rattle.kin_env.specs.Trees.{IsEnvelopeAtRest, IsReadyEnvelope, IsSettledEnvelope, ChainsKeepOrder, chain_told, top_of};
 ghost use Rattle.kin_env.specs.Walks.{slot_in};
 
 use crate::branches::Branches;
@@ -17,10 +17,12 @@ use std::marker::Model;
 use std::sync::ledger::Ledger;
 
 /// The upper chain of the points of `2^size` slots, and of the points under each node of a binary
-/// tree over them. Slot s holds point s, and the facts of node v are in part v.
+/// tree over them, where the size is from 1 to 15. Slot s holds point s, and the facts of node v are
+/// in part v.
 ///
-/// `set` and `clear` mark a slot, and the next `settle` does the work. Several slots may be marked
-/// before it. After a `settle` that answered want of memory the tree may not be used again.
+/// `set` and `clear` mark a slot, and the next `settle` takes the number in or lets it go. Several
+/// slots may be marked before it. After a `settle` that answered want of memory the tree can only be
+/// dropped.
 #[derive(Drop)]
 pub struct EnvTree {
     branches: Branches,
@@ -41,7 +43,7 @@ impl Model for EnvTree {
 }
 
 impl EnvTree {
-    /// A tree of `2^size` slots, none of them set.
+    /// A tree of `2^size` slots, none of them set. The size is from 1 to 15.
     pub fn new(alloc: Global, size: u32) -> Result<EnvTree, NoMemory>
         requires low { 1 ≤ size }
         requires high { size ≤ 15 }
@@ -58,7 +60,7 @@ impl EnvTree {
         })
     }
 
-    /// Sets a slot and marks it: its number enters. Takes no memory.
+    /// Sets a slot that isn't set, and marks it: its number enters. Takes no memory.
     pub fn set(&mut self, slot: u32)
         requires whole { IsTrue self.old.whole }
         requires within { slot < 2 ^ self.old.size }
@@ -68,7 +70,7 @@ impl EnvTree {
         self.branches.put(slot, true);
     }
 
-    /// Clears a slot and marks it: its number leaves. Takes no memory.
+    /// Clears a slot that is set, and marks it: its number leaves. Takes no memory.
     pub fn clear(&mut self, slot: u32)
         requires whole { IsTrue self.old.whole }
         requires within { slot < 2 ^ self.old.size }
@@ -78,7 +80,8 @@ impl EnvTree {
         self.branches.put(slot, false);
     }
 
-    /// The upper chain of all set slots.
+    /// The chain of the root as it was settled last: where the tree is settled, the upper chain of
+    /// the points in all set slots.
     pub fn top(&self) -> &[u32]
         requires rest { IsEnvelopeAtRest self.now }
         ensures { result.now ≡ top_of self.now }
@@ -105,8 +108,9 @@ impl Kinetic for EnvTree {
 
     ghost determined = { determined_law };
 
-    /// Repairs the marked slots and the failed facts, from the leaves up. It is meant to visit a
-    /// node only where the chain of a half has changed or a fact of it failed; no clause says so.
+    /// Repairs the marked slots and the failed facts, from the leaves up. `failed` lists exactly the
+    /// facts that don't hold and name no number that leaves. It is meant to visit a node only where
+    /// the chain of a half has changed or a fact of it failed; no clause says so.
     fn settle<O: Signs, L: Ledger>(
         &mut self,
         now: &O,
@@ -122,6 +126,10 @@ impl Kinetic for EnvTree {
         ensures delta { OnOk result (HasChanged self.old.facts self.new.facts out.old out.new) }
         ensures same { OnOk result (self.new ≡ record self.old { chains = self.new.chains; facts = self.new.facts }) }
         ensures broken { OnErr result (self.new.whole ≡ false) }
+
+        // Where the chain of each node keeps its order, at most five signs are asked for each fact
+        // that is born and at most one for each that is dropped.
+        ensures tests { OnOk result (ChainsKeepOrder self.old self.new → steps.new + (5 * length out.old.born + length out.old.dropped) ≤ steps.old + (5 * length out.new.born + length out.new.dropped)) }
     {
         self.whole = false;
         self.branches.settle(now, failed, out, steps)?;

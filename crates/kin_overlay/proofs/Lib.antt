@@ -19,4 +19,17 @@ pub mod SketchLaws
 pub mod FillLaws
 pub mod MergedLaws
 pub mod PutLaws
+pub mod PastLaws
 pub mod SeatLaws
+pub mod TraceLaws
+pub mod FollowLaws
+pub mod RetainLaws
+pub mod KeptLaws
+pub mod SeatedLaws
+pub mod AskedLaws
+pub mod AtLeastLaws
+pub mod BetweenLaws
+pub mod RepairLaws
+pub mod CountLaws
+pub mod PaidLaws
+pub mod MadeLaws

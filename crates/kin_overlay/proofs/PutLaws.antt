@@ -1,13 +1,11 @@
 -- What edits put and drop, and what stays.
-use Rattle.std.proofs.Common.{◌≡◌, refl, sym, ap, ap₂, ◌∙◌, subst, arith, List, [], ◌∷◌, ◌++◌, ℕ, ◌+◌, Bool, true, false, not, ◌||◌, cond, nat_eq, take, drop, filter}
+use Rattle.std.proofs.Common.{◌≡◌, refl, sym, ap, ap₂, ◌∙◌, arith, List, [], ◌∷◌, ◌++◌, ℕ, ◌+◌, Bool, true, false, not, ◌||◌, cond, nat_eq, take, drop}
 use Rattle.std.proofs.lemmas.List.{append_assoc, append-nil, take-append-drop, drop-drop}
 use Rattle.kin_motion.specs.Edits.{Edit, edited, dropped_by_one, all_edited, dropped_by, put_by}
 use Rattle.kin_motion.specs.Numbers.{is_in}
-use Rattle.kin_motion.proofs.Members.{in_head, in_tail}
-
--- the numbers that aren't in the list
-abbrev pub without : List ℕ → List ℕ → List ℕ
-without gone xs = filter (λ x. not (is_in x gone)) xs
+use Rattle.kin_overlay.specs.Repairing.{without, times, IsEdited}
+use Rattle.kin_motion.proofs.Members.{in_head, in_tail, in_left, in_right, is_in-append}
+use Rattle.kin_algebra.proofs.Tests.{or_swapped}
 
 pub without-append : (gone xs ys : List ℕ) → without gone (xs ++ ys) ≡ without gone xs ++ without gone ys
 without-append gone [] ys = refl
@@ -22,18 +20,6 @@ pub without-none : (gone xs : List ℕ) → ((x : ℕ) → is_in x xs ≡ true �
 without-none gone [] k = refl
 without-none gone (x ∷ xs) k =
     ap (λ (b : Bool). cond (not b) (x ∷ without gone xs) (without gone xs)) (k x (in_head x xs)) ∙ without-none gone xs (λ y h. k y (in_tail y x xs h))
-
-in-front : (x : ℕ) (xs ys : List ℕ) → is_in x xs ≡ true → is_in x (xs ++ ys) ≡ true
-in-front x [] ys h = absurd cc
-in-front x (y ∷ xs) ys h = at (nat_eq x y) h (in-front x xs ys)
-  where
-    at : (b : Bool) → b || is_in x xs ≡ true → (is_in x xs ≡ true → is_in x (xs ++ ys) ≡ true) → b || is_in x (xs ++ ys) ≡ true
-    at true k rest = refl
-    at false k rest = rest k
-
-in-back : (x : ℕ) (xs ys : List ℕ) → is_in x ys ≡ true → is_in x (xs ++ ys) ≡ true
-in-back x [] ys h = h
-in-back x (y ∷ xs) ys h = in_tail x y (xs ++ ys) (in-back x xs ys h)
 
 -- the numbers that were neither put nor dropped
 abbrev pub staying : List ℕ → List ℕ → List ℕ → List ℕ
@@ -85,14 +71,10 @@ pub edits-keep : (put gone : List ℕ) (es : List Edit) (xs : List ℕ) → ((x 
     → staying put gone (all_edited es xs) ≡ staying put gone xs
 edits-keep put gone [] xs puts drops = refl
 edits-keep put gone (e ∷ es) xs puts drops =
-    edits-keep put gone es (edited e xs) (λ x h. puts x (in-back x e.put (put_by es) h)) (λ x h. drops x (in-back x (dropped_by_one e xs) (dropped_by es (edited e xs)) h))
-    ∙ staying-one put gone e xs (λ x h. puts x (in-front x e.put (put_by es) h)) (λ x h. drops x (in-front x (dropped_by_one e xs) (dropped_by es (edited e xs)) h))
+    edits-keep put gone es (edited e xs) (λ x h. puts x (in_right x e.put (put_by es) h)) (λ x h. drops x (in_right x (dropped_by_one e xs) (dropped_by es (edited e xs)) h))
+    ∙ staying-one put gone e xs (λ x h. puts x (in_left x e.put (put_by es) h)) (λ x h. drops x (in_left x (dropped_by_one e xs) (dropped_by es (edited e xs)) h))
 
--- ---- how often a number stands
-abbrev pub times : ℕ → List ℕ → ℕ
-times x [] = 0
-times x (y ∷ ys) = cond (nat_eq x y) 1 0 + times x ys
-
+-- ---- how often a number is there
 times-append : (x : ℕ) (xs ys : List ℕ) → times x (xs ++ ys) ≡ times x xs + times x ys
 times-append x [] ys = omega arith
 times-append x (y ∷ xs) ys = let e = times-append x xs ys in omega (arith, e)
@@ -118,3 +100,52 @@ balanced x (e ∷ es) xs =
     let c = times-append x (dropped_by_one e xs) (dropped_by es (edited e xs)) in
     let d = times-append x e.put (put_by es) in
     omega (arith, a, b, c, d)
+
+-- ---- edits after edits
+-- only what is in the list counts
+without-same : (g h xs : List ℕ) → ((x : ℕ) → is_in x g ≡ is_in x h) → without g xs ≡ without h xs
+without-same g h [] same = refl
+without-same g h (x ∷ xs) same = ap₂ (λ (b : Bool) (l : List ℕ). cond (not b) (x ∷ l) l) (same x) (without-same g h xs same)
+
+-- what one list and then another takes away
+pub without-both : (g h xs : List ℕ) → without (g ++ h) xs ≡ without h (without g xs)
+without-both g h [] = refl
+without-both g h (x ∷ xs) = ap (λ (b : Bool). cond (not b) (x ∷ without (g ++ h) xs) (without (g ++ h) xs)) (is_in-append x g h) ∙ at (is_in x g) (without-both g h xs)
+  where
+    at : (b : Bool) → without (g ++ h) xs ≡ without h (without g xs) → cond (not (b || is_in x h)) (x ∷ without (g ++ h) xs) (without (g ++ h) xs) ≡ without h (cond (not b) (x ∷ without g xs) (without g xs))
+    at true e = e
+    at false e = ap (λ (l : List ℕ). cond (not (is_in x h)) (x ∷ l) l) e
+
+pub without-swapped : (g h xs : List ℕ) → without g (without h xs) ≡ without h (without g xs)
+without-swapped g h xs =
+    sym (without-both h g xs) ∙ without-same (h ++ g) (g ++ h) xs (λ x. is_in-append x h g ∙ or_swapped (is_in x h) (is_in x g) ∙ sym (is_in-append x g h)) ∙ without-both g h xs
+
+-- more numbers are taken away
+staying-more : (put gone more_put more_gone xs : List ℕ) → staying (put ++ more_put) (gone ++ more_gone) xs ≡ staying more_put more_gone (staying put gone xs)
+staying-more put gone more_put more_gone xs =
+    without-both put more_put (without (gone ++ more_gone) xs)
+    ∙ ap (λ (l : List ℕ). without more_put (without put l)) (without-both gone more_gone xs)
+    ∙ ap (without more_put) (without-swapped put more_gone (without gone xs))
+
+-- nothing was put or dropped
+pub not-edited : (xs : List ℕ) → IsEdited [] [] xs xs
+not-edited xs = record { keeps = refl; balanced = λ x. refl }
+
+-- edits go on
+pub edited-more : (put gone old mid : List ℕ) (es : List Edit) → IsEdited put gone old mid → IsEdited (put ++ put_by es) (gone ++ dropped_by es mid) old (all_edited es mid)
+edited-more put gone old mid es w =
+    let more_put = put_by es in
+    let more_gone = dropped_by es mid in
+    record {
+      keeps =
+          edits-keep (put ++ more_put) (gone ++ more_gone) es mid (λ x h. in_right x put more_put h) (λ x h. in_right x gone more_gone h)
+          ∙ staying-more put gone more_put more_gone mid
+          ∙ ap (staying more_put more_gone) w.keeps
+          ∙ sym (staying-more put gone more_put more_gone old);
+      balanced = λ x.
+          let a = balanced x es mid in
+          let b = w.balanced x in
+          let c = times-append x gone more_gone in
+          let d = times-append x put more_put in
+          omega (arith, a, b, c, d);
+    }

@@ -29,7 +29,7 @@ two_first [] l = absurd (omega arith)
 two_first (x ∷ []) l = absurd (omega arith)
 two_first (x ∷ y ∷ ys) l = refl
 
-one_behind : (xs : List ℕ) → 2 ≤ length xs → drop 1 xs ≡ get_or xs 1 0 ∷ drop 2 xs
+pub one_behind : (xs : List ℕ) → 2 ≤ length xs → drop 1 xs ≡ get_or xs 1 0 ∷ drop 2 xs
 one_behind [] l = absurd (omega arith)
 one_behind (x ∷ []) l = absurd (omega arith)
 one_behind (x ∷ y ∷ ys) l = refl

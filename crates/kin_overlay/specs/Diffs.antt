@@ -1,4 +1,4 @@
--- Lists whose common numbers stand in one order.
+-- Lists whose common numbers are in one order.
 use Rattle.std.specs.Prelude.{◌≡◌, ℕ, false, List, filter}
 use Rattle.kin_motion.specs.Edits.{Edit, dropped_by, put_by}
 use Rattle.kin_motion.specs.Numbers.{is_in, IsIn, IsOnce}

@@ -23,7 +23,7 @@ abbrev pub next_for : Scene → Breakpoint → Option Breakpoint → Option (Bre
 next_for s e None = None
 next_for s e (Some f) = cond (is_of e.half f.half) None (Some (f, s.sign (slope_form e f)))
 
--- what is noted of a breakpoint beside which a and b are current, and that stands before this one
+-- what is noted of a breakpoint where a and b are current, and after which f comes next, if there is one
 pub record IsNoted (s : Scene) (a b : ℕ) (r : Record) (f : Option Breakpoint) : Type 0 where
   pub across : r.across ≡ other_current (place_of r).half a b
   pub turn : r.turn ≡ s.sign (Turn r.at.left r.at.right r.across)

@@ -14,3 +14,4 @@ pub mod Resorting
 pub mod Sketching
 pub mod Filling
 pub mod Seats
+pub mod Repairing

@@ -15,7 +15,7 @@ abbrev pub IsTold : ℕ → List Fact → List Fact → List Placed → List Pla
 IsTold part known [] before after = after ≡ before
 IsTold part known (f ∷ fs) before after = (middle : List Placed) × IsToldOne part known f before middle × IsTold part known fs middle after
 
--- so many records stand at the front of both lists, and so many others at the end of both
+-- w.front records are at the front of both lists, and w.back others at the end of both
 pub record AreShared (w : Shared) (xs ys : List Record) : Type 0 where
   pub room : w.front + w.back ≤ length xs
   pub other_room : w.front + w.back ≤ length ys

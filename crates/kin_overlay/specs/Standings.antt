@@ -1,4 +1,4 @@
--- Which remembered facts still stand.
+-- Which remembered facts neither have failed nor name a number that has left.
 use Rattle.std.specs.Prelude.{◌≡◌, false, ℕ, List, Contains}
 use Rattle.kin_motion.specs.declared.fact.Fact.{Fact}
 use Rattle.kin_motion.specs.declared.fact.Placed.{Placed}

@@ -52,7 +52,7 @@ last_item (x ∷ y ∷ ys) = last_item (y ∷ ys)
 abbrev pub seen_cell : Step → Cell
 seen_cell c = record { a = c.a; b = c.b; left = c.left; right = c.right; narrow = c.is_narrow }
 
--- the point of A, where both coincide along a cell that has width
+-- the point of A, where neither half is above at either end and the cell has a width
 abbrev pub shared_by : Step → List ℕ
 shared_by c = cond (is_zero c.left && is_zero c.right && not c.is_narrow) (c.a ∷ []) []
 

@@ -9,7 +9,7 @@ use crate::edit::ChainEdit;
 use smallvec::SmallVec;
 use std::alloc::{AllocError, Global};
 
-/// How many items stand at the front of one list that aren't in the other.
+/// How many items at the front of one list aren't in the other, up to the first that is.
 fn strangers(list: &[u32], other: &[u32]) -> usize
     ensures within { result ≤ length list.now }
     ensures strange { (k x : ℕ) → k < result → slice_get list.now k ≡ Some x → is_in x other.now ≡ false }
@@ -22,7 +22,7 @@ fn strangers(list: &[u32], other: &[u32]) -> usize
     count
 }
 
-/// How many numbers stand at the front of both lists.
+/// How many numbers at the front of both lists are the same.
 fn alike(old: &[u32], new: &[u32]) -> usize
     ensures within_old { result ≤ length old.now }
     ensures within_new { result ≤ length new.now }
@@ -37,7 +37,7 @@ fn alike(old: &[u32], new: &[u32]) -> usize
     count
 }
 
-/// How many numbers of the new list stand before the first of the rest of the old one: all of them
+/// How many numbers of the new list are before the first of the rest of the old one: all of them
 /// where there is no rest.
 fn added_before(new: &[u32], rest: &[u32]) -> usize
     ensures within { result ≤ length new.now }
@@ -51,7 +51,7 @@ fn added_before(new: &[u32], rest: &[u32]) -> usize
     }
 }
 
-/// How many numbers of a list stand before this one.
+/// How many numbers of a list are before this one: all of them where it isn't there.
 fn count_before(list: &[u32], no: u32) -> usize
     ensures within { result ≤ length list.now }
     ensures others { (k y : ℕ) → k < result → slice_get list.now k ≡ Some y → no ≢ y }
@@ -64,7 +64,7 @@ fn count_before(list: &[u32], no: u32) -> usize
     count
 }
 
-/// A count of numbers as an edit has it. A list of 2^32 numbers counts as want of memory.
+/// A count as an edit stores it, in 32 bits. A greater one is answered as want of memory.
 fn short(count: usize) -> Result<u32, AllocError>
     ensures { IfOk result (λ n. n ≡ count) }
 {
@@ -92,8 +92,8 @@ fn is_done(old: &[u32], new: &[u32]) -> bool
     old.is_empty() && new.is_empty()
 }
 
-/// The edits that lead from one list to another, from left to right: one for each stretch of numbers
-/// that aren't in both.
+/// The edits that lead from one list to another, from left to right. Where neither has a number twice
+/// and the numbers that both have keep their order, no edit puts a number that an edit drops.
 pub fn diff(
     alloc: Global,
     old: &[u32],

@@ -1,11 +1,14 @@
 //! What is asked at the outer ends.
 
-ghost use Rattle.std.specs.Prelude.{◌≡◌, ◌+◌, ◌<◌, ◌≤◌, Some, length};
+ghost use Rattle.std.specs.Prelude.{◌≡◌, ◌⊎◌, ℕ, ◌+◌, ◌<◌, ◌≤◌, pos, Some, length};
+ghost use Rattle.kin_motion.specs.declared.fact.Fact.{Fact as Claim};
+ghost use Rattle.kin_motion.specs.declared.form.Form.TheVariants.{Line};
 ghost use Rattle.kin_motion.specs.Numbers.{IsIn};
 ghost use Rattle.kin_motion.specs.Scene.{x_sign, y_sign};
 ghost use Rattle.kin_overlay.specs.Fingers.{end_at, right_end, AreLive};
 ghost use Rattle.kin_overlay.specs.Lists.{front, behind};
 ghost use Rattle.kin_overlay.specs.Remembered.{end_facts};
+ghost use Rattle.kin_overlay.specs.Repairing.{AtLeast, IsUnknown};
 ghost use Rattle.kin_overlay.specs.Standings.{StandIn};
 
 use crate::end::{End, x_line, y_line};
@@ -28,6 +31,7 @@ fn end_sign<O: Signs, L: Ledger>(
     requires b_live { IsIn b (O.scene now.now).live }
     ensures value { result ≡ x_sign (O.scene now.now) a b }
     ensures count { steps.new ≤ steps.old + 1 }
+    ensures asked { (steps.new ≡ steps.old) ⊎ ((steps.new ≡ steps.old + 1) × ((f : Claim) → f.form ≡ Line (pos 1) (pos 0) (pos 0) a b → IsUnknown standing.now f)) }
 {
     match standing.x_sign(a, b) {
         Some(sign) => sign,
@@ -48,6 +52,7 @@ fn end_height<O: Signs, L: Ledger>(
     requires b_live { IsIn b (O.scene now.now).live }
     ensures value { result ≡ y_sign (O.scene now.now) a b }
     ensures count { steps.new ≤ steps.old + 1 }
+    ensures asked { (steps.new ≡ steps.old) ⊎ ((steps.new ≡ steps.old + 1) × ((f : Claim) → f.form ≡ Line (pos 0) (pos 1) (pos 0) a b → IsUnknown standing.now f)) }
 {
     match standing.y_sign(a, b) {
         Some(sign) => sign,
@@ -68,6 +73,7 @@ pub fn end_of<O: Signs, L: Ledger>(
     requires b_live { IsIn b (O.scene now.now).live }
     ensures value { result ≡ end_at (O.scene now.now) a b }
     ensures count { steps.new ≤ steps.old + length (end_facts (Some result)) }
+    ensures asked { (n : ℕ) × AtLeast (IsUnknown standing.now) (end_facts (Some result)) n × (steps.new ≡ steps.old + n) }
 {
     let x = end_sign(a, b, standing, now, steps);
     let y = match x {
@@ -92,6 +98,7 @@ pub fn right_end<O: Signs, L: Ledger>(
     requires b_live { AreLive (O.scene now.now).live b.now }
     ensures value { result ≡ right_end (O.scene now.now) (front a.now) (behind a.now) (front b.now) (behind b.now) }
     ensures count { steps.new ≤ steps.old + length (end_facts result) }
+    ensures asked { (n : ℕ) × AtLeast (IsUnknown standing.now) (end_facts result) n × (steps.new ≡ steps.old + n) }
 {
     if a.len() + b.len() == 2 {
         return None;

@@ -4,7 +4,8 @@ ghost use Rattle.std.specs.Prelude.{◌≡◌};
 ghost use Rattle.kin_motion.specs.Merges.{is_of, other};
 ghost use Rattle.kin_overlay.specs.Seen.{half_of};
 
-/// A half of a merge: every number of A is less than every number of B.
+/// One of the two halves of a merge. `Overlay::build` and `Overlay::edit` ask for every number of A
+/// to be less than every number of B.
 #[derive(Clone, Copy, Debug, PartialEq, Eq)]
 pub enum Half {
     A,

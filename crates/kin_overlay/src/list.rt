@@ -46,13 +46,24 @@ impl BreakpointList {
         }
     }
 
-    /// Forgets everything. The memory stays.
+    /// Forgets everything. The memory is kept.
     pub fn clear(&mut self)
         ensures { self.new ≡ record { records = []; left = None; right = None } }
     {
         self.records.clear();
         self.left = None;
         self.right = None;
+    }
+
+    /// Takes over what another list remembers.
+    pub fn copy(&mut self, other: &BreakpointList) -> Result<(), NoMemory>
+        ensures { OnOk result (self.new ≡ other.now) }
+    {
+        self.records.clear();
+        self.records.extend_from_slice(&other.records)?;
+        self.left = other.left;
+        self.right = other.right;
+        Ok(())
     }
 
     /// How many breakpoints there are.
@@ -101,7 +112,7 @@ impl BreakpointList {
         self.right
     }
 
-    /// Whether one of the outer ends is this one, with the same signs.
+    /// True only if one of the outer ends is this one, with the same signs. It only saves work.
     pub fn has_end(&self, end: End) -> bool
         ensures { IsTrue result → (self.now.left ≡ Some end) ⊎ (self.now.right ≡ Some end) }
     {

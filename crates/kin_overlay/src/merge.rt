@@ -1,10 +1,12 @@
 //! The list of breakpoints is made: a sketch is drawn, put in order and filled in.
 
-ghost use Rattle.std.specs.Prelude.{◌≡◌, ◌+◌, ◌*◌, ◌<◌, ◌≤◌, length, OnOk};
+ghost use Rattle.std.specs.Prelude.{◌≡◌, ◌+◌, ◌*◌, ◌<◌, ◌≤◌, length, Contains, OnOk};
+ghost use Rattle.kin_motion.specs.declared.fact.Placed.{Placed as Put};
 ghost use Rattle.kin_motion.specs.Numbers.{IsOnce};
-ghost use Rattle.kin_motion.specs.Scene.{IsReal};
+ghost use Rattle.kin_motion.specs.Scene.{IsReal, Holds};
 ghost use Rattle.kin_overlay.specs.Fingers.{IsMerged, AreLive, AreLess};
 ghost use Rattle.kin_overlay.specs.Remembered.{facts_of};
+ghost use Rattle.kin_overlay.specs.Repairing.{Past, IsKnownPast, IsPaid};
 ghost use Rattle.kin_overlay.specs.Standings.{StandIn};
 
 use crate::draft::Draft;
@@ -20,16 +22,16 @@ use kin_num::steps::Steps;
 use std::alloc::Global;
 use std::sync::ledger::Ledger;
 
-/// Buffers for a merge.
+/// A sketch, and the window that puts it in order.
 #[derive(Drop)]
-pub struct Work {
+pub struct Drawing {
     sketch: Vec<Draft>,
     window: Window,
 }
 
-impl Work {
-    pub fn new(alloc: Global) -> Work {
-        Work {
+impl Drawing {
+    pub fn new(alloc: Global) -> Drawing {
+        Drawing {
             sketch: Vec::new(alloc),
             window: Window::new(alloc),
         }
@@ -37,14 +39,15 @@ impl Work {
 }
 
 impl BreakpointList {
-    /// Makes the list of two chains. No sign is asked that is remembered and unfailed.
+    /// Makes the list of two chains. A sign that is remembered and unfailed isn't asked again; the
+    /// clauses bound how many are asked.
     pub fn merge<O: Signs, L: Ledger>(
         &mut self,
         a: &[u32],
         b: &[u32],
         puts: Puts,
         standing: &Standing,
-        work: &mut Work,
+        drawing: &mut Drawing,
         now: &O,
         steps: &mut Steps<L>,
     ) -> Result<(), NoMemory>
@@ -59,11 +62,15 @@ impl BreakpointList {
         requires standing { StandIn (O.scene now.now) standing.now }
         ensures merged { OnOk result (IsMerged (O.scene now.now) a.now b.now self.new) }
         ensures few { OnOk result (steps.new ≤ steps.old + 5 * length (facts_of self.new)) }
+
+        // Where no half puts a number that it drops, and no failed fact holds, at most five signs are
+        // asked for each fact that is born and at most one for each that is dropped.
+        ensures tests { OnOk result ((p : Past) → IsKnownPast p standing.now puts.entry a.now b.now → ((f : Put) → Contains standing.now.failed.now f → Holds (O.scene now.now) f.fact → ⊥) → IsPaid (facts_of standing.now.list.now) (facts_of self.new) steps.old steps.new) }
     {
-        sketch(a, b, puts, standing, &mut work.sketch)?;
-        resort(&work.sketch, &mut work.window, now, steps)?;
+        sketch(a, b, puts, standing, &mut drawing.sketch)?;
+        resort(&drawing.sketch, &mut drawing.window, now, steps)?;
         self.clear();
-        self.fill(work.window.done(), a[0], b[0], now, steps)?;
+        self.fill(drawing.window.done(), a[0], b[0], now, steps)?;
         let left = end_of(a[0], b[0], standing, now, steps);
         let right = right_end(a, b, standing, now, steps);
         self.set_ends(left, right);

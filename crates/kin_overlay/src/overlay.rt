@@ -9,13 +9,13 @@ ghost use Rattle.kin_overlay.specs.declared.half.Half.TheVariants.{A, B};
 ghost use Rattle.kin_overlay.specs.declared.stage.Stage.TheVariants.{Broken};
 ghost use Rattle.kin_overlay.specs.Diffs.{KeepOrder, ArePutApart};
 ghost use Rattle.kin_overlay.specs.Fingers.{AreLive, AreLess};
-ghost use Rattle.kin_overlay.specs.Overlays.{told, told_chain, names_any, names_gone, IsReady, IsAtRest, IsSettled, IsSameMerge};
+ghost use Rattle.kin_overlay.specs.Overlays.{told, told_chain, names_any, names_gone, ArePutsApart, IsUnedited, IsReady, IsAtRest, IsSettled, IsSameMerge, IsRepaired};
 
 use crate::diff::diff;
-use crate::edit::{ChainEdit, carry_out, note_puts};
+use crate::edit::{ChainEdit, edit_list};
 use crate::half::Half;
 use crate::list::BreakpointList;
-use crate::merge::Work;
+use crate::merge::Drawing;
 use crate::names::names_any;
 use crate::report::tell_missing;
 use crate::shared::Shared;
@@ -23,6 +23,7 @@ use crate::sketch::Puts;
 use crate::stage::Stage;
 use crate::standing::Standing;
 use crate::walk::merged_chain;
+use crate::work::Work;
 use kin_motion::fact::{Delta, Placed};
 use kin_motion::kinetic::Kinetic;
 use kin_motion::signs::Signs;
@@ -33,11 +34,12 @@ use std::marker::Model;
 use std::mem::swap;
 use std::sync::ledger::Ledger;
 
-/// The upper chain of two sets of points together, made of the upper chains of both.
+/// The upper chain of the points of two given upper chains, every number of A less than every number
+/// of B.
 #[derive(Drop)]
 pub struct Overlay {
     alloc: Global,
-    /// The part in which its facts stand.
+    /// The part of its facts.
     part: u32,
     /// The given chains.
     a: Vec<u32>,
@@ -46,22 +48,21 @@ pub struct Overlay {
     list: BreakpointList,
     /// The merged chain.
     chain: Vec<u32>,
-    /// From the merged chain before the last `settle` to the present one.
+    /// From the merged chain before the last `settle` to the present one, unless they were swapped.
     edits: Vec<ChainEdit>,
-    /// The numbers that the waiting edits drop.
+    /// The numbers that edits given since the last `settle` drop.
     gone: Vec<u32>,
     stage: Stage,
-    /// A buffer for the next list.
-    spare_list: BreakpointList,
     /// A buffer for numbers.
     spare: Vec<u32>,
-    /// The numbers that the waiting edits of each half put.
+    /// The numbers that edits of each half given since the last `settle` put and drop.
     put_a: Vec<u32>,
     put_b: Vec<u32>,
-    work: Work,
+    drop_a: Vec<u32>,
+    drop_b: Vec<u32>,
 }
 
-/// So many more points a given chain can have before its memory is asked for again.
+/// A given chain may grow by this many points before it allocates again.
 const ROOM: usize = 4;
 
 /// A copy of a chain, with some room.
@@ -76,19 +77,19 @@ fn copied(alloc: Global, chain: &[u32]) -> Result<Vec<u32>, NoMemory>
 impl Model for Overlay {
     ghost use Rattle.kin_overlay.specs.Overlays.{Merge};
     ghost use Rattle.kin_overlay.specs.Remembered.{facts_of, all_placed};
-    ghost use Rattle.kin_overlay.specs.Sound.{IsSound};
+    ghost use Rattle.kin_overlay.specs.Sound.{IsWhole, UnlessBroken};
 
     ghost Value = { Merge };
 
-    ghost view = { λ o. record { part = o.part; a = o.a.items; b = o.b.items; facts = all_placed o.part (facts_of o.list); chain = o.chain.items; edits = o.edits.items; gone = o.gone.items; stage = o.stage } };
+    ghost view = { λ o. record { part = o.part; a = o.a.items; b = o.b.items; facts = all_placed o.part (facts_of o.list); chain = o.chain.items; edits = o.edits.items; gone = o.gone.items; put_a = o.put_a.items; put_b = o.put_b.items; drop_a = o.drop_a.items; drop_b = o.drop_b.items; stage = o.stage } };
 
-    ghost invariant = { λ o. IsSound o.stage o.a.items o.b.items (all_placed o.part (facts_of o.list)) };
+    ghost invariant = { λ o. UnlessBroken o.stage (IsWhole o.part o.list o.put_a.items o.put_b.items o.drop_a.items o.drop_b.items o.gone.items o.a.items o.b.items) };
 }
 
 impl Overlay {
-    /// The merge of the upper chains of two sets, neither of them empty. Every number of the first
-    /// set is less than every number of the second, and the points are live. Its facts stand in
-    /// this part, and all are reported as born.
+    /// The merge of two upper chains of live points, neither of them empty. Every number of the first
+    /// is less than every number of the second. Its facts are in this part. On `Ok` all are reported
+    /// as born, and at most five signs were asked for each.
     pub fn build<O: Signs, L: Ledger>(
         alloc: Global,
         a: &[u32],
@@ -113,6 +114,7 @@ impl Overlay {
         ensures settled { IfOk result (λ m. IsSettled m (O.scene now.now)) }
         ensures edits { IfOk result (λ m. m.edits ≡ []) }
         ensures gone { IfOk result (λ m. m.gone ≡ []) }
+        ensures unedited { IfOk result IsUnedited }
         ensures born { IfOk result (λ m. HasChanged [] m.facts out.old out.new) }
         ensures tests { IsOk result → steps.new + 5 * length out.old.born ≤ steps.old + 5 * length out.new.born }
     {
@@ -124,8 +126,8 @@ impl Overlay {
             gone: &[],
         };
         let puts = Puts { a: &[], b: &[] };
-        let mut work = Work::new(alloc);
-        list.merge(a, b, puts, &standing, &mut work, now, steps)?;
+        let mut drawing = Drawing::new(alloc);
+        list.merge(a, b, puts, &standing, &mut drawing, now, steps)?;
         tell_missing(&list, &none, Shared::none(), part, &mut out.born)?;
         let mut chain = Vec::new(alloc);
         merged_chain(&list, &mut chain)?;
@@ -139,16 +141,17 @@ impl Overlay {
             edits: Vec::new(alloc),
             gone: Vec::new(alloc),
             stage: Stage::Rest,
-            spare_list: none,
             spare: Vec::new(alloc),
             put_a: Vec::new(alloc),
             put_b: Vec::new(alloc),
-            work,
+            drop_a: Vec::new(alloc),
+            drop_b: Vec::new(alloc),
         })
     }
 
-    /// Tells how the chain of a half has changed. The next `settle` does the work. After want of
-    /// memory the overlay may not be used again.
+    /// Takes the edits by which the chain of a half has changed. They have to fit it, and after them
+    /// every number of A has to be less than every number of B. The next `settle` takes them into the
+    /// merge. After want of memory the overlay can only be dropped.
     pub fn edit(&mut self, half: Half, edits: &[ChainEdit]) -> Result<(), NoMemory>
         requires whole { self.old.stage ≢ Broken }
         requires fit { AreFitting edits.now (told_chain half self.old) }
@@ -170,8 +173,8 @@ impl Overlay {
         ensures broken { OnErr result (self.new.stage ≡ Broken) }
     {
         self.stage = Stage::Broken;
-        carry_out(edits, &mut self.a, &mut self.gone, &mut self.spare)?;
-        note_puts(edits, &mut self.put_a)?;
+        let (chain, put, dropped) = (&mut self.a, &mut self.put_a, &mut self.drop_a);
+        edit_list(edits, chain, put, dropped, &mut self.gone, &mut self.spare)?;
         self.stage = Stage::Told;
         Ok(())
     }
@@ -184,13 +187,59 @@ impl Overlay {
         ensures broken { OnErr result (self.new.stage ≡ Broken) }
     {
         self.stage = Stage::Broken;
-        carry_out(edits, &mut self.b, &mut self.gone, &mut self.spare)?;
-        note_puts(edits, &mut self.put_b)?;
+        let (chain, put, dropped) = (&mut self.b, &mut self.put_b, &mut self.drop_b);
+        edit_list(edits, chain, put, dropped, &mut self.gone, &mut self.spare)?;
         self.stage = Stage::Told;
         Ok(())
     }
 
-    /// Ends the merge. All its facts are reported as dropped. After want of memory it is gone, too.
+    /// Takes the waiting edits into the merge and repairs what has failed, as `settle` does, in these
+    /// buffers. After want of memory the overlay can only be dropped.
+    pub fn repair<O: Signs, L: Ledger>(
+        &mut self,
+        work: &mut Work,
+        now: &O,
+        failed: &[Placed],
+        out: &mut Delta,
+        steps: &mut Steps<L>,
+    ) -> Result<(), NoMemory>
+        requires real { IsReal (O.scene now.now) }
+        requires ready { IsReady self.old (O.scene now.now) }
+        requires failing { ListsFailing self.old.facts (names_gone self.old) (O.scene now.now) failed.now }
+        ensures repaired { OnOk result (IsRepaired (O.scene now.now) self.old self.new out.old out.new steps.old steps.new) }
+        ensures broken { OnErr result (self.new.stage ≡ Broken) }
+    {
+        self.stage = Stage::Broken;
+        let standing = Standing {
+            list: &self.list,
+            failed,
+            gone: &self.gone,
+        };
+        let puts = Puts {
+            a: &self.put_a,
+            b: &self.put_b,
+        };
+        let (made, drawing) = (&mut work.list, &mut work.drawing);
+        made.merge(&self.a, &self.b, puts, &standing, drawing, now, steps)?;
+        let shared = Shared::between(&self.list, &work.list);
+        let (old, new) = (&self.list, &work.list);
+        tell_missing(old, new, shared, self.part, &mut out.dropped)?;
+        tell_missing(new, old, shared, self.part, &mut out.born)?;
+        self.list.copy(&work.list)?;
+        swap(&mut self.chain, &mut self.spare);
+        merged_chain(&self.list, &mut self.chain)?;
+        diff(self.alloc, &self.spare, &self.chain, &mut self.edits)?;
+        self.gone.clear();
+        self.put_a.clear();
+        self.put_b.clear();
+        self.drop_a.clear();
+        self.drop_b.clear();
+        self.stage = Stage::Rest;
+        Ok(())
+    }
+
+    /// Ends a merge at rest, and reports all its facts as dropped. After want of memory it is ended
+    /// too, and some facts may not be reported.
     pub fn retire(self, out: &mut Delta) -> Result<(), NoMemory>
         requires rest { IsAtRest self }
         ensures dropped { OnOk result (HasChanged self.facts [] out.old out.new) }
@@ -201,7 +250,7 @@ impl Overlay {
         Ok(())
     }
 
-    /// The upper chain of both sets together.
+    /// The merged chain as it was settled last.
     pub fn chain(&self) -> &[u32]
         requires rest { IsAtRest self.now }
         ensures { result.now ≡ self.now.chain }
@@ -209,7 +258,8 @@ impl Overlay {
         &self.chain
     }
 
-    /// The edits that lead from the chain before the last `settle` to the present one.
+    /// The edits that lead from the chain before the last `settle` to the present one. After
+    /// `swap_edits` they are what the caller gave.
     pub fn edits(&self) -> &[ChainEdit]
         requires rest { IsAtRest self.now }
         ensures { result.now ≡ self.now.edits }
@@ -217,7 +267,7 @@ impl Overlay {
         &self.edits
     }
 
-    /// Exchanges these edits with a list of the caller's.
+    /// Swaps these edits with a list of the caller, so that nothing is copied.
     pub fn swap_edits(&mut self, edits: &mut Vec<ChainEdit>)
         ensures merge { self.new ≡ record self.old { edits = edits.old.items } }
         ensures edits { edits.new.items ≡ self.old.edits }
@@ -225,7 +275,7 @@ impl Overlay {
         swap(&mut self.edits, edits);
     }
 
-    /// Takes a list of the caller's as memory for later. What is in it doesn't matter.
+    /// Takes a list of the caller to use its memory. Its content doesn't matter.
     pub fn take_memory(&mut self, numbers: Vec<u32>)
         ensures { self.new ≡ self.old }
     {
@@ -277,44 +327,19 @@ impl Kinetic for Overlay {
         ensures fit { OnOk result (AreFitting self.new.edits self.old.chain) }
         ensures apart { OnOk result (KeepOrder self.old.chain self.new.chain → ArePutApart self.new.edits self.old.chain) }
 
-        // What stays.
+        // What is unchanged; no edit waits any more.
         ensures same { OnOk result (IsSameMerge self.old self.new) }
         ensures gone { OnOk result (self.new.gone ≡ []) }
+        ensures unedited { OnOk result (IsUnedited self.new) }
 
-        // After want of memory no call but dropping it is left.
+        // Where the waiting edits of each half put no number that they drop, at most five signs are
+        // asked for each fact that is born and at most one for each that is dropped.
+        ensures tests { OnOk result (ArePutsApart self.old → steps.new + (5 * length out.old.born + length out.old.dropped) ≤ steps.old + (5 * length out.new.born + length out.new.dropped)) }
+
+        // After want of memory it can only be dropped.
         ensures broken { OnErr result (self.new.stage ≡ Broken) }
     {
-        self.stage = Stage::Broken;
-        let standing = Standing {
-            list: &self.list,
-            failed,
-            gone: &self.gone,
-        };
-        let puts = Puts {
-            a: &self.put_a,
-            b: &self.put_b,
-        };
-        self.spare_list.merge(
-            &self.a,
-            &self.b,
-            puts,
-            &standing,
-            &mut self.work,
-            now,
-            steps,
-        )?;
-        let shared = Shared::between(&self.list, &self.spare_list);
-        let (old, new) = (&self.list, &self.spare_list);
-        tell_missing(old, new, shared, self.part, &mut out.dropped)?;
-        tell_missing(new, old, shared, self.part, &mut out.born)?;
-        swap(&mut self.list, &mut self.spare_list);
-        swap(&mut self.chain, &mut self.spare);
-        merged_chain(&self.list, &mut self.chain)?;
-        diff(self.alloc, &self.spare, &self.chain, &mut self.edits)?;
-        self.gone.clear();
-        self.put_a.clear();
-        self.put_b.clear();
-        self.stage = Stage::Rest;
-        Ok(())
+        let mut work = Work::new(self.alloc);
+        self.repair(&mut work, now, failed, out, steps)
     }
 }

@@ -10,8 +10,8 @@ use crate::shared::Shared;
 use kin_motion::fact::{Fact, Placed};
 use kin_num::memory::NoMemory;
 
-/// Tells a fact, if there is one that the other list doesn't have. It is looked for at this place
-/// first.
+/// Reports the fact, if there is one and the other list doesn't have it. It is looked for at this
+/// place first.
 #[inline(always)]
 fn tell(
     fact: Option<Fact>,
@@ -85,8 +85,8 @@ fn tell_end(
     Ok(())
 }
 
-/// Tells the facts of one list that the other one doesn't have. The records that both share aren't
-/// looked at.
+/// Reports the facts of one list that the other one doesn't have. It skips the records that both
+/// share.
 pub fn tell_missing(
     list: &BreakpointList,
     other: &BreakpointList,

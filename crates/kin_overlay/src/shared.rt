@@ -5,7 +5,7 @@ ghost use Rattle.kin_overlay.specs.Reports.{AreShared};
 
 use crate::list::BreakpointList;
 
-/// How many records stand at the front of both lists, and how many others at the end of both.
+/// How many records are at the front of both lists, and how many others at the end of both.
 #[derive(Clone, Copy, Debug, PartialEq, Eq)]
 pub struct Shared {
     pub front: usize,
@@ -20,7 +20,8 @@ impl Shared {
         Shared { front: 0, back: 0 }
     }
 
-    /// What both lists share.
+    /// Records that both lists share at their ends. No clause says that they share no more: this only
+    /// saves work.
     pub fn between(one: &BreakpointList, other: &BreakpointList) -> Shared
         ensures one { AreShared result one.now.records other.now.records }
         ensures other { AreShared result other.now.records one.now.records }
@@ -33,7 +34,7 @@ impl Shared {
     }
 }
 
-/// How many records stand at the front of both lists.
+/// How many records at the front of both lists are the same.
 fn shared_front(one: &BreakpointList, other: &BreakpointList) -> usize
     ensures one_room { result ≤ length one.now.records }
     ensures other_room { result ≤ length other.now.records }
@@ -47,7 +48,7 @@ fn shared_front(one: &BreakpointList, other: &BreakpointList) -> usize
     count
 }
 
-/// How many records are at the end of both lists, after these at the front.
+/// How many records at the end of both lists are the same, after these at the front.
 fn shared_back(one: &BreakpointList, other: &BreakpointList, front: usize) -> usize
     requires one_front { front ≤ length one.now.records }
     requires other_front { front ≤ length other.now.records }

@@ -1,17 +1,22 @@
 //! A sketch is drawn: the breakpoints of the given chains, in the order of the old list, with what is
 //! still known of each.
 
-ghost use Rattle.std.specs.Prelude.{◌≡◌, ℕ, ◌+◌, ◌<◌, ◌≤◌, List, [], length, get_or, drop, Contains, IfSome, OnOk, IfOk};
+ghost use Rattle.std.specs.Prelude.{◌≡◌, ℕ, ◌+◌, ◌<◌, ◌≤◌, List, [], ◌∷◌, ◌++◌, length, get_or, drop, Contains, IfSome, IsNone, OnOk, IfOk};
 ghost use Rattle.kin_motion.specs.declared.form.Form.TheVariants.{Turn};
 ghost use Rattle.kin_motion.specs.Merges.{Half.{A, B}, IsInterleaving, slope_form, breakpoints_of};
-ghost use Rattle.kin_motion.specs.Numbers.{IsIn};
+ghost use Rattle.kin_motion.specs.Numbers.{IsIn, IsOnce};
 ghost use Rattle.kin_motion.specs.Scene.{Scene};
+ghost use Rattle.kin_overlay.specs.declared.draft.Draft.{Draft as Drawn};
 ghost use Rattle.kin_overlay.specs.declared.standing.Standing.{Standing as Kept};
 ghost use Rattle.kin_overlay.specs.Fingers.{AreLive};
+ghost use Rattle.kin_overlay.specs.Remembered.{turn_fact};
+ghost use Rattle.kin_overlay.specs.Repairing.{Past, IsKnownPast, IsRetained};
+ghost use Rattle.kin_overlay.specs.Resorting.{AreSeated};
+ghost use Rattle.kin_overlay.specs.Seats.{seat_in};
 ghost use Rattle.kin_overlay.specs.Seen.{half_of, seen};
 ghost use Rattle.kin_overlay.specs.Sketches.{IsFit, AreFit, spots};
-ghost use Rattle.kin_overlay.specs.Sketching.{IsDrawn, IsSketched};
-ghost use Rattle.kin_overlay.specs.Standings.{StandIn};
+ghost use Rattle.kin_overlay.specs.Sketching.{IsDrawn, IsSketched, IsSlopeOf, IsRecalled, IsStep, IsStepAt, blanks, put_blanks, after_put};
+ghost use Rattle.kin_overlay.specs.Standings.{IsUnfailed, StandIn};
 
 use crate::breakpoint::Breakpoint;
 use crate::draft::{Across, Draft};
@@ -30,7 +35,9 @@ pub struct Puts<'a> {
 /// The turn of a record, where this point is the current one and the fact is unfailed.
 fn known_turn(noted: &Record, across: u32, standing: &Standing) -> Option<Across>
     requires { Contains standing.now.list.now.records noted.now }
-    ensures { IfSome result (λ c. (s : Scene) → StandIn s standing.now → c.turn ≡ s.sign (Turn noted.now.at.left noted.now.at.right c.to)) }
+    ensures turn { IfSome result (λ c. (s : Scene) → StandIn s standing.now → c.turn ≡ s.sign (Turn noted.now.at.left noted.now.at.right c.to)) }
+    ensures some { IfSome result (λ c. c.to ≡ across) }
+    ensures none { IsNone result → noted.now.across ≡ across → IsUnfailed standing.now.failed.now standing.now.gone.now (turn_fact noted.now) → ⊥ }
 {
     if noted.across != across {
         return None;
@@ -47,7 +54,8 @@ fn known_turn(noted: &Record, across: u32, standing: &Standing) -> Option<Across
 /// The slope of a record with its next one, where the fact is unfailed.
 fn known_slope(noted: &Record, standing: &Standing) -> Option<Next>
     requires { Contains standing.now.list.now.records noted.now }
-    ensures { IfSome result (λ n. (s : Scene) → StandIn s standing.now → n.slope ≡ s.sign (slope_form (seen noted.now.at) (seen n.at))) }
+    ensures slope { IfSome result (λ n. (s : Scene) → StandIn s standing.now → n.slope ≡ s.sign (slope_form (seen noted.now.at) (seen n.at))) }
+    ensures known { IsSlopeOf standing.now noted.now result }
 {
     let next = noted.next?;
     let fact = noted.slope_fact()?;
@@ -75,6 +83,7 @@ fn draft_of(noted: &Record, chain: &[u32], across: u32, standing: &Standing) -> 
     requires there { Contains standing.now.list.now.records noted.now }
     ensures at { result.at ≡ record { half = noted.now.at.half; left = get_or chain.now 0 0; right = get_or chain.now 1 0 } }
     ensures fit { (s : Scene) → StandIn s standing.now → AreLive s.live chain.now → IsFit s result }
+    ensures recalled { IsRecalled standing.now noted.now across result }
 {
     let at = front_of(noted.at.half, chain);
     if !at.is(noted.at) {
@@ -93,6 +102,8 @@ fn draw<'a>(draft: Draft, chain: &'a [u32], out: &mut Vec<Draft>) -> Result<&'a 
     requires at { draft.at ≡ record { half = draft.at.half; left = get_or chain.now 0 0; right = get_or chain.now 1 0 } }
     ensures drawn { IfOk result (λ left. (w : Kept) → ((s : Scene) → StandIn s w → AreLive s.live chain.now → IsFit s draft) → IsDrawn w (half_of draft.at.half) chain.now left.now out.old.items out.new.items) }
     ensures shorter { IfOk result (λ left. length left.now + 1 ≡ length chain.now) }
+    ensures rest { IfOk result (λ left. left.now ≡ drop 1 chain.now) }
+    ensures pushed { OnOk result (out.new.items ≡ out.old.items ++ draft ∷ []) }
 {
     let Ok(()) = out.push(draft) else {
         return Err(NoMemory);
@@ -100,7 +111,7 @@ fn draw<'a>(draft: Draft, chain: &'a [u32], out: &mut Vec<Draft>) -> Result<&'a 
     Ok(chain.split_at(1).1)
 }
 
-/// Draws the first breakpoints of a chain that begin with numbers that were put.
+/// Draws the first breakpoints of a chain, as long as their left points were put.
 fn draw_put<'a>(
     half: Half,
     chain: &'a [u32],
@@ -110,6 +121,8 @@ fn draw_put<'a>(
     requires some { 0 < length chain.now }
     ensures drawn { IfOk result (λ left. (w : Kept) → IsDrawn w (half_of half) chain.now left.now out.old.items out.new.items) }
     ensures some { IfOk result (λ left. 0 < length left.now) }
+    ensures rest { IfOk result (λ left. left.now ≡ after_put put.now chain.now) }
+    ensures pushed { OnOk result (out.new.items ≡ out.old.items ++ put_blanks half put.now chain.now) }
 {
     let mut left = chain;
     while left.len() > 1 && put.contains(&left[0]) {
@@ -122,6 +135,7 @@ fn draw_put<'a>(
 fn draw_all(half: Half, chain: &[u32], out: &mut Vec<Draft>) -> Result<(), NoMemory>
     requires some { 0 < length chain.now }
     ensures drawn { OnOk result ((w : Kept) → (left : List ℕ) × (0 < length left) × (breakpoints_of (half_of half) left ≡ []) × IsDrawn w (half_of half) chain.now left out.old.items out.new.items) }
+    ensures pushed { OnOk result (out.new.items ≡ out.old.items ++ blanks half chain.now) }
 {
     let mut left = chain;
     while left.len() > 1 {
@@ -130,8 +144,8 @@ fn draw_all(half: Half, chain: &[u32], out: &mut Vec<Draft>) -> Result<(), NoMem
     Ok(())
 }
 
-/// Draws the breakpoint that begins where a record began, if it comes next, and those after it that
-/// begin with numbers that were put.
+/// Draws the breakpoint with the left point of this record, if it comes next, and then those whose
+/// left points were put.
 fn draw_from<'a>(
     noted: &Record,
     chain: &'a [u32],
@@ -144,6 +158,7 @@ fn draw_from<'a>(
     requires there { Contains standing.now.list.now.records noted.now }
     ensures drawn { IfOk result (λ left. IsDrawn standing.now (half_of noted.now.at.half) chain.now left.now out.old.items out.new.items) }
     ensures some { IfOk result (λ left. 0 < length left.now) }
+    ensures step { IfOk result (λ left. (part : List Drawn) × (out.new.items ≡ out.old.items ++ part) × IsStep standing.now noted.now put.now chain.now across left.now part) }
 {
     if chain.len() < 2 {
         return Ok(chain);
@@ -169,7 +184,8 @@ fn draw_at<'a>(
     requires a_some { 0 < length first.now }
     requires b_some { 0 < length second.now }
     requires there { Contains standing.now.list.now.records noted.now }
-    ensures { IfOk result (λ left. (a b : List ℕ) → IsSketched standing.now a b first.now second.now out.old.items → IsSketched standing.now a b left.0.now left.1.now out.new.items) }
+    ensures drawn { IfOk result (λ left. (a b : List ℕ) → IsSketched standing.now a b first.now second.now out.old.items → IsSketched standing.now a b left.0.now left.1.now out.new.items) }
+    ensures step { IfOk result (λ left. (part : List Drawn) × (out.new.items ≡ out.old.items ++ part) × IsStepAt noted.now.at.half standing.now noted.now puts.entry.a.now puts.entry.b.now first.now second.now left.0.now left.1.now part) }
 {
     match noted.at.half {
         Half::A => {
@@ -183,7 +199,8 @@ fn draw_at<'a>(
     }
 }
 
-/// Draws the breakpoints of both chains.
+/// Draws the breakpoints of both chains. Each whose turn is known is drawn where the point of the turn
+/// is current, and what is still known of a record whose breakpoint is still there is kept.
 pub fn sketch(
     a: &[u32],
     b: &[u32],
@@ -193,8 +210,12 @@ pub fn sketch(
 ) -> Result<(), NoMemory>
     requires a_some { 0 < length a.now }
     requires b_some { 0 < length b.now }
+    requires a_once { IsOnce a.now }
+    requires b_once { IsOnce b.now }
     ensures interleaved { OnOk result (IsInterleaving a.now b.now (spots out.new.items)) }
     ensures fit { OnOk result ((s : Scene) → StandIn s standing.now → AreLive s.live a.now → AreLive s.live b.now → AreFit s out.new.items) }
+    ensures seated { OnOk result (AreSeated (seat_in a.now b.now) [] out.new.items) }
+    ensures retained { OnOk result ((p : Past) → IsKnownPast p standing.now puts.entry a.now b.now → IsRetained standing.now a.now b.now out.new.items) }
 {
     out.clear();
     let mut first = draw_put(Half::A, a, puts.a, out)?;

@@ -67,7 +67,7 @@ impl End {
     }
 }
 
-/// Whether the number is the last one.
+/// Whether the chain ends in this number.
 fn ends_in(chain: &[u32], no: u32) -> bool
     ensures { result ≡ is_last (last_item chain.now) no }
 {
@@ -116,7 +116,7 @@ impl Cell {
         }
     }
 
-    /// The point of A, where both coincide along a cell that has width.
+    /// The point of A, where neither half is above at either end and the cell has a width.
     fn shared(&self) -> Option<u32>
         ensures { option_to_list result ≡ shared_by self.now }
     {

@@ -1,18 +1,71 @@
-use Rattle.std.proofs.Common.{sym, ◌∙◌, subst, List, ℕ}
-use Rattle.kin_motion.specs.Edits.{Edit, AreFitting}
+use Rattle.std.proofs.Common.{sym, ◌∙◌, subst, Result}
+use Rattle.std.specs.Prelude.{OnOk}
+use Rattle.std.specs.Result.{IsErr}
+use Rattle.std.proofs.lemmas.Result.{IfOk-from_err}
 use Rattle.kin_motion.specs.Kinetics.{ListsFailing}
 use Rattle.kin_overlay.specs.Overlays.{Merge, names_gone}
+use Rattle.kin_env.proofs.Mending.{edited_twice, whole, a_fit, a_less, whole_then, b_fit, b_less, ready, apart, mended, mended_now, mended_leads, mended_facts}
 use Rattle.kin_env.proofs.Tellings.{told_at}
 use Rattle.kin_env.proofs.node.mend.Goals as goal
 
-pub settle-requires-clause-failing : goal.settle-requires-clause-failing
-settle-requires-clause-failing g c =
-    subst (λ (m : Merge). ListsFailing m.facts (names_gone m) (g.O.Signs.scene c.args.now.now) c.deref-3.result.now) (sym c.swap_edits.ensures.merge)
-    (told_at c.args.part (g.O.Signs.scene c.args.now.now) c.args.merge.now c.args.failed.now.items c.args.left.now c.args.right.now c.requires.told
-    c.edit.new.self c.edit-2.new.self c.deref.result.now c.deref-2.result.now c.deref-3.result.now
-    c.deref.ensures.value c.deref-2.ensures.value c.in_ok-edit.ensures.told c.in_ok-edit-2.ensures.told (c.deref-3.ensures.value ∙ c.leave_out_spared.ensures))
+pub edit-requires : goal.edit-requires
+edit-requires g c = let t = c.requires.told in record { whole = whole t; fit = a_fit t c.deref.ensures.value; less = a_less t c.deref.ensures.value }
 
-pub edit-requires-clause-fit : goal.edit-requires-clause-fit
-edit-requires-clause-fit g c =
+pub edit-requires-2 : goal.edit-requires-2
+edit-requires-2 g c =
     let t = c.requires.told in
-    subst (λ (es : List Edit). AreFitting es c.args.merge.now.a) (sym c.deref.ensures.value) (subst (λ (l : List ℕ). AreFitting c.args.left.now.edits.items l) (sym t.of.a_is) t.a_leads.fit)
+    let left = c.deref.ensures.value in
+    let right = c.deref-2.ensures.value in
+    let first = c.in_ok-edit.ensures.told in
+    record { whole = whole_then t left right first; fit = b_fit t left right first; less = b_less t left right first }
+
+pub repair-requires : goal.repair-requires
+repair-requires g c =
+    let s = g.O.Signs.scene c.args.now.now in
+    let is = edited_twice c.args.merge.now c.deref.ensures.value c.deref-2.ensures.value c.in_ok-edit.ensures.told c.in_ok-edit-2.ensures.told c.swap_edits.ensures.merge in
+    record {
+      real = c.requires.real;
+      ready = ready c.requires.told is c.requires.left_some c.requires.right_some;
+      failing =
+          subst (λ (m : Merge). ListsFailing m.facts (names_gone m) s c.deref-3.result.now) (sym c.swap_edits.ensures.merge)
+          (told_at c.args.part s c.args.merge.now c.args.failed.now.items c.args.left.now c.args.right.now c.requires.told
+          c.edit.new.self c.edit-2.new.self c.deref.result.now c.deref-2.result.now c.deref-3.result.now
+          c.deref.ensures.value c.deref-2.ensures.value c.in_ok-edit.ensures.told c.in_ok-edit-2.ensures.told (c.deref-3.ensures.value ∙ c.leave_out_spared.ensures));
+    }
+
+pub returns : goal.returns
+returns g c =
+    let t = c.requires.told in
+    let is = edited_twice c.args.merge.now c.deref.ensures.value c.deref-2.ensures.value c.in_ok-edit.ensures.told c.in_ok-edit-2.ensures.told c.swap_edits.ensures.merge in
+    let k = c.in_ok-repair.ensures.repaired in
+    let last = c.swap_edits-2.ensures.merge in
+    record {
+      of = mended t is k.same last c.requires.real k.rest k.unedited k.settled;
+      settled = mended_now t is k.same last k.settled;
+      leads = mended_leads t is k.same last c.swap_edits-2.ensures.edits k.fit k.lead k.apart;
+      failed = c.clear.ensures.items;
+      changed = mended_facts t is k.same last k.delta;
+      tests = λ keep_a keep_b. k.tests (apart t is keep_a keep_b);
+    }
+
+-- of an `Err` nothing is said
+no_ok : {T E : Type 0} (P : Type 0) (r : Result T E) → IsErr r → OnOk r P
+no_ok {T} {E} P r e = IfOk-from_err r (λ _. P) e
+
+pub returns-in_err-edit : goal.returns-in_err-edit
+returns-in_err-edit g c =
+    let r = c.from_residual.result in
+    let e = c.from_residual.ensures.0 in
+    record { of = no_ok _ r e; settled = no_ok _ r e; leads = no_ok _ r e; failed = no_ok _ r e; changed = no_ok _ r e; tests = no_ok _ r e }
+
+pub returns-in_err-edit-2 : goal.returns-in_err-edit-2
+returns-in_err-edit-2 g c =
+    let r = c.from_residual-in_err-edit-2.result in
+    let e = c.from_residual-in_err-edit-2.ensures.0 in
+    record { of = no_ok _ r e; settled = no_ok _ r e; leads = no_ok _ r e; failed = no_ok _ r e; changed = no_ok _ r e; tests = no_ok _ r e }
+
+pub returns-in_err-repair : goal.returns-in_err-repair
+returns-in_err-repair g c =
+    let r = c.from_residual-in_err-repair.result in
+    let e = c.from_residual-in_err-repair.ensures.0 in
+    record { of = no_ok _ r e; settled = no_ok _ r e; leads = no_ok _ r e; failed = no_ok _ r e; changed = no_ok _ r e; tests = no_ok _ r e }

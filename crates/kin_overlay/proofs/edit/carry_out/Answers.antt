@@ -1,4 +1,4 @@
-use Rattle.std.proofs.Common.{◌≡◌, sym, ap, ◌∙◌, subst, arith, List, [], ◌∷◌, ◌++◌, ℕ, ◌+◌, ◌<◌, ◌≤◌, length, get_or, drop, append_assoc}
+use Rattle.std.proofs.Common.{◌≡◌, sym, ap, ◌∙◌, subst, List, ◌∷◌, ◌++◌, ℕ, ◌+◌, ◌<◌, length, get_or, drop, append_assoc}
 use Rattle.std.proofs.Math.ListN.{drop_of_length-le}
 use Rattle.std.proofs.lemmas.List.{drop_more, append-nil}
 use Rattle.kin_motion.specs.Edits.{Edit, edited, dropped_by_one, all_edited, dropped_by, AreFitting}

@@ -10,7 +10,7 @@ no_doubts-requires c = omega (arith, c.room_for-room.ensures.value, pow_pos c.ar
 
 pub returns-clause-sound : goal.returns-clause-sound
 returns-clause-sound c =
-    let x : Branches = record { alloc = c.args.alloc; size = c.args.size; slots = c.in_ok-slots.slots; nodes = c.in_ok-nodes.nodes; doubts = c.in_ok-doubts.doubts } in
+    let x : Branches = record { alloc = c.args.alloc; size = c.args.size; slots = c.in_ok-slots.slots; nodes = c.in_ok-nodes.nodes; doubts = c.in_ok-doubts.doubts; buffers = tt } in
     let is = c.room_for-room.ensures.value in
     blank_sound x c.requires.low c.requires.high
     (c.in_ok-slots.ensures ∙ ap (λ n. replicate n false) is)

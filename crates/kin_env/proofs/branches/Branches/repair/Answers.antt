@@ -1,4 +1,4 @@
-use Rattle.std.proofs.Common.{◌≡◌, sym, ap, ◌∙◌, subst, arith, ◌+◌, ◌*◌, ◌<◌, ◌/◌, ◌^◌, List, length}
+use Rattle.std.proofs.Common.{◌≡◌, refl, sym, ap, ◌∙◌, subst, arith, ◌+◌, ◌*◌, ◌<◌, ◌/◌, ◌^◌, List, length}
 use Rattle.std.proofs.lemmas.Nat.{pow-add}
 use Rattle.std.proofs.Math.Pow.{pow_pos}
 use Rattle.kin_motion.specs.declared.fact.Placed.{Placed}
@@ -10,7 +10,8 @@ use Rattle.kin_tourney.proofs.Trees.{above_in_doubt}
 use Rattle.kin_env.specs.declared.branches.Branches.{Branches}
 use Rattle.kin_env.specs.Walks.{IsShaped, tree_facts}
 use Rattle.kin_env.proofs.Reports.{reporting_starts, reporting_on}
-use Rattle.kin_env.proofs.Ends.{all_sound, all_right, facts_stay}
+use Rattle.kin_env.proofs.Ends.{all_sound, all_right, chains_stay, facts_stay}
+use Rattle.kin_env.proofs.Paid.{paid_on, orders_from}
 use Rattle.kin_env.proofs.branches.Branches.repair.Goals as goal
 
 perfect : (t : Branches) → IsShaped t → IsPerfect t.doubts.items
@@ -28,6 +29,7 @@ loop-node-init g c =
     record {
       walked = c.requires.walked;
       report = reporting_starts c.args.self.now c.args.out.now c.requires.walked.joined;
+      paid = λ h. omega arith;
       place = subst (λ ds. 0 < c.first_doubt-node.result → IsLowest ds c.first_doubt-node.result) same c.first_doubt-node.ensures.lowest;
       ended = subst (λ ds. c.first_doubt-node.result ≡ 0 → doubt_in ds 1 ≡ Clear) same c.first_doubt-node.ensures.none;
     }
@@ -68,6 +70,7 @@ loop-node-preserved g c =
     record {
       walked = w;
       report = reporting_on c.args.self.now c.loop-node.self x c.args.out.now c.loop-node.out c.renew.new.out v at.doubted i.walked.joined w.joined i.report r;
+      paid = λ keep. paid_on c.args.self.now c.loop-node.self x c.args.out.now c.loop-node.out c.renew.new.out v some at.doubted c.requires.quiet i.report r keep c.args.steps.now c.loop-node.steps c.renew.new.steps i.paid c.in_ok-renew.ensures.tests;
       place = subst (λ ds. 0 < c.next_doubt-node.result → IsLowest ds c.next_doubt-node.result) c.deref-in-loop-node.ensures.value c.next_doubt-node.ensures.lowest;
       ended = λ none. ap (doubt_in x.doubts.items) (let up = c.next_doubt-node.ensures.none none in let one : 1 ≡ v = omega arith in one) ∙ r.cleared;
     }
@@ -87,3 +90,10 @@ returns-clause-delta g c =
     let size_is = ap (λ (b : Branches). b.size) c.quiet_root.ensures.same ∙ i.report.same_size in
     subst (λ (l : List Placed). HasChanged (tree_facts start.size start.nodes.items) l c.args.out.now c.loop-node.out)
     (sym (ap (λ n. tree_facts n x.nodes.items) size_is ∙ facts_stay (g.O.Signs.scene c.args.now.now) c.requires.real t x i.walked (i.ended (omega arith)) c.quiet_root.ensures start.size)) i.report.changed
+
+pub returns-clause-tests : goal.returns-clause-tests
+returns-clause-tests g c = λ keep.
+    let start = c.args.self.now in
+    let i = c.loop-node.invariant in
+    let stay = chains_stay (g.O.Signs.scene c.args.now.now) c.requires.real c.loop-node.self c.quiet_root.new.self i.walked (i.ended (omega arith)) c.quiet_root.ensures in
+    i.paid (orders_from start.size start.size start.nodes.items c.quiet_root.new.self.nodes.items start.nodes.items c.loop-node.self.nodes.items refl (λ v. refl) (λ v. sym (stay v)) keep)

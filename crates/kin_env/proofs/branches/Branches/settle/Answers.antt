@@ -1,12 +1,13 @@
-use Rattle.std.proofs.Common.{◌≡◌, ap, ◌∙◌, subst, arith, List, get_or}
+use Rattle.std.proofs.Common.{◌≡◌, refl, ap, ap₂, ◌∙◌, subst, arith, List, get_or}
 use Rattle.kin_algebra.proofs.Members.{contains_from_get}
 use Rattle.std.proofs.lemmas.Option.{slice_get-get_or}
 use Rattle.kin_algebra.proofs.Results.{for_ok, at_ok}
 use Rattle.kin_motion.specs.declared.fact.Placed.{Placed}
 use Rattle.kin_motion.specs.Kinetics.{HasChanged}
-use Rattle.kin_env.specs.Nodes.{facts_with}
+use Rattle.kin_env.specs.Nodes.{chain_with, facts_with}
 use Rattle.kin_env.specs.Walks.{tree_facts}
 use Rattle.kin_env.proofs.Ends.{walk_starts}
+use Rattle.kin_env.proofs.Paid.{orders_from}
 use Rattle.kin_env.proofs.Reports.{inner_part, tree_same}
 use Rattle.kin_env.proofs.branches.Branches.settle.Goals as goal
 
@@ -28,6 +29,7 @@ repair-requires g c =
     record {
       real = c.requires.real;
       walked = walk_starts (g.O.Signs.scene c.args.now.now) c.requires.real c.args.self.now c.give_failed.new.self c.requires.sound e.shape e.size e.slots c.args.failed.now e.given e.doubted r.live r.spared r.are_spared r.failing;
+      quiet = λ v some. e.given.edits v ∙ c.requires.sound.quiet v some;
     }
 
 pub returns-clause-delta : goal.returns-clause-delta
@@ -39,3 +41,12 @@ returns-clause-delta g c =
     let r = c.repair.result in
     let same : tree_facts x.size x.nodes.items ≡ tree_facts t.size t.nodes.items = ap (λ n. tree_facts n x.nodes.items) e.size ∙ tree_same t.size t.nodes.items x.nodes.items (λ v. ap facts_with (e.given.merge v)) in
     for_ok r _ (λ v k. subst (λ (l : List Placed). HasChanged l (tree_facts y.size y.nodes.items) c.args.out.now c.repair.new.out) same (at_ok r _ v k c.repair.ensures.delta))
+
+pub returns-clause-tests : goal.returns-clause-tests
+returns-clause-tests g c =
+    let t = c.args.self.now in
+    let x = c.give_failed.new.self in
+    let y = c.repair.new.self.nodes.items in
+    let e = c.in_ok-give_failed.ensures in
+    let r = c.repair.result in
+    for_ok r _ (λ v k keep. at_ok r _ v k c.repair.ensures.tests (orders_from t.size x.size t.nodes.items y x.nodes.items y e.size (λ u. ap₂ chain_with (e.given.merge u) (e.given.passed u)) (λ u. refl) keep))

@@ -16,6 +16,15 @@ returns-then-node-len-clause-worked g c =
     for_ok r _ (λ x k. worked_leaf (g.O.Signs.scene c.args.now.now) c.requires.real c.args.self.now c.requires.walked c.args.node c.requires.next high c.visit_leaf.new.self.nodes.items c.args.out.now
     e.room e.others e.merge (at_ok r _ x k e.passed) (at_ok r _ x k e.leads) e.failed)
 
+pub returns-then-node-len-clause-tests : goal.returns-then-node-len-clause-tests
+returns-then-node-len-clause-tests g c = for_ok c.visit_leaf.result _ (λ x k h. omega arith)
+
+pub returns-then-has_work-clause-tests : goal.returns-then-has_work-clause-tests
+returns-then-has_work-clause-tests g c = c.visit.ensures.tests
+
+pub returns-clause-tests : goal.returns-clause-tests
+returns-clause-tests g c = λ h. omega arith
+
 pub returns-then-has_work-clause-worked : goal.returns-then-has_work-clause-worked
 returns-then-has_work-clause-worked g c =
     let inner : c.args.node < 2 ^ c.args.self.now.size = omega (arith, c.requires.walked.shape.slots_room) in

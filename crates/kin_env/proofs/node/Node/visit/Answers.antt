@@ -10,6 +10,7 @@ use Rattle.kin_overlay.specs.Overlays.{Merge}
 use Rattle.kin_env.specs.declared.node.Node.{Node}
 use Rattle.kin_env.specs.Joints.{Leads, IsJoint, IsSettledThere, IsVisited}
 use Rattle.kin_env.specs.Nodes.{chain_with, chain_of, facts_with}
+use Rattle.kin_env.proofs.Paid.{nothing_asked}
 use Rattle.kin_env.proofs.Tellings.{none_failed}
 use Rattle.kin_env.proofs.node.Node.visit.Goals as goal
 
@@ -32,8 +33,18 @@ keep_one-requires-clause-idle g c = none_failed c.args.self.now.merge c.requires
 pub keep_one-requires-then-is_empty-2-clause-idle : goal.keep_one-requires-then-is_empty-2-clause-idle
 keep_one-requires-then-is_empty-2-clause-idle g c = none_failed c.args.self.now.merge c.requires.told.spared (g.O.Signs.scene c.args.now.now) c.args.self.now.failed.items c.requires.told.failing
 
-pub returns-then-is_empty-2 : goal.returns-then-is_empty-2
-returns-then-is_empty-2 g c =
+pub returns-then-is_empty-clause-tests : goal.returns-then-is_empty-clause-tests
+returns-then-is_empty-clause-tests g c =
+    let r = c.keep_one.result in
+    for_ok r _ (λ v e h. nothing_asked _ _ _ _ c.args.steps.now (at_ok r _ v e c.keep_one.ensures.changed))
+
+pub returns-then-is_empty-2-clause-tests : goal.returns-then-is_empty-2-clause-tests
+returns-then-is_empty-2-clause-tests g c =
+    let r = c.keep_one-then-is_empty-2.result in
+    for_ok r _ (λ v e h. nothing_asked _ _ _ _ c.args.steps.now (at_ok r _ v e c.keep_one-then-is_empty-2.ensures.changed))
+
+pub returns-then-is_empty-2-clause-visited : goal.returns-then-is_empty-2-clause-visited
+returns-then-is_empty-2-clause-visited g c =
     let r = c.keep_one-then-is_empty-2.result in
     let e = c.keep_one-then-is_empty-2.ensures in
     let new = c.keep_one-then-is_empty-2.new.self in
@@ -41,8 +52,11 @@ returns-then-is_empty-2 g c =
     for_ok r _ (λ v is. one_kept c.args.part (g.O.Signs.scene c.args.now.now) c.args.self.now new c.args.left.now c.args.right.now c.args.out.now c.keep_one-then-is_empty-2.new.out c.chain-a.result.now
     (at_ok r _ v is e.merge) (at_ok r _ v is e.passed) (inr (empty, c.chain-a.ensures)) (at_ok r _ v is e.leads) (at_ok r _ v is e.failed) (at_ok r _ v is e.changed))
 
-pub returns : goal.returns
-returns g c =
+pub returns-clause-tests : goal.returns-clause-tests
+returns-clause-tests g c = for_ok c.join.result _ (λ v e h. at_ok c.join.result _ v e c.join.ensures.tests)
+
+pub returns-clause-visited : goal.returns-clause-visited
+returns-clause-visited g c =
     let none = c.in_default.is in
     let r = c.join.result in
     let idle = none_failed c.args.self.now.merge c.requires.told.spared (g.O.Signs.scene c.args.now.now) c.args.self.now.failed.items c.requires.told.failing none in

@@ -8,10 +8,11 @@ use Rattle.kin_motion.specs.Deltas.{Change}
 use Rattle.kin_motion.specs.Kinetics.{HasChanged}
 use Rattle.kin_motion.proofs.RealLaws.{real_line_laws}
 use Rattle.kin_chain.proofs.MergeFacts.{rising_once}
-use Rattle.kin_overlay.specs.Fingers.{AreLess}
 use Rattle.kin_overlay.specs.Remembered.{Remembered, facts_of, all_placed}
-use Rattle.kin_overlay.proofs.FactLaws.{merged-settled}
 use Rattle.kin_overlay.specs.Reports.{IsTold}
+use Rattle.kin_overlay.specs.Sound.{IsWhole}
+use Rattle.kin_overlay.proofs.FactLaws.{merged-settled}
+use Rattle.kin_overlay.proofs.PastLaws.{whole-new, whole-cleared}
 use Rattle.kin_overlay.proofs.SoundLaws.{all-born, told-all}
 use Rattle.kin_overlay.proofs.overlay.Overlay.build.Goals as goal
 
@@ -28,11 +29,16 @@ pub invariant_of-result : goal.invariant_of-result
 invariant_of-result g c =
     let s = g.O.Signs.scene c.args.now.now in
     let a = c.args.a.now in
-    let settled = merged-settled s c.requires.real _ _ _ c.args.part _ c.requires.a_some c.requires.b_some c.requires.less c.requires.a_chain c.requires.b_chain c.in_ok-merge.ensures.merged (c.in_ok-merged_chain.ensures s _ _ c.requires.a_some c.requires.b_some c.in_ok-merge.ensures.merged) in
-    record {
-      less = subst (λ (l : List ℕ). AreLess l c.in_ok-copied-2.field-0.items) (sym c.in_ok-copied.ensures) (subst (λ (l : List ℕ). AreLess a l) (sym c.in_ok-copied-2.ensures) c.requires.less);
-      distinct = settled.exact.once;
-    }
+    let b = c.args.b.now in
+    let m = c.merge.new.self in
+    let merged = c.in_ok-merge.ensures.merged in
+    let settled = merged-settled s c.requires.real _ _ _ c.args.part _ c.requires.a_some c.requires.b_some c.requires.less c.requires.a_chain c.requires.b_chain merged (c.in_ok-merged_chain.ensures s _ _ c.requires.a_some c.requires.b_some merged) in
+    let once_a = rising_once s (real_line_laws s c.requires.real) a c.requires.a_chain.rising in
+    let once_b = rising_once s (real_line_laws s c.requires.real) b c.requires.b_chain.rising in
+    let whole = whole-new s c.args.part m a b c.requires.a_some c.requires.b_some once_a once_b c.requires.less settled.exact.once merged in
+    let with_b = subst (λ (l : List ℕ). IsWhole c.args.part m [] [] [] [] [] a l) (sym c.in_ok-copied-2.ensures) whole in
+    let with_both = subst (λ (l : List ℕ). IsWhole c.args.part m [] [] [] [] [] l c.in_ok-copied-2.field-0.items) (sym c.in_ok-copied.ensures) with_b in
+    whole-cleared c.args.part m _ _ _ _ _ _ _ (search rules) (search rules) (search rules) (search rules) (search rules) with_both
 
 pub returns : goal.returns
 returns g c =
@@ -51,6 +57,7 @@ returns g c =
           (subst (λ (l : List ℕ). IsSettledMerge s a l c.merged_chain.new.chain.items c.args.part (all_placed c.args.part (facts_of m))) (sym c.in_ok-copied-2.ensures) settled);
       edits = search rules;
       gone = search rules;
+      unedited = search rules;
       born = subst (λ (d : Change). HasChanged [] (all_placed c.args.part (facts_of m)) d (record { dropped = c.out.inside.dropped.items; born = c.tell_missing.new.told.items })) c.out.view_is done;
       tests = λ ok.
           let told = told-all c.args.part (facts_of m) c.out.inside.born.items c.tell_missing.new.told.items (subst (λ (n : Remembered). IsTold c.args.part (facts_of n) (facts_of m) c.out.inside.born.items c.tell_missing.new.told.items) c.new-none.ensures c.in_ok-tell_missing.ensures) in
@@ -70,28 +77,28 @@ pub returns-in_err-merge : goal.returns-in_err-merge
 returns-in_err-merge g c =
     let r = c.from_residual.result in
     let e = c.from_residual.ensures.0 in
-    record { a = none_made _ r e; b = none_made _ r e; part = none_made _ r e; rest = none_made _ r e; settled = none_made _ r e; edits = none_made _ r e; gone = none_made _ r e; born = none_made _ r e; tests = none_asked _ r e }
+    record { a = none_made _ r e; b = none_made _ r e; part = none_made _ r e; rest = none_made _ r e; settled = none_made _ r e; edits = none_made _ r e; gone = none_made _ r e; unedited = none_made _ r e; born = none_made _ r e; tests = none_asked _ r e }
 
 pub returns-in_err-tell_missing : goal.returns-in_err-tell_missing
 returns-in_err-tell_missing g c =
     let r = c.from_residual-in_err-tell_missing.result in
     let e = c.from_residual-in_err-tell_missing.ensures.0 in
-    record { a = none_made _ r e; b = none_made _ r e; part = none_made _ r e; rest = none_made _ r e; settled = none_made _ r e; edits = none_made _ r e; gone = none_made _ r e; born = none_made _ r e; tests = none_asked _ r e }
+    record { a = none_made _ r e; b = none_made _ r e; part = none_made _ r e; rest = none_made _ r e; settled = none_made _ r e; edits = none_made _ r e; gone = none_made _ r e; unedited = none_made _ r e; born = none_made _ r e; tests = none_asked _ r e }
 
 pub returns-in_err-merged_chain : goal.returns-in_err-merged_chain
 returns-in_err-merged_chain g c =
     let r = c.from_residual-in_err-merged_chain.result in
     let e = c.from_residual-in_err-merged_chain.ensures.0 in
-    record { a = none_made _ r e; b = none_made _ r e; part = none_made _ r e; rest = none_made _ r e; settled = none_made _ r e; edits = none_made _ r e; gone = none_made _ r e; born = none_made _ r e; tests = none_asked _ r e }
+    record { a = none_made _ r e; b = none_made _ r e; part = none_made _ r e; rest = none_made _ r e; settled = none_made _ r e; edits = none_made _ r e; gone = none_made _ r e; unedited = none_made _ r e; born = none_made _ r e; tests = none_asked _ r e }
 
 pub returns-in_err-copied : goal.returns-in_err-copied
 returns-in_err-copied g c =
     let r = c.from_residual-in_err-copied.result in
     let e = c.from_residual-in_err-copied.ensures.0 in
-    record { a = none_made _ r e; b = none_made _ r e; part = none_made _ r e; rest = none_made _ r e; settled = none_made _ r e; edits = none_made _ r e; gone = none_made _ r e; born = none_made _ r e; tests = none_asked _ r e }
+    record { a = none_made _ r e; b = none_made _ r e; part = none_made _ r e; rest = none_made _ r e; settled = none_made _ r e; edits = none_made _ r e; gone = none_made _ r e; unedited = none_made _ r e; born = none_made _ r e; tests = none_asked _ r e }
 
 pub returns-in_err-copied-2 : goal.returns-in_err-copied-2
 returns-in_err-copied-2 g c =
     let r = c.from_residual-in_err-copied-2.result in
     let e = c.from_residual-in_err-copied-2.ensures.0 in
-    record { a = none_made _ r e; b = none_made _ r e; part = none_made _ r e; rest = none_made _ r e; settled = none_made _ r e; edits = none_made _ r e; gone = none_made _ r e; born = none_made _ r e; tests = none_asked _ r e }
+    record { a = none_made _ r e; b = none_made _ r e; part = none_made _ r e; rest = none_made _ r e; settled = none_made _ r e; edits = none_made _ r e; gone = none_made _ r e; unedited = none_made _ r e; born = none_made _ r e; tests = none_asked _ r e }

@@ -3,14 +3,14 @@ use Rattle.kin_motion.specs.Deltas.{Change}
 use Rattle.kin_motion.specs.Kinetics.{HasChanged}
 use Rattle.kin_overlay.specs.Overlays.{Merge}
 use Rattle.kin_overlay.specs.Remembered.{facts_of, all_placed}
-use Rattle.kin_overlay.proofs.SoundLaws.{whole-at-rest, retired}
+use Rattle.kin_overlay.proofs.SoundLaws.{sound-at-rest, retired}
 use Rattle.kin_overlay.proofs.overlay.Overlay.retire.Goals as goal
 
 pub returns : goal.returns
 returns c =
     let o = c.self.inside in
     let rest = ap (λ (m : Merge). m.stage) c.self.view_is ∙ c.requires.rest in
-    let distinct = (whole-at-rest o.stage o.a.items o.b.items (all_placed o.part (facts_of o.list)) rest c.self.invariant).distinct in
+    let distinct = (sound-at-rest o.stage _ rest c.self.invariant).distinct in
     let done = retired o.part o.list c.new-none.result c.out.inside.dropped.items c.tell_missing.new.told.items c.out.inside.born.items c.new-none.ensures distinct c.in_ok-tell_missing.ensures in
     record {
       dropped =
