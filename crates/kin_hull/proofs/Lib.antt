@@ -4,3 +4,10 @@ pub mod Splitting
 pub mod Parts
 pub mod Settling
 pub mod Vacancy
+pub mod Bends
+pub mod Sorted
+pub mod Corners
+pub mod Edges
+pub mod Beginning
+pub mod RecordSums
+pub mod HullSums

@@ -14,7 +14,7 @@ use Rattle.kin_hull.specs.SideLaws.{one_outward, outward_of, not_of_both}
 use Rattle.kin_chain.proofs.Upright.{turned_back}
 
 -- what is a fact of the tree, out in the hull
-abbrev IsOut : Side → (Placed → Type 0) → Placed → Type 0
+abbrev pub IsOut : Side → (Placed → Type 0) → Placed → Type 0
 IsOut side which z = (x : Placed) × which x × (z ≡ outward side x)
 
 -- a fact in a part
@@ -38,8 +38,8 @@ module _ (size : ℕ) (s : Scene) (real : IsReal s) where
         (placed_at (turned s) u.node u.form, record { form = u.form; merge = u.merge; fact = refl }, u.fact ∙ sym (ap (placed_in (2 * u.node + 1)) back)),
   )
 
-  words : (z : Placed) → (IsOut Upper (IsTreeFact size s) z ⊎ IsOut Lower (IsTreeFact size (turned s)) z) ↔ IsHullFact size s z
-  words z = (to, from)
+  pub hull_facts_are_out : (z : Placed) → (IsOut Upper (IsTreeFact size s) z ⊎ IsOut Lower (IsTreeFact size (turned s)) z) ↔ IsHullFact size s z
+  hull_facts_are_out z = (to, from)
     where
       to : IsOut Upper (IsTreeFact size s) z ⊎ IsOut Lower (IsTreeFact size (turned s)) z → IsHullFact size s z
       to (inl h) = inl ((upper_words z).0 h)
@@ -49,12 +49,12 @@ module _ (size : ℕ) (s : Scene) (real : IsReal s) where
       from (inl u) = inl ((upper_words z).1 u)
       from (inr u) = inr ((lower_words z).1 u)
 
-  side_of : (side : Side) (which : Placed → Type 0) (z : Placed) → IsOut side which z → is_of side z ≡ true
+  pub side_of : (side : Side) (which : Placed → Type 0) (z : Placed) → IsOut side which z → is_of side z ≡ true
   side_of side which z h = ap (is_of side) h.2 ∙ outward_of side h.0
 
   pub both_exact : (upper lower : List Placed) → ListsExactly upper (IsTreeFact size s) → ListsExactly lower (IsTreeFact size (turned s)) → ListsExactly (map (outward Upper) upper ++ map (outward Lower) lower) (IsHullFact size s)
   both_exact upper lower u l =
-      exactly_in_words (map (outward Upper) upper ++ map (outward Lower) lower) _ _ words
+      exactly_in_words (map (outward Upper) upper ++ map (outward Lower) lower) _ _ hull_facts_are_out
       (exactly_both (map (outward Upper) upper) (map (outward Lower) lower) (IsOut Upper (IsTreeFact size s)) (IsOut Lower (IsTreeFact size (turned s)))
       (exactly_mapped (outward Upper) upper (IsTreeFact size s) (one_outward Upper) u)
       (exactly_mapped (outward Lower) lower (IsTreeFact size (turned s)) (one_outward Lower) l)

@@ -7,12 +7,12 @@ use Rattle.kin_motion.specs.Chains.{round}
 use Rattle.kin_motion.specs.Contents.{IsSettledHull}
 use Rattle.kin_motion.specs.Numbers.{is_in}
 use Rattle.kin_motion.specs.Scene.{Scene}
-use Rattle.kin_env.specs.Trees.{Envelope, IsEnvelopeAtRest, IsSettledEnvelope, chain_of_slot, top_of}
+use Rattle.kin_env.specs.Trees.{ChainsKeepOrder, Envelope, IsEnvelopeAtRest, IsSettledEnvelope, chain_of_slot, top_of}
 use Rattle.kin_env.specs.Walks.{slot_in}
 use Rattle.kin_hull.specs.declared.side.Side.TheVariants.{Upper, Lower}
 use Rattle.kin_hull.specs.Sides.{outward, seen_from}
 
--- the tree of upper chains, that of upper chains after y is turned round, and false after want of memory
+-- the tree of upper chains, that of upper chains of the points reflected in the x axis, and false after want of memory
 pub record Hull : Type 0 where
   pub upper : Envelope
   pub lower : Envelope
@@ -26,7 +26,7 @@ facts_of k = map (outward Upper) k.upper.facts ++ map (outward Lower) k.lower.fa
 abbrev pub cycle_told : Hull → List ℕ
 cycle_told k = round (top_of k.lower) (top_of k.upper)
 
--- the cycle and the facts are the definition's, and so is what they are read off: a tree of upper chains here and one after y is turned round
+-- the cycle and the facts are the definition's, and so is what they are read off: a tree of upper chains here and one for the points reflected in the x axis
 pub record IsSettledKinHull (k : Hull) (s : Scene) : Type 0 where
   pub hull : IsSettledHull s k.upper.size (cycle_told k) (facts_of k)
   pub upper : IsSettledEnvelope k.upper (seen_from Upper s)
@@ -47,6 +47,11 @@ pub record HasMembers (k : Hull) (set : List ℕ) : Type 0 where
 -- the members as they will be are the live numbers
 abbrev pub IsReadyHull : Hull → Scene → Type 0
 IsReadyHull k s = HasMembers k s.live
+
+-- at each node of both trees, the numbers that its chain has before and after are in the same order in both
+pub record HullsKeepOrder (old new : Hull) : Type 0 where
+  pub upper : ChainsKeepOrder old.upper new.upper
+  pub lower : ChainsKeepOrder old.lower new.lower
 
 -- what is true between two calls: both trees have the same slots and have seen the same marks, and they were settled in one scene
 pub record ArePaired (upper lower : Envelope) : Type 0 where

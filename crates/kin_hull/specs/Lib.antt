@@ -4,3 +4,5 @@ pub mod SideLaws
 pub mod HullFacts
 pub mod Hulls
 pub mod HullLaws
+pub mod Corners
+pub mod RecordSums

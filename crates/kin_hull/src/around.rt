@@ -28,7 +28,8 @@ fn list_new(cycle: &mut Vec<u32>, lower: &[u32], no: u32) -> Result<(), NoMemory
 }
 
 /// The lower chain from left to right, then the upper one from right to left without what is listed
-/// already. The chains of one set of points have at most their ends in common.
+/// already. The chains of one set of points have at most their ends in common, by a lemma
+/// (`proofs/Meetings`).
 pub(crate) fn go_round(alloc: Global, lower: &[u32], upper: &[u32]) -> Result<Vec<u32>, NoMemory>
     requires { MeetAtEnds lower.now upper.now }
     ensures { IfOk result (λ cycle. cycle.items ≡ round lower.now upper.now) }

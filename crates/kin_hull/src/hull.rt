@@ -1,6 +1,6 @@
 //! The kinetic convex hull.
 
-ghost use Rattle.std.specs.Prelude.{◌≡◌, ◌≤◌, ◌<◌, ◌^◌, ℕ, List, [], true, false, slice_set, IsTrue, IsOk, IfOk, OnOk, OnErr};
+ghost use Rattle.std.specs.Prelude.{◌≡◌, ◌≤◌, ◌<◌, ◌^◌, ◌+◌, ◌*◌, ℕ, List, [], length, true, false, slice_set, IsTrue, IsOk, IfOk, OnOk, OnErr};
 ghost use Rattle.kin_motion.specs.declared.fact.Placed.{Placed as Put};
 ghost use Rattle.kin_motion.specs.Chains.{IsHullCycle};
 ghost use Rattle.kin_motion.specs.Forms.{names};
@@ -9,7 +9,7 @@ ghost use Rattle.kin_motion.specs.Numbers.{HasEntered};
 ghost use Rattle.kin_motion.specs.Scene.{Scene, IsReal};
 ghost use Rattle.kin_env.specs.Trees.{names_leaving};
 ghost use Rattle.kin_env.specs.Walks.{slot_in};
-ghost use Rattle.kin_hull.specs.Hulls.{IsHullAtRest, IsReadyHull, IsSettledKinHull, HasMembers, facts_of};
+ghost use Rattle.kin_hull.specs.Hulls.{HullsKeepOrder, IsHullAtRest, IsReadyHull, IsSettledKinHull, HasMembers, facts_of};
 
 use crate::around::go_round;
 use crate::mail::Mail;
@@ -25,8 +25,8 @@ use std::alloc::Global;
 use std::marker::Model;
 use std::sync::ledger::Ledger;
 
-/// The convex hull of moving points: a tree of upper chains, and one of upper chains after y is
-/// turned round.
+/// The convex hull of moving points: a tree of upper chains, and one for the points reflected in the
+/// x axis.
 ///
 /// Node v of the upper tree has part 2v, and node v of the lower tree part 2v + 1.
 #[derive(Drop)]
@@ -51,7 +51,7 @@ impl Model for KinHull {
 }
 
 impl KinHull {
-    /// No points, with room for the numbers below `2^size`.
+    /// No points, with room for the numbers below `2^size`. The size is from 1 to 12.
     pub fn new(alloc: Global, size: u32) -> Result<KinHull, NoMemory>
         requires low { 1 ≤ size }
         requires high { size ≤ 12 }
@@ -70,7 +70,8 @@ impl KinHull {
         })
     }
 
-    /// Marks a number as entering. Both trees take it in at the next `settle`.
+    /// Marks a number as entering: it is below `2^size` and isn't a member, and no other mark waits.
+    /// Both trees take it in at the next `settle`. The answer is always `Ok`.
     pub fn insert(&mut self, no: u32) -> Result<(), NoMemory>
         requires rest { IsHullAtRest self.old }
         requires within { no < 2 ^ self.old.upper.size }
@@ -84,7 +85,8 @@ impl KinHull {
         Ok(())
     }
 
-    /// Marks a number as leaving. Both trees let it go at the next `settle`.
+    /// Marks a member as leaving, where no other mark waits. Both trees let it go at the next
+    /// `settle`.
     pub fn remove(&mut self, no: u32)
         requires rest { IsHullAtRest self.old }
         requires within { no < 2 ^ self.old.upper.size }
@@ -97,9 +99,9 @@ impl KinHull {
         self.lower.clear(no);
     }
 
-    /// The hull cycle: the lower chain from left to right, then the upper one from right to left
-    /// without what is listed already. So it begins at the leftmost point, the lowest of these. No
-    /// sign is asked.
+    /// The hull cycle, where the hull is settled: the lower chain from left to right, then the upper
+    /// one from right to left without what is listed already. So it begins at the lowest of the
+    /// leftmost points (law `cycles_begin_leftmost`). It is given no signs.
     pub fn cycle(&self) -> Result<Vec<u32>, NoMemory>
         requires rest { IsHullAtRest self.now }
         ensures { IfOk result (λ cycle. (s : Scene) → IsSettledKinHull self.now s → IsHullCycle s cycle.items) }
@@ -127,7 +129,9 @@ impl Kinetic for KinHull {
 
     ghost determined = { determined_lem };
 
-    /// Settles the upper tree and then the lower one, each by its own failed facts.
+    /// Settles the upper tree and then the lower one, each by its own failed facts. `failed` lists
+    /// exactly the facts that don't hold and name no number that leaves. After want of memory the
+    /// hull can only be dropped.
     fn settle<O: Signs, L: Ledger>(
         &mut self,
         now: &O,
@@ -141,6 +145,8 @@ impl Kinetic for KinHull {
         ensures rest { OnOk result (IsHullAtRest self.new) }
         ensures settled { OnOk result (IsSettledKinHull self.new (O.scene now.now)) }
         ensures delta { OnOk result (HasChanged (facts_of self.old) (facts_of self.new) out.old out.new) }
+        // At most five signs for each fact born and one for each dropped, where the chains keep their order.
+        ensures tests { OnOk result (HullsKeepOrder self.old self.new → steps.new + (5 * length out.old.born + length out.old.dropped) ≤ steps.old + (5 * length out.new.born + length out.new.dropped)) }
         ensures broken { OnErr result (self.new.whole ≡ false) }
         ensures size { OnOk result (self.new.upper.size ≡ self.old.upper.size) }
         ensures slots { OnOk result (self.new.upper.slots ≡ self.old.upper.slots) }

@@ -1,10 +1,10 @@
 //! The failed facts of the trees of a hull, and what the trees report.
 
-ghost use Rattle.std.specs.Prelude.{◌≡◌, ◌<◌, ◌≤◌, ◌^◌, filter, map, Contains, OnOk};
+ghost use Rattle.std.specs.Prelude.{◌≡◌, ◌<◌, ◌≤◌, ◌^◌, ◌+◌, ◌*◌, length, filter, map, Contains, OnOk};
 ghost use Rattle.kin_motion.specs.declared.fact.Placed.{Placed as Put};
 ghost use Rattle.kin_motion.specs.Kinetics.{ListsFailing, HasChanged};
 ghost use Rattle.kin_motion.specs.Scene.{IsReal};
-ghost use Rattle.kin_env.specs.Trees.{IsEnvelopeAtRest, IsReadyEnvelope, IsSettledEnvelope, names_leaving};
+ghost use Rattle.kin_env.specs.Trees.{ChainsKeepOrder, IsEnvelopeAtRest, IsReadyEnvelope, IsSettledEnvelope, names_leaving};
 ghost use Rattle.kin_hull.specs.Sides.{is_of, outward, inward, items_of};
 
 use crate::side::Side;
@@ -57,6 +57,7 @@ impl Mail {
         ensures rest { OnOk result (IsEnvelopeAtRest tree.new) }
         ensures settled { OnOk result (IsSettledEnvelope tree.new (O.scene now.now)) }
         ensures delta { OnOk result (HasChanged (map (outward side) tree.old.facts) (map (outward side) tree.new.facts) out.old out.new) }
+        ensures tests { OnOk result (ChainsKeepOrder tree.old tree.new → steps.new + (5 * length out.old.born + length out.old.dropped) ≤ steps.old + (5 * length out.new.born + length out.new.dropped)) }
         ensures same { OnOk result (tree.new ≡ record tree.old { chains = tree.new.chains; facts = tree.new.facts }) }
         ensures others { self.new.failed ≡ self.old.failed }
     {

@@ -12,11 +12,11 @@ use kin_motion::form::Form;
 pub enum Side {
     /// The tree of upper chains.
     Upper,
-    /// The tree of upper chains after y is turned round.
+    /// The tree of upper chains of the points reflected in the x axis.
     Lower,
 }
 
-/// The fact as it is seen after y is turned round.
+/// The fact as it is seen of the points reflected in the x axis.
 fn turned(fact: Fact) -> Fact
     ensures { result ≡ turned_fact fact }
 {

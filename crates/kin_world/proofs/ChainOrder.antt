@@ -19,7 +19,7 @@ use Rattle.kin_motion.specs.Live.{owned_by}
 use Rattle.kin_motion.specs.Merges.{IsHullFact, points_under}
 use Rattle.kin_motion.specs.Moments.{IsFromUntil, HoldsAt}
 use Rattle.kin_motion.specs.Numbers.{IsIn}
-use Rattle.kin_motion.specs.Scene.{Scene, IsReal, scene_at, x_sign}
+use Rattle.kin_motion.specs.Scene.{Scene, IsReal, scene_at, turned, x_sign}
 use Rattle.kin_motion.proofs.ChainLaws.{chain_within, plus_from}
 use Rattle.kin_motion.proofs.LiveLaws.{live-members}
 use Rattle.kin_motion.proofs.Members.{in_from_contains}
@@ -32,7 +32,8 @@ use Rattle.kin_chain.proofs.NodeChains.{under_live}
 use Rattle.kin_hull.specs.declared.side.Side.{Side}
 use Rattle.kin_hull.specs.declared.side.Side.TheVariants.{Upper, Lower}
 use Rattle.kin_hull.specs.Sides.{seen_from}
-use Rattle.kin_world.specs.ChainOrder.{IsChainOfNode, NodesKeepOrder, TreesKeepOrder, BlocksKeepOrder, InsertionsKeepOrder, RemovalsKeepOrder}
+use Rattle.kin_env.specs.Trees.{Envelope, IsSettledEnvelope, ChainsKeepOrder, chain_told}
+use Rattle.kin_world.specs.ChainOrder.{IsChainOfNode, NodesKeepOrder, TreesKeepOrder, BlocksKeepOrder, InsertionsKeepOrder, RemovalsKeepOrder, HullsFollowTrees}
 use Rattle.kin_world.proofs.HullSights.{left_is_strict, seen_real, seen_live, seen_left, tree_holds}
 use Rattle.kin_world.proofs.NoJumps.{no_jump}
 use Rattle.kin_world.proofs.TwoOrders.{AreExchanged, before_in_both, keep_order}
@@ -174,3 +175,17 @@ removals_keep_order ms size leaving m = alike_keeps ms (without ms leaving) alik
         at : (motion_of (without ms leaving) i ≡ None) ⊎ (motion_of (without ms leaving) i ≡ motion_of ms i) → motion_of ms i ≡ motion_of (without ms leaving) i
         at (inl gone) = absurd (let clash : true ≡ false = sym now ∙ live-members (without ms leaving) i ∙ ap is_some gone in cc)
         at (inr stays) = sym stays
+
+-- ---- the chains that settled structures have
+chains_follow : (size : ℕ) (v w : Scene) (old new : Envelope) → old.size ≡ size → new.size ≡ size → IsSettledEnvelope old v → IsSettledEnvelope new w → NodesKeepOrder size v w → ChainsKeepOrder old new
+chains_follow size v w old new same_old same_new was is keep = λ node some low.
+    let within : node < 2 * 2 ^ size = subst (λ (n : ℕ). node < 2 * 2 ^ n) same_old low in
+    let before = subst (λ (n : ℕ). IsChainOfNode n v node (chain_told old node)) same_old (was.chains node some low) in
+    let after = subst (λ (n : ℕ). IsChainOfNode n w node (chain_told new node)) same_new (is.chains node some (subst (λ (n : ℕ). node < 2 * 2 ^ n) (sym same_new) within)) in
+    keep node (chain_told old node) (chain_told new node) some within before after
+
+pub hulls_follow_trees : HullsFollowTrees
+hulls_follow_trees size v w old new same_old same_new was is keep = record {
+  upper = chains_follow size v w old.upper new.upper same_old same_new was.upper is.upper keep.upper;
+  lower = chains_follow size (turned v) (turned w) old.lower new.lower (was.size ∙ same_old) (is.size ∙ same_new) was.lower is.lower keep.lower;
+}
