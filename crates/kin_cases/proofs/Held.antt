@@ -1,13 +1,17 @@
 -- What the slots of a contest hold.
 use Rattle.std.proofs.Common.{◌≡◌, ◌≢◌, ◌⊎◌, inl, inr, refl, sym, ap, ap₂, ◌∙◌, subst, arith, List, [], ◌∷◌, ℕ, zero, suc, ◌^◌, ◌<◌, ◌≤◌, length, Bool, true, false, replicate}
 use Rattle.std.specs.Prelude.{Option, Some, None, slice_set}
+use Rattle.std.proofs.lemmas.List.Elements.{All-nil, All-cons}
 use Rattle.std.proofs.lemmas.List.{length-set, length-replicate, get_or-set_same, get_or-set_other}
 use Rattle.std.proofs.lemmas.Bool.{cases_eq}
+use Rattle.kin_num.specs.declared.instant.Moment.{Moment}
 use Rattle.kin_motion.specs.Course.{Course, live_of}
 use Rattle.kin_motion.specs.Numbers.{IsIn}
+use Rattle.kin_motion.specs.Scene.{scene_at}
 use Rattle.kin_motion.specs.Tournaments.{item_in}
 use Rattle.kin_tourney.specs.declared.along.Along.{Along}
-use Rattle.kin_tourney.specs.Tournament.{Tournament, IsAtRest, mark_in}
+use Rattle.kin_tourney.specs.Points.{point_names}
+use Rattle.kin_tourney.specs.Tournament.{Tournament, IsAtRest, IsReady, mark_in}
 use Rattle.kin_cases.specs.Contests.{IsHeld}
 
 -- a list of marks without a mark
@@ -39,6 +43,18 @@ held_at_first size motions slots marks t small same none unmarked rest empty cle
   live = λ i a e. absurd (none_in (2 ^ size) i a (ap (λ (s : List (Option ℕ)). item_in s i) (sym empty) ∙ e));
   rest = λ h. rest;
 }
+
+-- a contest may settle at each moment
+pub held_ready : (size : ℕ) (motions : List (Option Course)) (slots : List (Option ℕ)) (marks : List Bool) (is_settled : Bool) (t : Tournament Along ℕ) (m : Moment)
+    → IsHeld size motions slots marks is_settled t → IsReady point_names t (scene_at motions m)
+held_ready size motions slots marks is_settled t m held = record {
+  whole = held.whole;
+  apart = λ i j a e f. held.apart i j a (there i a e) (there j a f);
+  live = λ i a e. All-cons (λ k. IsIn k (live_of motions)) a [] (held.live i a (there i a e)) (All-nil (λ k. IsIn k (live_of motions)));
+}
+  where
+    there : (i a : ℕ) → item_in t.slots i ≡ Some a → item_in slots i ≡ Some a
+    there i a e = ap (λ (s : List (Option ℕ)). item_in s i) (sym held.slots_are) ∙ e
 
 -- the contest after a settle
 pub held_after : (size : ℕ) (motions : List (Option Course)) (slots : List (Option ℕ)) (marks marks' : List Bool) (is_settled : Bool) (t u : Tournament Along ℕ)

@@ -6,3 +6,4 @@ pub mod Followed
 pub mod ByTests
 pub mod ToldMerges
 pub mod Marked
+pub mod Keepings

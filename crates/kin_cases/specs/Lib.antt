@@ -1,4 +1,4 @@
-pub mod Orders
+pub mod Keepings
 pub mod Contests
 pub mod Octants
 pub mod Merges

@@ -1,13 +1,12 @@
 -- A merge of two chains with what it was given.
-use Rattle.std.specs.Prelude.{◌≡◌, ℕ, ◌<◌, List, [], length}
+use Rattle.std.specs.Prelude.{◌≡◌, ◌≢◌, ℕ, ◌<◌, List, [], length}
 use Rattle.kin_motion.specs.Chains.{IsUpperChain}
-use Rattle.kin_motion.specs.Edits.{Edit, all_edited}
 use Rattle.kin_motion.specs.Scene.{Scene}
 use Rattle.kin_overlay.specs.declared.half.Half.{Half}
 use Rattle.kin_overlay.specs.declared.half.Half.TheVariants.{A, B}
-use Rattle.kin_overlay.specs.declared.stage.Stage.TheVariants.{Rest}
+use Rattle.kin_overlay.specs.declared.stage.Stage.TheVariants.{Rest, Broken}
 use Rattle.kin_overlay.specs.Fingers.{AreLive, AreLess}
-use Rattle.kin_overlay.specs.Overlays.{Merge, told, told_chain}
+use Rattle.kin_overlay.specs.Overlays.{Merge, told_chain}
 
 -- the list may be given as a chain of a merge
 pub record IsTellable (s : Scene) (chain : List ℕ) : Type 0 where
@@ -33,9 +32,16 @@ other_chain B m = m.a
 
 -- a merge after edits of a half that lead to this chain
 pub record IsToldOf (half : Half) (old : Merge) (chain : List ℕ) (new : Merge) : Type 0 where
-  pub edits : List Edit
-  pub told : new ≡ told half edits old
-  pub lead : all_edited edits (told_chain half old) ≡ chain
+  pub whole : new.stage ≢ Broken
+  pub own : told_chain half new ≡ chain
+  pub other : other_chain half new ≡ other_chain half old
+
+-- a merge that was told these chains, with the numbers that were dropped
+pub record IsTelling (a b gone : List ℕ) (m : Merge) : Type 0 where
+  pub whole : m.stage ≢ Broken
+  pub a_is : m.a ≡ a
+  pub b_is : m.b ≡ b
+  pub gone_is : m.gone ≡ gone
 
 -- a merge at rest whose given chains are these
 pub record IsRun (a b : List ℕ) (m : Merge) : Type 0 where

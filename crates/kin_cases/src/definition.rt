@@ -175,6 +175,13 @@ pub fn is_difference(report: &Delta, before: &[Placed], after: &[Placed]) -> boo
     is_lacking(&report.dropped, before, after) && is_lacking(&report.born, after, before)
 }
 
+/// Whether so many signs were asked at most as five for each fact born, and one for each dropped.
+pub fn are_few(asked: u64, report: &Delta) -> bool {
+    let born = report.born.len() as u64;
+    let dropped = report.dropped.len() as u64;
+    asked <= born.saturating_mul(5).saturating_add(dropped)
+}
+
 /// Whether the list has exactly those facts that others lack, each once.
 fn is_lacking(list: &[Placed], facts: &[Placed], others: &[Placed]) -> bool {
     let are_missing = list
@@ -209,23 +216,36 @@ fn edited(alloc: Global, edit: &ChainEdit, list: &[u32]) -> Result<Vec<u32>, Fau
     Ok(after)
 }
 
-/// Whether the edits lead from one list to another, and drop and put no number that both have.
+/// The numbers of a list that are in another one, too.
+fn common(alloc: Global, list: &[u32], other: &[u32]) -> Result<Vec<u32>, Fault> {
+    let mut common = Vec::new(alloc);
+    for no in list {
+        if other.contains(no) {
+            common.push(*no).map_err(|_| Fault::NoMemory)?;
+        }
+    }
+    Ok(common)
+}
+
+/// Whether the edits lead from one list to another. Where the numbers that both have keep their order,
+/// no edit may drop or put one of them.
 pub fn are_short(
     alloc: Global,
     edits: &[ChainEdit],
     old: &[u32],
     new: &[u32],
 ) -> Result<bool, Fault> {
+    let keeps_order = common(alloc, old, new)?.as_slice() == common(alloc, new, old)?.as_slice();
     let mut list = Vec::from_slice(alloc, old)?;
     for edit in edits {
-        if edit.put.as_slice().iter().any(|no| old.contains(no)) {
+        if keeps_order && edit.put.as_slice().iter().any(|no| old.contains(no)) {
             return Ok(false);
         }
         let after = edited(alloc, edit, &list)?;
-        if list
+        let drops = list
             .iter()
-            .any(|no| new.contains(no) && !after.contains(no))
-        {
+            .any(|no| new.contains(no) && !after.contains(no));
+        if keeps_order && drops {
             return Ok(false);
         }
         list = after;

@@ -24,6 +24,8 @@ pub struct Driver<K: Kinetic + Drop> {
     pub(crate) alloc: Global,
     pub(crate) structure: K,
     pub(crate) facts: Vec<Placed>,
+    /// What the last call reported.
+    pub(crate) report: Delta,
 }
 
 impl<K: Kinetic + Drop> Model for Driver<K> {
@@ -47,6 +49,7 @@ impl<K: Kinetic + Drop> Driver<K> {
             alloc,
             structure,
             facts: Vec::new(alloc),
+            report: Delta::new(alloc),
         }
     }
 
@@ -62,6 +65,11 @@ impl<K: Kinetic + Drop> Driver<K> {
         ensures { AreDistinct result.now }
     {
         &self.facts
+    }
+
+    /// What the last call reported.
+    pub fn report(&self) -> &Delta {
+        &self.report
     }
 }
 
@@ -83,6 +91,7 @@ impl<K: Steady> Driver<K> {
             alloc,
             mut structure,
             facts,
+            report: _,
         } = self;
         let failed = failing_at(alloc, &facts, now, spares)?;
         let mut out = Delta::new(alloc);
@@ -92,6 +101,7 @@ impl<K: Steady> Driver<K> {
             alloc,
             structure,
             facts,
+            report: out,
         })
     }
 }

@@ -11,7 +11,7 @@ use crate::spares::SparesNamed;
 use crate::watch::{Tally, Watch};
 use kin_env::EnvTree;
 use kin_fail::Now;
-use kin_motion::{Motion, Motions, Placed};
+use kin_motion::{Delta, Motion, Motions, Placed};
 use kin_num::{Moment, Steps};
 use std::alloc::Global;
 use std::marker::Model;
@@ -154,6 +154,11 @@ impl Envelope {
     /// The live facts, in any order.
     pub fn facts(&self) -> &[Placed] {
         self.tree.facts()
+    }
+
+    /// What the last settle reported.
+    pub fn report(&self) -> &Delta {
+        self.tree.report()
     }
 
     /// The motions at a moment.

@@ -18,6 +18,8 @@ pub enum Fault {
     NotReady,
     /// A structure isn't what its definition says.
     Differs,
+    /// No sign was asked, or one with another counter than the caller's.
+    NotCounted,
 }
 
 impl From<NoMemory> for Fault {

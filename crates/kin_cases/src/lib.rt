@@ -5,6 +5,7 @@
 //! A `Watch` gives signs and counts its calls by itself.
 #![tactic(auto)]
 
+pub mod answer;
 pub mod ask;
 pub mod chains;
 pub mod contest;
@@ -14,12 +15,13 @@ pub mod envelope;
 pub mod failing;
 pub mod failures;
 pub mod fault;
+pub mod keeping;
 pub mod merging;
 pub mod moments;
 pub mod octants;
-pub mod order;
 pub mod random;
 pub mod scene;
 pub mod spares;
+pub mod telling;
 pub mod watch;
 pub mod written;

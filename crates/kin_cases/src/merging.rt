@@ -1,25 +1,20 @@
 //! A merge of two chains.
 
-ghost use Rattle.std.specs.Prelude.{◌≡◌, ◌≢◌, ◌<◌, [], IsTrue, IfOk, OnOk};
+ghost use Rattle.std.specs.Prelude.{◌≡◌, ◌<◌, IsTrue, IfOk, OnOk};
 ghost use Rattle.std.specs.List.{All};
 ghost use Rattle.kin_motion.specs.Scene.{IsReal};
 ghost use Rattle.kin_motion.specs.Sets.{AreDistinct};
-ghost use Rattle.kin_overlay.specs.declared.stage.Stage.TheVariants.{Broken, Rest};
-ghost use Rattle.kin_overlay.specs.Overlays.{told_chain, IsReady, IsSameMerge};
-ghost use Rattle.kin_cases.specs.Merges.{IsTellable, MayBeTold, AreApart, IsToldOf, other_chain};
+ghost use Rattle.kin_cases.specs.Merges.{IsTellable, MayBeTold};
 
 use crate::ask::{Sight, are_live};
 use crate::driver::Driver;
-use crate::failing::{after, failing};
+use crate::failing::after;
 use crate::fault::Fault;
-use crate::spares::SparesNamed;
-use kin_motion::kinetic::Kinetic;
+use crate::telling::{Edited, Telling};
 use kin_motion::signs::Signs;
 use kin_motion::{Delta, Placed};
 use kin_num::Steps;
-use kin_overlay::diff::diff;
-use kin_overlay::edit::carry_out;
-use kin_overlay::{ChainEdit, Half, Overlay};
+use kin_overlay::{ChainEdit, Overlay};
 use std::alloc::Global;
 use std::marker::Model;
 use std::sync::ledger::Ledger;
@@ -37,7 +32,7 @@ fn is_below(no: u32, list: &[u32]) -> bool
 }
 
 /// Whether every number of one list is less than every number of another.
-fn are_less(a: &[u32], b: &[u32]) -> bool
+pub(crate) fn are_less(a: &[u32], b: &[u32]) -> bool
     ensures { IsTrue result → All (λ i. All (λ j. i < j) b.now) a.now }
 {
     for no in a {
@@ -60,7 +55,7 @@ fn is_tellable<O: Signs>(now: &Sight<'_, O>, chain: &[u32]) -> Result<bool, Faul
 }
 
 /// Tests that both may be given as the chains of a merge.
-fn ask_chains<O: Signs>(now: &Sight<'_, O>, a: &[u32], b: &[u32]) -> Result<(), Fault>
+pub(crate) fn ask_chains<O: Signs>(now: &Sight<'_, O>, a: &[u32], b: &[u32]) -> Result<(), Fault>
     ensures { OnOk result (MayBeTold (O.scene now.now.signs.now) a.now b.now) }
 {
     let is_a_tellable = is_tellable(now, a)?;
@@ -71,85 +66,16 @@ fn ask_chains<O: Signs>(now: &Sight<'_, O>, a: &[u32], b: &[u32]) -> Result<(), 
     Ok(())
 }
 
-impl Driver<Overlay> {
-    /// Gives the new chain of a half, and notes the numbers that are dropped.
-    fn tell(
-        self,
-        half: Half,
-        old: &[u32],
-        new: &[u32],
-        gone: &mut Vec<u32>,
-    ) -> Result<Driver<Overlay>, Fault>
-        requires whole { self.stage ≢ Broken }
-        requires old { told_chain half self ≡ old.now }
-        requires apart { AreApart half new.now (other_chain half self) }
-        requires gone { self.gone ≡ gone.old.items }
-        ensures told { IfOk result (IsToldOf half self new.now) }
-        ensures gone { IfOk result (λ m. m.gone ≡ gone.new.items) }
-    {
-        let Driver {
-            alloc,
-            mut structure,
-            facts,
-        } = self;
-        let mut edits = Vec::new(alloc);
-        diff(alloc, old, new, &mut edits)?;
-        let mut chain = Vec::from_slice(alloc, old)?;
-        let mut spare = Vec::new(alloc);
-        carry_out(&edits, &mut chain, gone, &mut spare)?;
-        structure.edit(half, &edits)?;
-        Ok(Driver {
-            alloc,
-            structure,
-            facts,
-        })
-    }
-
-    /// Settles the merge at a moment, by the facts that fail there and name no dropped number.
-    fn settle_merge<P: Signs, O: Signs, L: Ledger>(
-        self,
-        gone: &[u32],
-        sight: &Sight<'_, P>,
-        now: &O,
-        steps: &mut Steps<L>,
-    ) -> Result<(Driver<Overlay>, Delta), Fault>
-        requires real { IsReal (O.scene now.now) }
-        requires same { P.scene sight.now.signs.now ≡ O.scene now.now }
-        requires ready { IsReady self (O.scene now.now) }
-        requires gone { self.gone ≡ gone.now }
-        ensures rest { IfOk result (λ r. r.0.stage ≡ Rest) }
-        ensures same { IfOk result (λ r. IsSameMerge self r.0) }
-        ensures gone { IfOk result (λ r. r.0.gone ≡ []) }
-    {
-        let Driver {
-            alloc,
-            mut structure,
-            facts,
-        } = self;
-        let failed = failing(alloc, &facts, sight, &SparesNamed { gone })?;
-        let mut out = Delta::new(alloc);
-        structure.settle(now, &failed, &mut out, steps)?;
-        let facts = after(alloc, &facts, &out)?;
-        Ok((
-            Driver {
-                alloc,
-                structure,
-                facts,
-            },
-            out,
-        ))
-    }
-}
-
-/// A merge of two chains of points that have motions, and what its last call reported.
+/// A merge of two chains of points that have motions.
 #[derive(Drop)]
 pub struct Merging {
-    alloc: Global,
-    overlay: Driver<Overlay>,
+    pub(crate) alloc: Global,
+    pub(crate) overlay: Driver<Overlay>,
     /// The given chains.
-    a: Vec<u32>,
-    b: Vec<u32>,
-    report: Delta,
+    pub(crate) a: Vec<u32>,
+    pub(crate) b: Vec<u32>,
+    /// Whether no half was told edits that put a number and dropped it before the last settle.
+    pub(crate) is_apart: bool,
 }
 
 impl Model for Merging {
@@ -185,6 +111,7 @@ impl Merging {
             alloc,
             structure,
             facts,
+            report,
         };
         let a = Vec::from_slice(alloc, a)?;
         let b = Vec::from_slice(alloc, b)?;
@@ -193,46 +120,28 @@ impl Merging {
             overlay,
             a,
             b,
-            report,
+            is_apart: true,
         })
     }
 
-    /// Goes on to a moment at which the halves have these chains.
-    pub fn go<P: Signs, O: Signs, L: Ledger>(
-        self,
-        a: &[u32],
-        b: &[u32],
-        sight: &Sight<'_, P>,
-        now: &O,
-        steps: &mut Steps<L>,
-    ) -> Result<Merging, Fault>
-        requires real { IsReal (O.scene now.now) }
-        requires same { P.scene sight.now.signs.now ≡ O.scene now.now }
-    {
+    /// Begins to tell new chains.
+    pub fn begin(self) -> Telling {
         let Merging {
-            alloc,
-            overlay,
-            a: old_a,
-            b: old_b,
-            report: _,
-        } = self;
-        ask_chains(sight, a, b)?;
-        if !are_less(a, &old_b) {
-            return Err(Fault::NotReady);
-        }
-        let mut gone = Vec::new(alloc);
-        let overlay = overlay.tell(Half::A, &old_a, a, &mut gone)?;
-        let overlay = overlay.tell(Half::B, &old_b, b, &mut gone)?;
-        let (overlay, report) = overlay.settle_merge(&gone, sight, now, steps)?;
-        let a = Vec::from_slice(alloc, a)?;
-        let b = Vec::from_slice(alloc, b)?;
-        Ok(Merging {
             alloc,
             overlay,
             a,
             b,
-            report,
-        })
+            is_apart: _,
+        } = self;
+        Telling {
+            alloc,
+            overlay,
+            a,
+            b,
+            gone: Vec::new(alloc),
+            of_a: Edited::new(alloc),
+            of_b: Edited::new(alloc),
+        }
     }
 
     /// Ends the merge. What is left of its facts is given back.
@@ -242,12 +151,13 @@ impl Merging {
             overlay,
             a: _,
             b: _,
-            report: _,
+            is_apart: _,
         } = self;
         let Driver {
             alloc: _,
             structure,
             facts,
+            report: _,
         } = overlay;
         let mut report = Delta::new(alloc);
         structure.retire(&mut report)?;
@@ -263,7 +173,12 @@ impl Merging {
 
     /// What the last call reported.
     pub fn report(&self) -> &Delta {
-        &self.report
+        self.overlay.report()
+    }
+
+    /// Whether the edits of no half put a number and dropped it before the last settle.
+    pub fn is_apart(&self) -> bool {
+        self.is_apart
     }
 
     /// The merged chain.

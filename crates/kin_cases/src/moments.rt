@@ -25,6 +25,17 @@ pub fn after(second: i64) -> Moment
     }
 }
 
+/// At so many parts of a second, if there are any.
+pub fn at_fraction(number: u16, parts: u16) -> Option<Moment> {
+    if parts == 0 {
+        return None;
+    }
+    Some(Moment {
+        at: ratio(i64::from(number), i64::from(parts)),
+        phase: Phase::At,
+    })
+}
+
 /// At the greater root of `t^2 - 2`.
 pub fn at_the_root_of_two() -> Moment {
     let root = match roots(&Poly::new(1, 0, -2)) {

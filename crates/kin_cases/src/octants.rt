@@ -31,12 +31,14 @@ impl Driver<Wedges> {
             alloc,
             mut structure,
             facts,
+            report,
         } = self;
         structure.insert(no)?;
         Ok(Driver {
             alloc,
             structure,
             facts,
+            report,
         })
     }
 

@@ -19,27 +19,31 @@ pub trait Scene: Copy {
     fn go<L: Ledger>(self, alloc: Global, steps: &mut Steps<L>) -> Result<(u64, u64), Fault>;
 }
 
-/// Whether all is as it is written, and signs are asked with the caller's counter alone.
-fn goes_by<S: Scene, L: Ledger>(alloc: Global, scene: S, blank: Blank) -> Result<bool, Fault>
+/// Goes through a scene, where signs have to be asked with the caller's counter alone.
+fn goes_by<S: Scene, L: Ledger>(alloc: Global, scene: S, blank: Blank) -> Result<(), Fault>
     requires name { blank.name ≡ L.name }
     requires parts { blank.parts ≡ L.parts }
     requires some { 0 < L.parts }
 {
     let mut steps = Steps::<Callers<L>>::open(blank);
     let (all, counted) = scene.go(alloc, &mut steps)?;
-    Ok(all > 0 && all == counted)
+    if all > 0 && all == counted {
+        Ok(())
+    } else {
+        Err(Fault::NotCounted)
+    }
 }
 
 /// The same with a counter that is made here.
-fn goes<S: Scene>(alloc: Global, scene: S) -> Result<bool, Fault> {
+fn goes<S: Scene>(alloc: Global, scene: S) -> Result<(), Fault> {
     goes_by::<S, Brand>(alloc, scene, Blank::new(1))
 }
 
-/// The points of the first scene that goes otherwise, if there is one.
-pub fn first_wrong<S: Scene>(alloc: Global, scenes: &[S]) -> Option<&'static str> {
+/// The points of the first scene that goes otherwise, and why it stops, if there is one.
+pub fn first_wrong<S: Scene>(alloc: Global, scenes: &[S]) -> Option<(&'static str, Fault)> {
     for scene in scenes {
-        if !matches!(goes(alloc, *scene), Ok(true)) {
-            return Some(scene.points());
+        if let Err(fault) = goes(alloc, *scene) {
+            return Some((scene.points(), fault));
         }
     }
     None

@@ -52,7 +52,12 @@ impl Tally {
         }
     }
 
-    /// How often it was asked since the last look, and how often with the caller's counter.
+    /// How often it was asked since the last `take`.
+    pub fn asked(&self) -> u64 {
+        self.all.get()
+    }
+
+    /// How often it was asked since the last `take`, and how often with the caller's counter.
     pub fn take(&self) -> (u64, u64) {
         let asked = (self.all.get(), self.callers.get());
         self.all.set(0);

@@ -3,7 +3,7 @@
 ghost use Rattle.std.specs.Prelude.{◌≡◌, ◌≤◌, ◌^◌, unsigned_abs, length, IfSome, IfOk};
 
 use crate::fault::Fault;
-use crate::moments::{after, at, at_the_root_of_two};
+use crate::moments::{after, at, at_fraction, at_the_root_of_two};
 use kin_motion::{Motion, Motions};
 use kin_num::Moment;
 use std::alloc::Global;
@@ -47,10 +47,23 @@ pub fn motions(alloc: Global, text: &str) -> Result<(Motions, u32), Fault> {
     Ok((motions, 8))
 }
 
-/// A whole second, `5`, or the moments just after it, `5+`, or `root`, the greater root of `t^2 - 2`.
+/// The parts of a fraction, `1/2`.
+fn fraction(text: &str) -> Option<Moment> {
+    let (number, parts) = text.split_once('/')?;
+    match (number.parse::<u16>(), parts.parse::<u16>()) {
+        (Ok(number), Ok(parts)) => at_fraction(number, parts),
+        _ => None,
+    }
+}
+
+/// A whole second, `5`, or a fraction, `1/2`, or the moments just after a second, `5+`, or `root`, the
+/// greater root of `t^2 - 2`.
 fn moment(text: &str) -> Option<Moment> {
     if text == "root" {
         return Some(at_the_root_of_two());
+    }
+    if text.contains('/') {
+        return fraction(text);
     }
     if let Some(second) = text.strip_suffix('+') {
         return match second.parse::<u16>() {
@@ -62,6 +75,18 @@ fn moment(text: &str) -> Option<Moment> {
         Ok(second) => Some(at(i64::from(second))),
         Err(_) => None,
     }
+}
+
+/// Numbers with spaces between.
+pub fn numbers(alloc: Global, text: &str) -> Result<Vec<u32>, Fault> {
+    let mut numbers = Vec::new(alloc);
+    for word in text.split_whitespace() {
+        let Ok(no) = word.parse::<u32>() else {
+            return Err(Fault::NotNew);
+        };
+        numbers.push(no).map_err(|_| Fault::NoMemory)?;
+    }
+    Ok(numbers)
 }
 
 /// The moment of a line as `5: 0 1 2 / 3`, and what follows the colon.

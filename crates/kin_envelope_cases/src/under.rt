@@ -3,7 +3,7 @@
 ghost use Rattle.std.specs.Prelude.{◌≤◌, ◌<◌, ◌^◌};
 
 use kin_cases::ask::Sight;
-use kin_cases::definition::{are_same, facts_of_merge};
+use kin_cases::definition::{are_few, are_same, facts_of_merge};
 use kin_cases::envelope::Envelope;
 use kin_cases::fault::Fault;
 use kin_cases::watch::Tally;
@@ -83,7 +83,8 @@ fn is_right<'a>(alloc: Global, envelope: &'a Envelope, moment: &'a Moment) -> Re
     Ok(chain.as_slice() == envelope.top() && are_same(&facts, envelope.facts()))
 }
 
-/// Settles at a moment. The chain and the facts have to be those of the definition.
+/// Settles at a moment. The chain and the facts have to be those of the definition, and few signs may be
+/// asked.
 pub fn go<L: Ledger>(
     alloc: Global,
     envelope: Envelope,
@@ -91,8 +92,10 @@ pub fn go<L: Ledger>(
     tally: &Tally,
     steps: &mut Steps<L>,
 ) -> Result<Envelope, Fault> {
+    let before = tally.asked();
     let envelope = envelope.settle(moment, tally, steps)?;
-    if is_right(alloc, &envelope, moment)? {
+    let asked = tally.asked().wrapping_sub(before);
+    if is_right(alloc, &envelope, moment)? && are_few(asked, envelope.report()) {
         Ok(envelope)
     } else {
         Err(Fault::Differs)

@@ -4,6 +4,8 @@
 #[cfg(test)]
 mod certificates;
 #[cfg(test)]
+mod edits;
+#[cfg(test)]
 mod halves;
 #[cfg(test)]
 mod merges;

@@ -4,9 +4,10 @@ ghost use Rattle.std.specs.Prelude.{◌≡◌};
 ghost use Rattle.kin_motion.specs.Scene.{IsReal};
 
 use kin_cases::ask::Sight;
-use kin_cases::definition::{are_same, are_short, facts_of_merge, is_difference};
+use kin_cases::definition::{are_few, are_same, are_short, facts_of_merge, is_difference};
 use kin_cases::fault::Fault;
 use kin_cases::merging::Merging;
+use kin_cases::telling::Telling;
 use kin_cases::watch::{Tally, Watch};
 use kin_cases::written::motions;
 use kin_fail::Now;
@@ -14,6 +15,7 @@ use kin_motion::fact::Placed;
 use kin_motion::signs::Signs;
 use kin_motion::{Mirror, Motions};
 use kin_num::{Moment, Steps};
+use kin_overlay::Half;
 use std::alloc::Global;
 use std::sync::ledger::Ledger;
 
@@ -97,30 +99,47 @@ impl State {
     }
 }
 
-/// The merge, if it is that of the definition, exactly what changed was reported, and short edits lead
-/// from the chain before.
+/// What was there before a merge was settled.
+#[derive(Drop)]
+struct Before {
+    state: State,
+    /// How often a sign had been asked.
+    asked: u64,
+}
+
+/// The merge, if it is that of the definition, exactly what changed was reported, short edits lead from
+/// the chain before, and few signs were asked.
 fn tested<P: Signs>(
-    alloc: Global,
+    stage: &Stage,
     merging: Merging,
-    before: &State,
+    before: &Before,
     chains: &Chains,
     sight: &Sight<'_, P>,
 ) -> Result<Merging, Fault> {
-    let defined = State::defined(alloc, chains, sight)?;
-    let is_short = are_short(alloc, merging.edits(), &before.chain, merging.chain())?;
-    let is_told = is_difference(merging.report(), &before.facts, merging.facts());
-    if defined.is_of(&merging) && is_told && is_short {
+    let asked = stage.tally.asked().wrapping_sub(before.asked);
+    let is_cheap = !merging.is_apart() || are_few(asked, merging.report());
+    let old = &before.state;
+    let is_short = are_short(stage.alloc, merging.edits(), &old.chain, merging.chain())?;
+    let is_told = is_difference(merging.report(), &old.facts, merging.facts());
+    let defined = State::defined(stage.alloc, chains, sight)?;
+    if defined.is_of(&merging) && is_told && is_short && is_cheap {
         Ok(merging)
     } else {
         Err(Fault::Differs)
     }
 }
 
-/// Builds the merge, or goes on with it.
+/// Tells both halves these chains.
+fn told(telling: Telling, a: &[u32], b: &[u32]) -> Result<Telling, Fault> {
+    telling.tell(Half::A, a)?.tell(Half::B, b)
+}
+
+/// Builds the merge, or goes on with it, by a detour if there is one: lists that the halves are told
+/// before their chains.
 fn visit<P: Signs, O: Signs, L: Ledger>(
-    alloc: Global,
+    stage: &Stage,
     merging: Option<Merging>,
-    halves: &Halves,
+    detour: Option<&Halves>,
     sight: &Sight<'_, P>,
     now: &O,
     steps: &mut Steps<L>,
@@ -128,16 +147,22 @@ fn visit<P: Signs, O: Signs, L: Ledger>(
     requires real { IsReal (O.scene now.now) }
     requires same { P.scene sight.now.signs.now ≡ O.scene now.now }
 {
-    let chains = Chains::of(alloc, halves, sight)?;
+    let alloc = stage.alloc;
+    let asked = stage.tally.asked();
+    let chains = Chains::of(alloc, &stage.halves, sight)?;
     let (a, b) = (chains.a.as_slice(), chains.b.as_slice());
     if let Some(merging) = merging {
-        let before = State::of(alloc, &merging)?;
-        let merging = merging.go(a, b, sight, now, steps)?;
-        return tested(alloc, merging, &before, &chains, sight);
+        let state = State::of(alloc, &merging)?;
+        let mut telling = merging.begin();
+        if let Some(detour) = detour {
+            telling = told(telling, &detour.left, &detour.right)?;
+        }
+        let merging = told(telling, a, b)?.settle(sight, now, steps)?;
+        return tested(stage, merging, &Before { state, asked }, &chains, sight);
     }
     let merging = Merging::build(alloc, a, b, PART, sight, now, steps)?;
-    let before = State::before_all(alloc, &merging)?;
-    tested(alloc, merging, &before, &chains, sight)
+    let state = State::before_all(alloc, &merging)?;
+    tested(stage, merging, &Before { state, asked }, &chains, sight)
 }
 
 /// Which chains are merged.
@@ -174,6 +199,20 @@ impl Stage {
         Stage::new(alloc, motions, split, end)
     }
 
+    /// The merge of the upper chains at a moment, by a detour if there is one.
+    pub fn upper_by<'a, L: Ledger>(
+        &'a self,
+        merging: Option<Merging>,
+        detour: Option<&Halves>,
+        moment: &'a Moment,
+        steps: &mut Steps<L>,
+    ) -> Result<Merging, Fault> {
+        let watch = self.watch(moment);
+        let now = watch.plain();
+        let sight = Sight::at(&now);
+        visit(self, merging, detour, &sight, &watch, steps)
+    }
+
     /// The merge of the upper chains at a moment.
     pub fn upper<'a, L: Ledger>(
         &'a self,
@@ -181,10 +220,7 @@ impl Stage {
         moment: &'a Moment,
         steps: &mut Steps<L>,
     ) -> Result<Merging, Fault> {
-        let watch = self.watch(moment);
-        let now = watch.plain();
-        let sight = Sight::at(&now);
-        visit(self.alloc, merging, &self.halves, &sight, &watch, steps)
+        self.upper_by(merging, None, moment, steps)
     }
 
     /// The merge of the lower chains at a moment.
@@ -202,7 +238,7 @@ impl Stage {
             motions: now.motions,
         };
         let turned = Mirror { inner: &watch };
-        visit(self.alloc, merging, &self.halves, &sight, &turned, steps)
+        visit(self, merging, None, &sight, &turned, steps)
     }
 
     /// The merge of the chains of one side at a moment.

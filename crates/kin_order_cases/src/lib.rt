@@ -1,7 +1,8 @@
-//! Tests of `KinList` alone: its order, as points meet and pass each other.
+//! Tests of structures that a world keeps, each alone: its answers and its facts as points meet and pass each other, and
+//! whose counter it asks with.
 #![tactic(auto)]
 
 #[cfg(test)]
-mod many;
+mod answers;
 #[cfg(test)]
-mod meetings;
+mod many;

@@ -1,5 +1,10 @@
-use Rattle.kin_cases.proofs.Held.{held_after}
+use Rattle.kin_cases.proofs.Held.{held_after, held_ready}
 use Rattle.kin_cases.proofs.contest.Contest.go.Goals as goal
+
+pub settle-requires-clause-ready : goal.settle-requires-clause-ready
+settle-requires-clause-ready g c =
+    let i = c.self.inside in
+    held_ready i.size i.motions i.slots.items i.marks.items i.is_settled i.tourney c.args.moment.now c.self.invariant
 
 pub invariant_of-result : goal.invariant_of-result
 invariant_of-result g c =

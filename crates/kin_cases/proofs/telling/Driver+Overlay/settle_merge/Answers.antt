@@ -4,7 +4,7 @@ use Rattle.kin_motion.specs.declared.fact.Placed.{Placed}
 use Rattle.kin_motion.specs.Sets.{AreDistinct, ListsExactly}
 use Rattle.kin_overlay.specs.Overlays.{Merge, names_any, names_gone}
 use Rattle.kin_cases.proofs.Reports.{lists_failing}
-use Rattle.kin_cases.proofs.merging.Driver+Overlay.settle_merge.Goals as goal
+use Rattle.kin_cases.proofs.telling.Driver+Overlay.settle_merge.Goals as goal
 
 pub settle-requires-clause-failing : goal.settle-requires-clause-failing
 settle-requires-clause-failing g c =
