@@ -31,6 +31,16 @@ fn is_the_fact(taken: &[Owned]) -> bool {
     }
 }
 
+/// A fact fails at 5, and still does after it was made anew for its first point, whose motion is as it was.
+fn is_made_anew<L: Ledger>(trial: &mut Trial<L>, motions: &Motions) -> Result<bool, NoMemory>
+    requires { AreListed trial.old.table.live trial.old.facts.items }
+{
+    trial.bear(line(0, 1), motions, 0)?;
+    let first = trial.is_next(5, 1);
+    trial.turn(0, motions, 0)?;
+    Ok(first && trial.live() == 1 && trial.is_next(5, 2))
+}
+
 /// Of two facts one fails at 10 and one at 30. Where point 1 stops at 4, the first never does, and the
 /// second, which doesn't name it, stays. No fact names point 3.
 fn stops<L: Ledger>(
@@ -88,6 +98,7 @@ fn turns_late<L: Ledger>(
 /// What is shown of a table.
 enum Case {
     FailsAtFive,
+    IsMadeAnew,
     Stops,
     IsNamedTwice,
     TurnsLate,
@@ -104,6 +115,7 @@ fn holds_of<L: Ledger>(
 {
     match case {
         Case::FailsAtFive => fails_at_five(trial, before),
+        Case::IsMadeAnew => is_made_anew(trial, before),
         Case::Stops => stops(trial, before, after),
         Case::IsNamedTwice => is_named_twice(trial, before, after),
         Case::TurnsLate => turns_late(trial, before, after),
@@ -136,13 +148,33 @@ fn points(alloc: Global, second: Motion, fourth: Motion) -> Result<Motions, NoMe
     Ok(all)
 }
 
-#[test]
-fn a_table_gives_its_failing_fact(rt: HostRuntime) -> Result<(), Fail> {
-    let mut motions = Motions::new(rt.alloc(), 1)?;
+/// Two points on the x axis that come together at 5.
+fn meeting(alloc: Global) -> Result<Motions, NoMemory> {
+    let mut motions = Motions::new(alloc, 1)?;
     motions.set(0, Motion::new(0, 0, 1, 0));
     motions.set(1, Motion::new(10, 0, -1, 0));
+    Ok(motions)
+}
+
+#[test]
+fn a_table_gives_its_failing_fact(rt: HostRuntime) -> Result<(), Fail> {
+    let motions = meeting(rt.alloc())?;
     let holds = is_shown::<Brand>(
         Case::FailsAtFive,
+        rt.alloc(),
+        &motions,
+        &motions,
+        Blank::new(1),
+    )?;
+    assert!(rt; holds);
+    Ok(())
+}
+
+#[test]
+fn a_point_goes_on_as_before(rt: HostRuntime) -> Result<(), Fail> {
+    let motions = meeting(rt.alloc())?;
+    let holds = is_shown::<Brand>(
+        Case::IsMadeAnew,
         rt.alloc(),
         &motions,
         &motions,

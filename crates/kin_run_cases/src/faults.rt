@@ -65,7 +65,7 @@ fn a_write_that_fails_is_told(rt: HostRuntime) -> Result<(), Fail> {
 }
 
 #[test]
-fn a_sink_without_room_holds_a_front(rt: HostRuntime) -> Result<(), Fail> {
+fn a_sink_holds_what_it_has_room_for(rt: HostRuntime) -> Result<(), Fail> {
     for (script, text) in [(CROSSING, "0 1\n0 1\n1 0\n"), (THREE, THREE_TEXT)] {
         for room in 0..text.len() as u64 {
             let (found, sink) = play(rt.alloc(), script, room, Vec::new(rt.alloc()))?;
@@ -73,6 +73,10 @@ fn a_sink_without_room_holds_a_front(rt: HostRuntime) -> Result<(), Fail> {
             assert!(rt; sink.held().len() as u64 == room, "room {room}");
             assert!(rt; text.as_bytes().starts_with(sink.held()), "room {room}");
         }
+        let whole = text.len() as u64;
+        let (found, sink) = play(rt.alloc(), script, whole, Vec::new(rt.alloc()))?;
+        assert!(rt; found == Status::Done, "status of {script}");
+        assert!(rt; sink.held() == text.as_bytes(), "text of {script}");
     }
     Ok(())
 }

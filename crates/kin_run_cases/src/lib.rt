@@ -2,13 +2,21 @@
 #![tactic(auto)]
 
 #[cfg(test)]
+mod blocks;
+#[cfg(test)]
 mod borders;
+#[cfg(test)]
+mod bounds;
 #[cfg(test)]
 mod exits;
 #[cfg(test)]
 mod faults;
 #[cfg(test)]
+mod generated;
+#[cfg(test)]
 mod kept;
+#[cfg(test)]
+mod prefixes;
 #[cfg(test)]
 mod runs;
 #[cfg(test)]

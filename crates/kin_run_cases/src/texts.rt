@@ -2,6 +2,7 @@
 
 ghost use Rattle.std.specs.Prelude.{◌<◌};
 
+use crate::bounds::CORNERS;
 use crate::kept::{CARRIAGEWAYS, CARRIAGEWAYS_TEXT, CHANGES, CLOSE, HULLS};
 use crate::runs::{run_to, source_of};
 use crate::worked::WORKED;
@@ -52,6 +53,13 @@ fn gives_the_texts_of_hulls(rt: HostRuntime) -> Result<(), Fail> {
 #[test]
 fn gives_the_texts_of_points_that_turn_and_leave(rt: HostRuntime) -> Result<(), Fail> {
     let wrong = first_wrong(rt.alloc(), &CHANGES, 64, 100)?;
+    assert!(rt; wrong == None, "script {wrong:?}");
+    Ok(())
+}
+
+#[test]
+fn gives_the_texts_of_points_at_the_bounds(rt: HostRuntime) -> Result<(), Fail> {
+    let wrong = first_wrong(rt.alloc(), &CORNERS, 64, 700)?;
     assert!(rt; wrong == None, "script {wrong:?}");
     Ok(())
 }
