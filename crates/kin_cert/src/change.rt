@@ -1,4 +1,4 @@
-//! What a structure has changed is taken over.
+//! The table takes over the change of a structure, as a list of dropped and born facts.
 
 ghost use Rattle.std.specs.Prelude.{◌≡◌, ◌+◌, ◌-◌, ◌*◌, ◌^◌, ◌⊎◌, ◌↔◌, cond, length, Contains, Some, OnOk, IfOk, IsTrue, min};
 ghost use Rattle.std.specs.List.{All, AllPairs};
@@ -29,9 +29,10 @@ pub(crate) struct Pending<'a> {
 }
 
 impl Table {
-    /// Takes a structure's change over: drops the dropped facts and adds the born ones, each with
-    /// its first failure under these motions from now. No other failure moment is made anew. After
-    /// want of memory the table may not be used again.
+    /// Takes over a structure's change: drops the dropped facts, which are live, and adds the born ones,
+    /// each with its first failure under these motions from now. Each is listed once. A born fact holds now
+    /// and may be asked for, and no fact of its form and part is live unless it is dropped. No other failure
+    /// moment is made anew. After want of memory the table may not be used again.
     pub fn apply<L: Ledger>(
         &mut self,
         structure: u32,

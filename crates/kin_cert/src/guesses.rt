@@ -29,7 +29,7 @@ impl Guesses {
         }
     }
 
-    /// The position of a place, if it has one, which is the next guess.
+    /// The position of a place, if it has one. It is the next guess.
     #[inline(always)]
     pub(crate) fn spot_of(
         &mut self,

@@ -24,10 +24,10 @@ pub(crate) struct Spot {
 /// An index may have this many times as many places as there are facts.
 const WIDTH: usize = 4;
 
-/// Fewer facts than these count as so many.
+/// Fewer facts count as this many.
 const FEW: usize = 1_024;
 
-/// Takes a place out of its index, which its only fact leaves, where the index has far more places than there are facts.
+/// Takes a place that its only fact leaves out of its index, where the index has far more places than there are facts.
 #[inline(always)]
 pub(crate) fn leave(firsts: &mut IndexMap<Place, Holder>, place: &Place, spot: Spot, facts: usize)
     requires { StandsAt firsts.old place.now spot }

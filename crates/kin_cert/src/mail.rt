@@ -80,7 +80,7 @@ impl Mail {
         self.boxes[k].add(owned.part, &owned.fact)
     }
 
-    /// Sorts failed facts: each of so many structures gets its own.
+    /// Sorts failed facts: each structure below `count` gets its own.
     pub fn sort(&mut self, count: usize, taken: &[Owned]) -> Result<(), NoMemory>
         ensures told { OnOk result ((k : ℕ) → k < count → told_to self.new k ≡ gathered k taken.now) }
         ensures count { OnOk result (count ≤ length self.new) }

@@ -12,7 +12,8 @@ use std::sync::ledger::Ledger;
 
 impl Table {
     /// Takes over what structure `k`, whose facts the table has, has dropped and born at the moment
-    /// now: then the table has the structure's new facts. Those of the others stay.
+    /// now. Its new facts hold there and may be asked for. Then the table has the structure's new facts,
+    /// and those of the others as before. After want of memory it may not be used again.
     pub fn tell<L: Ledger>(
         &mut self,
         k: u32,

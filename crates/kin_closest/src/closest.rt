@@ -33,7 +33,7 @@ pub struct KinClosest {
     wedges: Wedges,
     pairs: Tourney<Distance>,
     mail: Mail,
-    /// False from the start of a call that may find no memory to its Ok end.
+    /// Whether no call that takes memory is under way and none has run out of it.
     whole: bool,
 }
 
@@ -67,7 +67,8 @@ impl KinClosest {
         })
     }
 
-    /// Marks a number as entering. After want of memory the structure may not be used again.
+    /// Marks a number as entering. It is no member, and no mark waits. After want of memory the structure
+    /// may not be used again.
     pub fn insert(&mut self, no: u32) -> Result<(), NoMemory>
         requires rest { IsClosingAtRest self.old }
         requires within { no < 2 ^ self.old.wedges.size }
@@ -81,7 +82,7 @@ impl KinClosest {
         Ok(())
     }
 
-    /// Marks a number as leaving.
+    /// Marks a member as leaving. No mark waits.
     pub fn remove(&mut self, no: u32)
         requires rest { IsClosingAtRest self.old }
         requires member { is_in no (members_of self.old.wedges) ≡ true }
@@ -90,8 +91,9 @@ impl KinClosest {
         self.wedges.remove(no);
     }
 
-    /// The closest pair, the lesser number first, or `None` exactly below two members. Of equally
-    /// close pairs it is the one with the least first number, then with the least second one.
+    /// The closest pair as it was settled last, the lesser number first, or `None` with fewer than two
+    /// members. Of equally close pairs it is the one with the least first number, then with the least
+    /// second one.
     pub fn closest(&self) -> Option<(u32, u32)>
         requires rest { IsClosingAtRest self.now }
         ensures { (s : Scene) → IsSettledClosing self.now s → IsClosest s result }

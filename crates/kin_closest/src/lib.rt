@@ -4,7 +4,8 @@
 //! the pairs of all points and their candidates, as in Basch, Guibas and Hershberger, "Data Structures for Mobile Data",
 //! Journal of Algorithms 31 (1999).
 //!
-//! `KinClosest` is `Kinetic`. After a `settle` its pair is the closest pair by definition, and the facts alone determine it.
+//! `KinClosest` is `Kinetic`. After a `settle` that answers `Ok` its pair is the closest pair by definition, and the facts
+//! alone determine it.
 #![tactic(auto)]
 
 pub use closest::KinClosest;

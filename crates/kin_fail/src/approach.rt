@@ -54,7 +54,7 @@ fn clearance(one: &Motion, other: &Motion, distance: u32) -> Poly
 }
 
 /// The first moment from now on at which two points are no farther apart than `distance`, which is
-/// at most 8192. `None` exactly where they never are.
+/// at most 8192. `None` exactly where there is none.
 pub fn first_within<L: Ledger>(
     one: &Motion,
     other: &Motion,

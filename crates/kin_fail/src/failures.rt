@@ -14,7 +14,7 @@ use kin_num::{NoMemory, Steps};
 use std::alloc::Global;
 use std::sync::ledger::Ledger;
 
-/// The block of these facts, with their signs now.
+/// The block of these facts, with their signs now. Each may be asked for.
 pub fn block_of<L: Ledger>(
     alloc: Global,
     taken: &[Owned],

@@ -13,7 +13,7 @@ pub struct Owned {
     pub fact: Fact,
 }
 
-/// A form of an owner whose sign changed.
+/// A form of an owner, with the sign of its fact before and the sign that it has at the failure.
 #[derive(Clone, Copy, Debug, PartialEq, Eq)]
 pub struct Failure {
     pub structure: u32,

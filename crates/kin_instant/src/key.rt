@@ -1,9 +1,9 @@
 //! Keys of moments, by which one comparison of whole numbers decides the order of most moments.
 //!
 //! A key has the whole part of `2^32` times the instant. Of two moments whose keys differ there, the one with the
-//! lesser number is the earlier one. Two fractions of denominators up to `2^16` lie at least `2^-32` apart, so with
-//! equal numbers they are one. Any other instant has a vague key: another instant may have the same number. Nothing is
-//! rounded up, and no floating point occurs.
+//! lesser number is the earlier one. Two different fractions of denominators up to `2^16` lie at least `2^-32` apart, so
+//! with equal numbers they are one. Any other instant has a vague key: another instant may have the same number. Nothing
+//! is rounded up, and no floating point occurs.
 
 ghost use Rattle.std.specs.Prelude.{◌≡◌, ◌⊎◌, ◌≤◌, ◌<◌, ◌^◌, ◌*◌, ◌<ℤ◌, true, pos, unsigned_abs, IfSome, IfNone};
 ghost use Rattle.std.specs.Ordering.{MatchOrdering};

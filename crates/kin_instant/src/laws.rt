@@ -7,7 +7,9 @@ pub fn roots_exist()
     ensures { RootsExist }
 {}
 
-/// From every instant on there is a least later root, or none. Until then the sign stays.
+/// After every canonical instant, a polynomial within the bounds has a least later root, or none. From a
+/// moment at the instant at which it isn't 0, its sign doesn't change before that root, or at all where
+/// there is none.
 pub fn next_roots_exist()
     ensures { NextRootsExist }
 {}

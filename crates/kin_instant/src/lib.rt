@@ -5,7 +5,7 @@
 //! quadratic at a root of another, and with it the order of two roots, is decided by the signs of subresultants (Collins
 //! 1967; Basu, Pollack and Roy, "Algorithms in Real Algebraic Geometry"), which stay within 128 bits. Nothing is ever
 //! approximated, no call takes memory, and division, greatest common divisors and whole square roots are paid only where a
-//! root is made.
+//! root or a key is made.
 //!
 //! The contracts say: [`solve::roots`] lists exactly the real roots, each in its one canonical form, the lesser one first;
 //! [`sign::sign_at`] is the sign at the moment; [`order::compare`] and [`order::compare_moments`] are the order, and answer

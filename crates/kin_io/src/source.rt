@@ -64,14 +64,14 @@ impl From<Failed> for Untaken {
 /// The most bytes of one read, so that a long input costs few calls of the system.
 const BLOCK: usize = 65536;
 
-/// So many bytes. Apart, since a goal that names a list of 65536 zeros would compute it.
+/// This many zeros. It is a function of its own, since a goal that names a list of 65536 zeros would compute it.
 fn zeros(alloc: Global, count: usize) -> Result<Vec<u8>, AllocError>
     ensures { IfOk result (λ block. vec_len block ≡ count) }
 {
     Vec::from_elem(alloc, 0u8, count)
 }
 
-/// Reads at most so many bytes and adds them.
+/// Reads at most as many bytes as the block has, and appends them.
 fn take_some<S: Source>(
     source: &mut S,
     all: &mut Vec<u8>,
@@ -92,8 +92,8 @@ fn take_some<S: Source>(
     Ok(count)
 }
 
-/// All bytes up to the end of the input, at most `limit`. Takes memory for what was read and for
-/// one block.
+/// All bytes up to the end of the input, at most `limit`. Where there are more, one more than `limit` is
+/// taken. Takes memory for what was read and for one block.
 pub fn read_all<S: Source>(alloc: Global, source: &mut S, limit: u32) -> Result<Vec<u8>, Untaken>
     requires { limit < 2 ^ 31 }
     // All bytes were taken, or a prefix.

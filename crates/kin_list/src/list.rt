@@ -80,7 +80,7 @@ impl KinList {
         })
     }
 
-    /// Marks a number as entering.
+    /// Marks a number as entering. It is no member, and no mark waits. Want of memory changes nothing.
     pub fn insert(&mut self, no: u32) -> Result<(), NoMemory>
         requires rest { self.old.mark ≡ Rest }
         requires within { no < self.old.room }
@@ -93,7 +93,7 @@ impl KinList {
         Ok(())
     }
 
-    /// Marks a number as leaving.
+    /// Marks a member as leaving. No mark waits.
     pub fn remove(&mut self, no: u32)
         requires rest { self.old.mark ≡ Rest }
         requires member { is_in no self.old.items ≡ true }
@@ -168,7 +168,7 @@ impl KinList {
         &self.lineup.swaps
     }
 
-    /// The place of a number.
+    /// The place of a number, or `None` exactly where it is no member.
     pub fn place_of(&self, no: u32) -> Option<u32>
         ensures some { IfSome result (λ p. slice_get self.now.items p ≡ Some no) }
         ensures none { IsNone result ↔ (is_in no self.now.items ≡ false) }
@@ -185,7 +185,7 @@ impl KinList {
         self.lineup.row.place_of_member(no)
     }
 
-    /// The members in their order.
+    /// The members, in their order as it was settled last.
     pub fn items(&self) -> &[u32]
         ensures { result.now ≡ self.now.items }
     {

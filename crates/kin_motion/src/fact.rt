@@ -66,7 +66,7 @@ impl Delta {
         }
     }
 
-    /// Takes all reports out. The memory stays.
+    /// Takes all reports out. The memory is kept.
     pub fn clear(&mut self)
         ensures { self.new ≡ record { dropped = []; born = [] } }
     {

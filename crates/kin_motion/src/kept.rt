@@ -27,7 +27,7 @@ pub trait Kept: Steady {
     /// The keep is of this kind of structure.
     ghost serves: { Kind → Type 0 };
 
-    /// These numbers are its members, once the mark is carried out.
+    /// These numbers are its members once the mark, if it has one, is carried out.
     ghost has_members: { Self → List ℕ → Type 0 };
 
     /// The structure of a keep, without members and without facts.
@@ -42,7 +42,8 @@ pub trait Kept: Steady {
         ensures settled { IfOk result (λ k. (s : Scene) → s.live ≡ [] → Self.settled k s) }
         ensures facts { IfOk result (λ k. Self.facts k ≡ []) };
 
-    /// Marks a number as entering.
+    /// Marks a number as entering. It is no member, and no mark waits. After want of memory the
+    /// structure may not be used again.
     fn mark_entering(&mut self, no: u32) -> Result<(), NoMemory>
         requires rest { Self.at_rest self.old }
         requires room { (size : ℕ) × (keep : Kind) × is_for self.old size keep × (no < 2 ^ size) }
@@ -51,7 +52,7 @@ pub trait Kept: Steady {
         ensures members { OnOk result ((before after : List ℕ) → has_members self.old before → HasEntered no before after → has_members self.new after) }
         ensures facts { OnOk result (Self.facts self.new ≡ Self.facts self.old) };
 
-    /// Marks a number as leaving. From then on a fact that isn't spared doesn't name it.
+    /// Marks a member as leaving. No mark waits. From then on a fact that isn't spared doesn't name it.
     fn mark_leaving(&mut self, no: u32)
         requires rest { Self.at_rest self.old }
         requires room { (size : ℕ) × (keep : Kind) × is_for self.old size keep × (no < 2 ^ size) }
@@ -81,7 +82,8 @@ pub trait Kept: Steady {
 }
 
 /// Repairs everything that has failed at one moment together. No mark waits, and the members are the
-/// live numbers. `failed` lists exactly the facts that don't hold now. `out` gains what changed.
+/// live numbers. `failed` lists exactly the facts that don't hold now. `out` gains what changed. After
+/// want of memory the structure may not be used again.
 pub fn repair<K: Kept, O: Signs, L: Ledger>(
     kept: &mut K,
     now: &O,
@@ -103,7 +105,8 @@ pub fn repair<K: Kept, O: Signs, L: Ledger>(
 }
 
 /// Takes in a number that has become live. No mark waits, the members were the other live numbers,
-/// and no fact has failed. `out` gains what changed.
+/// and no fact has failed. `out` gains what changed. After want of memory the structure may not be used
+/// again.
 pub fn enter<K: Kept, O: Signs, L: Ledger>(
     kept: &mut K,
     entering: u32,
@@ -126,8 +129,9 @@ pub fn enter<K: Kept, O: Signs, L: Ledger>(
     kept.settle_steadily(now, &[], out, steps)
 }
 
-/// Lets go of a number that isn't live any more. No mark waits, the members were the live numbers
-/// and this one, and no fact has failed that doesn't name it. `out` gains what changed.
+/// Lets go of a number that isn't live any more. No mark waits, the structure was settled over the live
+/// numbers and this one, and no fact has failed that doesn't name it. `out` gains what changed. After
+/// want of memory the structure may not be used again.
 pub fn leave<K: Kept, O: Signs, L: Ledger>(
     kept: &mut K,
     leaving: u32,

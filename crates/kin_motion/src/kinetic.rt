@@ -11,18 +11,19 @@ use kin_num::memory::NoMemory;
 use kin_num::steps::Steps;
 use std::sync::ledger::Ledger;
 
-/// A structure that keeps an attribute of moving points, and the facts that prove it. While all
-/// its facts hold, the attribute doesn't change.
+/// A structure that keeps an attribute of moving points, and the facts that prove it. While the same
+/// numbers are live and all its facts hold, the attribute doesn't change.
 pub trait Kinetic {
     /// Its live facts, each in its part.
     ghost facts: { Self → List Placed };
 
-    /// The facts that the caller leaves out of `failed`: those that name a number that is marked
-    /// as leaving.
+    /// The facts that the caller leaves out of `failed`, such as those that name a number that is
+    /// marked as leaving.
     ghost is_spared: { Self → Placed → Bool };
 
-    /// What `settle` requires of the scene: the members, with the entering numbers and without the
-    /// leaving ones, are exactly the live numbers, and no call has answered want of memory.
+    /// What `settle` requires of the scene: of most structures that the members, with the entering
+    /// numbers and without the leaving ones, are exactly the live numbers, and of all that want of memory
+    /// hasn't broken them.
     ghost ready: { Self → Scene → Type 0 };
 
     /// No mark and no edit waits.
@@ -52,7 +53,7 @@ pub trait Kinetic {
         ensures settled { OnOk result (settled self.new (O.scene now.now)) }
         ensures delta { OnOk result (HasChanged (facts self.old) (facts self.new) out.old out.new) };
 
-    /// The determination law: the facts alone determine the content and the facts. So a structure
-    /// at rest of which no fact fails needs no `settle`.
+    /// The determination law: where the same numbers are live, the facts alone determine the content
+    /// and the facts. So a structure at rest of which no fact fails needs no `settle`.
     ghost determined: { (k : Self) (v w : Scene) → at_rest k → IsReal v → settled k v → HaveSameLive v w → IsReal w → grounded k w → AllHold w (facts k) → settled k w };
 }

@@ -25,8 +25,9 @@ pub fn real_scenes_have_laws()
     ensures { RealScenesHaveLaws }
 {}
 
-/// After y is turned round, the signs are those of the motions with every y and v negated. A fact
-/// of a hull holds exactly where its turned fact holds there; turned twice it is itself.
+/// The turned scene has the signs of the motions with every y and v negated, and it is real where the
+/// scene is. In a real scene, a fact whose lines go along x or along y and have no offset, as those of a
+/// hull do, holds exactly where its turned fact holds in the turned scene. Turned twice it is the same.
 pub fn turned_is_mirrored()
     ensures signs { TurnedIsMirrored }
     ensures real { TurnedIsReal }
@@ -35,53 +36,55 @@ pub fn turned_is_mirrored()
 {}
 
 /// Where facts are moved to other parts, what changed of them and which of them fail is moved with
-/// them; the facts of an order are then those of the order in its part.
+/// them. The facts of an order in part 0, moved, are those of the order in the new part.
 pub fn moved_facts_agree()
     ensures change { MovedFactsChange }
     ensures fail { MovedFactsFail }
     ensures order { MovedOrderFacts }
 {}
 
-/// What is seen at an instant depends on which numbers are live and where each point is. So a turn to
-/// another velocity leaves every fact and every answer at its instant; there is one motion to turn to
-/// at most.
+/// The scene at a canonical instant depends only on which numbers are live and where each point is. So
+/// a turn to another velocity changes neither the scene at its instant nor any fact or answer that
+/// depends on this scene alone; the answer for a rectangle doesn't. There is at most one motion to turn
+/// to.
 pub fn turns_keep_the_scene()
     ensures places { SceneIsByPlaces }
     ensures turn { TurnKeepsScene }
     ensures one { OneTurn }
 {}
 
-/// There is one order along a direction at most.
+/// A real scene has at most one order along a direction.
 pub fn one_order()
     ensures { OneOrder }
 {}
 
-/// There is one extreme point along a direction at most.
+/// A real scene has at most one extreme point along a direction.
 pub fn one_extreme()
     ensures { OneExtreme }
 {}
 
-/// A set of points has one upper chain at most.
+/// In a real scene, a set of points has at most one upper chain.
 pub fn one_upper_chain()
     ensures { OneUpperChain }
 {}
 
-/// There is one hull cycle at most.
+/// A real scene has at most one hull cycle.
 pub fn one_hull_cycle()
     ensures { OneHullCycle }
 {}
 
-/// There is one closest pair at most.
+/// A real scene has at most one closest pair.
 pub fn one_closest()
     ensures { OneClosest }
 {}
 
-/// An apex has one candidate in an octant at most.
+/// In a real scene, an apex has at most one candidate in an octant.
 pub fn one_candidate()
     ensures { OneCandidate }
 {}
 
-/// Each other point is in exactly one octant of an apex, also one at the apex's place.
+/// In a real scene, each point other than the apex is in exactly one octant of it, also one at the
+/// apex's place.
 pub fn one_octant()
     ensures { OneOctant }
 {}
@@ -91,26 +94,30 @@ pub fn octants_are_opposite()
     ensures { OctantsAreOpposite }
 {}
 
-/// The facts of an order determine it, and themselves.
+/// The facts of an order determine it, and themselves: where the same numbers are live in a real scene
+/// and all these facts hold there, it is the order there, and they are its facts.
 pub fn order_is_determined()
     ensures { OrderIsDetermined }
 {}
 
-/// The facts of an extreme point determine it, and themselves.
+/// The facts of an extreme point determine it, and themselves: where the same numbers are live in two
+/// real scenes, all with slots, and all facts of the extreme point in one hold in the other, it is the
+/// extreme point there, and they are its facts.
 pub fn extreme_is_determined()
     ensures { ExtremeIsDetermined }
 {}
 
-/// Seen from one moment, a fact has one first failure at most, there is one next block at most, and
-/// one journal up to a later moment.
+/// From a canonical moment on, a fact has at most one first failure, and there is at most one next
+/// block, and at most one journal up to another canonical moment.
 pub fn one_journal()
     ensures failure { OneFirstFailure }
     ensures block { OneNextBlock }
     ensures journal { OneJournal }
 {}
 
-/// The functions that compute the answers give what the definitions ask for. So each answer
-/// exists, and an example may be computed.
+/// In a real scene, the functions that compute the answers give what the definitions ask for; an upper
+/// chain is that of a set listed without repetition. So each answer exists, and an example may be
+/// computed.
 pub fn computed_answers_agree()
     ensures order { OrderAgrees }
     ensures extreme { ExtremeAgrees }
@@ -120,8 +127,9 @@ pub fn computed_answers_agree()
     ensures candidate { CandidateAgrees }
 {}
 
-/// The functions that compute facts and failures list exactly those of the definitions, where the
-/// live numbers have slots.
+/// In a real scene, the functions that compute facts and failures list exactly those of the
+/// definitions. For a hull, for all live facts and for failures, the live numbers have slots. The
+/// forms of a merge are those of the definition in any scene.
 pub fn computed_facts_agree()
     ensures order { OrderFactsAgree }
     ensures extreme { ExtremeFactsAgree }
@@ -132,21 +140,24 @@ pub fn computed_facts_agree()
     ensures failures { FailuresAgree }
 {}
 
-/// Without live numbers there is no fact. With n of them, all with slots, an order or an extreme point
-/// has at most n - 1, a range twice as many, a closest pair 16n, and a hull 4n times the size. So all
-/// kept structures together have at most the sum.
+/// In a real scene with n live numbers, all with slots, an order or an extreme point has at most n - 1
+/// facts, a range twice as many, a closest pair 16n, and a hull 4n times the size; without live numbers
+/// there are none. So all kept structures together have at most the sum.
 pub fn few_facts_are_live()
     ensures structure { FewFacts }
     ensures all { FewLiveFacts }
 {}
 
-/// A rectangle whose sides are the wrong way round has no point.
+/// At a canonical moment, a rectangle whose sides are the wrong way round, so that `x2 < x1` or
+/// `y2 < y1`, has no point.
 pub fn wrong_rect_is_empty()
     ensures { WrongRectIsEmpty }
 {}
 
-/// A point of a hull is the least number at its place, and it is collinear with no two points of which
-/// one is to its left and one to its right. The same holds of an upper chain.
+/// In a real scene, a point of the hull is the least live number at its place, and it is collinear with
+/// no two live points of which one is to its left and one to its right. In any scene, a point of an
+/// upper chain is the least number of the set at its place, and it is above the segment of any two
+/// points of the set of which one is to its left and one to its right.
 pub fn hulls_are_strict()
     ensures strict { HullIsStrict }
     ensures least { HullHasLeast }
@@ -155,17 +166,17 @@ pub fn hulls_are_strict()
 {}
 
 /// The facts of a merge are those of its records, of which each has three at most: a turn and two
-/// slopes, or the lines of an outer end. A fact that one state alone has is in a record that it alone
-/// has. So between two states of a merge at most three facts change for each touched record, whatever
-/// the scenes, the chains and the lists of breakpoints are, and no more are reported.
+/// slopes, or the lines of an outer end. A fact that only one of two states has is in a record that
+/// only this state has. So between two states of a merge at most three facts change for each touched
+/// record, whatever the scenes, the chains and the lists of breakpoints are, and no more are reported.
 pub fn few_facts_change()
     ensures recorded { FactsAreRecorded }
     ensures changed { FewFactsChange }
     ensures reported { FewFactsAreReported }
 {}
 
-/// In each real scene whose numbers have slots every kept structure, and the tree of upper chains, can
-/// be settled: what `Contents` asks for exists.
+/// In each real scene whose live numbers have slots, each kind of structure, the tree of upper chains
+/// and the octants included, has a settled state: what `Contents` asks for exists.
 pub fn settled_states_exist()
     ensures { SettledStatesExist }
 {}

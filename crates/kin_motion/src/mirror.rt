@@ -1,4 +1,4 @@
-//! The signs after y is turned round.
+//! The signs of the points reflected in the x axis.
 
 ghost use Rattle.kin_motion.specs.Scene.{Scene, turned};
 

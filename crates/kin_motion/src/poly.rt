@@ -191,7 +191,8 @@ pub fn poly_of_line(motions: &Motions, dx: i32, dy: i32, off: i32, i: u32, j: u3
     along(i64::from(dx), i64::from(dy), i64::from(off), step)
 }
 
-/// The polynomial that a form names. Each named number is live.
+/// The polynomial that a form names. Each named number is live. A line's direction is in -16..16 along x
+/// and y, and its offset in -2^16..2^16.
 #[inline(always)]
 #[tactic(auto, unfolding(crate::specs::Forms::polynomial_of))]
 pub fn poly_of(form: &Form, motions: &Motions) -> Poly

@@ -15,7 +15,8 @@ pub trait Signs {
     /// The live numbers and the sign of each form at that moment.
     ghost scene: { Self → Scene };
 
-    /// The sign of the form's polynomial at the moment, for one step. Each named number is live.
+    /// The sign of the form's polynomial at the moment. Counts one step. Each named number is live. A line's
+    /// direction is in -16..16 along x and y, and its offset in -2^16..2^16.
     fn sign<L: Ledger>(&self, form: &Form, steps: &mut Steps<L>) -> Sign
         requires askable { IsAskable (scene self.now).live form.now }
         ensures value { result ≡ (scene self.now).sign form.now }

@@ -16,7 +16,7 @@ pub trait Steady: Kinetic + Drop {
     /// What a settle leaves as it is.
     ghost stays: { Self → Self → Type 0 };
 
-    /// `settle`, with what stays.
+    /// `settle`, with a clause on what it leaves as it is.
     fn settle_steadily<O: Signs, L: Ledger>(
         &mut self,
         now: &O,

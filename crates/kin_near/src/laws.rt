@@ -4,30 +4,33 @@
 ghost use Rattle.kin_near.specs.BestPairs.{BestPairIsClosest, ClosestIsDetermined, ClosestIsSettled};
 ghost use Rattle.kin_near.specs.Candidates.{ClosestIsCandidate, FirstIsNearer};
 
-/// Of two members of an octant the one that comes first in the third order is nearer to the other than the
-/// apex is, or it is at the apex's place.
+/// In a real scene, of two members of one octant the one that comes first in the third order is nearer to the
+/// other than the apex is, or it is at the apex's place.
 pub fn first_is_nearer()
     ensures { FirstIsNearer }
 {}
 
-/// Of the closest pair one point is the candidate of the other, in one of the octants 0 to 3.
+/// In a real scene, one point of the closest pair is the candidate of the other, in one of the octants 0 to 3.
 pub fn closest_is_candidate()
     ensures { ClosestIsCandidate }
 {}
 
-/// The best of all pairs of a point and its candidate is the closest pair, ties included; where there is none,
-/// fewer than two points are live.
+/// In a real scene whose live numbers have slots, the best of all pairs of a point and its candidate is the closest
+/// pair, ties included. Where there is no such pair, fewer than two points are live.
 pub fn best_pair_is_closest()
     ensures { BestPairIsClosest }
 {}
 
-/// Where the octants are settled, and so is the tournament of the pairs of all points and their candidates, its
-/// winner is the closest pair, and the facts of both are those of the closest pair.
+/// In a real scene whose live numbers have slots: where the octants are settled, and so is the tournament of the
+/// pairs of all points and their candidates, its winner is the closest pair, and the facts of both are those of the
+/// closest pair.
 pub fn closest_is_settled()
     ensures { ClosestIsSettled }
 {}
 
-/// The facts of a closest pair determine it, and themselves.
+/// The facts of a closest pair determine it, and themselves: where the same numbers are live in two real scenes, all
+/// with slots, and all facts of the closest pair in one hold in the other, it is the closest pair there, and they are
+/// its facts there.
 pub fn closest_is_determined()
     ensures { ClosestIsDetermined }
 {}

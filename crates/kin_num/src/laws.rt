@@ -15,7 +15,7 @@ pub fn pair_signs_are_ordered()
     ensures { (d : ℤ) → IsRadicand d → PairSignsAreOrdered d }
 {}
 
-/// The signs at one moment go with negatives, sums and products.
+/// The signs at one moment go with negatives and sums of polynomials, and with products of linear ones.
 pub fn signs_add_and_multiply()
     ensures { (m : Time) → IsCanonicalForm m.at → SignsAddAndMultiply m }
 {}
@@ -35,7 +35,7 @@ pub fn moments_are_ordered()
     ensures { MomentsAreOrdered }
 {}
 
-/// Of two different instants one is less by a fraction of the denominator `2^200`.
+/// A fraction of the denominator `2^200` separates any two different instants.
 pub fn instants_lie_apart()
     ensures { InstantsLieApart }
 {}

@@ -2,7 +2,7 @@
 
 use std::alloc::AllocError;
 
-/// A growth was refused.
+/// Memory was asked for and refused.
 #[derive(Clone, Copy, Debug, PartialEq, Eq)]
 pub struct NoMemory;
 

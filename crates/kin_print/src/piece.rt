@@ -7,7 +7,7 @@ ghost use Rattle.kin_print.specs.Pieces.{joined};
 use itoa::{Buffer, Integer};
 use kin_num::NoMemory;
 
-/// Appends bytes, or nothing.
+/// Appends bytes, or on want of memory nothing.
 pub fn put_bytes(out: &mut Vec<u8>, bytes: &[u8]) -> Result<(), NoMemory>
     ensures ok { OnOk result (out.new.items ≡ out.old.items ++ bytes.now) }
     ensures err { OnErr result (out.new.items ≡ out.old.items) }
@@ -34,7 +34,7 @@ pub(crate) fn digits<I: Integer>(buffer: &mut Buffer, n: I) -> &[u8]
     buffer.format(n).as_bytes()
 }
 
-/// Appends a number in decimal digits, or nothing.
+/// Appends a number in decimal digits, or on want of memory nothing.
 pub fn put_number<I: Integer>(out: &mut Vec<u8>, n: I) -> Result<(), NoMemory>
     ensures ok { OnOk result (out.new.items ≡ out.old.items ++ I.text n) }
     ensures err { OnErr result (out.new.items ≡ out.old.items) }

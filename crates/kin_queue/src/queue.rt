@@ -14,9 +14,9 @@ use std::marker::Model;
 use std::sync::ledger::Ledger;
 
 /// A finite map from ids to moments that gives an entry of least moment. Which one of several entries of the least
-/// moment comes next is free. `first` compares nothing, and each other call compares moments at most `2 log2(n + 1)`
-/// times on `n` entries, and only where keys don't decide. The memory grows with the greatest id, which is below
-/// `2^32`.
+/// moment comes next is free. `insert`, `remove` and `pop` compare moments at most `2 log2(n + 1)` times on `n` entries;
+/// `has` and `first` compare none. They are compared only where keys don't decide; no clause says so. The memory grows
+/// with the greatest id. An id of `2^32` or more counts as want of memory.
 #[derive(Drop)]
 pub struct Queue {
     /// The entries, each id once. No entry is earlier than the one above it.
@@ -55,7 +55,7 @@ impl Queue {
         }
     }
 
-    /// An empty queue with room for so many entries, of which the ids are below that number.
+    /// An empty queue with room for `count` entries with ids below `count`.
     pub fn with_room(alloc: Global, count: usize) -> Result<Queue, NoMemory>
         ensures empty { IfOk result (λ q. q.moments ≡ empty) }
         ensures none { IfOk result (λ q. q.next ≡ None) }
@@ -137,7 +137,7 @@ impl Queue {
         Some((id, self.moments[id]))
     }
 
-    /// Takes out the entry that `first` gives, or `None` exactly where the queue is empty.
+    /// Takes out the entry that `first` gives, and answers it. `None` exactly where the queue is empty.
     pub fn pop<L: Ledger>(&mut self, steps: &mut Steps<L>) -> Option<(usize, Moment)>
         ensures value { result ≡ self.old.next }
         ensures least { IsNext self.old.moments self.old.next }

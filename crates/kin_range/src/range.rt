@@ -32,7 +32,7 @@ pub struct KinRange {
     by_x: KinList,
     by_y: KinList,
     mail: Mail,
-    /// False from the start of a call that may find no memory to its Ok end.
+    /// Whether no call that takes memory is under way and none has run out of it.
     whole: bool,
     ghost told: { length mail.boxes.items ≡ 2 },
 }
@@ -64,7 +64,8 @@ impl KinRange {
         })
     }
 
-    /// Marks a number as entering. After want of memory the structure may not be used again.
+    /// Marks a number as entering. It is no member, and no mark waits. After want of memory the structure
+    /// may not be used again.
     pub fn insert(&mut self, no: u32) -> Result<(), NoMemory>
         requires rest { IsRangingAtRest self.old }
         requires within { no < self.old.by_x.room }
@@ -79,7 +80,7 @@ impl KinRange {
         Ok(())
     }
 
-    /// Marks a number as leaving.
+    /// Marks a member as leaving. No mark waits.
     pub fn remove(&mut self, no: u32)
         requires rest { IsRangingAtRest self.old }
         requires member { is_in no (members_of self.old) ≡ true }
@@ -89,9 +90,10 @@ impl KinRange {
         self.by_y.remove(no);
     }
 
-    /// The points on or within the border of a rectangle at the moment now, phase included, by rising number. There are
-    /// none where `x1 > x2` or `y1 > y2`. It is meant to look at each point once and to ask at most four
-    /// signs of it; no clause says so, and no step is counted. `NoMemory` changes nothing.
+    /// The points on or within the border of a rectangle at the moment now, phase included, by rising number. The range
+    /// is settled there, and each bound is in -2^24..2^24. There are none where `x1 > x2` or `y1 > y2`. It is meant to
+    /// look at each point once and to ask at most four signs of it; no clause says so, and no step is counted.
+    /// `NoMemory` changes nothing.
     pub fn inside(&self, motions: &Motions, now: &Moment, rect: &Rect) -> Result<Vec<u32>, NoMemory>
         requires settled { IsSettledRanging self.now (scene_at motions.now now.now) }
         requires rect { IsRectInRange rect.now }

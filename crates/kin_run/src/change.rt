@@ -54,7 +54,7 @@ pub fn remove<L: Ledger>(world: &mut World, no: u32, steps: &mut Steps<L>) -> Re
     Ok(())
 }
 
-/// Gives a live number another motion, at another place.
+/// Gives a live number any motion, at any place.
 pub fn replace<L: Ledger>(
     world: &mut World,
     no: u32,

@@ -15,7 +15,8 @@ use std::alloc::Global;
 use std::marker::Brand;
 use std::sync::ledger::{Blank, Ledger};
 
-/// Runs a generated script, and writes how much that passed. None of its commands is refused.
+/// Runs a generated script, and writes how many blocks and failures it passed. None of its commands is
+/// refused.
 fn run_generated<K: Sink, L: Ledger>(
     alloc: Global,
     seed: u32,

@@ -17,7 +17,8 @@ use kin_world::world::World;
 use std::sync::ledger::Ledger;
 
 /// Moves to the next failures, and appends them where the journal is on, and then the line with
-/// their moment. Where nothing ever fails, appends the word `none`. What was passed is counted.
+/// their moment. Where nothing ever fails, appends the line `none`. Counts the block, if counts are
+/// asked for.
 pub fn put_next<L: Ledger>(
     world: &mut World,
     journal: bool,

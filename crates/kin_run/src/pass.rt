@@ -1,4 +1,5 @@
-//! The failures on the way to an instant, each block written before the next is computed.
+//! The failures on the way to an instant, each block written before the next is computed; no clause
+//! says so.
 
 ghost use Rattle.std.specs.Prelude.{◌≡◌, ◌≤◌, OnOk, IsErrOf};
 ghost use Rattle.kin_num.specs.Canonical.{IsCanonical};
@@ -24,7 +25,7 @@ use kin_status::write::flush_if_due;
 use kin_world::world::World;
 use std::sync::ledger::Ledger;
 
-/// Leaves all failures up to the limit behind, neither listed nor counted.
+/// Passes all failures up to the limit, neither listed nor counted.
 fn leap_to<L: Ledger>(
     world: &mut World,
     limit: &Moment,

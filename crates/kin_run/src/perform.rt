@@ -57,8 +57,8 @@ fn move_to<K: Sink, L: Ledger>(
     Ok(())
 }
 
-/// Carries out a command, appends what it prints, and counts the blocks that it passes. A refused one leaves
-/// the world as it was.
+/// Carries out a command, appends what it prints, and counts the blocks that it passes; `at` may also
+/// write to the sink. A refused one leaves the world as it was.
 pub fn perform<K: Sink, L: Ledger>(
     world: &mut World,
     journal: bool,

@@ -28,13 +28,14 @@ use kin_world::world::World;
 use std::alloc::Global;
 use std::sync::ledger::{Blank, Ledger};
 
-/// Whether the command printed a block that the sink hasn't been given. `at` gives its blocks itself.
+/// Whether the command printed a block that the sink hasn't been given. `at` hands its blocks over
+/// itself.
 fn prints_block(journal: bool, command: &Command) -> bool {
     journal && matches!(command, Command::Next)
 }
 
 /// Carries out commands in turn, up to the first that is refused, whose line is the last. What they
-/// print is gathered, and written once it is much.
+/// print is gathered, and written once it is 64 KiB or has a block of the journal; no clause says so.
 fn perform_each<K: Sink, L: Ledger>(
     world: &mut World,
     journal: bool,
@@ -64,8 +65,8 @@ fn perform_each<K: Sink, L: Ledger>(
     Ok(None)
 }
 
-/// Carries out commands in turn, up to the first that is refused, writes what they print, and counts the
-/// blocks that they pass where none is. Answers the line and the refusal of that one.
+/// Carries out commands in turn, up to the first that is refused, writes what they print and, if none is
+/// refused, counts the blocks that they pass. Answers the line and the refusal of that one.
 pub fn play<K: Sink, L: Ledger>(
     alloc: Global,
     world: &mut World,

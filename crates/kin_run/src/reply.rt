@@ -82,7 +82,7 @@ fn live(world: &World) -> Result<Reply, Halt>
     Ok(Reply::Count(world.live() as u64))
 }
 
-/// What a question is answered with, where what it asks for is kept. No other command is one.
+/// The reply to a question, or `NotKept` where what it asks for isn't kept. `command` is a question.
 #[tactic(auto, using(crate::proofs::Changing::of_same))]
 fn reply_to(world: &World, command: &Command) -> Result<Reply, Halt>
     requires whole { IsWhole world.now }

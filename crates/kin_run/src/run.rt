@@ -64,7 +64,7 @@ fn run_bytes<K: Sink>(alloc: Global, input: &[u8], sink: &mut K) -> Status
     }
 }
 
-/// Takes the whole input, reads it by the grammar and runs it.
+/// Reads the whole input by the grammar, and runs it.
 fn run_input<S: Source, K: Sink>(alloc: Global, source: &mut S, sink: &mut K) -> Status
     ensures headline { Answers (S.left source.old) (S.left source.new) (S.ended source.new) (K.held sink.old) (K.held sink.new) result }
     ensures read_fault { result ≡ Status.Fault Side.Read → Rose (S.faults source.old) (S.faults source.new) }
@@ -78,10 +78,12 @@ fn run_input<S: Source, K: Sink>(alloc: Global, source: &mut S, sink: &mut K) ->
     }
 }
 
-/// With the argument `run`: takes the whole input, reads it by the grammar and runs its commands up to the
-/// first that is refused. Nothing is written before the whole input is known to be in the grammar or not.
-/// Then the bytes are written in pieces of some 64 KiB, each command's text after that of the one before.
-/// With the journal on, each block is written before the next is computed; no clause says so.
+/// With the argument `run`: reads the whole input by the grammar, and runs its commands up to the first
+/// that is refused. With `demo`: runs a generated script, and reads nothing. With other arguments: does
+/// nothing, and answers `Words`.
+///
+/// No clause says when bytes are written: not before the whole input is known to be in the grammar or
+/// not, then in pieces of some 64 KiB, and with the journal on each block before the next is computed.
 pub fn run<S: Source, K: Sink>(
     alloc: Global,
     words: &[String],
@@ -96,8 +98,8 @@ pub fn run<S: Source, K: Sink>(
     ensures headline { asked_of words.now ≡ Some Asked.Run →
         Answers (S.left source.old) (S.left source.new) (S.ended source.new) (K.held sink.old) (K.held sink.new) result }
 
-    // A known input has its own status: of the end, of the first refused line, or of the first
-    // refused command. Only a run that is broken off has another.
+    // A known input has its own status: of the end, of the first line outside the grammar, of the first
+    // refused command, or of its length. Only a run that is broken off has another.
     ensures done { asked_of words.now ≡ Some Asked.Run → (input text : List ℕ) →
         S.left source.old ≡ Some input → length input ≤ 2 ^ 20 → IsTextOf input text None →
         (result ≡ Status.Done) ⊎ IsBrokenOff result }

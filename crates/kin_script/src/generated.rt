@@ -56,7 +56,7 @@ impl Draws {
     }
 }
 
-/// The least size of at least 1 that has room for so many points.
+/// The least size of at least 1 that has room for this many points.
 fn least_size(count: u32) -> u32
     requires { count ≤ 2 ^ 10 }
     ensures { IsLeastSize count result }
@@ -131,7 +131,7 @@ fn put_together(alloc: Global, seed: u32, count: u32) -> Result<Script, AllocErr
     })
 }
 
-/// The script of a seed, with `count` points: their places are drawn from -1000..1000 and their
+/// The script of a seed, with `count` points, 1 to 1024: their places are drawn from -1000..1000 and their
 /// speeds from -10..10, along each axis. One structure of each kind is kept, and all are asked at the
 /// time 20.
 #[tactic(auto, using(crate::proofs::GeneratedRanges::result_in_range))]

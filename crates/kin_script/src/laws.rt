@@ -10,17 +10,18 @@ pub fn scripts_are_written()
 {}
 
 /// The first line outside the grammar is the first that isn't allowed at its place: the lines before it write a
-/// script, and with it they write none, however they go on.
+/// script or are none, and with it they write none, however they go on. Where no line has words, it is the line
+/// after the last.
 pub fn first_outside_is_first()
     ensures { FirstOutsideIsFirst }
 {}
 
-/// Instants with the same printed text are the same.
+/// Canonical instants with the same printed text are the same.
 pub fn texts_tell_instants()
     ensures { TextsTellInstants }
 {}
 
-/// Moments with the same printed text are the same.
+/// Canonical moments with the same printed text are the same.
 pub fn texts_tell_moments()
     ensures { TextsTellMoments }
 {}

@@ -2,8 +2,8 @@
 //!
 //! The grammar is in `specs/`, as a function of whole lines: from bytes to the script that they are,
 //! or to the number of the first line outside; `laws` says what holds of it. [`read::read`] goes over
-//! the bytes once and answers what the grammar says; every number of a script that it gives is in its
-//! range.
+//! the bytes once and answers what the grammar says, or want of memory; every number of a script that it
+//! gives is in its range.
 #![tactic(auto)]
 
 pub use command::Command;

@@ -149,7 +149,7 @@ fn read_lines(alloc: Global, lines: &mut Lines<'_>) -> Result<Script, ReadError>
     }
 }
 
-/// The script that the bytes are, or the first line outside the grammar.
+/// The script that the bytes are, at most 2^20 of them, or the first line outside the grammar.
 #[tactic(auto, unfolding(crate::specs::Grammar::script_of))]
 pub fn read(alloc: Global, bytes: &[u8]) -> Result<Script, ReadError>
     requires { length bytes.now ≤ 2 ^ 20 }

@@ -31,8 +31,8 @@ fn named(lesser: Instant, greater: Instant, upper: bool) -> Instant
     if upper { greater } else { lesser }
 }
 
-/// The greater root or the lesser one; with one root both name it. `None` exactly where there is
-/// no real root.
+/// The greater root or the lesser one of `a*t^2 + b*t + c`, where `a` isn't 0; with one root both name
+/// it. `None` exactly where there is no real root.
 pub fn named_root(a: i64, b: i64, c: i64, upper: bool) -> Option<Instant>
     requires a_not_zero { 0 < unsigned_abs a }
     requires a_small { unsigned_abs a ≤ 2 ^ 28 }

@@ -46,8 +46,8 @@ pub fn write_tally<K: Sink>(alloc: Global, tally: &Tally, sink: &mut K) -> Resul
     Ok(())
 }
 
-/// Writes what was gathered before memory ran out, as far as that goes. After a failed write
-/// nothing more is written.
+/// Writes what was gathered before memory ran out, or a prefix of it where a write fails. After a failed
+/// write nothing more is written.
 pub fn salvage<K: Sink>(stop: Stop, out: &mut Vec<u8>, sink: &mut K)
     ensures front { stop ≡ WantOfMemory → AppendsFront (K.held sink.old) (K.held sink.new) out.old.items }
     ensures untouched { stop ≡ FaultOf → sink.new ≡ sink.old }

@@ -1,9 +1,9 @@
-//! The laws of the text.
+//! The laws of the text. Each function's contract is one law; none of them does anything.
 
 ghost use Rattle.kin_status.specs.Demo.{DemoTextsExist, OneDemoText};
 ghost use Rattle.kin_status.specs.Headline.{OneAnswer, TextsExist};
 
-/// An input has one text, and one status with it.
+/// An input has at most one text, and at most one status with it.
 #[tactic(auto, using(crate::proofs::OneText::one_answer))]
 pub fn one_answer()
     ensures { OneAnswer }
@@ -22,7 +22,7 @@ pub fn demo_texts_exist()
     ensures { DemoTextsExist }
 {}
 
-/// A seed and a count have no two texts.
+/// A seed and a count have at most one text.
 pub fn one_demo_text()
     ensures { OneDemoText }
 {}

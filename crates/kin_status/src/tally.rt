@@ -21,7 +21,7 @@ impl Tally {
         }
     }
 
-    /// One more block, with so many failures.
+    /// Counts one more block, with this many failures.
     pub fn count(&mut self, failures: usize)
         ensures { self.new ≡ one_more failures self.old }
     {
@@ -30,7 +30,7 @@ impl Tally {
     }
 }
 
-/// Counts one more block, with so many failures, if the counts are asked for.
+/// Counts one more block, with this many failures, where the counts are wanted.
 pub fn count_on(tally: &mut Option<Tally>, failures: usize)
     ensures { tally.new ≡ counted_on failures tally.old }
 {

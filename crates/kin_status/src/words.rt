@@ -16,7 +16,7 @@ const MOST_POINTS: u32 = 1024;
 pub enum Asked {
     /// That of the script on the source.
     Run,
-    /// That of the generated script of a seed, with so many points.
+    /// That of the generated script of a seed, with this many points.
     Demo { seed: u32, count: u32 },
 }
 

@@ -12,7 +12,7 @@ use kin_io::source::Failed;
 /// How many bytes are gathered before they are written.
 const MANY: usize = 1 << 16;
 
-/// Writes what was gathered, and forgets it.
+/// Writes what was gathered, and forgets it where all was written.
 pub fn flush<K: Sink>(out: &mut Vec<u8>, sink: &mut K) -> Result<(), Failed>
     ensures all { OnOk result (Appends (K.held sink.old) (K.held sink.new) out.old.items) }
     ensures nothing_left { OnOk result (out.new.items ≡ []) }

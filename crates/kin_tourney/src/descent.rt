@@ -28,7 +28,7 @@ fn doubted_half(doubts: &[Doubt], node: usize) -> Option<usize>
     None
 }
 
-/// The node in doubt whose halves are clear that the doubts lead down to from a node in doubt.
+/// The node in doubt with clear halves to which the doubts lead down from a node in doubt.
 fn lowest_doubt(doubts: &[Doubt], node: usize) -> usize
     requires tree { IsPerfect doubts.now }
     requires root { 0 < node }
@@ -89,7 +89,7 @@ pub fn next_doubt(doubts: &[Doubt], node: usize) -> usize
     }
 }
 
-/// Whether only the way leads through the node above one that is clear, and its other half is clear, too.
+/// Whether the node above a clear one is only on the way to nodes in doubt, and its other half is clear too.
 fn is_passage(doubts: &[Doubt], node: usize) -> bool
     requires tree { IsPerfect doubts.now }
     requires done { IsDone doubts.now node }
@@ -102,8 +102,8 @@ fn is_passage(doubts: &[Doubt], node: usize) -> bool
     doubts[above].is_below() && doubts[other_half(node)].is_clear()
 }
 
-/// Clears the nodes above one that is clear as far as only the way leads through them, and answers the
-/// last one.
+/// Clears the nodes above a clear one, as far as they are only on the way to nodes in doubt and have no
+/// other half in doubt, and answers the last one.
 #[inline(always)]
 pub fn pass_up(doubts: &mut [Doubt], node: usize) -> usize
     requires tree { IsPerfect doubts.old }

@@ -50,7 +50,7 @@ impl Doubt {
     }
 }
 
-/// So many nodes of which only node 0 isn't clear.
+/// This many nodes, all clear but node 0.
 pub fn no_doubts(alloc: Global, count: usize) -> Result<Vec<Doubt>, NoMemory>
     requires { 0 < count }
     ensures { IfOk result (λ v. v.items ≡ slice_set (replicate count Doubt.Clear) 0 Doubt.Here) }

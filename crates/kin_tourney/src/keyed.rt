@@ -31,10 +31,10 @@ pub trait Keyed: Drop {
     /// The form names the items' numbers alone, and keeps the bounds.
     ghost askable: { (k : Self) (live : List ℕ) (x y : Self.Item) → AreLive live (names x) → AreLive live (names y) → IsAskable live ((key k).form x y) };
 
-    /// Of two different items that name live numbers exactly one beats the other.
+    /// In a real scene, of two different items that name live numbers exactly one beats the other.
     ghost total: { (k : Self) (s : Scene) (x y : Self.Item) → IsReal s → AreLive s.live (names x) → AreLive s.live (names y) → x ≢ y → beats s (key k) y x ≡ not (beats s (key k) x y) };
 
-    /// Over items that name live numbers, "beats" is transitive.
+    /// In a real scene, over items that name live numbers, "beats" is transitive.
     ghost transitive: { (k : Self) (s : Scene) (x y z : Self.Item) → IsReal s → AreLive s.live (names x) → AreLive s.live (names y) → AreLive s.live (names z) →
         beats s (key k) x y ≡ true → beats s (key k) y z ≡ true → beats s (key k) x z ≡ true };
 }

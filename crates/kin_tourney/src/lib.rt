@@ -5,7 +5,7 @@
 //! Basch, Guibas and Hershberger (1999), over any key (`Keyed`) whose items are in a strict total
 //! order at each moment.
 //!
-//! `Tourney` is `Kinetic`. After a `settle` the winner of each node is the best of its slots, by
+//! `Tourney` is `Kinetic`. After a `settle` that answers `Ok` the winner of each node is the best of its slots, by
 //! definition over the slots directly, and the facts alone determine winners and facts. A changed
 //! slot or a failed fact costs at most one sign test a level.
 #![tactic(auto)]

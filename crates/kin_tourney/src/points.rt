@@ -24,8 +24,8 @@ use std::alloc::Global;
 use std::sync::ledger::Ledger;
 
 impl Tourney<Along> {
-    /// The live number that lies farthest along the direction, at a tie the least one, or `None`
-    /// where no number is live. Costs no search.
+    /// Where the tournament is settled over the live numbers, the one that lies farthest along the
+    /// direction, at a tie the least one, or `None` where no number is live. It is read off the root.
     pub fn extreme(&self) -> Option<u32>
         requires rest { IsAtRest self.now }
         ensures { (s : Scene) → IsReal s → FitsSize self.now.size s → HasPoints self.now s.live → IsSettledAlong self.now s → IsExtremePoint s self.now.key.dx self.now.key.dy result }

@@ -20,13 +20,14 @@ use std::sync::ledger::Ledger;
 /// The best item of `2^size` slots, and of the slots under each node of a binary tree over them.
 /// Node 1 is the root, node v has the halves 2v and 2v + 1, and slot s is node `2^size + s`.
 ///
-/// `set` and `clear` mark a slot, and the next `settle` does the work. Different slots hold
-/// different items. After a `settle` that answered want of memory it may not be used again.
+/// `set` and `clear` mark a slot, and the next `settle` plays its matches again. At a `settle`
+/// different slots hold different items, which name live numbers alone. After a `settle` that answered
+/// want of memory it may not be used again.
 #[derive(Drop)]
 pub struct Tourney<K: Keyed> {
     key: K,
     tree: Tree<K::Item>,
-    /// False from the start of a `settle` to its Ok end.
+    /// Whether no `settle` is under way and none has run out of memory.
     whole: bool,
 }
 
@@ -44,7 +45,7 @@ impl<K: Keyed> Model for Tourney<K> {
 }
 
 impl<K: Keyed> Tourney<K> {
-    /// A tournament of `2^size` empty slots, settled at every moment. No later call but `settle`
+    /// A tournament of `2^size` empty slots, settled in every scene. No later call but `settle`
     /// takes memory, and `settle` only for what it reports.
     pub fn new(alloc: Global, key: K, size: u32) -> Result<Tourney<K>, NoMemory>
         requires low { 1 ≤ size }
@@ -81,7 +82,8 @@ impl<K: Keyed> Tourney<K> {
         self.tree.put(slot, None);
     }
 
-    /// The best item of the slots under a node, or `None` exactly where they are all empty.
+    /// The winner of a node as it was settled last, or `None` exactly where the slots under it are all empty.
+    /// Where the tournament is settled, it is the best item of these slots.
     pub fn winner(&self, node: u32) -> Option<K::Item>
         requires rest { IsAtRest self.now }
         requires low { 0 < node }
@@ -93,9 +95,9 @@ impl<K: Keyed> Tourney<K> {
         Some(entry.item)
     }
 
-    /// Repairs the marked slots and the failed facts, where no fact but those that name other than live
-    /// numbers is left out of `failed`. Above a marked slot only those matches are played again that it
-    /// had won, and those whose halves have another winner.
+    /// `settle`, where `failed` also has the failed facts above marked slots, but for those that name a
+    /// number that isn't live. Above a marked slot only those matches are played again that it had won, and
+    /// those whose halves have another winner; no clause says so.
     pub fn settle_told<O: Signs, L: Ledger>(
         &mut self,
         now: &O,
@@ -143,8 +145,8 @@ impl<K: Keyed> Kinetic for Tourney<K> {
 
     ghost determined = { λ t v w rest real before same real' grounded hold. determined_law K.names (K.key t.key) (K.total t.key) (K.transitive t.key) t v w real before same real' hold };
 
-    /// Repairs the marked slots and the failed facts, each along the levels above it. No other node is
-    /// visited.
+    /// Repairs the marked slots and the failed facts, each along the levels above it, with at most one
+    /// sign test a level. No other node is visited; no clause says so.
     fn settle<O: Signs, L: Ledger>(
         &mut self,
         now: &O,

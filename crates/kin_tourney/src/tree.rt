@@ -28,8 +28,8 @@ pub struct Tree<I: Copy> {
     pub(crate) best: Vec<Option<u32>>,
     /// The fact of each inner node.
     pub(crate) facts: Vec<Option<Fact>>,
-    /// Which inner nodes have to be looked at. Where one isn't clear, none above it is. Node 0
-    /// never is, so that every way upwards ends there.
+    /// Which inner nodes have to be looked at. If one is in doubt, so are all above it. Node 0 always is,
+    /// so that each way up ends there.
     pub(crate) doubts: Vec<Doubt>,
     /// The node that came into doubt last, where a repair begins.
     pub(crate) latest: usize,

@@ -96,7 +96,7 @@ fn in_bounds(start: i64) -> Option<i32>
 /// -4096..4096. Takes no memory.
 ///
 /// `NotWhole` comes exactly where the moment is just after an instant or a new constant part isn't whole;
-/// `OutOfBounds` exactly where both are whole and one is outside -4096..4096.
+/// `OutOfBounds` exactly where the moment is an instant, both constant parts are whole, and one is outside -4096..4096.
 pub fn turned(motion: &Motion, now: &Moment, u: i32, v: i32) -> Result<Motion, TurnError>
     requires u { unsigned_abs u ≤ 4096 }
     requires v { unsigned_abs v ≤ 4096 }

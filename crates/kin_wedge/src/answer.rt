@@ -80,7 +80,7 @@ impl Orders {
     }
 
     /// The candidate of a slot after an offer. `None` asks for a look-up. A candidate that isn't in the octant any
-    /// more may stay until its look-up comes.
+    /// more may remain until its look-up comes.
     pub fn renewed(
         &self,
         octant: Octant,

@@ -24,7 +24,7 @@ pub struct Mail {
 }
 
 impl Mail {
-    /// No failed facts, for so many lists.
+    /// No failed facts, for `count` lists.
     pub fn new(alloc: Global, count: u32) -> Result<Mail, NoMemory>
         ensures { IfOk result (λ m. length m.boxes.items ≡ count) }
     {

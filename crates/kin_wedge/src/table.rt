@@ -35,8 +35,8 @@ impl Table {
         self.pointers.target(slot)
     }
 
-    /// Whether a number is the candidate of a slot. That it is so where the answer is true is no
-    /// clause: a false answer only saves work.
+    /// Whether a number is the candidate of a slot. A true answer promises nothing: a false one only
+    /// saves work.
     pub fn holds(&self, slot: u32, no: u32) -> bool
         requires { slot < length self.now }
         ensures { slice_get self.now slot ≡ Some (Some no) → result ≡ true }
@@ -100,7 +100,7 @@ fn numbers_of(size: u32) -> usize
     1 << size
 }
 
-/// So many slots that point at none, over the numbers below `numbers`.
+/// This many slots that point at none, over the numbers below `numbers`.
 fn vacant(alloc: Global, slots: usize, numbers: usize) -> Result<Pointers, NoMemory>
     ensures { IfOk result (λ p. p ≡ record { targets = replicate slots None; numbers = numbers }) }
 {

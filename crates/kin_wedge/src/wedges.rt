@@ -60,7 +60,8 @@ impl Wedges {
         })
     }
 
-    /// Marks a number as entering. After want of memory the structure may not be used again.
+    /// Marks a number as entering. It is no member, and no mark waits. After want of memory the structure
+    /// may not be used again.
     pub fn insert(&mut self, no: u32) -> Result<(), NoMemory>
         requires rest { self.old.mark ≡ Rest }
         requires within { no < 2 ^ self.old.size }
@@ -74,7 +75,7 @@ impl Wedges {
         Ok(())
     }
 
-    /// Marks a number as leaving.
+    /// Marks a member as leaving. No mark waits.
     pub fn remove(&mut self, no: u32)
         requires rest { self.old.mark ≡ Rest }
         requires member { is_in no (members_of self.old) ≡ true }
@@ -84,8 +85,8 @@ impl Wedges {
         self.mark = Mark::Leaves(no);
     }
 
-    /// The candidate of an apex in an octant: of the points there, the first in the octant's third
-    /// order. `None` where the octant is empty, and where the apex is no member.
+    /// The candidate of an apex in an octant as it was settled last: of the points there, the first in the
+    /// octant's third order. `None` where the octant is empty, and where the apex is no member.
     pub fn candidate(&self, apex: u32, octant: u32) -> Option<u32>
         requires apex { apex < 2 ^ self.now.size }
         requires octant { octant < 8 }

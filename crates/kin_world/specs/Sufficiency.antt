@@ -13,7 +13,7 @@ use Rattle.kin_motion.specs.Orders.{IsOrder}
 use Rattle.kin_motion.specs.Scene.{Scene, IsReal, Holds}
 use Rattle.kin_world.specs.Worlds.{World, scene_of}
 
--- the answer of each kept structure in the one scene is its answer in the other
+-- each kept order, extreme point, hull and closest pair of the one scene is that of the other
 pub record HaveSameAnswers (keeps : List Keep) (v w : Scene) : Type 0 where
   pub order : (n : ℕ) (dx dy : ℤ) (xs : List ℕ) → slice_get keeps n ≡ Some (Order dx dy) → IsOrder v dx dy xs → IsOrder w dx dy xs
   pub extreme : (n : ℕ) (dx dy : ℤ) (point : Option ℕ) → slice_get keeps n ≡ Some (Extreme dx dy) → IsExtremePoint v dx dy point → IsExtremePoint w dx dy point
@@ -29,7 +29,7 @@ pub record LiveFactsHoldThere (size : ℕ) (keeps : List Keep) (v w : Scene) (cs
   pub live : ListsLive size keeps v cs
   pub hold : All (λ c. Holds w c.placed.fact) cs
 
--- then each kept structure has the same answer in both
+-- then each kept order, extreme point, hull and closest pair is the same in both
 abbrev pub LiveFactsImplyAnswers : Type 0
 LiveFactsImplyAnswers = (size : ℕ) (keeps : List Keep) (v w : Scene) (cs : List Certificate) → LiveFactsHoldThere size keeps v w cs → HaveSameAnswers keeps v w
 

@@ -1,4 +1,4 @@
-//! A counter of steps for callers that count none.
+//! A counter for callers that don't count steps.
 
 ghost use Rattle.std.specs.Prelude.{◌≡◌, ◌<◌};
 
@@ -6,18 +6,18 @@ use kin_num::Steps;
 use std::marker::Brand;
 use std::sync::ledger::{Blank, Ledger};
 
-/// What is done with a counter that it is handed.
+/// Work that needs a counter.
 pub trait Work {
     /// The outcome.
     type Outcome;
 
-    /// When it may be done.
+    /// What the work requires.
     ghost can_run: { Self → Type 0 } = { λ _. Unit {0} };
 
     /// What is known of the outcome.
     ghost run_gives: { Self → Self.Outcome → Type 0 } = { λ _ _. Unit {0} };
 
-    /// Does it. The counter takes no memory and no time.
+    /// Does the work with this counter, which takes no memory and no time.
     fn run<L: Ledger>(self, steps: &mut Steps<L>) -> Self::Outcome
         requires { can_run self }
         ensures { run_gives self result };

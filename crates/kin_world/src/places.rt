@@ -4,7 +4,7 @@ ghost use Rattle.std.specs.Prelude.{◌≡◌, ◌≢◌, ◌≤◌, ℕ, Some, 
 
 use kin_motion::Keep;
 
-/// The first place of a keep, if it is among these.
+/// A place of a keep, if it is among these.
 pub(crate) fn find(keep: &Keep, keeps: &[Keep]) -> Option<usize>
     ensures some { IfSome result (λ k. slice_get keeps.now k ≡ Some keep.now) }
     ensures none { IfNone result ((k : ℕ) → slice_get keeps.now k ≢ Some keep.now) }
@@ -17,7 +17,7 @@ pub(crate) fn find(keep: &Keep, keeps: &[Keep]) -> Option<usize>
     None
 }
 
-/// The first place of a keep that is among these.
+/// A place of a keep that is among these.
 pub(crate) fn place_of(keep: &Keep, keeps: &[Keep]) -> u32
     requires few { length keeps.now ≤ 19 }
     requires kept { (k : ℕ) × (slice_get keeps.now k ≡ Some keep.now) }

@@ -1,7 +1,7 @@
 //! The structures that a world keeps.
 //!
-//! Only here does a structure get its failed facts and the number that enters or leaves. What all
-//! kinds meet is said once, in `specs/Structures`.
+//! Only this module gives a structure its failed facts and the number that enters or leaves. What
+//! holds of every kind is in `specs/Structures`.
 
 ghost use Rattle.std.specs.Prelude.{◌≡◌, ◌≤◌, ◌<◌, ◌^◌, ℕ, ℤ, List, [], Contains, IfOk, OnOk};
 ghost use Rattle.kin_motion.specs.declared.keep.Keep.{Keep as Kind};
@@ -191,7 +191,8 @@ impl Structure {
     }
 
     /// The live number that lies farthest along the direction, at a tie the least one, or `None`
-    /// where no number is live or no extreme point is kept. Costs no search.
+    /// where no number is live or no extreme point is kept. The structure is at rest, and the answer
+    /// is that of the scene in which it is kept. It is meant to search nothing; no clause says so.
     pub fn extreme(&self) -> Option<u32>
         requires rest { IsAtRest self.now }
         ensures { (size : ℕ) (dx dy : ℤ) (s : Scene) → IsKept size (KeepExtreme dx dy) s self.now → IsExtremePoint s dx dy result }
@@ -202,7 +203,7 @@ impl Structure {
         }
     }
 
-    /// The hull cycle, from its leftmost point on. Costs as much as it has points.
+    /// The hull cycle, from its leftmost point on, in the scene in which it is kept.
     pub fn hull(&self) -> Result<Vec<u32>, NoMemory>
         requires kept { (size : ℕ) × (s : Scene) × IsKept size KeepHull s self.now }
         ensures { IfOk result (λ cycle. (size : ℕ) (s : Scene) → IsKept size KeepHull s self.now → IsHullCycle s cycle.items) }
@@ -214,7 +215,8 @@ impl Structure {
     }
 
     /// The closest pair, the lesser number first, or `None` where fewer than two numbers are live
-    /// or no closest pair is kept. Costs no search.
+    /// or no closest pair is kept. The structure is at rest, and the answer is that of the scene in
+    /// which it is kept. It is meant to search nothing; no clause says so.
     pub fn closest(&self) -> Option<(u32, u32)>
         requires rest { IsAtRest self.now }
         ensures { (size : ℕ) (s : Scene) → IsKept size KeepClosest s self.now → IsClosest s result }

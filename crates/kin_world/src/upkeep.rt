@@ -30,11 +30,11 @@ pub struct Upkeep {
     pub table: Table,
     pub motions: Motions,
     pub moment: Moment,
-    /// What a structure reports. The memory is used again.
+    /// What a structure reports. Reused.
     delta: Delta,
-    /// The facts that fail at one moment, by structure. The memory is used again.
+    /// The facts that fail at one moment, by structure. Reused.
     mail: Mail,
-    /// The facts that fail at one moment. The memory is used again.
+    /// The facts that fail at one moment. Reused.
     given: Vec<Owned>,
 }
 
@@ -109,7 +109,7 @@ impl Upkeep {
         Ok(())
     }
 
-    // Repairs each structure of which facts were given out, which `taken` lists in any order.
+    // Repairs each structure that owns one of the facts `taken`, which are in any order.
     fn repair_each<L: Ledger>(
         &mut self,
         taken: &[Owned],

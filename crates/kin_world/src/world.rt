@@ -30,9 +30,9 @@ mod answers;
 
 /// Moving points and the structures that are kept over them, at one moment.
 ///
-/// Between two calls every structure is settled at the moment now, and the table has exactly the
-/// live facts. After a changing call that answered want of memory the world isn't whole, and only
-/// `is_whole`, `keep` and `keeps` may be asked.
+/// Between two calls, while the world is whole, every structure is settled at the moment now, and the
+/// table has exactly the live facts. After a changing call that answered want of memory the world
+/// isn't whole, and only `is_whole`, `keep` and `keeps` may be asked.
 #[derive(Drop)]
 pub struct World {
     alloc: Global,
@@ -53,7 +53,9 @@ impl Model for World {
 }
 
 impl World {
-    /// No points yet, at the instant 0.
+    /// No points yet, at the instant 0. The size is from 1 to 12. Of the keeps at most 16 are orders
+    /// or extreme points, and at most one is a hull, one a closest pair and one a range; each
+    /// direction is small (`AreKeepable`).
     pub fn new(alloc: Global, size: u32, keeps: &[Keep]) -> Result<World, NoMemory>
         requires low { 1 ≤ size }
         requires high { size ≤ 12 }
@@ -93,8 +95,9 @@ impl World {
         no < 1 << self.upkeep.size && self.upkeep.motions.get(no).is_none()
     }
 
-    /// Gives a number this motion, from the moment now on. Each structure takes it in, and the table
-    /// takes over only what has changed. After want of memory the world isn't whole.
+    /// Gives a number this motion, from the moment now on. The number is below `2^size` and isn't
+    /// live. Each structure takes it in, and failure moments are computed only for facts that are
+    /// new. After want of memory the world isn't whole.
     pub fn insert<L: Ledger>(
         &mut self,
         no: u32,
@@ -115,8 +118,8 @@ impl World {
         Ok(())
     }
 
-    /// Takes a live number's motion away. Each structure lets it go, and the table takes over only what
-    /// has changed, so no fact of it is left. After want of memory the world isn't whole.
+    /// Takes a live number's motion away. Each structure lets it go, and failure moments are computed
+    /// only for facts that are new. After want of memory the world isn't whole.
     pub fn remove<L: Ledger>(&mut self, no: u32, steps: &mut Steps<L>) -> Result<(), NoMemory>
         requires whole { IsTrue self.old.whole }
         requires live { IsTrue (is_live self.old.motions no) }
@@ -131,8 +134,8 @@ impl World {
         Ok(())
     }
 
-    /// Gives a live number another motion, at another place: it leaves, and enters again at the same
-    /// moment. After want of memory in either half the world isn't whole.
+    /// Gives a live number any motion, at any place: it leaves, and enters again at the same moment.
+    /// After want of memory in either half the world isn't whole.
     pub fn replace<L: Ledger>(
         &mut self,
         no: u32,
@@ -149,11 +152,12 @@ impl World {
         self.insert(no, m, steps)
     }
 
-    /// The motion with the velocity `(u, v)` that a live number is at the same place by now. Each of the
-    /// two is in -4096..4096. Takes no memory.
+    /// The motion with the velocity `(u, v)` by which a live number is at the same place now. Each of
+    /// the two is in -4096..4096. Takes no memory.
     ///
-    /// `NotWhole` comes exactly where the moment is just after an instant or a new constant part isn't
-    /// whole; `OutOfBounds` exactly where both are whole and one is outside -4096..4096.
+    /// `NotWhole` comes exactly where the moment is just after an instant or a coordinate of the new
+    /// place at time 0 isn't whole; `OutOfBounds` exactly where the moment is an instant, both are
+    /// whole and one is outside -4096..4096.
     pub fn turned(&self, no: u32, u: i32, v: i32) -> Result<Motion, TurnError>
         requires whole { IsTrue self.now.whole }
         requires live { IsTrue (is_live self.now.motions no) }
@@ -170,8 +174,9 @@ impl World {
     }
 
     /// Gives a live number another velocity at the place where it is, which `turned` has to allow. No
-    /// answer changes now and every live fact stays; those that name the number get their failure
-    /// moments anew. After want of memory the world isn't whole.
+    /// sign changes now, so every live fact stays, and by the law `turns_keep_the_scene` every answer
+    /// but that of a rectangle, of which no clause speaks. The failure moments of the facts that name
+    /// the number are computed anew. After want of memory the world isn't whole.
     pub fn turn<L: Ledger>(
         &mut self,
         no: u32,
@@ -200,9 +205,9 @@ impl World {
 
     /// Moves to the first moment, not after the limit, at which live facts fail, and repairs all
     /// structures there. `None` exactly where no live fact fails at or before the limit: then the moment
-    /// is the limit, and want of memory isn't answered. A loop over steps ends, since fewer moments are
-    /// left after each block. That structures without a failed fact are skipped is no clause. After want
-    /// of memory the world isn't whole.
+    /// is the limit, and the call doesn't answer want of memory (`cause`). A loop over steps ends, since
+    /// fewer moments are left after each block. No clause says that structures without a failed fact are
+    /// skipped. After want of memory the world isn't whole.
     pub fn step<L: Ledger>(
         &mut self,
         limit: &Moment,
@@ -227,8 +232,8 @@ impl World {
         Ok(Some(block))
     }
 
-    /// Moves as `step` does and leaves the same state, but lists no failures: answers how many there
-    /// were, or `None` exactly where `step` would.
+    /// Moves as `step` does (`stepped`), but lists no failures: answers how many there were, or `None`
+    /// exactly where `step` would.
     pub fn pass<L: Ledger>(
         &mut self,
         limit: &Moment,
@@ -254,9 +259,9 @@ impl World {
     }
 
     /// Moves to a moment up to the limit by which a live fact has failed, or to the limit where none
-    /// fails up to it; answers whether one has. It may go from before an instant to just after it. Where
-    /// it lands is no clause, but `fewer` says that it is later. After want of memory the world isn't
-    /// whole.
+    /// fails up to it; answers whether a live fact has failed. It may go from before an instant to
+    /// just after it. No clause says where it lands, but `fewer` says that it is later. After want of
+    /// memory the world isn't whole.
     pub fn leap<L: Ledger>(
         &mut self,
         limit: &Moment,
@@ -299,9 +304,9 @@ impl World {
         self.upkeep.table.failing()
     }
 
-    /// How many facts are live. Without live numbers there are none. With n of them an order or an
-    /// extreme point has at most n - 1, a range twice as many, a closest pair 16n, and a hull 4n times
-    /// the size: `most_facts`.
+    /// How many facts are live: at most `most_live`, the sum over the kept structures. Without live
+    /// numbers there are none. With n of them each order and each extreme point has at most n - 1, a
+    /// range twice as many, a closest pair 16n, and a hull 4n times the size.
     pub fn live(&self) -> usize
         requires { IsTrue self.now.whole }
         ensures count { result ≡ length self.now.live }
@@ -311,7 +316,7 @@ impl World {
         self.upkeep.table.live()
     }
 
-    /// How many failure moments were made, up to 2^64 - 1.
+    /// How many failure moments were computed since `new`, or 2^64 - 1 where there were more.
     pub fn made(&self) -> u64
         requires { IsTrue self.now.whole }
         ensures { result ≡ self.now.made }
@@ -319,7 +324,7 @@ impl World {
         self.upkeep.table.made()
     }
 
-    /// The kept structure of that number.
+    /// What is kept with this number, or `None` where the number is too great.
     pub fn keep(&self, s: u32) -> Option<Keep>
         ensures { result ≡ slice_get self.now.keeps s }
     {
@@ -336,7 +341,8 @@ impl World {
         }
     }
 
-    /// The sign of an owner's live fact of this form, or `None` exactly where there is none.
+    /// The sign of the live fact of this form in this part of this structure, or `None` exactly where
+    /// there is none.
     pub fn sign_of(&self, structure: u32, part: u32, form: &Form) -> Option<Sign>
         requires { IsTrue self.now.whole }
         ensures some { IfSome result (λ sign. Contains self.now.live (certificate structure part form.now sign)) }

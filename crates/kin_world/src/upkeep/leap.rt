@@ -1,7 +1,7 @@
-//! Failures that are neither listed nor counted are left behind, an instant at a time.
+//! Failures that are neither listed nor counted are skipped, an instant at a time.
 //!
 //! Usually what fails at an instant fails just after it, too: a sign goes from + by 0 to -. Then the structures need
-//! not be repaired twice, and no fact that holds at that one instant alone is ever made.
+//! only one repair, and no fact that holds at that one instant alone is ever made.
 
 ghost use Rattle.std.specs.Prelude.{◌≡◌, ◌↔◌, IsTrue, false, OnOk};
 ghost use Rattle.std.specs.List.{All};
@@ -93,7 +93,8 @@ fn is_line(form: &Form) -> bool
     matches!(*form, Form::Line { .. })
 }
 
-// Whether none of these facts holds now. Lines aren't asked: they cross 0 where they come to it.
+// True only if none of these facts but lines holds now. Lines aren't asked: they cross 0 where they
+// come to it.
 fn none_holds<L: Ledger>(given: &[Owned], now: &Now, steps: &mut Steps<L>) -> bool
     requires { All (λ o. IsAskable (live_of now.now.motions.now) o.fact.form) given.now }
     ensures { IsTrue result → All (λ o. is_line o.fact.form ≡ false → ¬ (Holds (scene_at now.now.motions.now now.now.moment.now) o.fact)) given.now }

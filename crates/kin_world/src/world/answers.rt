@@ -22,7 +22,7 @@ use kin_motion::{Keep, Rect};
 use kin_num::NoMemory;
 
 impl World {
-    /// The live numbers in the order that structure `s` keeps. Want of memory changes nothing.
+    /// The live numbers in the order that is kept with the number `s`. Want of memory changes nothing.
     pub fn order(&self, s: u32) -> Result<Vec<u32>, NoMemory>
         requires whole { IsTrue self.now.whole }
         requires kept { (dx : ℤ) × (dy : ℤ) × (slice_get self.now.keeps s ≡ Some (keep.Order dx dy)) }
@@ -35,7 +35,7 @@ impl World {
         Ok(list)
     }
 
-    /// The extreme point that structure `s` keeps, or `None` exactly with no point.
+    /// The extreme point that is kept with the number `s`, or `None` exactly where no number is live.
     pub fn extreme(&self, s: u32) -> Option<u32>
         requires whole { IsTrue self.now.whole }
         requires kept { (dx : ℤ) × (dy : ℤ) × (slice_get self.now.keeps s ≡ Some (keep.Extreme dx dy)) }
@@ -56,8 +56,9 @@ impl World {
         self.structure(self.place_of(&Keep::Hull)).hull()
     }
 
-    /// The closest pair, the lesser number first, or `None` exactly below two points. Of equally close
-    /// pairs it is the one with the least first number, then with the least second one.
+    /// The closest pair, the lesser number first, or `None` exactly where fewer than two numbers are
+    /// live. Of equally close pairs it is the one with the least first number, then with the least
+    /// second one.
     pub fn closest(&self) -> Option<(u32, u32)>
         requires whole { IsTrue self.now.whole }
         requires kept { (k : ℕ) × (slice_get self.now.keeps k ≡ Some keep.Closest) }
