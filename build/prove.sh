@@ -10,8 +10,8 @@ log=$crate/out/build.log
 names=()
 # Of a crate: all crates below it; how long it takes, in lines of code; the same for it and the longest way up to the program.
 declare -A below weight way
-# Of a crate: that it is proved; the process that proves it, and in which lane.
-declare -A is_proved pid lane
+# Of a crate: that it is proved; the process that proves it, since when, and in which lane.
+declare -A is_proved pid since lane
 locks=()
 # When the build began, in seconds; nothing before it holds the locks.
 began=
@@ -117,6 +117,11 @@ find_lane() {
     [ -d "$work/$number" ] || double "$work/sources" "$work/$number"
 }
 
+# About how many lines are left of a crate that is being proved, with the longest way up: some 13 a second are done.
+left() {
+    echo $((way[$1] - $(least "${weight[$1]}" $((13 * ($(date +%s) - since[$1]))))))
+}
+
 # Begins with the proof of a crate, or with that of the program and its build. All waits for the crate whose way up is the
 # longest, so it goes first, in up to four jobs. The others get one each, since more jobs take more time of the processors in all.
 start() {
@@ -132,10 +137,10 @@ start() {
     [ ! -d "$root/crates/$name/out/incremental" ] ||
         mv -- "$root/crates/$name/out/incremental" "$crates/$name/out" || return
     for it in "${!pid[@]}"; do
-        [ "${way[$it]}" -lt "${way[$name]}" ] || { jobs=1 && later=10; }
+        [ "$(left "$it")" -lt "${way[$name]}" ] || { jobs=1 && later=10; }
     done
     (cd "$crates/$name" && exec nice -n $later rt $command --jobs "$(least $jobs "$processors")" </dev/null >"$work/$name.log" 2>&1) &
-    pid[$name]=$!
+    pid[$name]=$! since[$name]=$(date +%s)
 }
 
 # Puts some parts of what a lane has of a crate into the crate's folder: always what was proved of it.
