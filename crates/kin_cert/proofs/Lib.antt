@@ -2,7 +2,7 @@ pub mod Changes
 pub mod Dues
 pub mod Giving
 pub mod Posting
-pub mod Places
+pub mod Buckets
 pub mod Rolls
 pub mod Succession
 pub mod Enrolling
@@ -27,3 +27,4 @@ pub mod Costs
 pub mod QueueSizes
 pub mod Ungiven
 pub mod Paying
+pub mod ToldCounts

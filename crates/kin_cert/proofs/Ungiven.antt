@@ -44,7 +44,7 @@ not_true false e = refl
 both_so : (a b : Bool) → a ≡ false → b ≡ true → not a && b ≡ true
 both_so a b f t = ap (λ (x : Bool). not x && b) f ∙ t
 
-some-ungiven : (s : ℕ) (live : List LiveFact) (p : Placed) → is_ungiven s live p ≡ true → IsUngiven s live p
+pub some-ungiven : (s : ℕ) (live : List LiveFact) (p : Placed) → is_ungiven s live p ≡ true → IsUngiven s live p
 some-ungiven s live p t =
     let k = Any-from_list_any (λ (l : LiveFact). not l.waits && is_of s p l) live t in
     let h = both_hold (not k.1.waits) (is_of s p k.1) k.4 in

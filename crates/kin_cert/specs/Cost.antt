@@ -31,3 +31,7 @@ ungiven structure live ps = count_by (is_ungiven structure live) ps
 -- r for each dropped fact that wasn't given, and one more than r for each born one
 abbrev pub change_cost : ℕ → Change → List LiveFact → ℕ → ℕ
 change_cost structure change live r = ungiven structure live change.dropped * r + length change.born * (r + 1)
+
+-- how many facts were given and wait
+abbrev pub waiting_count : List LiveFact → ℕ
+waiting_count live = count_by (λ l. l.waits) live

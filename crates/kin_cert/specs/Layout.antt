@@ -19,7 +19,7 @@ use Rattle.kin_motion.specs.Deltas.{Change}
 use Rattle.kin_fail.specs.Failures.{IsFirstFailure}
 use Rattle.kin_cert.specs.Applied.{IsBorn, IsOf, HasApplied}
 use Rattle.kin_cert.specs.Cost.{IsEnough, TakesAtMost, is_ungiven}
-use Rattle.kin_cert.specs.Place.{place_of}
+use Rattle.kin_cert.specs.Bucket.{bucket_of}
 use Rattle.kin_fail.specs.Rank.{padded_rank, owned_rank}
 
 abbrev pub live_fact : Entry → LiveFact
@@ -43,8 +43,8 @@ abbrev pub with : FinMap nat_cmp Moment → ℕ → Option Moment → FinMap nat
 with moments id None = moments
 with moments id (Some m) = map.insert moments id m
 
-abbrev pub owned_place : Owned → List ℕ
-owned_place o = place_of o.structure o.part o.fact.form
+abbrev pub owned_bucket : Owned → List ℕ
+owned_bucket o = bucket_of o.structure o.part o.fact.form
 
 -- the fact in a part of a structure, with its owner
 abbrev pub held : ℕ → Placed → Owned

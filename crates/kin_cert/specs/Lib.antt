@@ -1,4 +1,4 @@
-pub mod Place
+pub mod Bucket
 pub mod Facts
 pub mod Applied
 pub mod Taken

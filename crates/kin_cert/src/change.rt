@@ -12,7 +12,7 @@ ghost use Rattle.kin_cert.specs.Applied.{IsOf, IsLiveIn, IsAmong, AreUnlike, May
 ghost use Rattle.kin_cert.specs.Cost.{TakesAtMost, is_ungiven, ungiven, change_cost};
 ghost use Rattle.kin_cert.specs.Layout.{HasBorn, HasTriedToReplace, IsLeftToApply, AreCounted, IsPaid, change_of};
 
-use crate::index::have_one_place;
+use crate::index::have_one_bucket;
 use crate::table::Table;
 use crate::timing::{time, unqueue};
 use kin_motion::fact::{Delta, Placed};
@@ -260,10 +260,10 @@ impl Table {
     }
 }
 
-// Whether the first one of the born facts may come to the place of a dropped one.
+// Whether the first one of the born facts may come into the bucket of a dropped one.
 fn fits_next(dropped: &Placed, born: &[Placed]) -> bool {
     match born.first() {
-        Some(next) => have_one_place(dropped, next),
+        Some(next) => have_one_bucket(dropped, next),
         None => false,
     }
 }

@@ -2,9 +2,9 @@
 
 ghost use Rattle.std.specs.Prelude.{◌≡◌, ◌↔◌, Some, is_some, IsTrue};
 ghost use Rattle.kin_fail.specs.Rank.{padded_rank};
-ghost use Rattle.kin_cert.specs.Layout.{entry_rank, owned_place, with_fact, held, fresh, timed, waiting, queued_at};
+ghost use Rattle.kin_cert.specs.Layout.{entry_rank, owned_bucket, with_fact, held, fresh, timed, waiting, queued_at};
 
-use crate::place::{Place, place};
+use crate::bucket::{Bucket, bucket};
 use kin_fail::owned::Owned;
 use kin_motion::fact::{Fact, Placed};
 use kin_motion::form::Form;
@@ -68,11 +68,11 @@ impl Entry {
             && are_same(&self.owned.fact.form, form)
     }
 
-    /// The place of the fact.
-    pub(crate) fn place(&self) -> Place
-        ensures { result ≡ owned_place self.now.owned }
+    /// The bucket of the fact.
+    pub(crate) fn bucket(&self) -> Bucket
+        ensures { result ≡ owned_bucket self.now.owned }
     {
-        place(self.owned.structure, self.owned.part, self.owned.fact.form)
+        bucket(self.owned.structure, self.owned.part, self.owned.fact.form)
     }
 
     /// Whether the queue has it.

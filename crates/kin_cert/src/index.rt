@@ -4,13 +4,13 @@ ghost use Rattle.std.specs.Prelude.{◌≡◌, ◌⊎◌, ℕ, Some, None, OnOk,
 ghost use Rattle.indexmap.specs.IndexMap.{get as look_up};
 ghost use Rattle.kin_cert.specs.Entries.{Entry as Kept};
 ghost use Rattle.kin_fail.specs.Rank.{padded_rank, is_rank, owned_rank};
-ghost use Rattle.kin_cert.specs.Layout.{entry_at, entry_rank, owned_place, held};
+ghost use Rattle.kin_cert.specs.Layout.{entry_at, entry_rank, owned_bucket, held};
 ghost use Rattle.kin_cert.specs.Rolls.{IsIdOf, HasNoId, IsStruck, MayFollow, IsEnrolled, IsSameIndex};
 
+use crate::bucket::{Bucket, bucket, bucket_number};
 use crate::entry::Entry;
 use crate::guesses::Guesses;
 use crate::holder::{Holder, hand_over, leave};
-use crate::place::{Place, place, place_number};
 use indexmap::IndexMap;
 use kin_fail::rank::{Rank, rank};
 use kin_motion::fact::Placed;
@@ -38,7 +38,7 @@ pub(crate) fn has_fact(
 /// The id of an owner's form, if there is one.
 pub(crate) fn id_of(
     entries: &Slab<Entry>,
-    firsts: &IndexMap<Place, Holder>,
+    firsts: &IndexMap<Bucket, Holder>,
     others: &IndexMap<Rank, usize>,
     guesses: &Guesses,
     structure: u32,
@@ -48,7 +48,7 @@ pub(crate) fn id_of(
     ensures some { IfSome result (λ id. IsIdOf entries.now.slots firsts.now others.now structure part form.now id) }
     ensures none { IfNone result (HasNoId entries.now.slots firsts.now others.now structure part form.now) }
 {
-    let spot = guesses.look_up(firsts, &place(structure, part, *form))?;
+    let spot = guesses.look_up(firsts, &bucket(structure, part, *form))?;
     if has_fact(entries, spot.holder.id, structure, part, form) {
         return Some(spot.holder.id);
     }
@@ -58,11 +58,11 @@ pub(crate) fn id_of(
     others.get(&rank(structure, part, *form)).copied()
 }
 
-/// Strikes an owner's form out of the indices. Answers its id, if it has one. Its place usually stays known by the
+/// Strikes an owner's form out of the indices. Answers its id, if it has one. Its bucket usually stays known by the
 /// id.
 pub(crate) fn strike(
     entries: &Slab<Entry>,
-    firsts: &mut IndexMap<Place, Holder>,
+    firsts: &mut IndexMap<Bucket, Holder>,
     others: &mut IndexMap<Rank, usize>,
     guesses: &mut Guesses,
     structure: u32,
@@ -72,24 +72,24 @@ pub(crate) fn strike(
     ensures some { IfSome result (λ id. IsStruck entries.now.slots firsts.old others.old structure part form.now id firsts.new others.new) }
     ensures none { IfNone result (HasNoId entries.now.slots firsts.old others.old structure part form.now) }
 {
-    let place = place(structure, part, *form);
-    let spot = guesses.spot_of(firsts, &place)?;
+    let bucket = bucket(structure, part, *form);
+    let spot = guesses.spot_of(firsts, &bucket)?;
     if has_fact(entries, spot.holder.id, structure, part, form) {
-        leave(firsts, &place, spot, entries.len());
+        leave(firsts, &bucket, spot, entries.len());
         return Some(spot.holder.id);
     }
     others.swap_remove(&rank(structure, part, *form))
 }
 
-/// Whether both facts have one place, where they have one structure.
+/// Whether both facts have one bucket, where they have one structure.
 #[inline(always)]
-pub(crate) fn have_one_place(old: &Placed, new: &Placed) -> bool
-    ensures { IsTrue result → (s : ℕ) → owned_place (held s new.now) ≡ owned_place (held s old.now) }
+pub(crate) fn have_one_bucket(old: &Placed, new: &Placed) -> bool
+    ensures { IsTrue result → (s : ℕ) → owned_bucket (held s new.now) ≡ owned_bucket (held s old.now) }
 {
-    new.part == old.part && place_number(&new.fact.form) == place_number(&old.fact.form)
+    new.part == old.part && bucket_number(&new.fact.form) == bucket_number(&old.fact.form)
 }
 
-/// Whether the new fact isn't among the others, where the old one holds its place.
+/// Whether the new fact isn't among the others, where the old one holds its bucket.
 #[inline(always)]
 pub(crate) fn may_follow(
     others: &IndexMap<Rank, usize>,
@@ -118,52 +118,52 @@ fn is_none_of(others: &IndexMap<Rank, usize>, structure: u32, old: &Placed, new:
 /// Notes the id of a fact of an owner that has no fact of its form.
 pub(crate) fn enrol(
     entries: &Slab<Entry>,
-    firsts: &mut IndexMap<Place, Holder>,
+    firsts: &mut IndexMap<Bucket, Holder>,
     others: &mut IndexMap<Rank, usize>,
     guesses: &mut Guesses,
     structure: u32,
     placed: &Placed,
     id: usize,
 ) -> Result<(), NoMemory>
-    ensures ok { OnOk result (IsEnrolled entries.now.slots firsts.old others.old (owned_place (held structure placed.now)) (owned_rank (held structure placed.now)) id firsts.new others.new) }
+    ensures ok { OnOk result (IsEnrolled entries.now.slots firsts.old others.old (owned_bucket (held structure placed.now)) (owned_rank (held structure placed.now)) id firsts.new others.new) }
     ensures err { OnErr result (IsSameIndex firsts.old others.old firsts.new others.new) }
 {
-    let place = place(structure, placed.part, placed.fact.form);
+    let bucket = bucket(structure, placed.part, placed.fact.form);
     let newcomer = Holder {
         id,
         is_shared: false,
     };
-    let Some(spot) = guesses.spot_or_enter(firsts, &place, newcomer)? else {
+    let Some(spot) = guesses.spot_or_enter(firsts, &bucket, newcomer)? else {
         return Ok(());
     };
     let holder = spot.holder;
-    if !is_held(entries, holder.id, &place) {
+    if !is_held(entries, holder.id, &bucket) {
         let successor = Holder {
             id,
             is_shared: holder.is_shared,
         };
-        hand_over(firsts, &place, spot, successor);
+        hand_over(firsts, &bucket, spot, successor);
         return Ok(());
     }
     let rank = rank(structure, placed.part, placed.fact.form);
     let Ok(_) = others.insert(rank, id) else {
         return Err(NoMemory);
     };
-    // The place stays known by the fact by which it was.
+    // The bucket stays known by the fact by which it was.
     let shared = Holder {
         id: holder.id,
         is_shared: true,
     };
-    hand_over(firsts, &place, spot, shared);
+    hand_over(firsts, &bucket, spot, shared);
     Ok(())
 }
 
-// Whether an id has a fact of this place.
-fn is_held(entries: &Slab<Entry>, id: usize, place: &Place) -> bool
-    ensures { IsTrue result ↔ ((e : Kept) × (entry_at entries.now.slots id ≡ Some e) × (owned_place e.owned ≡ place.now)) }
+// Whether an id has a fact of this bucket.
+fn is_held(entries: &Slab<Entry>, id: usize, bucket: &Bucket) -> bool
+    ensures { IsTrue result ↔ ((e : Kept) × (entry_at entries.now.slots id ≡ Some e) × (owned_bucket e.owned ≡ bucket.now)) }
 {
     match entries.get(id) {
-        Some(entry) => entry.place() == *place,
+        Some(entry) => entry.bucket() == *bucket,
         None => false,
     }
 }

@@ -11,6 +11,7 @@ pub use kin_fail::{Block, Failure, Now, Owned, first_fail};
 pub use mail::Mail;
 pub use table::Table;
 
+mod bucket;
 mod change;
 mod entry;
 mod guesses;
@@ -19,7 +20,6 @@ mod index;
 pub mod laws;
 pub mod mail;
 mod names;
-mod place;
 mod roll;
 mod schedule;
 pub mod table;

@@ -6,11 +6,11 @@ ghost use Rattle.kin_fail.specs.Rank.{padded_rank, owned_rank};
 ghost use Rattle.kin_cert.specs.Layout.{entry_at, fresh, waiting, timed, held, HasSlot, NoneTwice, IsFoundAt, IsNotFound, IsSeatOf, IsTakenOver};
 ghost use Rattle.kin_cert.specs.Names.{form_in, IsFreed};
 
+use crate::bucket::{Bucket, bucket};
 use crate::entry::{Entry, Seat};
 use crate::guesses::Guesses;
 use crate::holder::Holder;
-use crate::index::{enrol, has_fact, have_one_place, id_of, may_follow, strike};
-use crate::place::{Place, place};
+use crate::index::{enrol, has_fact, have_one_bucket, id_of, may_follow, strike};
 use indexmap::IndexMap;
 use kin_fail::owned::Owned;
 use kin_fail::rank::Rank;
@@ -26,11 +26,11 @@ use std::marker::Model;
 pub(crate) struct Roll {
     /// The live facts by id.
     entries: Slab<Entry>,
-    /// The places that facts have had, each with the id of one live fact there, if it has any but those among the others.
-    firsts: IndexMap<Place, Holder>,
+    /// The buckets that facts have had, each with the id of one live fact there, if it has any but those among the others.
+    firsts: IndexMap<Bucket, Holder>,
     /// The ids of all other live facts, by owner and form.
     others: IndexMap<Rank, usize>,
-    /// Guesses of the positions of places in `firsts`.
+    /// Guesses of the positions of buckets in `firsts`.
     guesses: Guesses,
 }
 
@@ -60,7 +60,7 @@ impl Roll {
         }
     }
 
-    /// A roll without facts, with room for so many, and for twice as many places, since these outlive
+    /// A roll without facts, with room for so many, and for twice as many buckets, since these outlive
     /// their facts.
     pub(crate) fn with_room(alloc: Global, count: usize) -> Result<Roll, NoMemory>
         ensures { IfOk result (λ r. r ≡ []) }
@@ -148,7 +148,7 @@ impl Roll {
         }
     }
 
-    /// Replaces a live fact by one of the same place, where the place is known by the old one and no other fact has the
+    /// Replaces a live fact by one of the same bucket, where the bucket is known by the old one and no other fact has the
     /// owner and the form of the new one. The new one never fails as yet. Otherwise nothing changes. It is in line, for
     /// lines on their own.
     #[inline(always)]
@@ -156,11 +156,11 @@ impl Roll {
         ensures taken { IfSome result (λ seat. IsTakenOver self.old (owned_rank (held structure old.now)) (held structure new.now) seat self.new) }
         ensures none { IfNone result (self.new ≡ self.old) }
     {
-        if !have_one_place(old, new) {
+        if !have_one_bucket(old, new) {
             return None;
         }
-        let place = place(structure, old.part, old.fact.form);
-        let spot = self.guesses.spot_of(&self.firsts, &place)?;
+        let bucket = bucket(structure, old.part, old.fact.form);
+        let spot = self.guesses.spot_of(&self.firsts, &bucket)?;
         let id = spot.holder.id;
         if !has_fact(&self.entries, id, structure, old.part, &old.fact.form) {
             return None;

@@ -9,15 +9,15 @@ use Rattle.kin_motion.specs.Chains.{IsUpperChain, IsHullCycle}
 use Rattle.kin_motion.specs.Kinetics.{HaveSameLive}
 use Rattle.kin_motion.specs.Merges.{points_under, IsTreeFact, IsUpperFact, IsLowerFact, IsHullFact}
 use Rattle.kin_motion.specs.Numbers.{IsIn}
-use Rattle.kin_motion.specs.Scene.{Scene, IsReal, Holds, placed_at, turned}
-use Rattle.kin_motion.specs.TurnedFacts.{turned_fact}
+use Rattle.kin_motion.specs.Scene.{Scene, IsReal, Holds, placed_at, reflected}
+use Rattle.kin_motion.specs.ReflectedFacts.{reflected_fact}
 use Rattle.kin_motion.proofs.HullClaims.{settled_states_exist}
 use Rattle.kin_motion.proofs.SetLaws.{exactly_in_words}
-use Rattle.kin_motion.proofs.TurnedLaws.{turned-real}
+use Rattle.kin_motion.proofs.ReflectedLaws.{reflected-real}
 use Rattle.kin_chain.specs.Trees.{HullIsDetermined}
 use Rattle.kin_chain.proofs.NodeChains.{at_root, from_root}
 use Rattle.kin_chain.proofs.TreeDetermined.{tree_is_determined}
-use Rattle.kin_chain.proofs.Upright.{merge_upright, turned_back, turned_alike}
+use Rattle.kin_chain.proofs.Upright.{merge_upright, reflected_back, reflected_alike}
 
 -- ---- one tree
 module _ (size : ℕ) (v w : Scene) (real : IsReal v) (real' : IsReal w) (fits : FitsSize size v) (same : HaveSameLive v w) (hold : (p : Placed) → IsTreeFact size v p → Holds w p.fact) where
@@ -50,14 +50,14 @@ upper_goes size s t goes p f =
     let g = goes (placed_at s f.node f.form) (record { form = f.form; merge = f.merge; fact = refl }) in
     record { node = f.node; form = g.form; merge = g.merge; fact = f.fact ∙ ap (λ (q : Placed). placed_in (2 * f.node) q.fact) g.fact }
 
-lower_goes : (size : ℕ) (s t : Scene) → IsReal s → IsReal t → ((q : Placed) → IsTreeFact size (turned s) q → IsTreeFact size (turned t) q) → (p : Placed) → IsLowerFact size s p → IsLowerFact size t p
+lower_goes : (size : ℕ) (s t : Scene) → IsReal s → IsReal t → ((q : Placed) → IsTreeFact size (reflected s) q → IsTreeFact size (reflected t) q) → (p : Placed) → IsLowerFact size s p → IsLowerFact size t p
 lower_goes size s t real real' goes p f =
-    let g = goes (placed_at (turned s) f.node f.form) (record { form = f.form; merge = f.merge; fact = refl }) in
+    let g = goes (placed_at (reflected s) f.node f.form) (record { form = f.form; merge = f.merge; fact = refl }) in
     record {
       node = f.node;
       form = g.form;
       merge = g.merge;
-      fact = f.fact ∙ ap (placed_in (2 * f.node + 1)) (sym (turned_back s f.form real _ _ f.merge) ∙ ap (λ (q : Placed). turned_fact q.fact) g.fact ∙ turned_back t g.form real' _ _ g.merge);
+      fact = f.fact ∙ ap (placed_in (2 * f.node + 1)) (sym (reflected_back s f.form real _ _ f.merge) ∙ ap (λ (q : Placed). reflected_fact q.fact) g.fact ∙ reflected_back t g.form real' _ _ g.merge);
     }
 
 -- where all facts that a hull has in one scene hold in another, so do those of each tree
@@ -66,23 +66,23 @@ module _ (size : ℕ) (v w : Scene) (real : IsReal v) (real' : IsReal w) (hold :
   upper_holds q f =
       subst (λ (x : Placed). Holds w x.fact) (sym f.fact) (hold (placed_at v (2 * q.part) f.form) (inl (record { node = q.part; form = f.form; merge = f.merge; fact = refl })))
 
-  pub lower_holds : (q : Placed) → IsTreeFact size (turned v) q → Holds (turned w) q.fact
+  pub lower_holds : (q : Placed) → IsTreeFact size (reflected v) q → Holds (reflected w) q.fact
   lower_holds q f =
-      subst (λ (x : Placed). Holds (turned w) x.fact) (sym f.fact)
-      (turned_alike v w f.form real real' (merge_upright (turned v) _ _ f.form f.merge) (hold (placed_at v (2 * q.part + 1) f.form) (inr (record { node = q.part; form = f.form; merge = f.merge; fact = refl }))))
+      subst (λ (x : Placed). Holds (reflected w) x.fact) (sym f.fact)
+      (reflected_alike v w f.form real real' (merge_upright (reflected v) _ _ f.form f.merge) (hold (placed_at v (2 * q.part + 1) f.form) (inr (record { node = q.part; form = f.form; merge = f.merge; fact = refl }))))
 
 module _ (size : ℕ) (v w : Scene) (real : IsReal v) (real' : IsReal w) (fits : FitsSize size v) (same : HaveSameLive v w) (hold : (p : Placed) → IsHullFact size v p → Holds w p.fact) where
   upper_stays : (q : Placed) → IsTreeFact size v q → Holds w q.fact
   upper_stays = upper_holds size v w real real' hold
 
-  lower_stays : (q : Placed) → IsTreeFact size (turned v) q → Holds (turned w) q.fact
+  lower_stays : (q : Placed) → IsTreeFact size (reflected v) q → Holds (reflected w) q.fact
   lower_stays = lower_holds size v w real real' hold
 
   same_cycle : (cycle : List ℕ) → IsHullCycle v cycle → IsHullCycle w cycle
   same_cycle cycle c = record {
     lower = c.lower;
     upper = c.upper;
-    lower_chain = same_top size (turned v) (turned w) (turned-real v real) (turned-real w real') fits same lower_stays c.lower c.lower_chain;
+    lower_chain = same_top size (reflected v) (reflected w) (reflected-real v real) (reflected-real w real') fits same lower_stays c.lower c.lower_chain;
     upper_chain = same_top size v w real real' fits same upper_stays c.upper c.upper_chain;
     joined = c.joined;
   }
@@ -92,11 +92,11 @@ module _ (size : ℕ) (v w : Scene) (real : IsReal v) (real' : IsReal w) (fits :
     where
       to : IsHullFact size v p → IsHullFact size w p
       to (inl f) = inl (upper_goes size v w (λ q. (same_tree_facts size v w real real' fits same upper_stays q).0) p f)
-      to (inr f) = inr (lower_goes size v w real real' (λ q. (same_tree_facts size (turned v) (turned w) (turned-real v real) (turned-real w real') fits same lower_stays q).0) p f)
+      to (inr f) = inr (lower_goes size v w real real' (λ q. (same_tree_facts size (reflected v) (reflected w) (reflected-real v real) (reflected-real w real') fits same lower_stays q).0) p f)
 
       from : IsHullFact size w p → IsHullFact size v p
       from (inl f) = inl (upper_goes size w v (λ q. (same_tree_facts size v w real real' fits same upper_stays q).1) p f)
-      from (inr f) = inr (lower_goes size w v real' real (λ q. (same_tree_facts size (turned v) (turned w) (turned-real v real) (turned-real w real') fits same lower_stays q).1) p f)
+      from (inr f) = inr (lower_goes size w v real' real (λ q. (same_tree_facts size (reflected v) (reflected w) (reflected-real v real) (reflected-real w real') fits same lower_stays q).1) p f)
 
 pub hull_is_determined : HullIsDetermined
 hull_is_determined size v w cycle facts real real' fits same is_cycle exact hold = (

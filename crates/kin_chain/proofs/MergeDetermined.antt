@@ -14,7 +14,7 @@ use Rattle.kin_motion.specs.Cells.{merged_chain}
 use Rattle.kin_motion.proofs.ChainLaws.{one_upper_chain}
 use Rattle.kin_motion.proofs.RealLaws.{real_line_laws}
 use Rattle.kin_motion.proofs.SetLaws.{contains_map, exactly_in_words}
-use Rattle.kin_chain.specs.Merging.{AreTold, is_in_place, IsKept, IsMergeNow, MergeIsDetermined}
+use Rattle.kin_chain.specs.Merging.{AreTold, is_in_place, SeenHolds, IsMergeNow, MergeIsDetermined}
 use Rattle.kin_chain.proofs.ChainsOfChains.{told_list}
 use Rattle.kin_chain.proofs.MergeFacts.{facts_exact}
 use Rattle.kin_chain.proofs.MergedChain.{merge_gives_chain}
@@ -55,7 +55,7 @@ merge_is_determined old now a b chain part facts real_old real m ua ub hold = re
         All-contains (λ p. Holds now p.fact) facts (placed_at old part f) hold
         ((m.exact.each (placed_at old part f)).1 ((listed (placed_at old part f)).0 (contains_map (placed_at old part) (forms_of_merge old a b (breakpoint_list old a b)) f c)))
 
-    kept : IsKept old now a b (breakpoint_list old a b)
+    kept : SeenHolds old now a b (breakpoint_list old a b)
     kept = record { interleaved = record { of_a = list.of_a; of_b = list.of_b }; in_place = placed_in_place old (breakpoint_list old a b) list.falling; signs = holds }
 
     right : IsMergeNow old now a b a b (breakpoint_list old a b)

@@ -11,7 +11,7 @@ use Rattle.kin_motion.specs.Sets.{ListsExactly}
 use Rattle.kin_motion.specs.Merges.{Half, Half.{A, B}, Breakpoint, is_of, own_of, is_placed_before, IsBreakpointList, forms_of_merge, IsMergeFact}
 use Rattle.kin_motion.specs.Cells.{Cell, given_by, changes_of, merged_chain}
 use Rattle.kin_motion.proofs.RealLaws.{real_turn_laws}
-use Rattle.kin_chain.specs.Merging.{is_in_place, IsKept, MergeIsRight, MergeIsSettled}
+use Rattle.kin_chain.specs.Merging.{is_in_place, SeenHolds, MergeIsRight, MergeIsSettled}
 use Rattle.kin_chain.proofs.MergedChain.{merge_gives_chain}
 use Rattle.kin_chain.proofs.InPlace.{list_in_place}
 use Rattle.kin_chain.proofs.MergeFacts.{facts_exact}
@@ -49,7 +49,7 @@ record IsSame (old now : Scene) (a b : List ℕ) (es : List Breakpoint) : Type 0
   pub forms : forms_of_merge now a b es ≡ forms_of_merge old a b es
   pub merged : merged_chain now a b es ≡ merged_chain old a b es
 
-same_of : (old now : Scene) (a b : List ℕ) (es : List Breakpoint) → IsKept old now a b es → IsSame old now a b es
+same_of : (old now : Scene) (a b : List ℕ) (es : List Breakpoint) → SeenHolds old now a b es → IsSame old now a b es
 same_of old now [] b es k = record { in_place = one_half_in_place now A es k.interleaved.of_a; forms = refl; merged = refl }
 same_of old now (a ∷ as') [] es k = record { in_place = one_half_in_place now B es k.interleaved.of_b; forms = refl; merged = refl }
 same_of old now (a ∷ as') (b ∷ bs) es k = record {

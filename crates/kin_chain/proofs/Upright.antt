@@ -1,4 +1,4 @@
--- The lines of a merge go along x or along y, so its facts may be turned.
+-- The lines of a merge go along x or along y, so its facts may be reflected.
 use Rattle.std.proofs.Common.{◌≡◌, ◌⊎◌, inl, inr, refl, sym, ap, ◌∙◌, subst, List, [], ◌∷◌, ℕ, Bool, true, false, cond, pos}
 use Rattle.std.specs.Prelude.{Contains}
 use Rattle.std.proofs.lemmas.List.Elements.{Contains-append_cases}
@@ -9,9 +9,9 @@ use Rattle.kin_motion.specs.declared.form.Form.TheVariants.{Line}
 use Rattle.kin_motion.specs.declared.fact.Placed.{Placed}
 use Rattle.kin_motion.specs.Chains.{is_zero}
 use Rattle.kin_motion.specs.Merges.{Breakpoint, is_of, slope_form, slope_between, slopes_from, end_forms, last_of, forms_of_ends, IsTurnForm, IsListedForm, IsMergeForm, IsTreeFact}
-use Rattle.kin_motion.specs.Scene.{Scene, IsReal, x_sign, fact_at, turned}
-use Rattle.kin_motion.specs.TurnedFacts.{IsUpright, turned_fact}
-use Rattle.kin_motion.proofs.TurnedFactLaws.{turned_facts_hold, turned_twice}
+use Rattle.kin_motion.specs.Scene.{Scene, IsReal, x_sign, fact_at, reflected}
+use Rattle.kin_motion.specs.ReflectedFacts.{IsUpright, reflected_fact}
+use Rattle.kin_motion.proofs.ReflectedFactLaws.{reflected_facts_hold, reflected_twice}
 
 between_upright : (e f : Breakpoint) (g : Form) → Contains (slope_between e f) g → IsUpright g
 between_upright e f g c = at (is_of e.half f.half) c
@@ -76,12 +76,12 @@ merge_upright s left right g m = listed_upright s m.a m.b m.breakpoints g m.list
 pub tree_upright : (size : ℕ) (s : Scene) (p : Placed) → IsTreeFact size s p → IsUpright p.fact.form
 tree_upright size s p f = subst (λ (q : Placed). IsUpright q.fact.form) (sym f.fact) (merge_upright s _ _ f.form f.merge)
 
--- where the turned scene shows a sign, the fact turned back has the real one
-pub turned_back : (s : Scene) (f : Form) → IsReal s → (left right : List ℕ) → IsMergeForm (turned s) left right f → turned_fact (fact_at (turned s) f) ≡ fact_at s f
-turned_back s f real left right m =
-    let shown = (turned_facts_hold s (fact_at s f) real (merge_upright (turned s) left right f m)).0 refl in
-    ap (λ (t : Sign). turned_fact (record { form = f; sign = t })) shown ∙ turned_twice (fact_at s f)
+-- where the reflected scene shows a sign, the fact reflected back has the real one
+pub reflected_back : (s : Scene) (f : Form) → IsReal s → (left right : List ℕ) → IsMergeForm (reflected s) left right f → reflected_fact (fact_at (reflected s) f) ≡ fact_at s f
+reflected_back s f real left right m =
+    let shown = (reflected_facts_hold s (fact_at s f) real (merge_upright (reflected s) left right f m)).0 refl in
+    ap (λ (t : Sign). reflected_fact (record { form = f; sign = t })) shown ∙ reflected_twice (fact_at s f)
 
 -- where a form of a merge has the same sign in two scenes, it has the same sign after y is turned round in both
-pub turned_alike : (s t : Scene) (f : Form) → IsReal s → IsReal t → IsUpright f → t.sign f ≡ s.sign f → (turned t).sign f ≡ (turned s).sign f
-turned_alike s t f real real' upright same = (turned_facts_hold t (fact_at s f) real' upright).0 same ∙ sym ((turned_facts_hold s (fact_at s f) real upright).0 refl)
+pub reflected_alike : (s t : Scene) (f : Form) → IsReal s → IsReal t → IsUpright f → t.sign f ≡ s.sign f → (reflected t).sign f ≡ (reflected s).sign f
+reflected_alike s t f real real' upright same = (reflected_facts_hold t (fact_at s f) real' upright).0 same ∙ sym ((reflected_facts_hold s (fact_at s f) real upright).0 refl)

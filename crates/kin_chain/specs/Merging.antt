@@ -32,7 +32,7 @@ abbrev pub is_in_place : Scene → Breakpoint → Breakpoint → Bool
 is_in_place s e f = is_of e.half f.half || is_placed_before s e f
 
 -- what was seen of a merge in `old` holds in `now`: the list has the breakpoints of both chains, its neighbours are in place, and each form has its sign
-pub record IsKept (old now : Scene) (a b : List ℕ) (es : List Breakpoint) : Type 0 where
+pub record SeenHolds (old now : Scene) (a b : List ℕ) (es : List Breakpoint) : Type 0 where
   pub interleaved : IsInterleaving a b es
   pub in_place : IsChain (is_in_place old) es
   pub signs : (f : Form) → Contains (forms_of_merge old a b es) f → now.sign f ≡ old.sign f
@@ -46,7 +46,7 @@ pub record IsMergeNow (old now : Scene) (left right a b : List ℕ) (es : List B
 -- the one theorem for both laws: where both given chains are upper chains and what was seen of the merge holds, the merge is right there; nothing is required
 -- of `old`
 abbrev pub MergeIsRight : Type 0
-MergeIsRight = (old now : Scene) (left right a b : List ℕ) (es : List Breakpoint) → IsReal now → AreTold now left right a b → IsKept old now a b es → IsMergeNow old now left right a b es
+MergeIsRight = (old now : Scene) (left right a b : List ℕ) (es : List Breakpoint) → IsReal now → AreTold now left right a b → SeenHolds old now a b es → IsMergeNow old now left right a b es
 
 -- the settling law's use: a list whose neighbours are in place now
 abbrev pub MergeIsSettled : Type 0

@@ -7,3 +7,4 @@ pub mod Moving
 pub mod Vacancy
 pub mod Settling
 pub mod Leaving
+pub mod Following

@@ -21,7 +21,7 @@ use Rattle.kin_list.specs.declared.mark.Mark.TheVariants.{Rest, Enters, Leaves, 
 use Rattle.kin_list.specs.Listing.{HasMarked, names_leaving, without}
 use Rattle.kin_list.proofs.ListLaws.{is_in-without, not_in-without}
 use Rattle.kin_tourney.specs.Tournament.{Tournament, IsAtRest, IsReady, IsSettled, mark_count, CoversAskable}
-use Rattle.kin_tourney.proofs.Marks.{mark_none}
+use Rattle.kin_tourney.specs.PointLaws.{mark_none}
 use Rattle.kin_wedge.specs.Wedging.{Wedging, candidate_told, members_of, IsSettledWedging}
 use Rattle.kin_near.specs.BestPairs.{HoldCandidates}
 use Rattle.kin_near.proofs.SettledPairs.{wedge_part}

@@ -8,9 +8,11 @@ use Rattle.kin_motion.specs.Contents.{IsSettledClosest}
 use Rattle.kin_motion.specs.ClosestPairs.{Near, distance_key, pair_in}
 use Rattle.kin_motion.specs.Deltas.{Change}
 use Rattle.kin_motion.specs.Kinetics.{HasChanged}
+use Rattle.kin_motion.specs.Octants.{ListsChanged}
 use Rattle.kin_motion.specs.Parts.{moved_by}
 use Rattle.kin_motion.specs.Scene.{Scene}
 use Rattle.kin_list.specs.declared.mark.Mark.TheVariants.{Enters}
+use Rattle.kin_list.specs.Keeping.{LeadsTo}
 use Rattle.kin_list.specs.Listing.{HasMarked}
 use Rattle.kin_tourney.specs.Tournament.{Tournament, IsAtRest, IsSettled, winner_at}
 use Rattle.kin_wedge.specs.Costs.{AreFewBelow}
@@ -62,12 +64,13 @@ pub record AreJoined (wedges : Wedging) (pairs : Tournament Distance Near) : Typ
   pub entering : (i : ℕ) → wedges.mark ≡ Enters i → i < 2 ^ wedges.size
   pub small : wedges.size ≤ 12
 
--- the tests of the orders are few, and the tournament asks at most one sign a level for each slot that has another candidate and for each of its failed facts
+-- the tests of the orders are few; `changed` lists the slots that have another candidate; and the tournament asks at most one sign a level for each of these and for each of its failed facts
 pub record AreFewTests (old new : Closing) (failed : List Placed) (out : Change) (before after : ℕ) : Type 0 where
   pub mid : ℕ
   pub orders_out : Change
   pub reported : HasChanged old.wedges.facts new.wedges.facts out orders_out
   pub orders : AreFewBelow 8 old.wedges.mark old.wedges.orders new.wedges.orders out orders_out before mid
+  pub changed : ListsChanged old.wedges.size (candidate_told old.wedges) (candidate_told new.wedges) new.wedges.changed
   pub pairs : after ≤ mid + (old.wedges.size + 3) * (length new.wedges.changed + length (filter is_of_pair failed))
 
 -- ---- as the structure of a keep
@@ -88,3 +91,8 @@ pub record HasMembers (k : Closing) (set : List ℕ) : Type 0 where
 -- it is for as many numbers
 abbrev pub StaysClosing : Closing → Closing → Type 0
 StaysClosing old new = new.wedges.size ≡ old.wedges.size
+
+-- it was settled in this scene, and its mark leads from the live numbers there to these
+pub record FollowsClosing (k : Closing) (s : Scene) (live : List ℕ) : Type 0 where
+  pub settled : IsSettledClosing k s
+  pub led : LeadsTo k.wedges.mark s.live live

@@ -3,3 +3,4 @@ pub mod Sorting
 pub mod Told
 pub mod Closing
 pub mod ClosingLaws
+pub mod FrugalLaws

@@ -1,9 +1,9 @@
 //! The kinetic closest pair.
 
-ghost use Rattle.std.specs.Prelude.{◌≡◌, ◌≤◌, ◌<◌, ◌^◌, ◌+◌, [], true, false, IfOk, OnOk, OnErr};
+ghost use Rattle.std.specs.Prelude.{◌≡◌, ◌↔◌, ◌≤◌, ◌<◌, ◌^◌, ◌+◌, ℕ, [], None, true, false, IfOk, OnOk, OnErr};
 ghost use Rattle.kin_motion.specs.ClosestPairs.{IsClosest};
 ghost use Rattle.kin_motion.specs.Kinetics.{ListsFailing, HasChanged};
-ghost use Rattle.kin_motion.specs.Numbers.{is_in};
+ghost use Rattle.kin_motion.specs.Numbers.{is_in, IsIn};
 ghost use Rattle.kin_motion.specs.Scene.{Scene, IsReal};
 ghost use Rattle.kin_list.specs.declared.mark.Mark.TheVariants.{Rest, Enters, Leaves};
 ghost use Rattle.kin_list.specs.Listing.{names_leaving};
@@ -91,12 +91,13 @@ impl KinClosest {
         self.wedges.remove(no);
     }
 
-    /// The closest pair as it was settled last, the lesser number first, or `None` with fewer than two
-    /// members. Of equally close pairs it is the one with the least first number, then with the least
-    /// second one.
+    /// The closest pair as it was settled last, the lesser number first, or `None` exactly with fewer
+    /// than two members. Of equally close pairs it is the one with the least first number, then with the
+    /// least second one.
     pub fn closest(&self) -> Option<(u32, u32)>
         requires rest { IsClosingAtRest self.now }
-        ensures { (s : Scene) → IsSettledClosing self.now s → IsClosest s result }
+        ensures closest { (s : Scene) → IsSettledClosing self.now s → IsClosest s result }
+        ensures none { (result ≡ None) ↔ ((i j : ℕ) → IsIn i (members_of self.now.wedges) → IsIn j (members_of self.now.wedges) → i ≡ j) }
     {
         let best = self.pairs.winner(1)?;
         Some(best.points())

@@ -19,9 +19,11 @@ use std::alloc::Global;
 use std::sync::ledger::Ledger;
 
 impl Steady for KinClosest {
-    ghost use Rattle.kin_closest.specs.Closing.{StaysClosing};
+    ghost use Rattle.kin_closest.specs.Closing.{StaysClosing, AreFewTests};
 
     ghost stays = { StaysClosing };
+
+    ghost spends = { λ old new failed out out' before after. AreFewTests old new failed out before after };
 
     fn settle_steadily<O: Signs, L: Ledger>(
         &mut self,
@@ -35,14 +37,17 @@ impl Steady for KinClosest {
 }
 
 impl Kept for KinClosest {
-    ghost use Rattle.kin_closest.specs.Closing.{IsClosingFor, IsClosestKeep, HasMembers};
+    ghost use Rattle.kin_closest.specs.Closing.{IsClosingFor, IsClosestKeep, HasMembers, FollowsClosing};
     ghost use Rattle.kin_closest.specs.ClosingLaws.{closing_ready, closing_spares_none, closing_kind_stays, closing_members_stay, closing_exact};
+    ghost use Rattle.kin_closest.specs.FrugalLaws.{closing_follows_scene, closing_frugal};
 
     ghost is_for = { IsClosingFor };
 
     ghost serves = { IsClosestKeep };
 
     ghost has_members = { HasMembers };
+
+    ghost follows = { FollowsClosing };
 
     ghost ready_over = { closing_ready };
 
@@ -53,6 +58,10 @@ impl Kept for KinClosest {
     ghost members_stay = { closing_members_stay };
 
     ghost exact = { closing_exact };
+
+    ghost follows_scene = { closing_follows_scene };
+
+    ghost frugal = { closing_frugal };
 
     ghost stands_alone = { λ k s. tt };
 

@@ -241,7 +241,7 @@ impl Branches {
         let number = [slot as u32];
         let held = self.slots[slot];
         let node = &mut self.nodes[leaf];
-        node.pass(self.alloc, if held { &number } else { &[] })
+        node.hand_on(self.alloc, if held { &number } else { &[] })
     }
 
     /// Takes in what has changed of the halves of a node, and repairs what has failed.

@@ -72,8 +72,8 @@ impl Node {
         Ok(())
     }
 
-    /// Passes another chain on, where there is no merge.
-    pub fn pass(&mut self, alloc: Global, chain: &[u32]) -> Result<(), NoMemory>
+    /// Hands another chain on, where there is no merge.
+    pub fn hand_on(&mut self, alloc: Global, chain: &[u32]) -> Result<(), NoMemory>
         requires none { self.old.merge ≡ None }
         ensures merge { self.new.merge ≡ None }
         ensures passed { OnOk result (self.new.passed.items ≡ chain.now) }
@@ -127,7 +127,7 @@ impl Node {
     }
 
     /// Ends the merge, where only one half holds points from now on, or neither does.
-    fn part(&mut self, alloc: Global, chain: &[u32], out: &mut Delta) -> Result<(), NoMemory>
+    fn end_merge(&mut self, alloc: Global, chain: &[u32], out: &mut Delta) -> Result<(), NoMemory>
         requires some { self.old.merge ≢ None }
         requires rest { IsRestingWith self.old.merge }
         ensures merge { OnOk result (self.new.merge ≡ None) }
@@ -169,9 +169,9 @@ impl Node {
         ensures changed { OnOk result (HasChanged (facts_with self.old.merge) [] out.old out.new) }
     {
         if self.merge.is_some() {
-            return self.part(alloc, chain, out);
+            return self.end_merge(alloc, chain, out);
         }
-        self.pass(alloc, chain)
+        self.hand_on(alloc, chain)
     }
 
     /// Takes in what has changed of the halves, and repairs what has failed. `work` is memory for it.

@@ -1,4 +1,4 @@
-//! What a settle leaves as it is.
+//! What a settle leaves as it is, and what it spends.
 
 use crate::tree::EnvTree;
 use kin_motion::fact::{Delta, Placed};
@@ -11,8 +11,12 @@ use std::sync::ledger::Ledger;
 
 impl Steady for EnvTree {
     ghost use Rattle.std.specs.Prelude.{◌≡◌};
+    ghost use Rattle.kin_env.specs.Joints.{ArePaid};
+    ghost use Rattle.kin_env.specs.Trees.{ChainsKeepOrder};
 
     ghost stays = { λ old new. new ≡ record old { chains = new.chains; facts = new.facts } };
+
+    ghost spends = { λ old new failed out out' before after. ChainsKeepOrder old new → ArePaid out out' before after };
 
     fn settle_steadily<O: Signs, L: Ledger>(
         &mut self,

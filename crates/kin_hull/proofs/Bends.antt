@@ -13,12 +13,12 @@ use Rattle.kin_algebra.proofs.Vectors.{cross}
 use Rattle.kin_motion.specs.declared.form.Form.TheVariants.{Turn}
 use Rattle.kin_motion.specs.Chains.{is_plus, is_zero, is_double, is_above, is_under_segment, is_bare, IsUpperChain, IsLowerChain}
 use Rattle.kin_motion.specs.Numbers.{is_in, IsIn}
-use Rattle.kin_motion.specs.Scene.{Scene, IsReal, x_sign, y_sign, turned}
+use Rattle.kin_motion.specs.Scene.{Scene, IsReal, x_sign, y_sign, reflected}
 use Rattle.kin_motion.proofs.AgreementLaws.{none_passes}
 use Rattle.kin_motion.proofs.ChainLaws.{chain_within}
 use Rattle.kin_motion.proofs.ClaimLaws.{chain_is_strict, chain_has_least}
 use Rattle.kin_motion.proofs.RealLaws.{real_line_laws, real_turn_laws}
-use Rattle.kin_motion.proofs.TurnedFactLaws.{along_y}
+use Rattle.kin_motion.proofs.ReflectedFactLaws.{along_y}
 use Rattle.kin_chain.proofs.Comparisons.{way, Below, Level, level_before}
 use Rattle.kin_chain.proofs.Geometry.{along, level_ends, straight}
 use Rattle.kin_chain.proofs.Planes.{Places, step, rise, fall}
@@ -53,10 +53,10 @@ turned_plus t e = sym (opposite-opposite t) ∙ ap opposite_of e
 module _ (s : Scene) (real : IsReal s) where
   pub on_lower : (set xs : List ℕ) (p : ℕ) → IsLowerChain s set xs → IsIn p xs → IsOn s set Minus p
   on_lower set xs p u h = record {
-    inside = chain_within (turned s) set xs u p h;
-    strict = λ a b i j l r. turned_plus (s.sign (Turn a b p)) (chain_is_strict (turned s) set xs p a b u h i j l r);
-    utmost = λ q i e f. none_above (turned s) set xs p q u h i e (along_y s real (pos 1) p q ∙ ap opposite_of f);
-    least = λ q i e f. chain_has_least (turned s) set xs p q u h i e (along_y s real (pos 1) p q ∙ ap opposite_of f);
+    inside = chain_within (reflected s) set xs u p h;
+    strict = λ a b i j l r. turned_plus (s.sign (Turn a b p)) (chain_is_strict (reflected s) set xs p a b u h i j l r);
+    utmost = λ q i e f. none_above (reflected s) set xs p q u h i e (along_y s real (pos 1) p q ∙ ap opposite_of f);
+    least = λ q i e f. chain_has_least (reflected s) set xs p q u h i e (along_y s real (pos 1) p q ∙ ap opposite_of f);
   }
 
   -- ---- turns

@@ -10,12 +10,12 @@ use Rattle.kin_algebra.proofs.Signs.{code, zero_from_opposite}
 use Rattle.kin_motion.specs.declared.form.Form.TheVariants.{Turn}
 use Rattle.kin_motion.specs.Chains.{is_left, is_bare, round, IsUpperChain, IsLowerChain}
 use Rattle.kin_motion.specs.Numbers.{is_in, IsIn, IsOnce}
-use Rattle.kin_motion.specs.Scene.{Scene, IsReal, x_sign, turned}
+use Rattle.kin_motion.specs.Scene.{Scene, IsReal, x_sign, reflected}
 use Rattle.kin_motion.proofs.AgreementLaws.{kept-members}
 use Rattle.kin_motion.proofs.ChainLaws.{left_through, plus_from}
 use Rattle.kin_motion.proofs.Members.{in_left, in_right, in_either}
 use Rattle.kin_motion.proofs.RealLaws.{real_line_laws}
-use Rattle.kin_motion.proofs.TurnedLaws.{turned-real}
+use Rattle.kin_motion.proofs.ReflectedLaws.{reflected-real}
 use Rattle.kin_chain.proofs.ChainLaws.{different_x}
 use Rattle.kin_hull.specs.Corners.{IsHighestOnVertical, IsLowestOnVertical, CornersEndVerticals, TwoHaveOneX, CornersTurnLeft, NeighboursTurnLeft, CyclesListOnce}
 use Rattle.kin_hull.proofs.Bends.{on_upper, on_lower, rotated, reversed, three_of_one, two_and_one, IsOn}
@@ -74,7 +74,7 @@ two_have_one_x s cycle p q r real hull a b c e f = at (sides p a) (sides q b) (s
     g = subst (λ t. SumMayBe t (x_sign s q r) (x_sign s p r)) e ((real_line_laws s real).chain (pos 1) (pos 0) p q r) ∙ f
 
     low : (m n : ℕ) → IsIn m hull.lower → IsIn n hull.lower → x_sign s m n ≡ Zero → m ≡ n
-    low m n h k z = same_of_chain (turned s) s.live hull.lower m n (turned-real s real) hull.lower_chain h k z
+    low m n h k z = same_of_chain (reflected s) s.live hull.lower m n (reflected-real s real) hull.lower_chain h k z
 
     high : (m n : ℕ) → IsHigh hull.lower hull.upper m → IsHigh hull.lower hull.upper n → x_sign s m n ≡ Zero → m ≡ n
     high m n h k z = same_of_chain s s.live hull.upper m n real hull.upper_chain h.0 k.0 z

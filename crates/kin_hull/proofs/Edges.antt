@@ -12,11 +12,11 @@ use Rattle.kin_motion.specs.declared.form.Form.TheVariants.{Turn, Slope}
 use Rattle.kin_motion.specs.Chains.{is_plus, round, IsUpperChain, IsHullCycle}
 use Rattle.kin_motion.specs.Merges.{last_of}
 use Rattle.kin_motion.specs.Numbers.{IsIn}
-use Rattle.kin_motion.specs.Scene.{Scene, IsReal, x_sign, y_sign, turned}
+use Rattle.kin_motion.specs.Scene.{Scene, IsReal, x_sign, y_sign, reflected}
 use Rattle.kin_motion.proofs.MergeFormLaws.{last_in}
 use Rattle.kin_motion.proofs.Members.{in_head, in_from_contains, contains_from_in}
 use Rattle.kin_motion.proofs.RealLaws.{real_line_laws, real_turn_laws}
-use Rattle.kin_motion.proofs.TurnedLaws.{turned-real}
+use Rattle.kin_motion.proofs.ReflectedLaws.{reflected-real}
 use Rattle.kin_chain.proofs.ChainLaws.{best_point_proved, end_points}
 use Rattle.kin_chain.proofs.Comparisons.{AtMost, Below, turned as turned_way, below_then, most_or_below}
 use Rattle.kin_chain.proofs.Planes.{step, height}
@@ -192,13 +192,13 @@ edges_have_all_left s cycle i p q r real hull a b there minus = by_x (x_sign s p
             ∙ opposite-opposite (x_sign s q n)
 
     vertical : x_sign s p q ≡ Zero → IsIn p hull.lower ⊎ IsHigh hull.lower hull.upper p → IsIn q hull.lower ⊎ IsHigh hull.lower hull.upper q → ⊥
-    vertical e (inl h) (inl k) = one_place (same_of_chain (turned s) s.live hull.lower p q (turned-real s real) hull.lower_chain h k e)
+    vertical e (inl h) (inl k) = one_place (same_of_chain (reflected s) s.live hull.lower p q (reflected-real s real) hull.lower_chain h k e)
     vertical e (inr h) (inr k) = one_place (same_of_chain s s.live hull.upper p q real hull.upper_chain h.0 k.0 e)
     vertical e (inl h) (inr k) = upwards k.0 e (beyond s real s.live Plus p q (λ z. code z) (on_lower s real s.live hull.lower p hull.lower_chain h) (on_upper s s.live hull.upper q hull.upper_chain k.0) e)
     vertical e (inr h) (inl k) = downwards h.0 e (beyond s real s.live Minus p q (λ z. code z) (on_upper s s.live hull.upper p hull.upper_chain h.0) (on_lower s real s.live hull.lower q hull.lower_chain k) e)
 
     by_x : (t : Sign) → x_sign s p q ≡ t → ⊥
-    by_x Plus e = let c = above_step (turned s) (turned-real s real) s.live hull.lower p q r hull.lower_chain e there (ap opposite_of minus) in low c.0 c.1 (turned_plus (s.sign (Turn p q c.0)) c.2)
+    by_x Plus e = let c = above_step (reflected s) (reflected-real s real) s.live hull.lower p q r hull.lower_chain e there (ap opposite_of minus) in low c.0 c.1 (turned_plus (s.sign (Turn p q c.0)) c.2)
     by_x Minus e =
         let c = above_step s real s.live hull.upper q p r hull.upper_chain (other_way s real p q ∙ ap opposite_of e) there (swapped s real p q r ∙ ap opposite_of minus) in
         high c.0 c.1 (swapped s real q p c.0 ∙ ap opposite_of c.2)

@@ -4,10 +4,10 @@ use Rattle.std.specs.Prelude.{Contains, ◌↔◌, filter}
 use Rattle.std.proofs.lemmas.List.{length-map}
 use Rattle.kin_motion.specs.declared.fact.Placed.{Placed}
 use Rattle.kin_motion.specs.Merges.{IsTreeFact, IsHullFact}
-use Rattle.kin_motion.specs.Scene.{Scene, IsReal, turned}
+use Rattle.kin_motion.specs.Scene.{Scene, IsReal, reflected}
 use Rattle.kin_motion.specs.Sets.{ListsExactly}
 use Rattle.kin_motion.proofs.SetLaws.{contains_map, contains_mapped, distinct_filter, distinct_mapped_on, filter-sound, filter-complete}
-use Rattle.kin_motion.proofs.TurnedLaws.{turned-real}
+use Rattle.kin_motion.proofs.ReflectedLaws.{reflected-real}
 use Rattle.kin_hull.specs.declared.side.Side.{Side}
 use Rattle.kin_hull.specs.declared.side.Side.TheVariants.{Upper, Lower}
 use Rattle.kin_hull.specs.HullFacts.{IsOut, hull_facts_are_out, side_of}
@@ -21,11 +21,11 @@ module _ (size : ℕ) (s : Scene) (real : IsReal s) where
   pub tree_fact : (side : Side) (p : Placed) → is_of side p ≡ true → IsHullFact size s p → IsTreeFact size (seen_from side s) (inward side p)
   tree_fact side p of f = at side of ((hull_facts_are_out size s real p).1 f)
     where
-      at : (side : Side) → is_of side p ≡ true → IsOut Upper (IsTreeFact size s) p ⊎ IsOut Lower (IsTreeFact size (turned s)) p → IsTreeFact size (seen_from side s) (inward side p)
+      at : (side : Side) → is_of side p ≡ true → IsOut Upper (IsTreeFact size s) p ⊎ IsOut Lower (IsTreeFact size (reflected s)) p → IsTreeFact size (seen_from side s) (inward side p)
       at Upper of (inl h) = subst (IsTreeFact size s) (sym (ap (inward Upper) h.2 ∙ out_and_in Upper h.0)) h.1
       at Upper of (inr h) = absurd (not_of_both p of (side_of size s real Lower _ p h))
       at Lower of (inl h) = absurd (not_of_both p (side_of size s real Upper _ p h) of)
-      at Lower of (inr h) = subst (IsTreeFact size (turned s)) (sym (ap (inward Lower) h.2 ∙ out_and_in Lower h.0)) h.1
+      at Lower of (inr h) = subst (IsTreeFact size (reflected s)) (sym (ap (inward Lower) h.2 ∙ out_and_in Lower h.0)) h.1
 
   pub hull_fact : (side : Side) (p : Placed) → is_of side p ≡ true → IsTreeFact size (seen_from side s) (inward side p) → IsHullFact size s p
   hull_fact Upper p of f = (hull_facts_are_out size s real p).0 (inl (inward Upper p, f, sym (in_and_out Upper p of)))
@@ -65,15 +65,15 @@ module _ (size : ℕ) (v w : Scene) (real_v : IsReal v) (real_w : IsReal w) (cha
   }
 
 -- the scenes of the lower tree
-turned_fit : (size : ℕ) (v w : Scene) → AreFitScenes size v w → AreFitScenes size (turned v) (turned w)
-turned_fit size v w fit = record { old_real = turned-real v fit.old_real; new_real = turned-real w fit.new_real; old_fits = fit.old_fits; new_fits = fit.new_fits }
+reflected_fit : (size : ℕ) (v w : Scene) → AreFitScenes size v w → AreFitScenes size (reflected v) (reflected w)
+reflected_fit size v w fit = record { old_real = reflected-real v fit.old_real; new_real = reflected-real w fit.new_real; old_fits = fit.old_fits; new_fits = fit.new_fits }
 
 pub few_hull_facts_are_reported : FewHullFactsAreReported
 few_hull_facts_are_reported size v w upper lower old_facts new_facts before after fit uppers lowers was is report =
     let (changed, exact, sum) = reported old_facts new_facts (IsHullFact size v) (IsHullFact size w) was is before after report in
     let tree = λ (side : Side). map (inward side) (filter (is_of side) changed) in
     let above = few_tree_facts_change size v w upper (tree Upper) fit uppers (changed_in_tree size v w fit.old_real fit.new_real changed exact Upper) in
-    let below = few_tree_facts_change size (turned v) (turned w) lower (tree Lower) (turned_fit size v w fit) lowers (changed_in_tree size v w fit.old_real fit.new_real changed exact Lower) in
+    let below = few_tree_facts_change size (reflected v) (reflected w) lower (tree Lower) (reflected_fit size v w fit) lowers (changed_in_tree size v w fit.old_real fit.new_real changed exact Lower) in
     let both = split (is_of Upper) changed in
     let of_upper = length-map (filter (is_of Upper) changed) (inward Upper) in
     let of_lower = length-map (filter (is_of Lower) changed) (inward Lower) in

@@ -10,7 +10,7 @@ use Rattle.kin_algebra.proofs.Places.{get_within}
 use Rattle.kin_motion.specs.declared.form.Form.TheVariants.{Turn}
 use Rattle.kin_motion.specs.Chains.{is_left, IsUpperChain, IsLowerChain}
 use Rattle.kin_motion.specs.Numbers.{IsIn, IsChain}
-use Rattle.kin_motion.specs.Scene.{Scene, x_sign, turned}
+use Rattle.kin_motion.specs.Scene.{Scene, x_sign, reflected}
 use Rattle.kin_motion.proofs.ChainLaws.{chain_within, plus_from}
 use Rattle.kin_motion.proofs.ClaimLaws.{chain_is_strict}
 use Rattle.kin_motion.proofs.Members.{in_from_contains, contains_from_in}
@@ -32,15 +32,15 @@ meet_at_ends s set lower upper low up p above below = at place.0 place.1
     place = get_from_contains lower p (contains_from_in lower p below)
 
     among : (k q : ℕ) → slice_get lower k ≡ Some q → IsIn q set
-    among k q e = chain_within (turned s) set lower low q (in_from_contains lower q (contains_from_get lower k q e))
+    among k q e = chain_within (reflected s) set lower low q (in_from_contains lower q (contains_from_get lower k q e))
 
     inside : (k a c : ℕ) → slice_get lower k ≡ Some a → slice_get lower (suc k) ≡ Some p → slice_get lower (suc (suc k)) ≡ Some c → ⊥
     inside k a c e f g =
-        let left : x_sign s a p ≡ Plus = plus_from (neighbours (is_left (turned s)) lower k a p low.rising e f) in
-        let right : x_sign s p c ≡ Plus = plus_from (neighbours (is_left (turned s)) lower (suc k) p c low.rising f g) in
+        let left : x_sign s a p ≡ Plus = plus_from (neighbours (is_left (reflected s)) lower k a p low.rising e f) in
+        let right : x_sign s p c ≡ Plus = plus_from (neighbours (is_left (reflected s)) lower (suc k) p c low.rising f g) in
         not_both (s.sign (Turn a c p))
         (chain_is_strict s set upper p a c up above (among k a e) (among (suc (suc k)) c g) left right)
-        (chain_is_strict (turned s) set lower p a c low below (among k a e) (among (suc (suc k)) c g) left right)
+        (chain_is_strict (reflected s) set lower p a c low below (among k a e) (among (suc (suc k)) c g) left right)
 
     last_or_not : (k : ℕ) → slice_get lower (suc k) ≡ Some p → (suc k ≡ length lower - 1) ⊎ (suc (suc k) < length lower)
     last_or_not k e = let h = slice_get_within lower (suc k) p e in grind (arith, h)

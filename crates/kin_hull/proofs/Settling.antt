@@ -5,7 +5,7 @@ use Rattle.kin_motion.specs.declared.fact.Placed.{Placed}
 use Rattle.kin_motion.specs.Deltas.{Change}
 use Rattle.kin_motion.specs.Kinetics.{ListsFailing, HasChanged}
 use Rattle.kin_motion.specs.Numbers.{is_in}
-use Rattle.kin_motion.specs.Scene.{Scene, IsReal, turned}
+use Rattle.kin_motion.specs.Scene.{Scene, IsReal, reflected}
 use Rattle.kin_motion.proofs.ChangeLaws.{both_changed}
 use Rattle.kin_overlay.specs.Overlays.{names_any}
 use Rattle.kin_env.specs.MarkLaws.{in_leaving, same_named}
@@ -49,16 +49,16 @@ module _ (upper lower : Envelope) (whole : Bool) (s : Scene) (seen : Hull) (pair
         (settled_upright upper known.seen known.settled.upper) (upper_out upper.facts lower.facts) (upper_back upper.facts lower.facts)
         (spared_out Upper upper) failing
 
-    pub lower_failing : ListsFailing lower.facts (names_leaving lower) (turned s) (map (inward Lower) (filter (is_of Lower) failed))
+    pub lower_failing : ListsFailing lower.facts (names_leaving lower) (reflected s) (map (inward Lower) (filter (is_of Lower) failed))
     lower_failing =
         sorted_failing Lower s real lower.facts (map (outward Upper) upper.facts ++ map (outward Lower) lower.facts) failed (names_leaving upper) (names_leaving lower)
-        (settled_upright lower (turned known.seen) known.settled.lower) (lower_out upper.facts lower.facts) (lower_back upper.facts lower.facts)
+        (settled_upright lower (reflected known.seen) known.settled.lower) (lower_out upper.facts lower.facts) (lower_back upper.facts lower.facts)
         (λ x. spared_out Lower upper x ∙ spared_alike upper lower known x) failing
 
 -- both trees, settled at rest over the same slots, are paired again
 pub paired_again : (old_upper old_lower upper lower : Envelope) (s : Scene) → IsReal s → ArePaired old_upper old_lower
     → upper ≡ record old_upper { chains = upper.chains; facts = upper.facts } → lower ≡ record old_lower { chains = lower.chains; facts = lower.facts }
-    → IsEnvelopeAtRest upper → IsEnvelopeAtRest lower → IsSettledEnvelope upper s → IsSettledEnvelope lower (turned s) → ArePaired upper lower
+    → IsEnvelopeAtRest upper → IsEnvelopeAtRest lower → IsSettledEnvelope upper s → IsSettledEnvelope lower (reflected s) → ArePaired upper lower
 paired_again old_upper old_lower upper lower s real known up low upper_rest lower_rest upper_settled lower_settled = record {
   size = size;
   small = subst (λ n. n ≤ 12) (sym upper_size) known.small;

@@ -7,11 +7,11 @@ use Rattle.kin_motion.specs.declared.keep.Keep.{Keep}
 use Rattle.kin_motion.specs.Kinetics.{HaveSameLive, AllHold}
 use Rattle.kin_motion.specs.Live.{IsKeepFact}
 use Rattle.kin_motion.specs.Merges.{IsTreeFact, IsHullFact}
-use Rattle.kin_motion.specs.Scene.{Scene, IsReal, Holds, turned}
+use Rattle.kin_motion.specs.Scene.{Scene, IsReal, Holds, reflected}
 use Rattle.kin_motion.specs.Sets.{ListsExactly}
-use Rattle.kin_motion.specs.TurnedFacts.{IsUpright}
+use Rattle.kin_motion.specs.ReflectedFacts.{IsUpright}
 use Rattle.kin_motion.proofs.SetLaws.{contains_map}
-use Rattle.kin_motion.proofs.TurnedLaws.{turned-real}
+use Rattle.kin_motion.proofs.ReflectedLaws.{reflected-real}
 use Rattle.kin_env.specs.Trees.{Envelope, IsSettledEnvelope, top_of, names_leaving}
 use Rattle.kin_env.specs.MarkLaws.{spares_none}
 use Rattle.kin_env.specs.TreeLaws.{determined_law}
@@ -35,11 +35,11 @@ pub settled_upright : (t : Envelope) (s : Scene) → IsSettledEnvelope t s → (
 settled_upright t s settled p c = tree_upright t.size s p ((settled.tree.exact.each p).0 c)
 
 -- the cycle and the facts follow from both trees
-pub hull_settled : (k : Hull) (s : Scene) → IsReal s → IsSettledEnvelope k.upper s → IsSettledEnvelope k.lower (turned s) → k.lower.size ≡ k.upper.size → IsSettledKinHull k s
+pub hull_settled : (k : Hull) (s : Scene) → IsReal s → IsSettledEnvelope k.upper s → IsSettledEnvelope k.lower (reflected s) → k.lower.size ≡ k.upper.size → IsSettledKinHull k s
 hull_settled k s real upper lower size = record {
   hull = record {
     is_cycle = record { lower = top_of k.lower; upper = top_of k.upper; lower_chain = lower.tree.chain; upper_chain = upper.tree.chain; joined = λ t. cycle_told k };
-    exact = both_exact k.upper.size s real k.upper.facts k.lower.facts upper.tree.exact (subst (λ n. ListsExactly k.lower.facts (IsTreeFact n (turned s))) size lower.tree.exact);
+    exact = both_exact k.upper.size s real k.upper.facts k.lower.facts upper.tree.exact (subst (λ n. ListsExactly k.lower.facts (IsTreeFact n (reflected s))) size lower.tree.exact);
   };
   upper = upper;
   lower = lower;
@@ -54,8 +54,8 @@ determined_lem k v w rest real before same real' grounded hold = hull_settled k 
     upper = determined_law k.upper v w rest.upper real before.upper same real' tt (tree_holds Upper w k.upper.facts (facts_of k) real' (settled_upright k.upper v before.upper)
         (λ p c. Contains-append_left (map (outward Upper) k.upper.facts) (map (outward Lower) k.lower.facts) (outward Upper p) (contains_map (outward Upper) k.upper.facts p c)) hold)
 
-    lower : IsSettledEnvelope k.lower (turned w)
-    lower = determined_law k.lower (turned v) (turned w) rest.lower (turned-real v real) before.lower same (turned-real w real') tt (tree_holds Lower w k.lower.facts (facts_of k) real' (settled_upright k.lower (turned v) before.lower)
+    lower : IsSettledEnvelope k.lower (reflected w)
+    lower = determined_law k.lower (reflected v) (reflected w) rest.lower (reflected-real v real) before.lower same (reflected-real w real') tt (tree_holds Lower w k.lower.facts (facts_of k) real' (settled_upright k.lower (reflected v) before.lower)
         (λ p c. Contains-append_right (map (outward Upper) k.upper.facts) (map (outward Lower) k.lower.facts) (outward Lower p) (contains_map (outward Lower) k.lower.facts p c)) hold)
 
 -- ---- as the structure of a keep

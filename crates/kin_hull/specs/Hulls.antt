@@ -5,8 +5,10 @@ use Rattle.kin_motion.specs.declared.keep.Keep.{Keep}
 use Rattle.kin_motion.specs.declared.keep.Keep.TheVariants as keep
 use Rattle.kin_motion.specs.Chains.{round}
 use Rattle.kin_motion.specs.Contents.{IsSettledHull}
+use Rattle.kin_motion.specs.Deltas.{Change}
 use Rattle.kin_motion.specs.Numbers.{is_in}
 use Rattle.kin_motion.specs.Scene.{Scene}
+use Rattle.kin_env.specs.Joints.{ArePaid}
 use Rattle.kin_env.specs.Trees.{ChainsKeepOrder, Envelope, IsEnvelopeAtRest, IsSettledEnvelope, chain_of_slot, top_of}
 use Rattle.kin_env.specs.Walks.{slot_in}
 use Rattle.kin_hull.specs.declared.side.Side.TheVariants.{Upper, Lower}
@@ -73,6 +75,15 @@ IsHullKeep _ = ⊥
 -- it is for the numbers below 2^size
 abbrev pub IsHullFor : Hull → ℕ → Keep → Type 0
 IsHullFor k size kept = (kept ≡ keep.Hull) × (k.upper.size ≡ size)
+
+-- where the chains keep their order, at most five signs were asked for each fact that was born, and at most one for each that was dropped
+abbrev pub SpendsHull : Hull → Hull → List Placed → Change → Change → ℕ → ℕ → Type 0
+SpendsHull old new failed out out' before after = HullsKeepOrder old new → ArePaid out out' before after
+
+-- its chains and its facts are still those of the scene, and its members are these numbers, once its mark is carried out
+pub record FollowsHull (k : Hull) (s : Scene) (live : List ℕ) : Type 0 where
+  pub settled : IsSettledKinHull k s
+  pub members : HasMembers k live
 
 -- it is for as many numbers, and they are the same
 abbrev pub StaysHull : Hull → Hull → Type 0

@@ -4,5 +4,7 @@ pub mod SideLaws
 pub mod HullFacts
 pub mod Hulls
 pub mod HullLaws
+pub mod Following
+pub mod FrugalLaws
 pub mod Corners
 pub mod RecordSums

@@ -2,7 +2,7 @@
 use Rattle.std.specs.Prelude.{◌≡◌, ℕ, ◌+◌, ◌*◌, ◌-◌, ◌^◌, ◌<◌, ◌≤◌, List, length, sum_by, ◌⊎◌}
 use Rattle.kin_motion.specs.declared.fact.Placed.{Placed}
 use Rattle.kin_motion.specs.Agreements.{FitsSize}
-use Rattle.kin_motion.specs.Changes.{IsTouchedCount}
+use Rattle.kin_motion.specs.Records.{IsTouchedCount}
 use Rattle.kin_motion.specs.Chains.{IsUpperChain}
 use Rattle.kin_motion.specs.Contents.{IsSettledMerge}
 use Rattle.kin_motion.specs.Deltas.{Change}
@@ -10,7 +10,7 @@ use Rattle.kin_motion.specs.Kinetics.{HasChanged}
 use Rattle.kin_motion.specs.Merges.{IsBreakpointList, IsTreeFact, IsHullFact, points_under}
 use Rattle.kin_motion.specs.Numbers.{numbers_from}
 use Rattle.kin_motion.specs.RecordFacts.{MergeState, records_in}
-use Rattle.kin_motion.specs.Scene.{Scene, IsReal, turned}
+use Rattle.kin_motion.specs.Scene.{Scene, IsReal, reflected}
 use Rattle.kin_motion.specs.Sets.{ListsExactly}
 
 -- ---- states
@@ -71,7 +71,7 @@ FewTreeFactsAreReported =
 abbrev pub FewHullFactsAreReported : Type 0
 FewHullFactsAreReported =
     (size : ℕ) (v w : Scene) (upper lower : ℕ → ℕ) (old_facts new_facts : List Placed) (before after : Change) → AreFitScenes size v w
-    → AreTreeStates size v w upper → AreTreeStates size (turned v) (turned w) lower
+    → AreTreeStates size v w upper → AreTreeStates size (reflected v) (reflected w) lower
     → ListsExactly old_facts (IsHullFact size v) → ListsExactly new_facts (IsHullFact size w) → HasChanged old_facts new_facts before after
     → AtMostReported before after (3 * (sum_over_nodes size upper + sum_over_nodes size lower))
 
@@ -97,6 +97,6 @@ FewTreeSigns =
 abbrev pub FewHullSigns : Type 0
 FewHullSigns =
     (size asked : ℕ) (v w : Scene) (upper lower : ℕ → ℕ) (old_facts new_facts : List Placed) (before after : Change) → AreFitScenes size v w
-    → AreTreeStates size v w upper → AreTreeStates size (turned v) (turned w) lower
+    → AreTreeStates size v w upper → AreTreeStates size (reflected v) (reflected w) lower
     → ListsExactly old_facts (IsHullFact size v) → ListsExactly new_facts (IsHullFact size w) → HasChanged old_facts new_facts before after
     → IsPaidByFacts before after asked → asked ≤ 15 * (sum_over_nodes size upper + sum_over_nodes size lower)

@@ -19,9 +19,11 @@ use std::alloc::Global;
 use std::sync::ledger::Ledger;
 
 impl Steady for KinHull {
-    ghost use Rattle.kin_hull.specs.Hulls.{StaysHull};
+    ghost use Rattle.kin_hull.specs.Hulls.{StaysHull, SpendsHull};
 
     ghost stays = { StaysHull };
+
+    ghost spends = { SpendsHull };
 
     fn settle_steadily<O: Signs, L: Ledger>(
         &mut self,
@@ -35,14 +37,17 @@ impl Steady for KinHull {
 }
 
 impl Kept for KinHull {
-    ghost use Rattle.kin_hull.specs.Hulls.{IsHullFor, IsHullKeep, HasMembers};
+    ghost use Rattle.kin_hull.specs.Hulls.{IsHullFor, IsHullKeep, HasMembers, FollowsHull};
     ghost use Rattle.kin_hull.specs.HullLaws.{hull_spares_none, hull_kind_stays, hull_members_stay, hull_exact};
+    ghost use Rattle.kin_hull.specs.FrugalLaws.{hull_follows_scene, hull_frugal};
 
     ghost is_for = { IsHullFor };
 
     ghost serves = { IsHullKeep };
 
     ghost has_members = { HasMembers };
+
+    ghost follows = { FollowsHull };
 
     ghost ready_over = { λ k s members. members };
 
@@ -53,6 +58,10 @@ impl Kept for KinHull {
     ghost members_stay = { hull_members_stay };
 
     ghost exact = { hull_exact };
+
+    ghost follows_scene = { hull_follows_scene };
+
+    ghost frugal = { hull_frugal };
 
     ghost stands_alone = { λ k s. tt };
 

@@ -1,7 +1,7 @@
 //! The upper tree and the lower tree, and the place of the facts of each among those of the hull.
 
 ghost use Rattle.std.specs.Prelude.{◌≡◌, ◌<◌, ◌^◌};
-ghost use Rattle.kin_motion.specs.TurnedFacts.{turned_fact};
+ghost use Rattle.kin_motion.specs.ReflectedFacts.{reflected_fact};
 ghost use Rattle.kin_hull.specs.Sides.{outward, inward};
 
 use kin_motion::fact::{Fact, Placed};
@@ -17,8 +17,8 @@ pub enum Side {
 }
 
 /// The fact as it is seen of the points reflected in the x axis.
-fn turned(fact: Fact) -> Fact
-    ensures { result ≡ turned_fact fact }
+fn reflected(fact: Fact) -> Fact
+    ensures { result ≡ reflected_fact fact }
 {
     let changes_sides = match fact.form {
         Form::Line { dy, .. } => dy != 0,
@@ -48,7 +48,7 @@ impl Side {
             },
             Side::Lower => Placed {
                 part: 2 * placed.part + 1,
-                fact: turned(placed.fact),
+                fact: reflected(placed.fact),
             },
         }
     }
@@ -59,7 +59,7 @@ impl Side {
     {
         let fact = match self {
             Side::Upper => placed.fact,
-            Side::Lower => turned(placed.fact),
+            Side::Lower => reflected(placed.fact),
         };
         Placed {
             part: placed.part / 2,

@@ -21,3 +21,4 @@ pub mod WholeLaws
 pub mod StillLaws
 pub mod VacantLaws
 pub mod LeavingLaws
+pub mod FollowLaws

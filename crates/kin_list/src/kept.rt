@@ -19,9 +19,11 @@ use std::alloc::Global;
 use std::sync::ledger::Ledger;
 
 impl Steady for KinList {
-    ghost use Rattle.kin_list.specs.Keeping.{StaysList};
+    ghost use Rattle.kin_list.specs.Keeping.{StaysList, SpendsList};
 
     ghost stays = { StaysList };
+
+    ghost spends = { SpendsList };
 
     fn settle_steadily<O: Signs, L: Ledger>(
         &mut self,
@@ -35,14 +37,17 @@ impl Steady for KinList {
 }
 
 impl Kept for KinList {
-    ghost use Rattle.kin_list.specs.Keeping.{IsListFor, IsOrderKeep, HasMembers};
+    ghost use Rattle.kin_list.specs.Keeping.{IsListFor, IsOrderKeep, HasMembers, FollowsList};
     ghost use Rattle.kin_list.specs.KeepingLaws.{list_spares_none, list_kind_stays, list_members_stay, list_exact};
+    ghost use Rattle.kin_list.specs.FrugalLaws.{list_follows_scene, list_frugal};
 
     ghost is_for = { IsListFor };
 
     ghost serves = { IsOrderKeep };
 
     ghost has_members = { HasMembers };
+
+    ghost follows = { FollowsList };
 
     ghost ready_over = { λ k s members. members };
 
@@ -53,6 +58,10 @@ impl Kept for KinList {
     ghost members_stay = { list_members_stay };
 
     ghost exact = { list_exact };
+
+    ghost follows_scene = { list_follows_scene };
+
+    ghost frugal = { list_frugal };
 
     ghost stands_alone = { λ k s. tt };
 

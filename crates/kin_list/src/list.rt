@@ -1,7 +1,7 @@
 //! The kinetic sorted list.
 
 ghost use Rattle.std.specs.Prelude.{◌≡◌, ◌<◌, ◌≤◌, ◌^◌, ◌↔◌, unsigned_abs, [], Some, true, false, length, map, slice_get, IsTrue, IfOk, OnOk, OnErr, IfSome, IsNone};
-ghost use Rattle.kin_motion.specs.Changes.{moved_pairs};
+ghost use Rattle.kin_motion.specs.Records.{moved_pairs};
 ghost use Rattle.kin_motion.specs.Kinetics.{ListsFailing, HasChanged};
 ghost use Rattle.kin_motion.specs.Numbers.{is_in};
 ghost use Rattle.kin_motion.specs.Parts.{moved_by};

@@ -11,8 +11,8 @@ use Rattle.kin_motion.specs.declared.form.Form.TheVariants.{Turn}
 use Rattle.kin_motion.specs.declared.fact.Placed.{Placed}
 use Rattle.kin_motion.specs.Numbers.{is_in, IsIn, numbers_from}
 use Rattle.kin_motion.specs.Sets.{ListsExactly}
-use Rattle.kin_motion.specs.Scene.{Scene, IsReal, turned, placed_at}
-use Rattle.kin_motion.specs.Orders.{order_of, order_facts, IsOrderFact}
+use Rattle.kin_motion.specs.Scene.{Scene, IsReal, reflected, placed_at}
+use Rattle.kin_motion.specs.Orders.{order_of, order_facts, IsOrderFact, IsRangeFact}
 use Rattle.kin_motion.specs.Tournaments.{best_of, items_under, item_in}
 use Rattle.kin_motion.specs.Extremes.{along_key, point_slots, extreme_facts}
 use Rattle.kin_motion.specs.Chains.{upper_chain_of, cycle_of, round}
@@ -22,12 +22,12 @@ use Rattle.kin_motion.specs.ClosestPairs.{closest_of}
 use Rattle.kin_motion.specs.ClosestFacts.{closest_facts, wedge_facts_from}
 use Rattle.kin_motion.specs.Octants.{eight_directions}
 use Rattle.kin_motion.specs.Agreements.{FitsSize}
-use Rattle.kin_motion.specs.Contents.{IsWinner, IsRangeFact}
+use Rattle.kin_motion.specs.Contents.{IsWinner}
 use Rattle.kin_motion.proofs.Winners.{winner_agrees}
 use Rattle.kin_motion.specs.Claims.{HullIsStrict, HullHasLeast, SettledStatesExist}
 use Rattle.kin_motion.proofs.SetLaws.{exactly_in_words, exactly_in_turn, exactly_mapped, exactly_both}
 use Rattle.kin_motion.proofs.RealLaws.{real_line_laws}
-use Rattle.kin_motion.proofs.TurnedFactLaws.{along_y}
+use Rattle.kin_motion.proofs.ReflectedFactLaws.{along_y}
 use Rattle.kin_motion.proofs.ClaimLaws.{chain_is_strict, chain_has_least}
 use Rattle.kin_motion.proofs.AgreementLaws.{kept-members}
 use Rattle.kin_motion.proofs.CandidateLaws.{candidate_agrees}
@@ -65,14 +65,14 @@ pub hull_is_strict : HullIsStrict
 hull_is_strict s xs p q r real hull there qs rs left right = at (in_a_chain p hull.lower hull.upper (subst (IsIn p) hull.joined there))
   where
     at : IsIn p hull.lower ⊎ IsIn p hull.upper → s.sign (Turn q r p) ≢ Zero
-    at (inl k) = not_turned (s.sign (Turn q r p)) (chain_is_strict (turned s) s.live hull.lower p q r hull.lower_chain k qs rs left right)
+    at (inl k) = not_turned (s.sign (Turn q r p)) (chain_is_strict (reflected s) s.live hull.lower p q r hull.lower_chain k qs rs left right)
     at (inr k) = not_plus (s.sign (Turn q r p)) (chain_is_strict s s.live hull.upper p q r hull.upper_chain k qs rs left right)
 
 pub hull_has_least : HullHasLeast
 hull_has_least s xs p q real hull there qs same_x same_y = at (in_a_chain p hull.lower hull.upper (subst (IsIn p) hull.joined there))
   where
     at : IsIn p hull.lower ⊎ IsIn p hull.upper → ¬ (q < p)
-    at (inl k) = chain_has_least (turned s) s.live hull.lower p q hull.lower_chain k qs same_x (along_y s real (pos 1) p q ∙ ap opposite_of same_y)
+    at (inl k) = chain_has_least (reflected s) s.live hull.lower p q hull.lower_chain k qs same_x (along_y s real (pos 1) p q ∙ ap opposite_of same_y)
     at (inr k) = chain_has_least s s.live hull.upper p q hull.upper_chain k qs same_x same_y
 
 -- ---- settled states

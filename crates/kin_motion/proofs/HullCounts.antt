@@ -7,7 +7,7 @@ use Rattle.std.proofs.lemmas.Nat.{mul-le}
 use Rattle.std.proofs.Math.Pow.{pow_pos}
 use Rattle.kin_algebra.proofs.Members.{contains_head, contains_tail}
 use Rattle.kin_motion.specs.declared.form.Form.TheVariants.{Line}
-use Rattle.kin_motion.specs.Scene.{Scene, x_sign, placed_at, turned}
+use Rattle.kin_motion.specs.Scene.{Scene, x_sign, placed_at, reflected}
 use Rattle.kin_motion.specs.Chains.{is_zero, is_left, is_bare, upper_chain_of}
 use Rattle.kin_motion.specs.Tournaments.{is_under}
 use Rattle.kin_motion.specs.Merges.{Half.{A, B}, Half, Breakpoint, breakpoints_of, is_of, is_placed_before, put_before, merged, breakpoint_list, slope_form, slope_between, slopes_from, end_forms, last_of, forms_of_ends, current_after, turns_from, forms_of_merge, forms_of_chains, points_under, node_forms, hull_facts_of_node, hull_facts}
@@ -129,11 +129,11 @@ module _ (size : ℕ) (s : Scene) (fits : FitsSize size s) where
 
   both_count : (v : ℕ) → length (hull_facts_of_node size s v) ≤ 4 * (count_under (2 * v) + count_under (2 * v + 1))
   both_count v =
-      let both = length-append (map (placed_at s (2 * v)) (node_forms size s v)) (map (placed_at s (2 * v + 1)) (node_forms size (turned s) v)) in
+      let both = length-append (map (placed_at s (2 * v)) (node_forms size s v)) (map (placed_at s (2 * v + 1)) (node_forms size (reflected s) v)) in
       let upper = length-map (node_forms size s v) (placed_at s (2 * v)) in
-      let lower = length-map (node_forms size (turned s) v) (placed_at s (2 * v + 1)) in
+      let lower = length-map (node_forms size (reflected s) v) (placed_at s (2 * v + 1)) in
       let few_upper = node_count s size v in
-      let few_lower = node_count (turned s) size v in
+      let few_lower = node_count (reflected s) size v in
       omega (arith, both, upper, lower, few_upper, few_lower)
 
   spread : (v : ℕ) → 1 ≤ v → v < 2 ^ size → count_under (2 * v) + count_under (2 * v + 1) ≤ count_under v

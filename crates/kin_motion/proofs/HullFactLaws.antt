@@ -9,7 +9,7 @@ use Rattle.kin_motion.specs.declared.form.Form.{Form}
 use Rattle.kin_motion.specs.declared.fact.Placed.{Placed}
 use Rattle.kin_motion.specs.Numbers.{is_in, IsOnce, IsChain}
 use Rattle.kin_motion.specs.Sets.{AreDistinct, ListsExactly}
-use Rattle.kin_motion.specs.Scene.{Scene, IsReal, placed_at, turned}
+use Rattle.kin_motion.specs.Scene.{Scene, IsReal, placed_at, reflected}
 use Rattle.kin_motion.specs.Tournaments.{is_under}
 use Rattle.kin_motion.specs.Chains.{is_left, is_bare, IsUpperChain, upper_chain_of}
 use Rattle.kin_motion.specs.Merges.{Half.{A, B}, Half, Breakpoint, breakpoints_of, IsBreakpointList, breakpoint_list, turns_from, slopes_from, forms_of_ends, forms_of_merge, IsMergeForm, merge_forms, points_under, IsNodeForm, node_forms, IsHullFact, hull_facts_of_node, hull_facts}
@@ -17,7 +17,7 @@ use Rattle.kin_motion.specs.Agreements.{FitsSize, HullFactsAgree}
 use Rattle.kin_motion.proofs.SetLaws.{distinct_none, distinct_append, distinct_mapped_on, exactly_both, exactly_in_words, exactly_mapped, exactly_in_turn}
 use Rattle.kin_motion.proofs.RealLaws.{real_line_laws, real_turn_laws}
 use Rattle.kin_motion.proofs.SlopeLaws.{real_slope_laws}
-use Rattle.kin_motion.proofs.TurnedLaws.{turned-real}
+use Rattle.kin_motion.proofs.ReflectedLaws.{reflected-real}
 use Rattle.kin_motion.proofs.ChainLaws.{one_upper_chain, chain_within}
 use Rattle.kin_motion.proofs.Sorting.{sorted-once}
 use Rattle.kin_motion.proofs.AgreementLaws.{chain_agrees, kept-members, kept-once}
@@ -166,16 +166,16 @@ abbrev IsUpperOf : ℕ → Scene → ℕ → Placed → Type 0
 IsUpperOf size s v p = (f : Form) × IsNodeForm size s v f × (p ≡ placed_at s (2 * v) f)
 
 abbrev IsLowerOf : ℕ → Scene → ℕ → Placed → Type 0
-IsLowerOf size s v p = (f : Form) × IsNodeForm size (turned s) v f × (p ≡ placed_at s (2 * v + 1) f)
+IsLowerOf size s v p = (f : Form) × IsNodeForm size (reflected s) v f × (p ≡ placed_at s (2 * v + 1) f)
 
 pub part_of : (s : Scene) (part : ℕ) (f : Form) (p : Placed) → p ≡ placed_at s part f → p.part ≡ part
 part_of s part f p e = ap (λ (q : Placed). q.part) e
 
 both_exact : (size : ℕ) (s : Scene) → IsReal s → FitsSize size s → (v : ℕ) → ListsExactly (hull_facts_of_node size s v) (λ p. IsUpperOf size s v p ⊎ IsLowerOf size s v p)
 both_exact size s real fits v =
-    exactly_both (map (placed_at s (2 * v)) (node_forms size s v)) (map (placed_at s (2 * v + 1)) (node_forms size (turned s) v)) (IsUpperOf size s v) (IsLowerOf size s v)
+    exactly_both (map (placed_at s (2 * v)) (node_forms size s v)) (map (placed_at s (2 * v + 1)) (node_forms size (reflected s) v)) (IsUpperOf size s v) (IsLowerOf size s v)
     (exactly_mapped (placed_at s (2 * v)) (node_forms size s v) (IsNodeForm size s v) (one_form s (2 * v)) (node_exact size s real fits v))
-    (exactly_mapped (placed_at s (2 * v + 1)) (node_forms size (turned s) v) (IsNodeForm size (turned s) v) (one_form s (2 * v + 1)) (node_exact size (turned s) (turned-real s real) fits v))
+    (exactly_mapped (placed_at s (2 * v + 1)) (node_forms size (reflected s) v) (IsNodeForm size (reflected s) v) (one_form s (2 * v + 1)) (node_exact size (reflected s) (reflected-real s real) fits v))
     (λ p w x. let e = part_of s (2 * v) w.0 p w.2 in let g = part_of s (2 * v + 1) x.0 p x.2 in omega (arith, e, g))
 
 -- the node by the part
@@ -200,7 +200,7 @@ hull_facts_agree size s real fits =
         let g : w.node < 2 ^ size = r.1 in
         (w.node, h, omega (arith, g), inl (w.form, w.merge, w.fact))
     from p (inr w) =
-        let r = node_is_inner size (turned s) (turned-real s real) fits w.node w.form w.merge in
+        let r = node_is_inner size (reflected s) (reflected-real s real) fits w.node w.form w.merge in
         let h : 1 ≤ w.node = r.0 in
         let g : w.node < 2 ^ size = r.1 in
         (w.node, h, omega (arith, g), inr (w.form, w.merge, w.fact))

@@ -1,8 +1,9 @@
 -- What is handed to a structure at rest that settles.
-use Rattle.std.proofs.Common.{◌≡◌, sym, ◌∙◌, subst, List, [], ℕ, Bool, true, false}
-use Rattle.std.specs.Prelude.{Contains, IsFalse}
+use Rattle.std.proofs.Common.{◌≡◌, sym, ◌∙◌, subst, List, [], ℕ, Bool, true, false, Result, Ok, Err}
+use Rattle.std.specs.Prelude.{Contains, IsFalse, OnOk}
+use Rattle.std.proofs.lemmas.List.Elements.{All-contains}
 use Rattle.kin_motion.specs.declared.fact.Placed.{Placed}
-use Rattle.kin_motion.specs.Kinetics.{ListsFailing}
+use Rattle.kin_motion.specs.Kinetics.{AllHold, ListsFailing}
 use Rattle.kin_motion.specs.Scene.{Scene, Holds}
 use Rattle.kin_motion.specs.Sets.{ListsExactly}
 use Rattle.kin_motion.specs.Forms.{names}
@@ -26,3 +27,13 @@ pub none_left : (facts after : List Placed) (is_spared : Placed → Bool) (s : S
     → ((p : Placed) → Contains facts p → names p.fact.form leaving ≡ false → Holds s p.fact) → ListsFailing after is_spared s []
 none_left facts after is_spared s leaving same spares hold =
     subst (λ (ps : List Placed). ListsFailing ps is_spared s []) (sym same) (exactly_none _ (λ p h. h.2 (hold p h.0 (spares p h.0 h.1))))
+
+-- where all facts hold, none fails
+pub none_fails : (facts after : List Placed) (is_spared : Placed → Bool) (s : Scene) → after ≡ facts → AllHold s facts → ListsFailing after is_spared s []
+none_fails facts after is_spared s same hold =
+    subst (λ (ps : List Placed). ListsFailing ps is_spared s []) (sym same) (exactly_none _ (λ p h. h.2 (All-contains (λ (q : Placed). Holds s q.fact) facts p hold h.0)))
+
+-- what follows from five clauses that speak of an `Ok` alone
+pub from_five : {T E A B C D F P : Type 0} (r : Result T E) → (A → B → C → D → F → P) → OnOk r A → OnOk r B → OnOk r C → OnOk r D → OnOk r F → OnOk r P
+from_five (Ok v) h a b c d f = h a b c d f
+from_five (Err e) h a b c d f = tt

@@ -89,10 +89,10 @@ itself Minus = refl
 itself Zero = refl
 itself Plus = refl
 
-differs : (a b : Sign) → not (same_sign a b) ≡ true → a ≢ b
+pub differs : (a b : Sign) → not (same_sign a b) ≡ true → a ≢ b
 differs a b e f = let g : same_sign a b ≡ true = sym (ap (same_sign a) f) ∙ itself a in let clash : false ≡ true = sym (ap not g) ∙ e in cc
 
-differ : (a b : Sign) → a ≢ b → not (same_sign a b) ≡ true
+pub differ : (a b : Sign) → a ≢ b → not (same_sign a b) ≡ true
 differ a b n = at (same_sign a b) refl
   where
     at : (t : Bool) → same_sign a b ≡ t → not t ≡ true

@@ -6,13 +6,13 @@ use Rattle.kin_algebra.specs.declared.sign.Sign.TheVariants.{Minus, Zero, Plus}
 use Rattle.kin_algebra.specs.Signs.{opposite_of}
 use Rattle.kin_motion.specs.declared.form.Form.TheVariants.{Line, Dist}
 use Rattle.kin_motion.specs.Numbers.{IsIn}
-use Rattle.kin_motion.specs.Scene.{Scene, IsReal, turned}
+use Rattle.kin_motion.specs.Scene.{Scene, IsReal, reflected}
 use Rattle.kin_motion.specs.Extremes.{IsExtreme}
 use Rattle.kin_motion.specs.Chains.{round}
 use Rattle.kin_motion.specs.ClosestPairs.{IsClosestPair}
 use Rattle.kin_motion.specs.Theorems.{OneExtreme, OneHullCycle, OneClosest}
 use Rattle.kin_motion.proofs.RealLaws.{real_line_laws}
-use Rattle.kin_motion.proofs.TurnedLaws.{turned-real}
+use Rattle.kin_motion.proofs.ReflectedLaws.{reflected-real}
 use Rattle.kin_motion.proofs.ChainLaws.{one_upper_chain}
 use Rattle.kin_motion.proofs.DistanceLaws.{real_distance_laws, three_ways}
 
@@ -48,7 +48,7 @@ one_extreme s dx dy (Some i) (Some j) r a b = ap (λ (n : ℕ). Some n) (one_ext
 
 pub one_hull_cycle : OneHullCycle
 one_hull_cycle s xs ys r a b =
-    let lower = one_upper_chain (turned s) (real_line_laws (turned s) (turned-real s r)) s.live a.lower b.lower a.lower_chain b.lower_chain in
+    let lower = one_upper_chain (reflected s) (real_line_laws (reflected s) (reflected-real s r)) s.live a.lower b.lower a.lower_chain b.lower_chain in
     let upper = one_upper_chain s (real_line_laws s r) s.live a.upper b.upper a.upper_chain b.upper_chain in
     a.joined ∙ ap₂ round lower upper ∙ sym b.joined
 

@@ -9,7 +9,7 @@ use Rattle.kin_motion.specs.declared.fact.Fact.{Fact}
 use Rattle.kin_motion.specs.declared.fact.Placed.{Placed}
 use Rattle.kin_motion.specs.Scene.{Scene, fact_at, placed_at}
 use Rattle.kin_motion.specs.Merges.{Half.{A, B}, Breakpoint, current_after, other_current, turns_from, slope_between, slopes_from, end_forms, last_of, forms_of_ends, IsListedForm, forms_of_merge}
-use Rattle.kin_motion.specs.Changes.{Record, Record.{Inner, LeftEnd, RightEnd}, facts_at, slope_before, slope_behind, inner_records, records_of}
+use Rattle.kin_motion.specs.Records.{Record, Record.{Inner, LeftEnd, RightEnd}, facts_at, slope_before, slope_behind, inner_records, records_of}
 use Rattle.kin_motion.specs.RecordFacts.{MergeState, IsFactIn, records_in, facts_of_record, IsRecorded, FactsAreRecorded}
 use Rattle.kin_motion.proofs.CurrentLaws.{turns_agree, forms_agree}
 use Rattle.kin_motion.proofs.SetLaws.{contains_map, contains_mapped}

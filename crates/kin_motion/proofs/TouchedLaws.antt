@@ -9,7 +9,7 @@ use Rattle.kin_motion.specs.declared.fact.Placed.{Placed}
 use Rattle.kin_motion.specs.Scene.{Scene, x_sign, fact_at}
 use Rattle.kin_motion.specs.Chains.{is_zero}
 use Rattle.kin_motion.specs.Merges.{Half.{A, B}, Breakpoint, is_of, slope_form, current_after, slope_between, end_forms, last_of}
-use Rattle.kin_motion.specs.Changes.{Record, facts_at, slope_before, slope_behind, inner_records, records_of}
+use Rattle.kin_motion.specs.Records.{Record, facts_at, slope_before, slope_behind, inner_records, records_of}
 use Rattle.kin_motion.specs.RecordFacts.{MergeState, IsFactIn, IsChanged, records_in, facts_of_record, FewFactsChange, FewFactsAreReported}
 use Rattle.kin_motion.proofs.RecordLaws.{first_forms, first_record, later_records, left_end, right_end, inner, facts_are_recorded}
 use Rattle.kin_motion.proofs.SetLaws.{contains_map, exactly_both, exactly_in_words}

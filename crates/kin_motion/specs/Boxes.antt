@@ -34,5 +34,5 @@ is_inside ms m r i =
     && is_at_least ms m (pos 0) (pos 1) (neg_ℤ r.y1) i && is_at_least ms m (pos 0) (negsuc 0) r.y2 i
 
 -- the live numbers inside, rising
-abbrev pub box_of : List (Option Course) → Moment → Rect → List ℕ
-box_of ms m r = filter (is_inside ms m r) (filled_from 0 ms)
+abbrev pub points_in : List (Option Course) → Moment → Rect → List ℕ
+points_in ms m r = filter (is_inside ms m r) (filled_from 0 ms)

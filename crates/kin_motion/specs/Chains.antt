@@ -5,7 +5,7 @@ use Rattle.kin_algebra.specs.declared.sign.Sign.{Sign}
 use Rattle.kin_algebra.specs.declared.sign.Sign.TheVariants.{Minus, Zero, Plus}
 use Rattle.kin_motion.specs.declared.form.Form.TheVariants.{Turn}
 use Rattle.kin_motion.specs.Numbers.{is_in, IsChain, sorted_by}
-use Rattle.kin_motion.specs.Scene.{Scene, x_sign, y_sign, turned}
+use Rattle.kin_motion.specs.Scene.{Scene, x_sign, y_sign, reflected}
 
 -- the sign is +
 abbrev pub is_plus : Sign → Bool
@@ -46,7 +46,7 @@ pub record IsUpperChain (s : Scene) (set xs : List ℕ) : Type 0 where
 
 -- the upper chain after y is turned round
 abbrev pub IsLowerChain : Scene → List ℕ → List ℕ → Type 0
-IsLowerChain s set xs = IsUpperChain (turned s) set xs
+IsLowerChain s set xs = IsUpperChain (reflected s) set xs
 
 -- the lower chain from left to right, then the upper one from right to left without what is listed already
 abbrev pub round : List ℕ → List ℕ → List ℕ
@@ -66,7 +66,7 @@ upper_chain_of s set = sorted_by (is_left s) (filter (is_bare s set) set)
 
 -- the lower chain by computation
 abbrev pub lower_chain_of : Scene → List ℕ → List ℕ
-lower_chain_of s set = upper_chain_of (turned s) set
+lower_chain_of s set = upper_chain_of (reflected s) set
 
 -- the hull cycle by computation
 abbrev pub cycle_of : Scene → List ℕ

@@ -9,7 +9,7 @@ use Rattle.kin_motion.specs.declared.keep.Rect.{Rect}
 use Rattle.kin_motion.specs.Course.{Course}
 use Rattle.kin_motion.specs.Numbers.{IsIn}
 use Rattle.kin_motion.specs.Scene.{Scene, IsReal, x_sign, y_sign}
-use Rattle.kin_motion.specs.Boxes.{box_of}
+use Rattle.kin_motion.specs.Boxes.{points_in}
 use Rattle.kin_motion.specs.Chains.{IsUpperChain, IsHullCycle}
 use Rattle.kin_motion.specs.Extremes.{along_key, point_slots}
 use Rattle.kin_motion.specs.Agreements.{FitsSize}
@@ -17,7 +17,7 @@ use Rattle.kin_motion.specs.Contents.{IsSettledList, IsSettledTournament, IsSett
 
 -- a rectangle whose sides are the wrong way round has no point
 abbrev pub WrongRectIsEmpty : Type 0
-WrongRectIsEmpty = (ms : List (Option Course)) (m : Moment) (r : Rect) → IsCanonical m.at → (r.x2 <ℤ r.x1) ⊎ (r.y2 <ℤ r.y1) → box_of ms m r ≡ []
+WrongRectIsEmpty = (ms : List (Option Course)) (m : Moment) (r : Rect) → IsCanonical m.at → (r.x2 <ℤ r.x1) ⊎ (r.y2 <ℤ r.y1) → points_in ms m r ≡ []
 
 -- no point of an upper chain is collinear with two points of the set, one to its left and one to its right
 abbrev pub ChainIsStrict : Type 0

@@ -6,7 +6,7 @@ use Rattle.kin_motion.specs.declared.form.Form.{Form}
 use Rattle.kin_motion.specs.declared.form.Form.TheVariants.{Line, Turn, Slope}
 use Rattle.kin_motion.specs.declared.fact.Placed.{Placed}
 use Rattle.kin_motion.specs.Numbers.{IsChain, numbers_from}
-use Rattle.kin_motion.specs.Scene.{Scene, x_sign, placed_at, turned}
+use Rattle.kin_motion.specs.Scene.{Scene, x_sign, placed_at, reflected}
 use Rattle.kin_motion.specs.Chains.{is_zero, IsUpperChain, upper_chain_of}
 use Rattle.kin_motion.specs.Tournaments.{is_under}
 
@@ -204,7 +204,7 @@ pub record IsUpperFact (size : ℕ) (s : Scene) (p : Placed) : Type 0 where
 pub record IsLowerFact (size : ℕ) (s : Scene) (p : Placed) : Type 0 where
   pub node : ℕ
   pub form : Form
-  pub merge : IsNodeForm size (turned s) node form
+  pub merge : IsNodeForm size (reflected s) node form
   pub fact : p ≡ placed_at s (2 * node + 1) form
 
 -- a fact of the upper tree or of the lower tree
@@ -213,7 +213,7 @@ IsHullFact size s p = IsUpperFact size s p ⊎ IsLowerFact size s p
 
 -- the same by computation
 abbrev pub hull_facts_of_node : ℕ → Scene → ℕ → List Placed
-hull_facts_of_node size s v = map (placed_at s (2 * v)) (node_forms size s v) ++ map (placed_at s (2 * v + 1)) (node_forms size (turned s) v)
+hull_facts_of_node size s v = map (placed_at s (2 * v)) (node_forms size s v) ++ map (placed_at s (2 * v + 1)) (node_forms size (reflected s) v)
 
 -- all facts of the hull by computation
 abbrev pub hull_facts : ℕ → Scene → List Placed

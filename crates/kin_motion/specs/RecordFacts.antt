@@ -8,7 +8,7 @@ use Rattle.kin_motion.specs.Deltas.{Change}
 use Rattle.kin_motion.specs.Scene.{Scene, placed_at}
 use Rattle.kin_motion.specs.Kinetics.{HasChanged}
 use Rattle.kin_motion.specs.Merges.{Breakpoint, IsListedForm}
-use Rattle.kin_motion.specs.Changes.{Record, Record.{Inner, LeftEnd, RightEnd}, records_of, IsTouchedCount}
+use Rattle.kin_motion.specs.Records.{Record, Record.{Inner, LeftEnd, RightEnd}, records_of, IsTouchedCount}
 
 -- a state of a merge, right or not: what is seen, both chains, and a list of breakpoints
 pub record MergeState : Type 0 where

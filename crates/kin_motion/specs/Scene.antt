@@ -42,15 +42,15 @@ abbrev pub Holds : Scene → Fact → Type 0
 Holds s f = s.sign f.form ≡ f.sign
 
 -- the sign of a form after y is turned round
-abbrev pub turned_sign : Scene → Form → Sign
-turned_sign s (Line dx dy off i j) = s.sign (Line dx (neg_ℤ dy) off i j)
-turned_sign s (Turn i j k) = opposite_of (s.sign (Turn i j k))
-turned_sign s (Slope i j k l) = opposite_of (s.sign (Slope i j k l))
-turned_sign s (Dist i j k l) = s.sign (Dist i j k l)
+abbrev pub reflected_sign : Scene → Form → Sign
+reflected_sign s (Line dx dy off i j) = s.sign (Line dx (neg_ℤ dy) off i j)
+reflected_sign s (Turn i j k) = opposite_of (s.sign (Turn i j k))
+reflected_sign s (Slope i j k l) = opposite_of (s.sign (Slope i j k l))
+reflected_sign s (Dist i j k l) = s.sign (Dist i j k l)
 
 -- the scene after y is turned round
-abbrev pub turned : Scene → Scene
-turned s = record { live = s.live; sign = turned_sign s }
+abbrev pub reflected : Scene → Scene
+reflected s = record { live = s.live; sign = reflected_sign s }
 
 -- it is the scene of some motions at some canonical moment, so the laws of signs hold in it
 pub record IsReal (s : Scene) : Type 0 where

@@ -11,7 +11,7 @@ use Rattle.kin_motion.specs.Course.{Course, AreSlow, live_of}
 use Rattle.kin_motion.specs.Forms.{IsAskable, polynomial_of}
 use Rattle.kin_motion.specs.Mirrored.{mirrored}
 use Rattle.kin_motion.specs.Sets.{ListsExactly}
-use Rattle.kin_motion.specs.Scene.{Scene, IsReal, scene_at, turned}
+use Rattle.kin_motion.specs.Scene.{Scene, IsReal, scene_at, reflected}
 use Rattle.kin_motion.specs.Laws.{HasLineLaws, HasTurnLaws, HasDistanceLaws, HasSlopeLaws}
 use Rattle.kin_motion.specs.Kinetics.{AllHold, HaveSameLive}
 use Rattle.kin_motion.specs.Orders.{IsOrder, IsOrderFact}
@@ -77,13 +77,13 @@ OctantsAreOpposite =
     (s : Scene) (w : ℕ) (here there : Octant) (p q : ℕ) → slice_get octants w ≡ Some here → slice_get octants ((w + 4) % 8) ≡ Some there
     → is_in_octant s here p q ≡ is_in_octant s there q p
 
--- the turned scene shows the motions with every y and v negated
-abbrev pub TurnedIsMirrored : Type 0
-TurnedIsMirrored = (ms : List (Option Course)) (m : Moment) (f : Form) → (turned (scene_at ms m)).sign f ≡ (scene_at (mirrored ms) m).sign f
+-- the reflected scene shows the motions with every y and v negated
+abbrev pub ReflectedIsMirrored : Type 0
+ReflectedIsMirrored = (ms : List (Option Course)) (m : Moment) (f : Form) → (reflected (scene_at ms m)).sign f ≡ (scene_at (mirrored ms) m).sign f
 
 -- and it is a real scene where the scene is
-abbrev pub TurnedIsReal : Type 0
-TurnedIsReal = (s : Scene) → IsReal s → IsReal (turned s)
+abbrev pub ReflectedIsReal : Type 0
+ReflectedIsReal = (s : Scene) → IsReal s → IsReal (reflected s)
 
 -- where the same numbers are live and all facts of an order hold, it is the order there, and the facts are those of the order there
 abbrev pub OrderIsDetermined : Type 0

@@ -5,9 +5,9 @@ ghost use Rattle.kin_motion.specs.Claims.{ChainHasLeast, ChainIsStrict, HullHasL
 ghost use Rattle.kin_motion.specs.FactCounts.{FewFacts, FewLiveFacts};
 ghost use Rattle.kin_motion.specs.Parts.{MovedFactsChange, MovedFactsFail, MovedOrderFacts};
 ghost use Rattle.kin_motion.specs.RecordFacts.{FactsAreRecorded, FewFactsAreReported, FewFactsChange};
-ghost use Rattle.kin_motion.specs.TurnedFacts.{TurnedFactsHold, TurnedTwiceIsSame};
+ghost use Rattle.kin_motion.specs.ReflectedFacts.{ReflectedFactsHold, ReflectedTwiceIsSame};
 ghost use Rattle.kin_motion.specs.Turning.{OneTurn, SceneIsByPlaces, TurnKeepsScene};
-ghost use Rattle.kin_motion.specs.Theorems.{ExtremeIsDetermined, LiveFactsAreAskable, OctantsAreOpposite, OneCandidate, OneClosest, OneExtreme, OneFirstFailure, OneHullCycle, OneJournal, OneNextBlock, OneOctant, OneOrder, OneUpperChain, OrderIsDetermined, PolynomialsAreSmall, RealScenesHaveLaws, TurnedIsMirrored, TurnedIsReal};
+ghost use Rattle.kin_motion.specs.Theorems.{ExtremeIsDetermined, LiveFactsAreAskable, OctantsAreOpposite, OneCandidate, OneClosest, OneExtreme, OneFirstFailure, OneHullCycle, OneJournal, OneNextBlock, OneOctant, OneOrder, OneUpperChain, OrderIsDetermined, PolynomialsAreSmall, RealScenesHaveLaws, ReflectedIsMirrored, ReflectedIsReal};
 
 /// Where motions are slow, the polynomial of each form that may be asked for is within the bounds.
 pub fn polynomials_are_small()
@@ -25,14 +25,15 @@ pub fn real_scenes_have_laws()
     ensures { RealScenesHaveLaws }
 {}
 
-/// The turned scene has the signs of the motions with every y and v negated, and it is real where the
-/// scene is. In a real scene, a fact whose lines go along x or along y and have no offset, as those of a
-/// hull do, holds exactly where its turned fact holds in the turned scene. Turned twice it is the same.
-pub fn turned_is_mirrored()
-    ensures signs { TurnedIsMirrored }
-    ensures real { TurnedIsReal }
-    ensures facts { TurnedFactsHold }
-    ensures twice { TurnedTwiceIsSame }
+/// The reflected scene has the signs of the motions with every y and v negated, and it is real where
+/// the scene is. In a real scene, a fact whose lines go along x or along y and have no offset, as
+/// those of a hull do, holds exactly where its reflected fact holds in the reflected scene. Reflected
+/// twice it is the same.
+pub fn reflected_is_mirrored()
+    ensures signs { ReflectedIsMirrored }
+    ensures real { ReflectedIsReal }
+    ensures facts { ReflectedFactsHold }
+    ensures twice { ReflectedTwiceIsSame }
 {}
 
 /// Where facts are moved to other parts, what changed of them and which of them fail is moved with

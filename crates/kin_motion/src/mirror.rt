@@ -1,6 +1,6 @@
 //! The signs of the points reflected in the x axis.
 
-ghost use Rattle.kin_motion.specs.Scene.{Scene, turned};
+ghost use Rattle.kin_motion.specs.Scene.{Scene, reflected};
 
 use crate::form::Form;
 use crate::signs::Signs;
@@ -16,7 +16,7 @@ pub struct Mirror<'a, O: Signs> {
 }
 
 impl<O: Signs> Signs for Mirror<'_, O> {
-    ghost scene = { λ s. turned (O.scene s.inner.now) };
+    ghost scene = { λ s. reflected (O.scene s.inner.now) };
 
     fn sign<L: Ledger>(&self, form: &Form, steps: &mut Steps<L>) -> Sign {
         match *form {

@@ -8,3 +8,4 @@ pub mod ClosestPoints
 pub mod BestPairs
 pub mod SettledPairs
 pub mod DeterminedPairs
+pub mod ChangedPairs

@@ -1,16 +1,16 @@
 -- What is left of a chain while it is drawn, beside what is left of the chain that it came of.
-use Rattle.std.proofs.Common.{◌≡◌, ◌⊎◌, inl, inr, refl, sym, ap, ap₂, ◌∙◌, subst, arith, List, [], ◌∷◌, ◌++◌, ℕ, ◌+◌, ◌<◌, ◌≤◌, Bool, true, false, not, ◌||◌, cond, nat_eq, length, get_or, drop, filter, append_assoc, Contains}
+use Rattle.std.proofs.Common.{◌≡◌, ◌⊎◌, inl, inr, refl, sym, ap, ◌∙◌, subst, arith, List, [], ◌∷◌, ◌++◌, ℕ, ◌+◌, ◌<◌, ◌≤◌, Bool, true, false, not, ◌||◌, cond, nat_eq, length, get_or, drop, append_assoc, Contains}
 use Rattle.std.proofs.lemmas.Bool.{both_ways, false_from_ne_true}
 use Rattle.std.proofs.lemmas.Bool.Decides.{nat_tests}
 use Rattle.kin_algebra.proofs.Members.{contains_none, contains_cases}
 use Rattle.kin_motion.specs.Numbers.{is_in, IsIn, IsOnce}
 use Rattle.kin_motion.specs.Merges.{Half, Breakpoint, breakpoints_of}
-use Rattle.kin_motion.proofs.Members.{in_front, in_head, in_tail, in_cases, in_left, in_right}
+use Rattle.kin_motion.proofs.Members.{in_front, in_head, in_tail, in_cases, in_right}
 use Rattle.kin_overlay.specs.declared.draft.Draft.{Draft}
 use Rattle.kin_overlay.specs.declared.record.Record.{Record}
 use Rattle.kin_overlay.specs.declared.standing.Standing.{Standing}
 use Rattle.kin_overlay.specs.Repairing.{without, times, IsEdited, AreApart}
-use Rattle.kin_overlay.specs.Sketching.{after_put, IsMissed, IsFound, IsStep}
+use Rattle.kin_overlay.specs.Sketching.{after_put, IsStep}
 use Rattle.kin_overlay.proofs.SketchLaws.{two_first}
 
 -- ---- how often a number is there

@@ -1,14 +1,12 @@
 -- What is drawn at the records of the list before.
-use Rattle.std.proofs.Common.{◌≡◌, ◌⊎◌, inl, inr, refl, sym, ap, ap₂, ◌∙◌, subst, arith, List, [], ◌∷◌, ◌++◌, ℕ, ◌+◌, ◌*◌, ◌<◌, ◌≤◌, Bool, true, false, ◌||◌, cond, length, get_or, drop, Option, Some, None, Contains}
+use Rattle.std.proofs.Common.{◌≡◌, ◌⊎◌, inl, inr, refl, sym, ap, ◌∙◌, subst, arith, List, [], ◌∷◌, ◌++◌, ℕ, ◌+◌, ◌*◌, ◌<◌, ◌≤◌, Bool, true, false, ◌||◌, cond, length, get_or, drop, Some, None, Contains}
 use Rattle.std.proofs.lemmas.Bool.{both_ways, false_from_ne_true, or_parts}
 use Rattle.std.proofs.lemmas.List.Elements.{Contains-append_right}
 use Rattle.kin_motion.specs.declared.form.Form.{Form}
-use Rattle.kin_motion.specs.declared.form.Form.TheVariants.{Turn}
 use Rattle.kin_motion.specs.declared.fact.Fact.{Fact}
 use Rattle.kin_motion.specs.Forms.{names}
-use Rattle.kin_motion.specs.Merges.{Half.{A, B}, Half, Breakpoint, is_of, own_of, breakpoints_of, other_current, current_after}
+use Rattle.kin_motion.specs.Merges.{Half.{A, B}, Half, is_of, own_of, breakpoints_of, other_current, current_after}
 use Rattle.kin_motion.specs.Numbers.{is_in, IsIn, IsOnce}
-use Rattle.kin_motion.specs.Scene.{Scene}
 use Rattle.kin_motion.proofs.Members.{in_head, in_tail, in_cases}
 use Rattle.kin_chain.specs.Supports.{list_of}
 use Rattle.kin_overlay.specs.declared.draft.Draft.{Draft}
@@ -22,14 +20,14 @@ use Rattle.kin_overlay.specs.Fingers.{AreNoted}
 use Rattle.kin_overlay.specs.Lists.{front}
 use Rattle.kin_overlay.specs.Overlays.{names_any}
 use Rattle.kin_overlay.specs.Remembered.{place_of, breakpoints, turn_fact, slope_facts}
-use Rattle.kin_overlay.specs.Repairing.{IsEdited, AreApart, Past, IsKnownPast, IsStill, IsKept, IsRetained, untold}
-use Rattle.kin_overlay.specs.Seen.{half_of, seen}
+use Rattle.kin_overlay.specs.Repairing.{IsEdited, AreApart, Past, IsKnownPast, IsStill, IsRetained, untold}
+use Rattle.kin_overlay.specs.Seen.{half_of}
 use Rattle.kin_overlay.specs.Sketches.{is_told, gaps}
-use Rattle.kin_overlay.specs.Sketching.{blanks, put_blanks, after_put, IsSlopeOf, IsRecalled, IsMissed, IsFound, IsStep, IsStepAt, IsTrace, IsSketchOf}
+use Rattle.kin_overlay.specs.Sketching.{blanks, put_blanks, after_put, IsSlopeOf, IsStep, IsStepAt, IsTrace, IsSketchOf}
 use Rattle.kin_overlay.specs.Standings.{IsUnfailed}
 use Rattle.kin_overlay.proofs.FillLaws.{split-own}
 use Rattle.kin_overlay.proofs.FollowLaws.{Follows, pair, follows-first, follows-start, follows-still, follows-step}
-use Rattle.kin_overlay.proofs.RetainLaws.{AreUntold, untold-append, untold-front, IsAt, AreAt, IsDrawnAt, ArePaid, are-paid, all-kept}
+use Rattle.kin_overlay.proofs.RetainLaws.{AreUntold, untold-append, untold-front, IsAt, AreAt, are-paid, all-kept}
 
 -- ---- breakpoints of which nothing is known
 pub blanks-untold : (h : Side) (xs : List ℕ) → AreUntold (blanks h xs)

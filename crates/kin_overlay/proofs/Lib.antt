@@ -5,6 +5,11 @@ pub mod HasLaws
 pub mod ReportLaws
 pub mod FingerLaws
 pub mod WalkLaws
+pub mod ReadLaws
+pub mod SplitLaws
+pub mod AgainLaws
+pub mod SharedLaws
+pub mod ShiftLaws
 pub mod FactLaws
 pub mod SoundLaws
 pub mod StandingLaws
@@ -15,8 +20,12 @@ pub mod HoldLaws
 pub mod OwedLaws
 pub mod PlaceLaws
 pub mod ScanLaws
+pub mod WindowLaws
 pub mod SketchLaws
 pub mod FillLaws
+pub mod EndsTakenLaws
+pub mod CleanLaws
+pub mod TakenOverLaws
 pub mod MergedLaws
 pub mod PutLaws
 pub mod PastLaws
@@ -33,3 +42,6 @@ pub mod RepairLaws
 pub mod CountLaws
 pub mod PaidLaws
 pub mod MadeLaws
+pub mod PassLaws
+pub mod AlongLaws
+pub mod SpanLaws

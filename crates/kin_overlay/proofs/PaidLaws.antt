@@ -20,7 +20,7 @@ use Rattle.kin_overlay.specs.Filling.{lefts}
 use Rattle.kin_overlay.specs.Fingers.{AreLess, IsMerged}
 use Rattle.kin_overlay.specs.Lists.{front}
 use Rattle.kin_overlay.specs.Remembered.{Remembered, place_of, breakpoints, turn_fact, slope_facts, end_facts, facts_of}
-use Rattle.kin_overlay.specs.Repairing.{AtLeast, AreNew, IsKept, IsPaid, IsRetained, IsStill, IsUnknown, Past, IsKnownPast}
+use Rattle.kin_overlay.specs.Repairing.{AtLeast, AreNew, IsStillKnown, IsPaid, IsRetained, IsStill, IsUnknown, Past, IsKnownPast}
 use Rattle.kin_overlay.specs.Resorting.{HaveSameHalves, unseated}
 use Rattle.kin_overlay.specs.Seats.{seat_in}
 use Rattle.kin_overlay.specs.Seen.{seen}
@@ -50,11 +50,11 @@ module _ (p : Past) (w : Standing) (puts : Puts) (s : Scene) (a b : List ℕ) (n
 
   module _ (start sorted : List Draft) (halves : HaveSameHalves start sorted) (once : IsOnce (lefts (spots sorted))) (places : breakpoints new.records ≡ spots sorted) (retained : IsRetained w a b start) where
     -- the draft of a record that is in both lists
-    kept-draft : (r q : Record) (d : Draft) → Contains w.list.now.records r → place_of r ≡ place_of q → Contains new.records q → Contains sorted d → place_of q ≡ spot_of d → IsKept w r d
+    kept-draft : (r q : Record) (d : Draft) → Contains w.list.now.records r → place_of r ≡ place_of q → Contains new.records q → Contains sorted d → place_of q ≡ spot_of d → IsStillKnown w r d
     kept-draft r q d c place there k here =
         let v = retained.kept r c (still-there r q there place) in
         let left : v.0.at.left ≡ d.at.left = ap (λ (e : Pair). e.left) v.2.at ∙ ap (λ (e : Breakpoint). e.left) (place ∙ here) in
-        subst (IsKept w r) (same-draft sorted v.0 d once (moved start sorted halves v.0 v.1) k left) v.2
+        subst (IsStillKnown w r) (same-draft sorted v.0 d once (moved start sorted halves v.0 v.1) k left) v.2
 
     -- a turn that is missing is that of a fact that is born
     turn-new : (q : Record) (d : Draft) → Contains new.records q → Contains sorted d → place_of q ≡ spot_of d → is_told d q.across ≡ false → IsBorn (turn_fact q)

@@ -1,9 +1,8 @@
 -- What a sketch keeps of the list before, and what its gaps come of.
-use Rattle.std.proofs.Common.{◌≡◌, ◌⊎◌, inl, inr, refl, sym, ap, ap₂, ◌∙◌, subst, arith, List, [], ◌∷◌, ◌++◌, ℕ, ◌+◌, ◌*◌, ◌<◌, ◌≤◌, Bool, true, false, not, ◌&&◌, cond, nat_eq, length, Option, Some, None, option_map, Contains}
+use Rattle.std.proofs.Common.{◌≡◌, ◌⊎◌, inl, inr, refl, sym, ap, ap₂, ◌∙◌, subst, arith, List, [], ◌∷◌, ◌++◌, ℕ, ◌+◌, ◌*◌, ◌≤◌, Bool, true, false, not, ◌&&◌, cond, Option, Some, None, option_map, Contains}
 use Rattle.std.specs.Prelude.{flat_map}
-use Rattle.std.proofs.lemmas.Bool.{not_from_true}
 use Rattle.std.proofs.lemmas.Bool.Decides.{nat_tests}
-use Rattle.std.proofs.lemmas.List.Elements.{Contains-append_left, Contains-append_right}
+use Rattle.std.proofs.lemmas.List.Elements.{Contains-append_right}
 use Rattle.kin_algebra.specs.declared.sign.Sign.{Sign}
 use Rattle.kin_algebra.proofs.Members.{contains_none, contains_head, contains_cases}
 use Rattle.kin_motion.specs.declared.fact.Fact.{Fact}
@@ -18,9 +17,9 @@ use Rattle.kin_overlay.specs.Filling.{gap_to}
 use Rattle.kin_overlay.specs.Fingers.{AreNoted, seen_next, next_for}
 use Rattle.kin_overlay.specs.Lists.{first_of}
 use Rattle.kin_overlay.specs.Remembered.{place_of, breakpoints, slope_facts}
-use Rattle.kin_overlay.specs.Repairing.{AtLeast, IsStill, IsKept, has_turn, untold}
+use Rattle.kin_overlay.specs.Repairing.{AtLeast, IsStill, IsStillKnown, has_turn, untold}
 use Rattle.kin_overlay.specs.Seen.{seen}
-use Rattle.kin_overlay.specs.Sketches.{half_at, is_next, is_known, is_gap, gaps}
+use Rattle.kin_overlay.specs.Sketches.{is_next, is_known, is_gap, gaps}
 use Rattle.kin_overlay.specs.Sketching.{IsSlopeOf}
 use Rattle.kin_overlay.specs.Standings.{IsUnfailed}
 use Rattle.kin_overlay.proofs.FillLaws.{gaps-cons}
@@ -108,7 +107,7 @@ pub record IsDrawnAt (w : Standing) (a b : List ℕ) (r : Record) (part : List D
   pub untold : AreUntold more
   pub told : (c : Across) → draft.across ≡ Some c → draft.at ≡ r.at
   pub slope : draft.at ≡ r.at → IsSlopeOf w r draft.next
-  pub kept : IsStill a b (place_of r) → IsKept w r draft
+  pub kept : IsStill a b (place_of r) → IsStillKnown w r draft
 
 -- that, or the record's breakpoint is no longer there
 abbrev pub IsAt : Standing → List ℕ → List ℕ → Record → List Draft → Type 0
@@ -119,16 +118,16 @@ AreAt w a b [] ds = AreUntold ds
 AreAt w a b (r ∷ rs) ds = (part rest : List Draft) × (ds ≡ part ++ rest) × IsAt w a b r part × AreAt w a b rs rest
 
 module _ (w : Standing) (a b : List ℕ) where
-  pub all-kept : (rs : List Record) (ds : List Draft) → AreAt w a b rs ds → (r : Record) → Contains rs r → IsStill a b (place_of r) → (d : Draft) × Contains ds d × IsKept w r d
+  pub all-kept : (rs : List Record) (ds : List Draft) → AreAt w a b rs ds → (r : Record) → Contains rs r → IsStill a b (place_of r) → (d : Draft) × Contains ds d × IsStillKnown w r d
   all-kept [] ds k r c still = absurd (contains_none r c)
   all-kept (q ∷ rs) ds k r c still = at (contains_cases q r rs c) k.3 (λ e. all-kept rs k.1 k.4 r e still)
     where
-      at : (q ≡ r) ⊎ Contains rs r → IsAt w a b q k.0 → (Contains rs r → (d : Draft) × Contains k.1 d × IsKept w r d) → (d : Draft) × Contains ds d × IsKept w r d
+      at : (q ≡ r) ⊎ Contains rs r → IsAt w a b q k.0 → (Contains rs r → (d : Draft) × Contains k.1 d × IsStillKnown w r d) → (d : Draft) × Contains ds d × IsStillKnown w r d
       at (inl e) (inl m) rest = absurd (m.1 (subst (λ (z : Record). IsStill a b (place_of z)) (sym e) still))
       at (inl e) (inr m) rest = (
         m.draft,
         subst (λ (l : List Draft). Contains l m.draft) (sym (k.2 ∙ ap (λ (l : List Draft). l ++ k.1) m.part_is)) (contains_head m.draft (m.more ++ k.1)),
-        subst (λ (z : Record). IsKept w z m.draft) e (m.kept (subst (λ (z : Record). IsStill a b (place_of z)) (sym e) still)),
+        subst (λ (z : Record). IsStillKnown w z m.draft) e (m.kept (subst (λ (z : Record). IsStill a b (place_of z)) (sym e) still)),
       )
       at (inr e) m rest = let found = rest e in (found.0, subst (λ (l : List Draft). Contains l found.0) (sym k.2) (Contains-append_right k.0 k.1 found.0 found.1), found.2)
 

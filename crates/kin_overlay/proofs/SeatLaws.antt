@@ -1,12 +1,12 @@
 -- The turns that aren't known are those of the breakpoints that don't stand at their seats.
-use Rattle.std.proofs.Common.{◌≡◌, refl, sym, ap, ap₂, ◌∙◌, subst, arith, List, [], ◌∷◌, ◌++◌, ℕ, zero, suc, ◌+◌, ◌<◌, Bool, true, false, cond, length, drop, Option, Some, None}
+use Rattle.std.proofs.Common.{◌≡◌, refl, sym, ap, ap₂, ◌∙◌, subst, arith, List, [], ◌∷◌, ◌++◌, ℕ, zero, suc, ◌+◌, ◌<◌, Bool, cond, length, drop, Option, Some}
 use Rattle.std.specs.Prelude.{slice_get}
 use Rattle.std.proofs.lemmas.List.{drop-drop}
-use Rattle.kin_motion.specs.Merges.{Half.{A, B}, Half, Breakpoint, is_of, other, own_of, breakpoints_of, other_current, current_after}
+use Rattle.kin_motion.specs.Merges.{Half.{A, B}, Half, is_of, other, own_of, breakpoints_of, other_current, current_after}
 use Rattle.kin_chain.specs.Supports.{list_of}
 use Rattle.kin_overlay.specs.declared.draft.Draft.{Draft}
 use Rattle.kin_overlay.specs.Lists.{front}
-use Rattle.kin_overlay.specs.Sketches.{spot_of, half_at, spots, of_half, others, is_told, missing_turns}
+use Rattle.kin_overlay.specs.Sketches.{spot_of, half_at, spots, others, is_told, missing_turns}
 use Rattle.kin_overlay.specs.Resorting.{count, unseated}
 use Rattle.kin_overlay.specs.Seats.{is_told_of, seat_in}
 use Rattle.kin_overlay.proofs.HalfLaws.{count-append}

@@ -1,12 +1,12 @@
 -- A sketch has each breakpoint whose turn is known at its seat.
-use Rattle.std.proofs.Common.{◌≡◌, ◌⊎◌, inl, inr, refl, sym, ap, ◌∙◌, subst, arith, List, [], ◌∷◌, ◌++◌, ℕ, zero, suc, ◌+◌, ◌<◌, ◌≤◌, Bool, true, false, cond, nat_eq, length, get_or, drop, append_assoc, Option, Some, None, Contains}
+use Rattle.std.proofs.Common.{◌≡◌, inl, inr, refl, sym, ap, ◌∙◌, subst, arith, List, [], ◌∷◌, ◌++◌, ℕ, zero, suc, ◌+◌, ◌<◌, Bool, true, false, cond, length, get_or, drop, append_assoc, Option, Some, None}
 use Rattle.std.specs.Prelude.{slice_get}
 use Rattle.std.proofs.lemmas.Bool.{both_ways}
 use Rattle.std.proofs.lemmas.Bool.Decides.{nat_tests}
 use Rattle.std.proofs.lemmas.List.{append-nil, drop-drop}
 use Rattle.kin_algebra.proofs.Members.{contains_from_get}
 use Rattle.kin_motion.specs.Merges.{Half.{A, B}, Half, is_of, other}
-use Rattle.kin_motion.specs.Numbers.{is_in, IsIn, IsOnce}
+use Rattle.kin_motion.specs.Numbers.{is_in, IsOnce}
 use Rattle.kin_motion.proofs.Members.{in_from_contains}
 use Rattle.kin_chain.specs.Supports.{list_of}
 use Rattle.kin_overlay.specs.declared.draft.Draft.{Draft}
@@ -19,9 +19,9 @@ use Rattle.kin_overlay.specs.declared.standing.Standing.{Standing}
 use Rattle.kin_overlay.specs.Resorting.{AreOf, AreSeated, count}
 use Rattle.kin_overlay.specs.Seats.{is_told_of, seat_in}
 use Rattle.kin_overlay.specs.Seen.{half_of}
-use Rattle.kin_overlay.specs.Sketches.{half_at, others, is_across, is_told}
+use Rattle.kin_overlay.specs.Sketches.{half_at, is_across}
 use Rattle.kin_overlay.specs.Sketching.{blank, blanks, put_blanks, after_put, IsMissed, IsFound, IsStep, IsStepAt, IsTrace, IsSketchOf}
-use Rattle.kin_overlay.proofs.HalfLaws.{itself, apart, count-append, count-none, count-all}
+use Rattle.kin_overlay.proofs.HalfLaws.{itself, count-append, count-none, count-all}
 use Rattle.kin_overlay.proofs.FollowLaws.{after-some}
 use Rattle.kin_overlay.proofs.RetainLaws.{AreUntold, untold-append}
 use Rattle.kin_overlay.proofs.SketchLaws.{one_behind}
@@ -51,7 +51,7 @@ blanks-own h put (x ∷ y ∷ xs) = at (is_in x put) (blanks-own h put (y ∷ xs
     at true k = (itself (half_of h), k)
     at false k = tt
 
-after-drop : (h : Side) (put xs : List ℕ) → after_put put xs ≡ drop (length (put_blanks h put xs)) xs
+pub after-drop : (h : Side) (put xs : List ℕ) → after_put put xs ≡ drop (length (put_blanks h put xs)) xs
 after-drop h put [] = refl
 after-drop h put (x ∷ []) = refl
 after-drop h put (x ∷ y ∷ xs) = at (is_in x put) (after-drop h put (y ∷ xs))

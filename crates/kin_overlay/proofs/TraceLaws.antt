@@ -1,5 +1,5 @@
 -- What exactly is drawn.
-use Rattle.std.proofs.Common.{◌≡◌, ◌⊎◌, inl, inr, refl, sym, ap, ◌∙◌, subst, arith, List, [], ◌∷◌, ◌++◌, ℕ, ◌+◌, ◌≤◌, Bool, true, false, not, cond, nat_eq, length, get_or, drop, append_assoc, Some}
+use Rattle.std.proofs.Common.{◌≡◌, ◌⊎◌, inl, inr, refl, sym, ap, ◌∙◌, subst, arith, List, [], ◌∷◌, ◌++◌, ℕ, ◌+◌, ◌≤◌, Bool, true, false, cond, nat_eq, length, get_or, drop, append_assoc, Some}
 use Rattle.std.specs.Prelude.{slice_get}
 use Rattle.std.specs.List.{list_any}
 use Rattle.std.proofs.Math.ListN.{drop_of_length-le}
@@ -62,7 +62,7 @@ pub pushed-all : (start now rest : List Draft) → now ++ rest ≡ start → res
 pushed-all start now rest p q = sym (append-nil now) ∙ ap (λ (l : List Draft). now ++ l) (sym q) ∙ p
 
 -- ---- all that is drawn
-drop-at : (rs : List Record) (k : ℕ) (r : Record) → slice_get rs k ≡ Some r → drop k rs ≡ r ∷ drop (k + 1) rs
+pub drop-at : (rs : List Record) (k : ℕ) (r : Record) → slice_get rs k ≡ Some r → drop k rs ≡ r ∷ drop (k + 1) rs
 drop-at rs k r at = drop_more rs k r (slice_get_within rs k r at) ∙ ap (λ (q : Record). q ∷ drop (k + 1) rs) (get_or_from_slice_get rs k r r at)
 
 module _ (w : Standing) (put_a put_b a b : List ℕ) where

@@ -4,6 +4,7 @@ pub mod Remembered
 pub mod Fingers
 pub mod Reports
 pub mod Walks
+pub mod Reading
 pub mod Diffs
 pub mod Overlays
 pub mod Sound
@@ -15,3 +16,6 @@ pub mod Sketching
 pub mod Filling
 pub mod Seats
 pub mod Repairing
+pub mod Spans
+pub mod Passing
+pub mod Windows

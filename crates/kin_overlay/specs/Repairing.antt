@@ -1,10 +1,9 @@
 -- What a merge knows of the one before, and what its repair may ask.
 use Rattle.std.specs.Prelude.{◌≡◌, ℕ, ◌+◌, ◌*◌, ◌<◌, ◌≤◌, Bool, true, false, not, ◌||◌, cond, nat_eq, List, [], ◌∷◌, length, filter, flat_map, Option, Some, None, Contains, ◌⊎◌}
 use Rattle.kin_motion.specs.declared.fact.Fact.{Fact}
-use Rattle.kin_motion.specs.declared.fact.Placed.{Placed}
 use Rattle.kin_motion.specs.Merges.{Breakpoint, breakpoints_of}
 use Rattle.kin_motion.specs.Numbers.{is_in, IsOnce}
-use Rattle.kin_motion.specs.Scene.{Scene, Holds}
+use Rattle.kin_motion.specs.Scene.{Scene}
 use Rattle.kin_chain.specs.Supports.{list_of}
 use Rattle.kin_overlay.specs.declared.draft.Draft.{Draft}
 use Rattle.kin_overlay.specs.declared.draft.Across.{Across}
@@ -14,7 +13,7 @@ use Rattle.kin_overlay.specs.declared.sketch.Puts.{Puts}
 use Rattle.kin_overlay.specs.declared.standing.Standing.{Standing}
 use Rattle.kin_overlay.specs.Fingers.{AreLess, IsMerged}
 pub use Rattle.kin_overlay.specs.Lists.{AreApart}
-use Rattle.kin_overlay.specs.Remembered.{Remembered, place_of, turn_fact, slope_facts_of, slope_facts, facts_of}
+use Rattle.kin_overlay.specs.Remembered.{Remembered, place_of, turn_fact, slope_facts, facts_of}
 use Rattle.kin_overlay.specs.Sketches.{gaps, is_told}
 use Rattle.kin_overlay.specs.Standings.{IsUnfailed}
 
@@ -75,7 +74,7 @@ abbrev pub IsUnknown : Standing → Fact → Type 0
 IsUnknown w f = Contains (facts_of w.list.now) f → IsUnfailed w.failed.now w.gone.now f → ⊥
 
 -- a breakpoint with what is still known by a record
-pub record IsKept (w : Standing) (r : Record) (d : Draft) : Type 0 where
+pub record IsStillKnown (w : Standing) (r : Record) (d : Draft) : Type 0 where
   pub at : d.at ≡ r.at
   pub turn : IsUnfailed w.failed.now w.gone.now (turn_fact r) → is_told d r.across ≡ true
   pub slope : (n : Next) → r.next ≡ Some n → ((f : Fact) → Contains (slope_facts r) f → IsUnfailed w.failed.now w.gone.now f) → d.next ≡ Some n
@@ -92,7 +91,7 @@ untold (d ∷ ds) = cond (has_turn d.across) 0 1 + untold ds
 
 -- what is known of a record whose breakpoint is still there is in the sketch, and it has at most two gaps for each breakpoint without a turn, one for each record that is no longer there, and one for each slope that has failed or names a number that has left
 pub record IsRetained (w : Standing) (a b : List ℕ) (out : List Draft) : Type 0 where
-  pub kept : (r : Record) → Contains w.list.now.records r → IsStill a b (place_of r) → (d : Draft) × Contains out d × IsKept w r d
+  pub kept : (r : Record) → Contains w.list.now.records r → IsStill a b (place_of r) → (d : Draft) × Contains out d × IsStillKnown w r d
   pub turns : ℕ
   pub slopes : ℕ
   pub lost_turns : AtLeast (λ r. IsStill a b (place_of r) → ⊥) w.list.now.records turns

@@ -1,9 +1,9 @@
 //! The edits that lead from one list to another.
 
-ghost use Rattle.std.specs.Prelude.{◌≡◌, ◌≢◌, ℕ, ◌+◌, ◌<◌, ◌≤◌, ◌^◌, true, false, List, [], ◌∷◌, length, drop, slice_get, Some, IsTrue, IsFalse, OnOk, IfOk};
-ghost use Rattle.kin_motion.specs.Edits.{all_edited, AreFitting};
+ghost use Rattle.std.specs.Prelude.{◌≡◌, ◌≢◌, ℕ, ◌+◌, ◌<◌, ◌≤◌, ◌^◌, true, false, List, [], ◌∷◌, length, map, drop, slice_get, Some, IsTrue, IsFalse, OnOk, IfOk};
+ghost use Rattle.kin_motion.specs.Edits.{Edit, all_edited, AreFitting};
 ghost use Rattle.kin_motion.specs.Numbers.{is_in};
-ghost use Rattle.kin_overlay.specs.Diffs.{KeepOrder, ArePutApart};
+ghost use Rattle.kin_overlay.specs.Diffs.{KeepOrder, ArePutApart, later, IsDiff};
 
 use crate::edit::ChainEdit;
 use smallvec::SmallVec;
@@ -52,7 +52,7 @@ fn added_before(new: &[u32], rest: &[u32]) -> usize
 }
 
 /// How many numbers of a list are before this one: all of them where it isn't there.
-fn count_before(list: &[u32], no: u32) -> usize
+pub fn count_before(list: &[u32], no: u32) -> usize
     ensures within { result ≤ length list.now }
     ensures others { (k y : ℕ) → k < result → slice_get list.now k ≡ Some y → no ≢ y }
     ensures at { (y : ℕ) → slice_get list.now result ≡ Some y → no ≡ y }
@@ -74,10 +74,19 @@ fn short(count: usize) -> Result<u32, AllocError>
     Ok(count as u32)
 }
 
-/// An edit from its parts.
-fn stretch(alloc: Global, place: usize, gone: usize, put: &[u32]) -> Result<ChainEdit, AllocError>
-    ensures { IfOk result (λ e. e ≡ record { place = place; drop = gone; put = put.now }) }
+/// An edit from its parts, so many places after the start.
+fn stretch(
+    alloc: Global,
+    start: usize,
+    place: usize,
+    gone: usize,
+    put: &[u32],
+) -> Result<ChainEdit, AllocError>
+    ensures { IfOk result (λ e. e ≡ record { place = start + place; drop = gone; put = put.now }) }
 {
+    let Some(place) = start.checked_add(place) else {
+        return Err(AllocError);
+    };
     let place = short(place)?;
     let drop = short(gone)?;
     let put = SmallVec::from_slice(alloc, put)?;
@@ -104,6 +113,19 @@ pub fn diff(
     ensures fit { OnOk result (AreFitting edits.new.items old.now) }
     ensures apart { OnOk result (KeepOrder old.now new.now → ArePutApart edits.new.items old.now) }
 {
+    diff_middle(alloc, 0, old, new, edits)
+}
+
+/// The same for the middle of a list that doesn't change up to `start`: places are those of that list.
+pub fn diff_middle(
+    alloc: Global,
+    start: usize,
+    old: &[u32],
+    new: &[u32],
+    edits: &mut Vec<ChainEdit>,
+) -> Result<(), AllocError>
+    ensures { OnOk result ((es : List Edit) × (edits.new.items ≡ map (later start) es) × IsDiff es old.now new.now) }
+{
     edits.clear();
     let (mut old, mut new) = (old, new);
     let mut place = 0;
@@ -116,7 +138,7 @@ pub fn diff(
         } else {
             let (gone, rest) = old.split_at(strangers(old, new));
             let (put, tail) = new.split_at(added_before(new, rest));
-            let edit = stretch(alloc, place, gone.len(), put)?;
+            let edit = stretch(alloc, start, place, gone.len(), put)?;
             edits.push(edit)?;
             old = rest;
             new = tail;

@@ -5,9 +5,10 @@ ghost use Rattle.kin_motion.specs.declared.form.Form.TheVariants.{Turn};
 ghost use Rattle.kin_motion.specs.Scene.{Scene};
 ghost use Rattle.kin_motion.specs.Merges.{slope_form};
 ghost use Rattle.kin_overlay.specs.Sketches.{spot_of, is_known, is_told, IsFit};
+ghost use Rattle.kin_overlay.specs.Spans.{draft_by};
 
 use crate::breakpoint::Breakpoint;
-use crate::record::Next;
+use crate::record::{Next, Record};
 use kin_num::Sign;
 
 /// A current point of the other half, with the sign of the turn to it.
@@ -36,6 +37,20 @@ impl Draft {
             at,
             across: None,
             next: None,
+        }
+    }
+
+    /// A breakpoint with all that its record remembers.
+    pub fn by(noted: &Record) -> Draft
+        ensures { result ≡ draft_by noted.now }
+    {
+        Draft {
+            at: noted.at,
+            across: Some(Across {
+                to: noted.across,
+                turn: noted.turn,
+            }),
+            next: noted.next,
         }
     }
 

@@ -1,11 +1,13 @@
 //! The list of breakpoints with what is remembered.
 
-ghost use Rattle.std.specs.Prelude.{◌≡◌, ◌⊎◌, ◌<◌, ◌↔◌, false, [], ◌∷◌, ◌++◌, Some, None, Contains, MatchOption, length, slice_get, IsTrue, OnOk};
-ghost use Rattle.kin_motion.specs.Numbers.{is_in};
+ghost use Rattle.std.specs.Prelude.{◌≡◌, ◌⊎◌, ◌+◌, ◌<◌, ◌≤◌, ◌↔◌, false, [], ◌∷◌, ◌++◌, Some, None, Contains, MatchOption, length, slice_get, IsTrue, OnOk, IfOk};
+ghost use Rattle.kin_motion.specs.Numbers.{is_in, IsOnce};
 ghost use Rattle.kin_overlay.specs.Remembered.{facts_of, left_points, end_facts};
+ghost use Rattle.kin_overlay.specs.Reports.{IsLeftBetween, IsBetween};
 
 use crate::end::End;
 use crate::record::Record;
+use crate::shared::Shared;
 use kin_motion::fact::Fact;
 use kin_motion::form::Form;
 use kin_num::memory::NoMemory;
@@ -46,6 +48,17 @@ impl BreakpointList {
         }
     }
 
+    /// Nothing is remembered, with room for so many breakpoints.
+    pub fn with_room(alloc: Global, count: usize) -> Result<BreakpointList, NoMemory>
+        ensures { IfOk result (λ l. l ≡ record { records = []; left = None; right = None }) }
+    {
+        Ok(BreakpointList {
+            records: Vec::with_capacity(alloc, count)?,
+            left: None,
+            right: None,
+        })
+    }
+
     /// Forgets everything. The memory is kept.
     pub fn clear(&mut self)
         ensures { self.new ≡ record { records = []; left = None; right = None } }
@@ -79,6 +92,23 @@ impl BreakpointList {
         ensures { slice_get self.now.records place ≡ Some result.now }
     {
         &self.records[place]
+    }
+
+    /// All of them, in the order of the list.
+    pub fn records(&self) -> &[Record]
+        ensures value { result.now ≡ self.now.records }
+        ensures once { IsOnce (left_points result.now) }
+    {
+        &self.records
+    }
+
+    /// Puts these breakpoints at the end of the list.
+    pub fn take(&mut self, noted: &[Record]) -> Result<(), NoMemory>
+        requires new { IsOnce (left_points (self.old.records ++ noted.now)) }
+        ensures taken { OnOk result (self.new ≡ record self.old { records = self.old.records ++ noted.now }) }
+    {
+        self.records.extend_from_slice(noted)?;
+        Ok(())
     }
 
     /// Puts a breakpoint at the end of the list.
@@ -119,17 +149,28 @@ impl BreakpointList {
         is_end(self.left, end) || is_end(self.right, end)
     }
 
-    /// Whether the fact is remembered. The search begins at this place.
+    /// True only if both outer ends are those of another list, with the same signs.
+    pub fn has_same_ends(&self, other: &BreakpointList) -> bool
+        ensures left { IsTrue result → self.now.left ≡ other.now.left }
+        ensures right { IsTrue result → self.now.right ≡ other.now.right }
+    {
+        are_same(self.left, other.left) && are_same(self.right, other.right)
+    }
+
+    /// Whether the fact is remembered, which isn't at one of these records at both ends. The search
+    /// begins at this place.
     #[inline(always)]
-    pub fn has(&self, fact: Fact, place: usize) -> bool
+    pub fn has(&self, fact: Fact, ends: Shared, place: usize) -> bool
+        requires within { ends.front + ends.back ≤ length self.now.records }
+        requires outside { IsBetween ends self.now.records fact.form }
         ensures { IsTrue result ↔ Contains (facts_of self.now) fact }
     {
         match fact.form {
-            Form::Turn { i, .. } => match find(&self.records, i, place) {
+            Form::Turn { i, .. } => match find(&self.records, i, ends, place) {
                 Some(record) => record.turn_fact().is(fact),
                 None => false,
             },
-            Form::Slope { i, .. } => match find(&self.records, i, place) {
+            Form::Slope { i, .. } => match find(&self.records, i, ends, place) {
                 Some(record) => is_the(record.slope_fact(), fact),
                 None => false,
             },
@@ -139,8 +180,12 @@ impl BreakpointList {
     }
 }
 
-/// The breakpoint with this left point, if there is one. The search begins at this place.
-fn find(records: &[Record], left: u32, place: usize) -> Option<&Record>
+/// The breakpoint with this left point, if there is one. It isn't one of these at both ends. The search
+/// begins at this place.
+#[inline(always)]
+fn find(records: &[Record], left: u32, ends: Shared, place: usize) -> Option<&Record>
+    requires within { ends.front + ends.back ≤ length records.now }
+    requires outside { IsLeftBetween ends records.now left }
     ensures { MatchOption result
         (is_in left (left_points records.now) ≡ false)
         (λ found. Contains records.now found.now × (found.now.at.left ≡ left)) }
@@ -148,6 +193,19 @@ fn find(records: &[Record], left: u32, place: usize) -> Option<&Record>
     if place < records.len() && records[place].at.left == left {
         return Some(&records[place]);
     }
+    let until = records.split_at(records.len() - ends.back).0;
+    match first_with(until.split_at(ends.front).1, left) {
+        Some(record) => Some(record),
+        None => None,
+    }
+}
+
+/// The first breakpoint with this left point, if there is one.
+fn first_with(records: &[Record], left: u32) -> Option<&Record>
+    ensures { MatchOption result
+        (is_in left (left_points records.now) ≡ false)
+        (λ found. Contains records.now found.now × (found.now.at.left ≡ left)) }
+{
     for record in records {
         if record.at.left == left {
             return Some(record);
@@ -173,6 +231,17 @@ fn is_end(known: Option<End>, end: End) -> bool
     match known {
         Some(known) => known.is(end),
         None => false,
+    }
+}
+
+/// Whether there is no end, or both are the same.
+fn are_same(one: Option<End>, other: Option<End>) -> bool
+    ensures { IsTrue result → one ≡ other }
+{
+    match (one, other) {
+        (Some(one), Some(other)) => one.is(other),
+        (None, None) => true,
+        _ => false,
     }
 }
 

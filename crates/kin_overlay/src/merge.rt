@@ -1,46 +1,57 @@
 //! The list of breakpoints is made: a sketch is drawn, put in order and filled in.
 
-ghost use Rattle.std.specs.Prelude.{◌≡◌, ◌+◌, ◌*◌, ◌<◌, ◌≤◌, length, Contains, OnOk};
+ghost use Rattle.std.specs.Prelude.{◌≡◌, ◌+◌, ◌*◌, ◌<◌, ◌≤◌, length, Contains, OnOk, IfOk};
 ghost use Rattle.kin_motion.specs.declared.fact.Placed.{Placed as Put};
 ghost use Rattle.kin_motion.specs.Numbers.{IsOnce};
 ghost use Rattle.kin_motion.specs.Scene.{IsReal, Holds};
 ghost use Rattle.kin_overlay.specs.Fingers.{IsMerged, AreLive, AreLess};
 ghost use Rattle.kin_overlay.specs.Remembered.{facts_of};
 ghost use Rattle.kin_overlay.specs.Repairing.{Past, IsKnownPast, IsPaid};
+ghost use Rattle.kin_overlay.specs.Reports.{AreShared};
 ghost use Rattle.kin_overlay.specs.Standings.{StandIn};
 
 use crate::draft::Draft;
 use crate::ends::{end_of, right_end};
 use crate::list::BreakpointList;
 use crate::resort::resort;
+use crate::shared::Shared;
 use crate::sketch::{Puts, sketch};
 use crate::standing::Standing;
-use crate::window::Window;
+use crate::window::Buffers;
 use kin_motion::signs::Signs;
 use kin_num::memory::NoMemory;
 use kin_num::steps::Steps;
 use std::alloc::Global;
 use std::sync::ledger::Ledger;
 
-/// A sketch, and the window that puts it in order.
+/// A sketch, and the buffers of the window that puts it in order.
 #[derive(Drop)]
 pub struct Drawing {
     sketch: Vec<Draft>,
-    window: Window,
+    buffers: Buffers,
 }
 
 impl Drawing {
     pub fn new(alloc: Global) -> Drawing {
         Drawing {
             sketch: Vec::new(alloc),
-            window: Window::new(alloc),
+            buffers: Buffers::new(alloc),
         }
+    }
+
+    /// The same, with room for so many breakpoints.
+    pub fn with_room(alloc: Global, count: usize) -> Result<Drawing, NoMemory> {
+        Ok(Drawing {
+            sketch: Vec::with_capacity(alloc, count)?,
+            buffers: Buffers::with_room(alloc, count)?,
+        })
     }
 }
 
 impl BreakpointList {
     /// Makes the list of two chains. A sign that is remembered and unfailed isn't asked again; the
-    /// clauses bound how many are asked.
+    /// clauses bound how many are asked. The result is what the list before shares with it, as far as
+    /// that is known: it may be more.
     pub fn merge<O: Signs, L: Ledger>(
         &mut self,
         a: &[u32],
@@ -50,7 +61,7 @@ impl BreakpointList {
         drawing: &mut Drawing,
         now: &O,
         steps: &mut Steps<L>,
-    ) -> Result<(), NoMemory>
+    ) -> Result<Shared, NoMemory>
         requires real { IsReal (O.scene now.now) }
         requires a_some { 0 < length a.now }
         requires b_some { 0 < length b.now }
@@ -66,14 +77,28 @@ impl BreakpointList {
         // Where no half puts a number that it drops, and no failed fact holds, at most five signs are
         // asked for each fact that is born and at most one for each that is dropped.
         ensures tests { OnOk result ((p : Past) → IsKnownPast p standing.now puts.entry a.now b.now → ((f : Put) → Contains standing.now.failed.now f → Holds (O.scene now.now) f.fact → ⊥) → IsPaid (facts_of standing.now.list.now) (facts_of self.new) steps.old steps.new) }
+
+        // The records that are taken over.
+        ensures shared { IfOk result (λ w. AreShared w standing.now.list.now.records self.new.records) }
     {
-        sketch(a, b, puts, standing, &mut drawing.sketch)?;
-        resort(&drawing.sketch, &mut drawing.window, now, steps)?;
+        let old = standing.list.records();
+        let clean = sketch(a, b, puts, standing, &mut drawing.sketch)?;
+        let kept = resort(
+            old,
+            clean,
+            &drawing.sketch,
+            &mut drawing.buffers,
+            now,
+            steps,
+        )?;
         self.clear();
-        self.fill(drawing.window.done(), a[0], b[0], now, steps)?;
+        self.fill(old, kept, drawing.buffers.done(), a, b, now, steps)?;
         let left = end_of(a[0], b[0], standing, now, steps);
         let right = right_end(a, b, standing, now, steps);
         self.set_ends(left, right);
-        Ok(())
+        Ok(Shared {
+            front: kept.front.saturating_sub(1),
+            back: kept.back,
+        })
     }
 }

@@ -11,12 +11,12 @@ ghost use Rattle.kin_overlay.specs.Diffs.{KeepOrder, ArePutApart};
 ghost use Rattle.kin_overlay.specs.Fingers.{AreLive, AreLess};
 ghost use Rattle.kin_overlay.specs.Overlays.{told, told_chain, names_any, names_gone, ArePutsApart, IsUnedited, IsReady, IsAtRest, IsSettled, IsSameMerge, IsRepaired};
 
-use crate::diff::diff;
 use crate::edit::{ChainEdit, edit_list};
 use crate::half::Half;
 use crate::list::BreakpointList;
 use crate::merge::Drawing;
 use crate::names::names_any;
+use crate::reading::renew;
 use crate::report::tell_missing;
 use crate::shared::Shared;
 use crate::sketch::Puts;
@@ -77,13 +77,13 @@ fn copied(alloc: Global, chain: &[u32]) -> Result<Vec<u32>, NoMemory>
 impl Model for Overlay {
     ghost use Rattle.kin_overlay.specs.Overlays.{Merge};
     ghost use Rattle.kin_overlay.specs.Remembered.{facts_of, all_placed};
-    ghost use Rattle.kin_overlay.specs.Sound.{IsWhole, UnlessBroken};
+    ghost use Rattle.kin_overlay.specs.Sound.{IsSound, UnlessBroken};
 
     ghost Value = { Merge };
 
     ghost view = { λ o. record { part = o.part; a = o.a.items; b = o.b.items; facts = all_placed o.part (facts_of o.list); chain = o.chain.items; edits = o.edits.items; gone = o.gone.items; put_a = o.put_a.items; put_b = o.put_b.items; drop_a = o.drop_a.items; drop_b = o.drop_b.items; stage = o.stage } };
 
-    ghost invariant = { λ o. UnlessBroken o.stage (IsWhole o.part o.list o.put_a.items o.put_b.items o.drop_a.items o.drop_b.items o.gone.items o.a.items o.b.items) };
+    ghost invariant = { λ o. UnlessBroken o.stage (IsSound o.part o.list o.chain.items o.put_a.items o.put_b.items o.drop_a.items o.drop_b.items o.gone.items o.a.items o.b.items) };
 }
 
 impl Overlay {
@@ -118,7 +118,8 @@ impl Overlay {
         ensures born { IfOk result (λ m. HasChanged [] m.facts out.old out.new) }
         ensures tests { IsOk result → steps.new + 5 * length out.old.born ≤ steps.old + 5 * length out.new.born }
     {
-        let mut list = BreakpointList::new(alloc);
+        let room = a.len().saturating_add(b.len());
+        let mut list = BreakpointList::with_room(alloc, room)?;
         let none = BreakpointList::new(alloc);
         let standing = Standing {
             list: &none,
@@ -126,10 +127,10 @@ impl Overlay {
             gone: &[],
         };
         let puts = Puts { a: &[], b: &[] };
-        let mut drawing = Drawing::new(alloc);
+        let mut drawing = Drawing::with_room(alloc, room)?;
         list.merge(a, b, puts, &standing, &mut drawing, now, steps)?;
         tell_missing(&list, &none, Shared::none(), part, &mut out.born)?;
-        let mut chain = Vec::new(alloc);
+        let mut chain = Vec::with_capacity(alloc, room)?;
         merged_chain(&list, &mut chain)?;
         Ok(Overlay {
             alloc,
@@ -220,15 +221,23 @@ impl Overlay {
             b: &self.put_b,
         };
         let (made, drawing) = (&mut work.list, &mut work.drawing);
-        made.merge(&self.a, &self.b, puts, &standing, drawing, now, steps)?;
-        let shared = Shared::between(&self.list, &work.list);
+        let known = made.merge(&self.a, &self.b, puts, &standing, drawing, now, steps)?;
+        let shared = Shared::between(&self.list, &work.list, known);
         let (old, new) = (&self.list, &work.list);
         tell_missing(old, new, shared, self.part, &mut out.dropped)?;
         tell_missing(new, old, shared, self.part, &mut out.born)?;
+        let same = shared.with_ends(old, new);
+        let (chain, edits) = (&mut self.chain, &mut self.edits);
+        renew(
+            self.alloc,
+            new,
+            same,
+            chain,
+            edits,
+            &mut work.points,
+            &mut self.spare,
+        )?;
         self.list.copy(&work.list)?;
-        swap(&mut self.chain, &mut self.spare);
-        merged_chain(&self.list, &mut self.chain)?;
-        diff(self.alloc, &self.spare, &self.chain, &mut self.edits)?;
         self.gone.clear();
         self.put_a.clear();
         self.put_b.clear();

@@ -1,8 +1,8 @@
 //! What a change of the list changes in the facts.
 
-ghost use Rattle.std.specs.Prelude.{map, flat_map, OnOk, option_to_list};
+ghost use Rattle.std.specs.Prelude.{◌+◌, ◌≤◌, length, map, flat_map, OnOk, IfSome, option_to_list};
 ghost use Rattle.kin_overlay.specs.Remembered.{turn_fact, slope_facts, end_facts, facts_of};
-ghost use Rattle.kin_overlay.specs.Reports.{AreShared, IsTold};
+ghost use Rattle.kin_overlay.specs.Reports.{AreShared, IsBetween, IsTold};
 
 use crate::end::End;
 use crate::list::BreakpointList;
@@ -10,22 +10,25 @@ use crate::shared::Shared;
 use kin_motion::fact::{Fact, Placed};
 use kin_num::memory::NoMemory;
 
-/// Reports the fact, if there is one and the other list doesn't have it. It is looked for at this
-/// place first.
+/// Reports the fact, if there is one and the other list doesn't have it. It isn't looked for at these
+/// records at both ends of the other list, and at this place first.
 #[inline(always)]
 fn tell(
     fact: Option<Fact>,
     other: &BreakpointList,
+    ends: Shared,
     place: usize,
     part: u32,
     told: &mut Vec<Placed>,
 ) -> Result<(), NoMemory>
+    requires within { ends.front + ends.back ≤ length other.now.records }
+    requires outside { IfSome fact (λ f. IsBetween ends other.now.records f.form) }
     ensures { OnOk result (IsTold part (facts_of other.now) (option_to_list fact) told.old.items told.new.items) }
 {
     let Some(fact) = fact else {
         return Ok(());
     };
-    if other.has(fact, place) {
+    if other.has(fact, ends, place) {
         return Ok(());
     }
     let Ok(()) = told.push(Placed { part, fact }) else {
@@ -44,8 +47,10 @@ fn tell_turns(
     requires shared { AreShared shared list.now.records other.now.records }
     ensures { OnOk result (IsTold part (facts_of other.now) (map turn_fact list.now.records) told.old.items told.new.items) }
 {
-    for place in shared.front..list.len() - shared.back {
-        tell(Some(list.at(place).turn_fact()), other, place, part, told)?;
+    let records = list.records();
+    for place in shared.front..records.len() - shared.back {
+        let noted = &records[place];
+        tell(Some(noted.turn_fact()), other, shared, place, part, told)?;
     }
     Ok(())
 }
@@ -60,8 +65,10 @@ fn tell_slopes(
     requires shared { AreShared shared list.now.records other.now.records }
     ensures { OnOk result (IsTold part (facts_of other.now) (flat_map slope_facts list.now.records) told.old.items told.new.items) }
 {
-    for place in shared.front..list.len() - shared.back {
-        tell(list.at(place).slope_fact(), other, place, part, told)?;
+    let records = list.records();
+    for place in shared.front..records.len() - shared.back {
+        let noted = &records[place];
+        tell(noted.slope_fact(), other, shared, place, part, told)?;
     }
     Ok(())
 }
@@ -80,8 +87,9 @@ fn tell_end(
     if other.has_end(end) {
         return Ok(());
     }
-    tell(Some(end.x_fact()), other, 0, part, told)?;
-    tell(end.y_fact(), other, 0, part, told)?;
+    let none = Shared::none();
+    tell(Some(end.x_fact()), other, none, 0, part, told)?;
+    tell(end.y_fact(), other, none, 0, part, told)?;
     Ok(())
 }
 

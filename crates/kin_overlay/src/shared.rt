@@ -1,6 +1,6 @@
 //! The records that two lists of breakpoints share at their ends.
 
-ghost use Rattle.std.specs.Prelude.{◌≡◌, ℕ, ◌+◌, ◌-◌, ◌<◌, ◌≤◌, length, slice_get};
+ghost use Rattle.std.specs.Prelude.{◌≡◌, ℕ, ◌+◌, ◌-◌, ◌<◌, ◌≤◌, length, slice_get, IfSome};
 ghost use Rattle.kin_overlay.specs.Reports.{AreShared};
 
 use crate::list::BreakpointList;
@@ -20,44 +20,61 @@ impl Shared {
         Shared { front: 0, back: 0 }
     }
 
-    /// Records that both lists share at their ends. No clause says that they share no more: this only
-    /// saves work.
-    pub fn between(one: &BreakpointList, other: &BreakpointList) -> Shared
+    /// What two lists share, where their outer ends are the same.
+    pub fn with_ends(self, one: &BreakpointList, other: &BreakpointList) -> Option<Shared>
+        ensures same { IfSome result (λ w. w ≡ self) }
+        ensures left { IfSome result (λ w. one.now.left ≡ other.now.left) }
+        ensures right { IfSome result (λ w. one.now.right ≡ other.now.right) }
+    {
+        if one.has_same_ends(other) {
+            Some(self)
+        } else {
+            None
+        }
+    }
+
+    /// Records that both lists share at their ends: those that are known to be shared, and more. No clause
+    /// says that they share no more than these: this only saves work.
+    pub fn between(one: &BreakpointList, other: &BreakpointList, known: Shared) -> Shared
+        requires { AreShared known one.now.records other.now.records }
         ensures one { AreShared result one.now.records other.now.records }
         ensures other { AreShared result other.now.records one.now.records }
     {
-        let front = shared_front(one, other);
+        let front = shared_front(one, other, known);
         Shared {
             front,
-            back: shared_back(one, other, front),
+            back: shared_back(one, other, front, known.back),
         }
     }
 }
 
-/// How many records at the front of both lists are the same.
-fn shared_front(one: &BreakpointList, other: &BreakpointList) -> usize
-    ensures one_room { result ≤ length one.now.records }
-    ensures other_room { result ≤ length other.now.records }
+/// How many records at the front of both lists are the same, before the known ones at the end.
+fn shared_front(one: &BreakpointList, other: &BreakpointList, known: Shared) -> usize
+    requires { AreShared known one.now.records other.now.records }
+    ensures one_room { result + known.back ≤ length one.now.records }
+    ensures other_room { result + known.back ≤ length other.now.records }
     ensures same { (k : ℕ) → k < result → slice_get one.now.records k ≡ slice_get other.now.records k }
 {
-    let most = one.len().min(other.len());
-    let mut count = 0;
+    let most = one.len().min(other.len()) - known.back;
+    let mut count = known.front;
     while count < most && one.at(count).is(other.at(count)) {
         count += 1;
     }
     count
 }
 
-/// How many records at the end of both lists are the same, after these at the front.
-fn shared_back(one: &BreakpointList, other: &BreakpointList, front: usize) -> usize
-    requires one_front { front ≤ length one.now.records }
-    requires other_front { front ≤ length other.now.records }
+/// How many records at the end of both lists are the same, after these at the front. So many are known
+/// to be.
+fn shared_back(one: &BreakpointList, other: &BreakpointList, front: usize, known: usize) -> usize
+    requires one_front { front + known ≤ length one.now.records }
+    requires other_front { front + known ≤ length other.now.records }
+    requires known { (k : ℕ) → k < known → slice_get one.now.records (length one.now.records - (k + 1)) ≡ slice_get other.now.records (length other.now.records - (k + 1)) }
     ensures one_room { front + result ≤ length one.now.records }
     ensures other_room { front + result ≤ length other.now.records }
     ensures same { (k : ℕ) → k < result → slice_get one.now.records (length one.now.records - (k + 1)) ≡ slice_get other.now.records (length other.now.records - (k + 1)) }
 {
     let most = one.len().min(other.len()) - front;
-    let mut count = 0;
+    let mut count = known;
     while count < most
         && one
             .at(one.len() - 1 - count)

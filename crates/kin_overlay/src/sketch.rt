@@ -1,27 +1,32 @@
 //! A sketch is drawn: the breakpoints of the given chains, in the order of the old list, with what is
 //! still known of each.
 
-ghost use Rattle.std.specs.Prelude.{◌≡◌, ℕ, ◌+◌, ◌<◌, ◌≤◌, List, [], ◌∷◌, ◌++◌, length, get_or, drop, Contains, IfSome, IsNone, OnOk, IfOk};
+ghost use Rattle.std.specs.Prelude.{◌≡◌, ℕ, ◌+◌, ◌<◌, ◌≤◌, List, [], ◌∷◌, ◌++◌, length, get_or, take, drop, Contains, IfSome, IsNone, OnOk, IfOk};
 ghost use Rattle.kin_motion.specs.declared.form.Form.TheVariants.{Turn};
 ghost use Rattle.kin_motion.specs.Merges.{Half.{A, B}, IsInterleaving, slope_form, breakpoints_of};
 ghost use Rattle.kin_motion.specs.Numbers.{IsIn, IsOnce};
 ghost use Rattle.kin_motion.specs.Scene.{Scene};
 ghost use Rattle.kin_overlay.specs.declared.draft.Draft.{Draft as Drawn};
+ghost use Rattle.kin_overlay.specs.declared.record.Record.{Record as Noted};
 ghost use Rattle.kin_overlay.specs.declared.standing.Standing.{Standing as Kept};
 ghost use Rattle.kin_overlay.specs.Fingers.{AreLive};
+ghost use Rattle.kin_overlay.specs.Passing.{IsEndOf, IsLinkedAt, IsDrawnAlong, IsDrawnBefore, IsAllDrawn};
 ghost use Rattle.kin_overlay.specs.Remembered.{turn_fact};
 ghost use Rattle.kin_overlay.specs.Repairing.{Past, IsKnownPast, IsRetained};
 ghost use Rattle.kin_overlay.specs.Resorting.{AreSeated};
 ghost use Rattle.kin_overlay.specs.Seats.{seat_in};
 ghost use Rattle.kin_overlay.specs.Seen.{half_of, seen};
 ghost use Rattle.kin_overlay.specs.Sketches.{IsFit, AreFit, spots};
-ghost use Rattle.kin_overlay.specs.Sketching.{IsDrawn, IsSketched, IsSlopeOf, IsRecalled, IsStep, IsStepAt, blanks, put_blanks, after_put};
+ghost use Rattle.kin_overlay.specs.Sketching.{IsDrawn, IsSlopeOf, IsRecalled, IsStep, blanks, put_blanks, after_put};
+ghost use Rattle.kin_overlay.specs.Spans.{IsPassed, AreClean, drafts, whole_sketch};
 ghost use Rattle.kin_overlay.specs.Standings.{IsUnfailed, StandIn};
 
 use crate::breakpoint::Breakpoint;
 use crate::draft::{Across, Draft};
 use crate::half::Half;
+use crate::passing::{Remainder, pass_back, pass_front};
 use crate::record::{Next, Record};
+use crate::shared::Shared;
 use crate::standing::Standing;
 use kin_num::memory::NoMemory;
 
@@ -184,8 +189,7 @@ fn draw_at<'a>(
     requires a_some { 0 < length first.now }
     requires b_some { 0 < length second.now }
     requires there { Contains standing.now.list.now.records noted.now }
-    ensures drawn { IfOk result (λ left. (a b : List ℕ) → IsSketched standing.now a b first.now second.now out.old.items → IsSketched standing.now a b left.0.now left.1.now out.new.items) }
-    ensures step { IfOk result (λ left. (part : List Drawn) × (out.new.items ≡ out.old.items ++ part) × IsStepAt noted.now.at.half standing.now noted.now puts.entry.a.now puts.entry.b.now first.now second.now left.0.now left.1.now part) }
+    ensures drawn { IfOk result (λ left. (part : List Drawn) × (out.new.items ≡ out.old.items ++ part) × ((others : List Noted) → IsDrawnAlong standing.now puts.entry.a.now puts.entry.b.now (noted.now ∷ others) others first.now second.now left.0.now left.1.now part)) }
 {
     match noted.at.half {
         Half::A => {
@@ -199,32 +203,114 @@ fn draw_at<'a>(
     }
 }
 
+/// Draws what belongs to the places of the records up to this one.
+fn draw_up_to<'a>(
+    end: usize,
+    from: Remainder<'a>,
+    puts: Puts,
+    standing: &Standing,
+    out: &mut Vec<Draft>,
+) -> Result<Remainder<'a>, NoMemory>
+    requires order { from.place ≤ end }
+    requires within { end ≤ length standing.now.list.now.records }
+    requires a_some { 0 < length from.a.now }
+    requires b_some { 0 < length from.b.now }
+    ensures place { IfOk result (λ left. left.place ≡ end) }
+    ensures drawn { IfOk result (λ left. (part : List Drawn) × (out.new.items ≡ out.old.items ++ part) × IsDrawnAlong standing.now puts.entry.a.now puts.entry.b.now (drop from.entry.place standing.now.list.now.records) (drop end standing.now.list.now.records) from.entry.a.now from.entry.b.now left.a.now left.b.now part) }
+{
+    let (mut first, mut second) = (from.a, from.b);
+    for place in from.place..end {
+        let noted = standing.list.at(place);
+        (first, second) = draw_at(noted, first, second, puts, standing, out)?;
+    }
+    Ok(Remainder {
+        a: first,
+        b: second,
+        place: end,
+    })
+}
+
+/// Draws what belongs to the places of all further records, and then the breakpoints that are left.
+fn draw_rest(
+    from: Remainder,
+    puts: Puts,
+    standing: &Standing,
+    out: &mut Vec<Draft>,
+) -> Result<(), NoMemory>
+    requires within { from.place ≤ length standing.now.list.now.records }
+    requires a_some { 0 < length from.a.now }
+    requires b_some { 0 < length from.b.now }
+    ensures { OnOk result ((a b : List ℕ) (before : List Drawn) → IsDrawnBefore standing.now puts.entry.a.now puts.entry.b.now a b (drop from.entry.place standing.now.list.now.records) from.entry.a.now from.entry.b.now (before ++ out.old.items) → IsAllDrawn standing.now puts.entry.a.now puts.entry.b.now a b (before ++ out.new.items)) }
+{
+    let left = draw_up_to(standing.list.len(), from, puts, standing, out)?;
+    draw_all(Half::A, left.a, out)?;
+    draw_all(Half::B, left.b, out)?;
+    Ok(())
+}
+
+/// Draws the breakpoints in front of both chains whose left points were put, or, where there are none,
+/// passes the first records that can be drawn as they are.
+fn begin<'a>(
+    a: &'a [u32],
+    b: &'a [u32],
+    puts: Puts,
+    standing: &Standing,
+    out: &mut Vec<Draft>,
+) -> Result<Remainder<'a>, NoMemory>
+    requires a_some { 0 < length a.now }
+    requires b_some { 0 < length b.now }
+    ensures within { IfOk result (λ left. left.place ≤ length standing.now.list.now.records) }
+    ensures a_end { IfOk result (λ left. IsEndOf left.a.now a.now) }
+    ensures b_end { IfOk result (λ left. IsEndOf left.b.now b.now) }
+    ensures passed { IfOk result (λ left. (first second : List ℕ) × IsPassed (take left.place standing.now.list.now.records) a.now b.now first second) }
+    ensures linked { IfOk result (λ left. (k : ℕ) → k < left.place → IsLinkedAt standing.now.list.now.records k) }
+    ensures drawn { IfOk result (λ left. IsDrawnBefore standing.now puts.entry.a.now puts.entry.b.now a.now b.now (drop left.place standing.now.list.now.records) left.a.now left.b.now (drafts (take left.place standing.now.list.now.records) ++ out.new.items)) }
+{
+    out.clear();
+    let first = draw_put(Half::A, a, puts.a, out)?;
+    let second = draw_put(Half::B, b, puts.b, out)?;
+    if out.is_empty() {
+        return Ok(pass_front(a, b, puts, standing));
+    }
+    Ok(Remainder {
+        a: first,
+        b: second,
+        place: 0,
+    })
+}
+
 /// Draws the breakpoints of both chains. Each whose turn is known is drawn where the point of the turn
-/// is current, and what is still known of a record whose breakpoint is still there is kept.
+/// is current, and what is still known of a record whose breakpoint is still there is kept. The records
+/// at both ends that can be drawn as they are aren't written: the answer counts them.
 pub fn sketch(
     a: &[u32],
     b: &[u32],
     puts: Puts,
     standing: &Standing,
     out: &mut Vec<Draft>,
-) -> Result<(), NoMemory>
+) -> Result<Shared, NoMemory>
     requires a_some { 0 < length a.now }
     requires b_some { 0 < length b.now }
     requires a_once { IsOnce a.now }
     requires b_once { IsOnce b.now }
-    ensures interleaved { OnOk result (IsInterleaving a.now b.now (spots out.new.items)) }
-    ensures fit { OnOk result ((s : Scene) → StandIn s standing.now → AreLive s.live a.now → AreLive s.live b.now → AreFit s out.new.items) }
-    ensures seated { OnOk result (AreSeated (seat_in a.now b.now) [] out.new.items) }
-    ensures retained { OnOk result ((p : Past) → IsKnownPast p standing.now puts.entry a.now b.now → IsRetained standing.now a.now b.now out.new.items) }
+    ensures clean { IfOk result (λ w. AreClean w standing.now.list.now.records a.now b.now) }
+    ensures interleaved { IfOk result (λ w. IsInterleaving a.now b.now (spots (whole_sketch w standing.now.list.now.records out.new.items))) }
+    ensures fit { IfOk result (λ w. (s : Scene) → StandIn s standing.now → AreLive s.live a.now → AreLive s.live b.now → AreFit s (whole_sketch w standing.now.list.now.records out.new.items)) }
+    ensures seated { IfOk result (λ w. AreSeated (seat_in a.now b.now) [] (whole_sketch w standing.now.list.now.records out.new.items)) }
+    ensures retained { IfOk result (λ w. (p : Past) → IsKnownPast p standing.now puts.entry a.now b.now → IsRetained standing.now a.now b.now (whole_sketch w standing.now.list.now.records out.new.items)) }
 {
-    out.clear();
-    let mut first = draw_put(Half::A, a, puts.a, out)?;
-    let mut second = draw_put(Half::B, b, puts.b, out)?;
-    for place in 0..standing.list.len() {
-        let noted = standing.list.at(place);
-        (first, second) = draw_at(noted, first, second, puts, standing, out)?;
+    let front = begin(a, b, puts, standing, out)?;
+    let back = pass_back(front, puts, standing);
+    let left = draw_up_to(back.place, front, puts, standing, out)?;
+    if left.a.len() == back.a.len() && left.b.len() == back.b.len() {
+        return Ok(Shared {
+            front: front.place,
+            back: standing.list.len() - back.place,
+        });
     }
-    draw_all(Half::A, first, out)?;
-    draw_all(Half::B, second, out)?;
-    Ok(())
+    draw_rest(left, puts, standing, out)?;
+    Ok(Shared {
+        front: front.place,
+        back: 0,
+    })
 }

@@ -42,7 +42,7 @@ fn has_failed(failed: &[Placed], fact: Fact) -> bool
 
 /// Whether a fact names one of the numbers that have left.
 #[inline(always)]
-fn names_gone(fact: Fact, gone: &[u32]) -> bool
+pub fn names_gone(fact: Fact, gone: &[u32]) -> bool
     ensures { result ≡ names_any fact.form gone.now }
 {
     !gone.is_empty() && names_any(&fact.form, gone)

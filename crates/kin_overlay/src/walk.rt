@@ -1,11 +1,8 @@
 //! The merged chain, by one walk along the list of breakpoints.
 
-ghost use Rattle.std.specs.Prelude.{◌≡◌, ◌<◌, ◌++◌, List, ℕ, length, OnOk, option_to_list};
-ghost use Rattle.kin_motion.specs.Scene.{Scene};
-ghost use Rattle.kin_motion.specs.Cells.{given_by, is_last, changes_of, above_of, merged_chain as chain_of_merge};
-ghost use Rattle.kin_overlay.specs.Fingers.{IsMerged};
-ghost use Rattle.kin_overlay.specs.Remembered.{breakpoints};
-ghost use Rattle.kin_overlay.specs.Walks.{above_by, is_before_narrow, left_above, right_above, higher, last_item, seen_cell, shared_by, cell_behind};
+ghost use Rattle.std.specs.Prelude.{◌≡◌, ◌<◌, ◌++◌, List, ℕ, length, OnOk, IfOk, option_to_list};
+ghost use Rattle.kin_motion.specs.Cells.{given_by, is_last, changes_of, above_of};
+ghost use Rattle.kin_overlay.specs.Walks.{above_by, is_before_narrow, left_above, right_above, higher, last_item, seen_cell, shared_by, cell_behind, first_cell, gifts_before, cell_after, last_gifts, chain_read, upper_before, cell_by};
 
 use crate::end::End;
 use crate::half::Half;
@@ -18,7 +15,7 @@ use std::alloc::AllocError;
 
 impl Record {
     /// Which half is above at the breakpoint.
-    fn above(&self) -> Sign
+    pub fn above(&self) -> Sign
         ensures { result ≡ above_by self.now }
     {
         match self.at.half {
@@ -39,6 +36,45 @@ impl Record {
             None => false,
         }
     }
+
+    /// The point that is above at the breakpoint, of those that are current before it.
+    pub fn upper_before(&self) -> Option<u32>
+        ensures { option_to_list result ≡ upper_before self.now }
+    {
+        let (a, b) = match self.at.half {
+            Half::A => (self.at.left, self.across),
+            Half::B => (self.across, self.at.left),
+        };
+        upper(self.above(), a, b)
+    }
+
+    /// The cell after the breakpoint. Its own right end isn't known yet.
+    pub fn cell_after(&self) -> Cell
+        ensures { result ≡ cell_by self.now }
+    {
+        let (a, b) = match self.at.half {
+            Half::A => (self.at.right, self.across),
+            Half::B => (self.across, self.at.right),
+        };
+        Cell {
+            a,
+            b,
+            left: self.above(),
+            right: Sign::Zero,
+            is_narrow: self.is_before_narrow(),
+        }
+    }
+}
+
+/// The point that is above at an end of this sign.
+fn upper(sign: Sign, a: u32, b: u32) -> Option<u32>
+    ensures { option_to_list result ≡ above_of sign a b }
+{
+    match sign {
+        Sign::Plus => Some(a),
+        Sign::Zero => None,
+        Sign::Minus => Some(b),
+    }
 }
 
 impl End {
@@ -50,7 +86,7 @@ impl End {
     }
 
     /// Which half is above at a right outer end.
-    fn above_at_right(&self) -> Sign
+    pub fn above_at_right(&self) -> Sign
         ensures { result ≡ right_above self.now }
     {
         self.x.opposite().then(self.higher())
@@ -79,7 +115,7 @@ fn ends_in(chain: &[u32], no: u32) -> bool
 
 /// Puts a point, if there is one, at the end of the chain, unless it is there already.
 #[inline(always)]
-fn give(point: Option<u32>, chain: &mut Vec<u32>) -> Result<(), AllocError>
+pub fn give(point: Option<u32>, chain: &mut Vec<u32>) -> Result<(), AllocError>
     ensures { OnOk result (chain.new.items ≡ chain.old.items ++ changes_of (last_item chain.old.items) (option_to_list point)) }
 {
     let Some(no) = point else {
@@ -96,7 +132,7 @@ fn give(point: Option<u32>, chain: &mut Vec<u32>) -> Result<(), AllocError>
 
 /// A cell with its current points and the signs of its ends.
 #[derive(Clone, Copy, Debug, PartialEq, Eq)]
-struct Cell {
+pub struct Cell {
     a: u32,
     b: u32,
     left: Sign,
@@ -105,15 +141,32 @@ struct Cell {
 }
 
 impl Cell {
-    /// The point that is above at an end of this sign.
-    fn above(&self, sign: Sign) -> Option<u32>
-        ensures { option_to_list result ≡ above_of sign self.now.a self.now.b }
+    /// The cell at the left outer end. Its own right end isn't known yet.
+    pub fn first(left: End) -> Cell
+        ensures { result ≡ first_cell left }
     {
-        match sign {
-            Sign::Plus => Some(self.a),
-            Sign::Zero => None,
-            Sign::Minus => Some(self.b),
+        Cell {
+            a: left.a,
+            b: left.b,
+            left: left.above_at_left(),
+            right: Sign::Zero,
+            is_narrow: false,
         }
+    }
+
+    /// The point that is above at its left end.
+    pub fn upper_left(&self) -> Option<u32>
+        ensures { option_to_list result ≡ above_of self.now.left self.now.a self.now.b }
+    {
+        upper(self.left, self.a, self.b)
+    }
+
+    /// Puts the points that are above in the cell at the end of the chain, where its right end has this
+    /// sign.
+    pub fn give_until(&self, right: Sign, chain: &mut Vec<u32>) -> Result<(), AllocError>
+        ensures { OnOk result (chain.new.items ≡ chain.old.items ++ changes_of (last_item chain.old.items) (last_gifts self.now right)) }
+    {
+        Cell { right, ..*self }.give(chain)
     }
 
     /// The point of A, where neither half is above at either end and the cell has a width.
@@ -143,8 +196,8 @@ impl Cell {
     fn give_each(&self, chain: &mut Vec<u32>) -> Result<(), AllocError>
         ensures { OnOk result (chain.new.items ≡ chain.old.items ++ changes_of (last_item chain.old.items) (given_by (seen_cell self.now))) }
     {
-        give(self.above(self.left), chain)?;
-        give(self.above(self.right), chain)?;
+        give(upper(self.left, self.a, self.b), chain)?;
+        give(upper(self.right, self.a, self.b), chain)?;
         give(self.shared(), chain)?;
         Ok(())
     }
@@ -167,28 +220,29 @@ impl Cell {
     }
 }
 
-/// Makes the merged chain from what is remembered.
+/// Puts what the cells before these breakpoints give at the end of the chain. The result is the cell
+/// after them.
+pub fn walk(records: &[Record], start: Cell, chain: &mut Vec<u32>) -> Result<Cell, AllocError>
+    ensures given { OnOk result (chain.new.items ≡ chain.old.items ++ changes_of (last_item chain.old.items) (gifts_before start records.now)) }
+    ensures after { IfOk result (λ c. c ≡ cell_after start records.now) }
+{
+    let mut cell = start;
+    for record in records {
+        cell.give_until(record.above(), chain)?;
+        cell = cell.behind(record);
+    }
+    Ok(cell)
+}
+
+/// Reads the merged chain off a list.
 pub fn merged_chain(list: &BreakpointList, chain: &mut Vec<u32>) -> Result<(), AllocError>
-    ensures { (s : Scene) (a b : List ℕ) → 0 < length a → 0 < length b → IsMerged s a b list.now → OnOk result (chain.new.items ≡ chain_of_merge s a b (breakpoints list.now.records)) }
+    ensures { OnOk result (chain.new.items ≡ chain_read list.now) }
 {
     chain.clear();
     let Some(left) = list.left() else {
         return Ok(());
     };
-    let mut cell = Cell {
-        a: left.a,
-        b: left.b,
-        left: left.above_at_left(),
-        right: Sign::Zero,
-        is_narrow: false,
-    };
-    for place in 0..list.len() {
-        let record = list.at(place);
-        cell.right = record.above();
-        cell.give(chain)?;
-        cell = cell.behind(record);
-    }
-    cell.right = list.right().unwrap_or(left).above_at_right();
-    cell.give(chain)?;
-    Ok(())
+    let last = walk(list.records(), Cell::first(left), chain)?;
+    let right = list.right().unwrap_or(left).above_at_right();
+    last.give_until(right, chain)
 }

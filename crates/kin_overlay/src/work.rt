@@ -12,6 +12,8 @@ pub struct Work {
     pub(crate) drawing: Drawing,
     /// The list that is made.
     pub(crate) list: BreakpointList,
+    /// What is read again of a chain.
+    pub(crate) points: Vec<u32>,
 }
 
 impl Model for Work {
@@ -25,6 +27,7 @@ impl Work {
         Work {
             drawing: Drawing::new(alloc),
             list: BreakpointList::new(alloc),
+            points: Vec::new(alloc),
         }
     }
 }

@@ -4,7 +4,7 @@ use Rattle.std.specs.Prelude.{Contains, IsTrue}
 use Rattle.std.proofs.lemmas.List.{append-nil}
 use Rattle.std.proofs.lemmas.Option.{same_Some}
 use Rattle.kin_motion.specs.declared.fact.Placed.{Placed}
-use Rattle.kin_motion.specs.Changes.{moved_pairs}
+use Rattle.kin_motion.specs.Records.{moved_pairs}
 use Rattle.kin_motion.specs.Contents.{IsSettledList, IsSettledRange}
 use Rattle.kin_motion.specs.Deltas.{Change}
 use Rattle.kin_motion.specs.Kinetics.{ListsFailing, HasChanged}
@@ -19,6 +19,7 @@ use Rattle.kin_motion.proofs.PartLaws.{moved_order_facts}
 use Rattle.kin_motion.proofs.SetLaws.{exactly_both}
 use Rattle.kin_list.specs.declared.mark.Mark.{Mark}
 use Rattle.kin_list.specs.declared.mark.Mark.TheVariants.{Leaves}
+use Rattle.kin_list.specs.Keeping.{LeadsTo}
 use Rattle.kin_list.specs.Listing.{Listing, HasMarked, AreHalvings, AreFewTests, IsReadyListing, IsSettledListing, names_leaving}
 use Rattle.kin_list.proofs.LeavingLaws.{list_left}
 use Rattle.kin_list.proofs.VacantLaws.{empty_settled}
@@ -27,7 +28,7 @@ use Rattle.kin_wedge.specs.Parts.{facts_from, is_of_part, AreAtNought, IsResettl
 use Rattle.kin_wedge.proofs.Parting.{AllAtNought, failing_of_part, moved_out}
 use Rattle.kin_wedge.proofs.Posted.{nought_settled}
 use Rattle.kin_wedge.proofs.Readiness.{marked_alike}
-use Rattle.kin_range.specs.Ranging.{Ranging, IsSettledRanging, IsRangingAtRest, HasMembers, AreJoined, vacant_along, vacant_range}
+use Rattle.kin_range.specs.Ranging.{Ranging, IsSettledRanging, IsRangingAtRest, HasMembers, FollowsRanging, AreJoined, vacant_along, vacant_range}
 
 -- a list that is along this direction
 along : (l : Listing) (s : Scene) (dx dy : ℤ) → l.dx ≡ dx → l.dy ≡ dy → IsSettledListing l s → IsSettledList s dx dy l.items l.facts
@@ -142,3 +143,7 @@ range_left who r new before after rest marked has left = record {
   members = list_left who r.by_x new.by_x before after rest.rest (ap (λ (k : Ranging). k.by_x) marked) has.members left;
   whole = subst (λ (k : Ranging). IsTrue k.whole) (sym marked) has.whole;
 }
+
+-- a range that has been marked follows the scene in which it was settled
+pub range_follows : (mark : Mark) (r new : Ranging) (s : Scene) (after : List ℕ) → new ≡ record r { by_x = record r.by_x { mark = mark }; by_y = record r.by_y { mark = mark } } → IsSettledRanging r s → LeadsTo mark s.live after → FollowsRanging new s after
+range_follows mark r new s after marked settled leads = subst (λ (k : Ranging). FollowsRanging k s after) (sym marked) (record { settled = settled; led = leads })

@@ -1,3 +1,4 @@
 pub mod Borders
 pub mod Ranging
 pub mod RangingLaws
+pub mod FrugalLaws

@@ -8,6 +8,7 @@ use Rattle.kin_motion.specs.Deltas.{Change}
 use Rattle.kin_motion.specs.Numbers.{is_in, IsOnce}
 use Rattle.kin_motion.specs.Scene.{Scene}
 use Rattle.kin_list.specs.declared.mark.Mark.TheVariants.{Rest}
+use Rattle.kin_list.specs.Keeping.{LeadsTo}
 use Rattle.kin_list.specs.Listing.{Listing, HasMarked}
 use Rattle.kin_wedge.specs.Costs.{AreFewBelow}
 use Rattle.kin_wedge.specs.Parts.{facts_from, AreAtNought}
@@ -80,3 +81,8 @@ IsRangingFor r size kept = (kept ≡ keep.Range) × (r.by_x.room ≡ 2 ^ size)
 -- it is for as many numbers
 abbrev pub StaysRanging : Ranging → Ranging → Type 0
 StaysRanging old new = new.by_x.room ≡ old.by_x.room
+
+-- it was settled in this scene, and its mark leads from the live numbers there to these
+pub record FollowsRanging (r : Ranging) (s : Scene) (live : List ℕ) : Type 0 where
+  pub settled : IsSettledRanging r s
+  pub led : LeadsTo r.by_x.mark s.live live

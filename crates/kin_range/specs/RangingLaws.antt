@@ -4,10 +4,9 @@ use Rattle.std.specs.Prelude.{Contains, ◌↔◌}
 use Rattle.std.proofs.lemmas.List.Elements.{All-contains, Contains-get_or}
 use Rattle.kin_motion.specs.declared.fact.Placed.{Placed}
 use Rattle.kin_motion.specs.declared.keep.Keep.{Keep}
-use Rattle.kin_motion.specs.Contents.{IsRangeFact}
 use Rattle.kin_motion.specs.Kinetics.{HaveSameLive, AllHold}
 use Rattle.kin_motion.specs.Live.{IsKeepFact}
-use Rattle.kin_motion.specs.Orders.{IsOrder, IsOrderFact, neighbour_facts}
+use Rattle.kin_motion.specs.Orders.{IsOrder, IsOrderFact, IsRangeFact, neighbour_facts}
 use Rattle.kin_motion.specs.Scene.{Scene, IsReal, Holds}
 use Rattle.kin_motion.specs.Sets.{ListsExactly}
 use Rattle.kin_motion.proofs.FactLaws.{neighbour_facts-exact, order_facts_determined}

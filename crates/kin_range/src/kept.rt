@@ -19,9 +19,11 @@ use std::alloc::Global;
 use std::sync::ledger::Ledger;
 
 impl Steady for KinRange {
-    ghost use Rattle.kin_range.specs.Ranging.{StaysRanging};
+    ghost use Rattle.kin_range.specs.Ranging.{StaysRanging, AreFewTests};
 
     ghost stays = { StaysRanging };
+
+    ghost spends = { λ old new failed out out' before after. AreFewTests old new out out' before after };
 
     fn settle_steadily<O: Signs, L: Ledger>(
         &mut self,
@@ -35,14 +37,17 @@ impl Steady for KinRange {
 }
 
 impl Kept for KinRange {
-    ghost use Rattle.kin_range.specs.Ranging.{IsRangingFor, IsRangeKeep, HasMembers};
+    ghost use Rattle.kin_range.specs.Ranging.{IsRangingFor, IsRangeKeep, HasMembers, FollowsRanging};
     ghost use Rattle.kin_range.specs.RangingLaws.{range_spares_none, range_kind_stays, range_members_stay, range_exact};
+    ghost use Rattle.kin_range.specs.FrugalLaws.{range_follows_scene, range_frugal};
 
     ghost is_for = { IsRangingFor };
 
     ghost serves = { IsRangeKeep };
 
     ghost has_members = { HasMembers };
+
+    ghost follows = { FollowsRanging };
 
     ghost ready_over = { λ r s members. members };
 
@@ -53,6 +58,10 @@ impl Kept for KinRange {
     ghost members_stay = { range_members_stay };
 
     ghost exact = { range_exact };
+
+    ghost follows_scene = { range_follows_scene };
+
+    ghost frugal = { range_frugal };
 
     ghost stands_alone = { λ r s. tt };
 

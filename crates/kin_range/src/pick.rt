@@ -1,7 +1,7 @@
 //! The points in a rectangle.
 
 ghost use Rattle.std.specs.Prelude.{◌≡◌, ◌<◌, ℕ, filter, Contains, IfOk};
-ghost use Rattle.kin_motion.specs.Boxes.{box_of, is_inside, IsRectInRange};
+ghost use Rattle.kin_motion.specs.Boxes.{points_in, is_inside, IsRectInRange};
 ghost use Rattle.kin_motion.specs.Course.{live_of};
 ghost use Rattle.kin_motion.specs.Numbers.{IsIn, Lists};
 
@@ -48,7 +48,7 @@ pub(crate) fn pick_rising<L: Ledger>(
     requires some { 0 < L.parts }
     requires live { Lists numbers.now (live_of motions.now) }
     requires rect { IsRectInRange rect.now }
-    ensures { IfOk result (λ picked. picked.items ≡ box_of motions.now now.now rect.now) }
+    ensures { IfOk result (λ picked. picked.items ≡ points_in motions.now now.now rect.now) }
 {
     let mut steps = Steps::<L>::open(blank);
     let mut picked = pick(alloc, numbers, motions, now, rect, &mut steps)?;

@@ -1,7 +1,7 @@
 //! The kinetic range.
 
 ghost use Rattle.std.specs.Prelude.{◌≡◌, ◌≤◌, ◌<◌, ◌^◌, true, false, length, IfOk, OnOk, OnErr};
-ghost use Rattle.kin_motion.specs.Boxes.{box_of, IsRectInRange};
+ghost use Rattle.kin_motion.specs.Boxes.{points_in, IsRectInRange};
 ghost use Rattle.kin_motion.specs.Kinetics.{ListsFailing, HasChanged};
 ghost use Rattle.kin_motion.specs.Numbers.{is_in};
 ghost use Rattle.kin_motion.specs.Scene.{IsReal, scene_at};
@@ -97,7 +97,7 @@ impl KinRange {
     pub fn inside(&self, motions: &Motions, now: &Moment, rect: &Rect) -> Result<Vec<u32>, NoMemory>
         requires settled { IsSettledRanging self.now (scene_at motions.now now.now) }
         requires rect { IsRectInRange rect.now }
-        ensures { IfOk result (λ numbers. numbers.items ≡ box_of motions.now now.now rect.now) }
+        ensures { IfOk result (λ numbers. numbers.items ≡ points_in motions.now now.now rect.now) }
     {
         let numbers = self.by_x.items();
         pick_rising::<Brand>(self.alloc, numbers, motions, now, rect, Blank::new(1))

@@ -1,6 +1,6 @@
 -- One turn of the loop that passes the failures up to an instant: the blocks up to now, with their lines and their counts.
 use Rattle.std.proofs.Common.{rules, arith, ◌≡◌, ℕ, Bool, true, false, List, [], ◌∷◌, ◌++◌, refl, sym, ap, ◌∙◌, subst, append_assoc, append-nil, length, Option, Some, None}
-use Rattle.kin_run.proofs.Vocabulary.{IsCanonical, IsEarlier, Moment, Shape, Block, IsJournal, IsNextBlock, Setting, State, at, state_setting}
+use Rattle.kin_run.proofs.Vocabulary.{IsCanonical, IsEarlier, Moment, Shape, Block, IsJournal, IsNextBlock, Setting, State, just_at, state_setting}
 use Rattle.kin_run.proofs.Vocabulary.{IsPassedText, IsFrontOfEach, printed_if, AppendsFront, PutsFront, HasMoved, HasPassed, HasStepped, IsWhole, World, failure_count, BreaksOff, state_of, HasTallied, counted_on, Gains, GainsSome, Printer, printer, Tally, Fault, NoMemory}
 use Rattle.kin_status.proofs.Gathering.{gains_nothing, gains_put, some_then, some_lost, some_flushed, some_is, front_through, front_after}
 use Rattle.kin_status.proofs.Passing.{ArePassed, behind_block, cut_on_the_way, is_text, lines_behind, lines_if}
@@ -8,7 +8,7 @@ use Rattle.kin_status.proofs.Tallying.{none_tallied, one_tallied, tallied_then, 
 
 -- the blocks up to now
 abbrev AreUpTo : State → Shape → Moment → List Block → Type 0
-AreUpTo s w now bs = ArePassed (state_setting s) s.moment now (at w) bs
+AreUpTo s w now bs = ArePassed (state_setting s) s.moment now (just_at w) bs
 
 -- the printed lines are those of these blocks
 abbrev AreLines : Bool → State → Shape → Moment → List ℕ → Type 0
@@ -20,13 +20,13 @@ pub record IsOnTheWay (journal : Bool) (start : World) (w : Shape) (now : World)
   pub printed : GainsSome (AreLines journal (state_of journal start) w now.moment) p q
   pub counted : HasTallied (AreUpTo (state_of journal start) w now.moment) old new
   pub whole : IsWhole now
-  pub later : ¬ (IsEarlier (at w) now.moment)
+  pub later : ¬ (IsEarlier (just_at w) now.moment)
 
 no_lines : (journal : Bool) → [] ≡ lines_if journal []
 no_lines false = refl
 no_lines true = refl
 
-pub sets_out : (journal : Bool) (start : World) (w : Shape) (p : Printer) (t : Option Tally) → IsWhole start → ¬ (IsEarlier (at w) start.moment) → IsOnTheWay journal start w start p p t t
+pub sets_out : (journal : Bool) (start : World) (w : Shape) (p : Printer) (t : Option Tally) → IsWhole start → ¬ (IsEarlier (just_at w) start.moment) → IsOnTheWay journal start w start p p t t
 sets_out journal start w p t whole later = search (rules, arith, gains_nothing, no_lines, none_tallied)
 
 -- a step that lists nothing has passed a block where it tells how many failures that held, and else has moved
@@ -54,15 +54,15 @@ module _ {journal : Bool} {start : World} {w : Shape} {now : World} {p q : Print
   same_setting : state_setting (state_of journal now) ≡ state_setting S
   same_setting = ap state_setting on.state
 
-  module _ {new : World} {block : Block} (h : HasPassed (at w) block now new) where
+  module _ {new : World} {block : Block} (h : HasPassed (just_at w) block now new) where
     up_to_block : (bs : List Block) → AreUpTo S w now.moment bs → AreUpTo S w block.moment (bs ++ block ∷ [])
     up_to_block bs is =
         let next : IsNextBlock (state_setting S) now.moment block = subst (λ (t : Setting). IsNextBlock t now.moment block) same_setting h.next in
         record {
-          forth = λ more j. subst (IsJournal (state_setting S) start.moment (at w)) (sym (append_assoc bs (block ∷ []) more)) (is.forth (block ∷ more) (next, h.within, j));
+          forth = λ more j. subst (IsJournal (state_setting S) start.moment (just_at w)) (sym (append_assoc bs (block ∷ []) more)) (is.forth (block ∷ more) (next, h.within, j));
           back = λ all j.
               let x = is.back all j in
-              let y = behind_block (state_setting S) now.moment (at w) block on.whole.canonical canonical next h.within x.0 x.1 in
+              let y = behind_block (state_setting S) now.moment (just_at w) block on.whole.canonical canonical next h.within x.0 x.1 in
               (y.0, y.1, x.2 ∙ ap (λ (more : List Block). bs ++ more) y.2 ∙ sym (append_assoc bs (block ∷ []) y.0));
         }
 
@@ -95,20 +95,20 @@ module _ {journal : Bool} {start : World} {w : Shape} {now : World} {p q : Print
     }
 
   -- where the journal is off nothing is printed
-  pub goes_on_quietly : journal ≡ false → {new : World} {block : Block} → HasPassed (at w) block now new → (failures : ℕ) {last : Option Tally} → failures ≡ length block.failures → last ≡ counted_on failures middle
+  pub goes_on_quietly : journal ≡ false → {new : World} {block : Block} → HasPassed (just_at w) block now new → (failures : ℕ) {last : Option Tally} → failures ≡ length block.failures → last ≡ counted_on failures middle
       → IsOnTheWay journal start w new p q old last
   goes_on_quietly off {new} {block} h failures same counts =
       goes_on h q.gathered (sym (append-nil q.gathered) ∙ ap (λ (b : Bool). q.gathered ++ printed_if b block) (sym off)) (gains_nothing q) failures same counts
 
   -- at the instant
-  module _ {new : World} (h : HasMoved (at w) now new) where
-    all_passed : (bs : List Block) → AreUpTo S w now.moment bs → IsJournal (state_setting S) start.moment (at w) bs
+  module _ {new : World} (h : HasMoved (just_at w) now new) where
+    all_passed : (bs : List Block) → AreUpTo S w now.moment bs → IsJournal (state_setting S) start.moment (just_at w) bs
     all_passed bs is =
-        let rest = subst (λ (t : Setting). IsJournal t now.moment (at w) []) same_setting h.nothing in
-        subst (λ (cs : List Block). IsJournal (state_setting S) start.moment (at w) cs) (append-nil bs) (is.forth [] rest)
+        let rest = subst (λ (t : Setting). IsJournal t now.moment (just_at w) []) same_setting h.nothing in
+        subst (λ (cs : List Block). IsJournal (state_setting S) start.moment (just_at w) cs) (append-nil bs) (is.forth [] rest)
 
     pub arrives : GainsSome (IsPassedText journal S w) p q
     arrives = some_is on.printed (IsPassedText journal S w) (λ lines a. subst (IsPassedText journal S w) (sym a.2) (is_text journal S w a.0 (all_passed a.0 a.1)))
 
-    pub counted_all : HasTallied (IsJournal (state_setting S) start.moment (at w)) old middle
+    pub counted_all : HasTallied (IsJournal (state_setting S) start.moment (just_at w)) old middle
     counted_all = tallied_is on.counted all_passed

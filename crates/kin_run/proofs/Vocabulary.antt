@@ -10,6 +10,7 @@ pub use Rattle.kin_num.specs.declared.instant.Moment.{Moment}
 pub use Rattle.kin_num.specs.declared.instant.Shape.{Shape}
 pub use Rattle.kin_motion.specs.Course.{Course, motion_of}
 pub use Rattle.kin_motion.specs.Journal.{Block, IsJournal, IsNextBlock, Setting}
+pub use Rattle.kin_motion.specs.Turning.{just_at}
 pub use Rattle.kin_motion.proofs.JournalLaws.{block_is_listed}
 pub use Rattle.kin_io.specs.Ends.{AppendsFront}
 pub use Rattle.kin_print.proofs.Fronts.{nothing}
@@ -18,7 +19,7 @@ pub use Rattle.kin_script.specs.Deeds.{deed_of}
 pub use Rattle.kin_script.specs.Printed.{PutsFront}
 pub use Rattle.kin_script.specs.PrintedJournal.{none_line}
 pub use Rattle.kin_script.specs.Ranges.{IsRootInRange}
-pub use Rattle.kin_script.specs.States.{State, at, state_setting}
+pub use Rattle.kin_script.specs.States.{State, state_setting}
 pub use Rattle.kin_script.specs.Text.{IsPassedText, refused_line}
 pub use Rattle.kin_script.specs.declared.command.Command.{Command}
 pub use Rattle.kin_script.proofs.Questions.{asks_otherwise}

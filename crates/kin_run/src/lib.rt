@@ -12,8 +12,8 @@ pub use kin_status::{laws, status, words};
 
 mod change;
 mod demo;
+mod go_to;
 mod next;
-mod pass;
 mod perform;
 mod play;
 mod reply;

@@ -17,8 +17,8 @@ ghost use Rattle.kin_world.specs.Worlds.{IsWhole};
 ghost use Rattle.kin_run.specs.States.{state_of};
 
 use crate::change::{insert, remove, replace, turn};
+use crate::go_to::go_to;
 use crate::next::put_next;
-use crate::pass::pass;
 use crate::reply::put_reply_to;
 use kin_instant::ratio::ratio;
 use kin_io::sink::Sink;
@@ -53,7 +53,7 @@ fn move_to<K: Sink, L: Ledger>(
     if is_before(&asked, world.now()) {
         return Err(Halt::Refused(Refusal::Past));
     }
-    pass(world, journal, asked, out, sink, steps, tally)?;
+    go_to(world, journal, asked, out, sink, steps, tally)?;
     Ok(())
 }
 

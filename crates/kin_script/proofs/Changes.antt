@@ -9,7 +9,7 @@ use Rattle.kin_motion.specs.Course.{Course}
 use Rattle.kin_motion.specs.Turning.{IsNotWhole, IsOutOfBounds}
 use Rattle.kin_motion.proofs.TurningLaws.{one_turn}
 use Rattle.kin_script.specs.declared.refusal.Refusal.{Refusal}
-use Rattle.kin_script.specs.Changes.{Change, enters, leaves, restarts, turns, insert_of, remove_of, replace_of, turn_of, IsSlowVelocity, IsRefusedTurn, IsRefusedChange, IsTurned, ChangesTo}
+use Rattle.kin_script.specs.Changes.{PointChange, enters, leaves, restarts, turns, insert_of, remove_of, replace_of, turn_of, IsSlowVelocity, IsRefusedTurn, IsRefusedChange, IsTurned, ChangesTo}
 use Rattle.kin_script.specs.Lines.{Word}
 use Rattle.kin_script.specs.Ranges.{IsCommandInRange}
 use Rattle.kin_script.specs.Words.{number_at, velocity_at}
@@ -70,7 +70,7 @@ one_refused_turn m u v old r q (inr a) (inr b) = a.0 ∙ sym b.0
 live_not_absent : (now : Option Course) (old : Course) → now ≡ Some old → IsFalse (is_some now) → ⊥
 live_not_absent now old is absent = let clash : true ≡ false = ap is_some (sym is) ∙ absent in cc
 
-pub one_refused_change : (m : Moment) (now : Option Course) (c : Change) (r q : Refusal) → IsRefusedChange m now c r → IsRefusedChange m now c q → r ≡ q
+pub one_refused_change : (m : Moment) (now : Option Course) (c : PointChange) (r q : Refusal) → IsRefusedChange m now c r → IsRefusedChange m now c q → r ≡ q
 one_refused_change m now (enters motion) r q x y = x.0 ∙ sym y.0
 one_refused_change m now leaves r q x y = x.0 ∙ sym y.0
 one_refused_change m now (restarts motion) r q x y = x.0 ∙ sym y.0
@@ -88,7 +88,7 @@ turned_once m u v now a b canonical s t =
     let new = one_turn m.at u v t.old s.new t.new canonical (rw same at s.same_place) t.same_place in
     s.is ∙ ap (λ (c : Course). Some c) new ∙ sym t.is
 
-pub one_change : (m : Moment) (now : Option Course) (c : Change) (a b : Option Course) → IsCanonical m.at → ChangesTo m now c a → ChangesTo m now c b → a ≡ b
+pub one_change : (m : Moment) (now : Option Course) (c : PointChange) (a b : Option Course) → IsCanonical m.at → ChangesTo m now c a → ChangesTo m now c b → a ≡ b
 one_change m now (enters motion) a b canonical x y = x ∙ sym y
 one_change m now leaves a b canonical x y = x ∙ sym y
 one_change m now (restarts motion) a b canonical x y = x ∙ sym y

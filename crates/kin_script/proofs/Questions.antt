@@ -8,13 +8,13 @@ use Rattle.kin_motion.specs.declared.keep.Keep.{Keep}
 use Rattle.kin_motion.specs.declared.keep.Keep.TheVariants as keep
 use Rattle.kin_motion.specs.Course.{Course}
 use Rattle.kin_motion.specs.Agreements.{FitsSize}
-use Rattle.kin_motion.specs.Boxes.{box_of as points_in}
+use Rattle.kin_motion.specs.Boxes.{points_in}
 use Rattle.kin_motion.specs.Chains.{cycle_of}
 use Rattle.kin_motion.specs.ClosestPairs.{closest_of}
-use Rattle.kin_motion.specs.Extremes.{IsExtremePoint, extreme_of as farthest}
+use Rattle.kin_motion.specs.Extremes.{IsExtremePoint, extreme_of}
 use Rattle.kin_motion.specs.Keeps.{is_alike}
 use Rattle.kin_motion.specs.Live.{IsLiveFact, IsSmallKeep, live_facts}
-use Rattle.kin_motion.specs.Orders.{IsOrder, order_of as ordered}
+use Rattle.kin_motion.specs.Orders.{IsOrder, order_of}
 use Rattle.kin_motion.specs.Scene.{IsReal}
 use Rattle.kin_motion.proofs.ClosestLaws.{closest_proved}
 use Rattle.kin_motion.proofs.LiveFactLaws.{live_facts_agree}
@@ -24,12 +24,12 @@ use Rattle.kin_motion.proofs.Proved.{order_is_one, order_proved, extreme_proved,
 use Rattle.kin_script.specs.declared.command.Command.{Command}
 use Rattle.kin_script.specs.declared.command.Command.TheVariants.{Insert, Remove, Replace, Turn, AtRatio, AtRoot, Next, Order, Extreme, Hull, Closest, Live, Inside}
 use Rattle.kin_script.specs.Deeds.{asks, deed_of}
-use Rattle.kin_script.specs.Questions.{keep_of, IsKeepInRange, order_of, extreme_of, box_of, question_of, IsQuestionInRange, IsKept, IsProvided, IsOrderLine, IsExtremeLine, IsLiveLine, IsReplyLine}
+use Rattle.kin_script.specs.Questions.{keep_of, IsKeepInRange, order_question_of, extreme_question_of, box_question_of, question_of, IsQuestionInRange, HasKeep, IsProvided, IsOrderLine, IsExtremeLine, IsLiveLine, IsReplyLine}
 use Rattle.kin_script.specs.Lines.{Word}
 use Rattle.kin_script.specs.Printed.{list_line}
 use Rattle.kin_script.specs.PrintedJournal.{one_line, count_line, pair_line}
 use Rattle.kin_script.specs.Ranges.{IsCommandInRange, IsDeedInRange}
-use Rattle.kin_script.specs.States.{State, scene_of}
+use Rattle.kin_script.specs.States.{State, state_scene}
 use Rattle.kin_script.proofs.Counts.{same_length}
 use Rattle.kin_script.proofs.EachGiven.{Each, each_none, each_way, each_last, each_map, each_then}
 use Rattle.kin_script.proofs.WordRanges.{natural_at_range, integer_at_range, direction_range}
@@ -82,16 +82,16 @@ kept_or_not kind only own (x ∷ xs) = at (is_alike kind x) refl (kept_or_not ki
 
 -- ---- what is asked
 
-order_range : (ws : List Word) → Each IsQuestionInRange (order_of ws)
-unfolding order_of
+order_range : (ws : List Word) → Each IsQuestionInRange (order_question_of ws)
+unfolding order_question_of
 order_range ws = each_then _ _ _ _ (natural_at_range 0 31 ws) (λ s h. each_last _ _ s.1 h.1)
 
-extreme_range : (ws : List Word) → Each IsQuestionInRange (extreme_of ws)
-unfolding extreme_of
+extreme_range : (ws : List Word) → Each IsQuestionInRange (extreme_question_of ws)
+unfolding extreme_question_of
 extreme_range ws = each_then _ _ _ _ (natural_at_range 0 31 ws) (λ s h. each_last _ _ s.1 h.1)
 
-box_range : (ws : List Word) → Each IsQuestionInRange (box_of ws)
-unfolding box_of
+box_range : (ws : List Word) → Each IsQuestionInRange (box_question_of ws)
+unfolding box_question_of
 box_range ws =
     each_then _ _ _ _ (integer_at_range 16777216 ws) (λ x1 h1.
     each_then _ _ _ _ (integer_at_range 16777216 x1.1) (λ x2 h2.
@@ -150,38 +150,38 @@ along_same : (Said : ℤ → ℤ → Type 0) (dx dy ex ey : ℤ) → (dx ≡ ex)
 along_same Said dx dy ex ey e said = subst (λ (d : ℤ). Said d ey) e.0 (subst (λ (d : ℤ). Said dx d) e.1 said)
 
 module _ (s : State) (canonical : IsCanonical s.moment.at) where
-  pub real : IsReal (scene_of s)
+  pub real : IsReal (state_scene s)
   real = real_at s.motions s.moment canonical
 
   same_order : (dx dy ex ey : ℤ) → keep.Order dx dy ≡ keep.Order ex ey → (dx ≡ ex) × (dy ≡ ey)
   same_order dx dy ex ey e = (cc, cc)
 
-  one_order_line : (k : ℕ) (x y : List ℕ) → IsOrderLine s.keeps (scene_of s) k x → IsOrderLine s.keeps (scene_of s) k y → x ≡ y
+  one_order_line : (k : ℕ) (x y : List ℕ) → IsOrderLine s.keeps (state_scene s) k x → IsOrderLine s.keeps (state_scene s) k y → x ≡ y
   one_order_line k x y a b =
       let e = same_order a.dx a.dy b.dx b.dy (same_Some _ _ (sym a.kept ∙ b.kept)) in
-      let o = along_same (λ dx dy. IsOrder (scene_of s) dx dy a.order) a.dx a.dy b.dx b.dy e a.ordered in
-      a.line ∙ ap list_line (order_is_one (scene_of s) b.dx b.dy a.order b.order real o b.ordered) ∙ sym b.line
+      let o = along_same (λ dx dy. IsOrder (state_scene s) dx dy a.order) a.dx a.dy b.dx b.dy e a.ordered in
+      a.line ∙ ap list_line (order_is_one (state_scene s) b.dx b.dy a.order b.order real o b.ordered) ∙ sym b.line
 
   same_extreme : (dx dy ex ey : ℤ) → keep.Extreme dx dy ≡ keep.Extreme ex ey → (dx ≡ ex) × (dy ≡ ey)
   same_extreme dx dy ex ey e = (cc, cc)
 
-  one_extreme_line : (k : ℕ) (x y : List ℕ) → IsExtremeLine s.keeps (scene_of s) k x → IsExtremeLine s.keeps (scene_of s) k y → x ≡ y
+  one_extreme_line : (k : ℕ) (x y : List ℕ) → IsExtremeLine s.keeps (state_scene s) k x → IsExtremeLine s.keeps (state_scene s) k y → x ≡ y
   one_extreme_line k x y a b =
       let e = same_extreme a.dx a.dy b.dx b.dy (same_Some _ _ (sym a.kept ∙ b.kept)) in
-      let p = along_same (λ dx dy. IsExtremePoint (scene_of s) dx dy a.point) a.dx a.dy b.dx b.dy e a.extreme in
-      a.line ∙ ap one_line (one_extreme (scene_of s) b.dx b.dy a.point b.point real p b.extreme) ∙ sym b.line
+      let p = along_same (λ dx dy. IsExtremePoint (state_scene s) dx dy a.point) a.dx a.dy b.dx b.dy e a.extreme in
+      a.line ∙ ap one_line (one_extreme (state_scene s) b.dx b.dy a.point b.point real p b.extreme) ∙ sym b.line
 
   one_live_line : (x y : List ℕ) → IsLiveLine s x → IsLiveLine s y → x ≡ y
   one_live_line x y a b =
-      let same : a.0 ≡ b.0 = sym a.1.2 ∙ same_length a.1.0 b.1.0 (IsLiveFact s.size s.keeps (scene_of s)) a.1.1 b.1.1 ∙ b.1.2 in
+      let same : a.0 ≡ b.0 = sym a.1.2 ∙ same_length a.1.0 b.1.0 (IsLiveFact s.size s.keeps (state_scene s)) a.1.1 b.1.1 ∙ b.1.2 in
       a.2 ∙ ap count_line same ∙ sym b.2
 
   -- there is no other line
   pub one_reply_line : (q : Command) (x y : List ℕ) → IsReplyLine s q x → IsReplyLine s q y → x ≡ y
   one_reply_line (Order k) x y a b = one_order_line k x y a b
   one_reply_line (Extreme k) x y a b = one_extreme_line k x y a b
-  one_reply_line Hull x y a b = a.2 ∙ ap list_line (one_hull_cycle (scene_of s) a.0 b.0 real a.1 b.1) ∙ sym b.2
-  one_reply_line Closest x y a b = a.2 ∙ ap pair_line (one_closest (scene_of s) a.0 b.0 real a.1 b.1) ∙ sym b.2
+  one_reply_line Hull x y a b = a.2 ∙ ap list_line (one_hull_cycle (state_scene s) a.0 b.0 real a.1 b.1) ∙ sym b.2
+  one_reply_line Closest x y a b = a.2 ∙ ap pair_line (one_closest (state_scene s) a.0 b.0 real a.1 b.1) ∙ sym b.2
   one_reply_line (Inside r) x y a b = a ∙ sym b
   one_reply_line Live x y a b = one_live_line x y a b
   one_reply_line question x y a b = absurd a
@@ -192,35 +192,35 @@ module _ (s : State) (canonical : IsCanonical s.moment.at) where
 
   order_line : (k : ℕ) (o : Option Keep) → slice_get s.keeps k ≡ o → HasLine (Order k)
   order_line k (Some (keep.Order dx dy)) e =
-      let order = ordered (scene_of s) dx dy in
-      inr ((dx, dy, e), (list_line order, record { dx = dx; dy = dy; kept = e; order = order; ordered = order_proved (scene_of s) dx dy real; line = refl }))
+      let order = order_of (state_scene s) dx dy in
+      inr ((dx, dy, e), (list_line order, record { dx = dx; dy = dy; kept = e; order = order; ordered = order_proved (state_scene s) dx dy real; line = refl }))
   order_line k other e = inl (λ h. let clash = sym e ∙ h.2 in cc)
 
   extreme_line : (k : ℕ) (o : Option Keep) → slice_get s.keeps k ≡ o → HasLine (Extreme k)
   extreme_line k (Some (keep.Extreme dx dy)) e =
-      let point = farthest (scene_of s) dx dy in
-      inr ((dx, dy, e), (one_line point, record { dx = dx; dy = dy; kept = e; point = point; extreme = extreme_proved (scene_of s) dx dy real; line = refl }))
+      let point = extreme_of (state_scene s) dx dy in
+      inr ((dx, dy, e), (one_line point, record { dx = dx; dy = dy; kept = e; point = point; extreme = extreme_proved (state_scene s) dx dy real; line = refl }))
   extreme_line k other e = inl (λ h. let clash = sym e ∙ h.2 in cc)
 
   -- where a structure of its kind is kept a question has a line
   by_kind : (q : Command) (kind : Keep) → ((x : Keep) → is_alike kind x ≡ true → x ≡ kind) → is_alike kind kind ≡ true
-      → (IsProvided s q → IsKept s kind) → (IsKept s kind → IsProvided s q) → (text : List ℕ) → IsReplyLine s q text → HasLine q
+      → (IsProvided s q → HasKeep s kind) → (HasKeep s kind → IsProvided s q) → (text : List ℕ) → IsReplyLine s q text → HasLine q
   by_kind q kind only own asked kept text line = at (kept_or_not kind only own s.keeps)
     where
       at : ¬ (Contains s.keeps kind) ⊎ Contains s.keeps kind → HasLine q
       at (inl none) = inl (λ h. let k = asked h in none (contains_from_get s.keeps k.0 kind k.1))
       at (inr some) = inr (kept (get_from_contains s.keeps kind some), (text, line))
 
-  live_line : FitsSize s.size (scene_of s) → HasLine Live
+  live_line : FitsSize s.size (state_scene s) → HasLine Live
   live_line fits =
-      let facts = live_facts s.size s.keeps (scene_of s) in
-      inr (tt, (count_line (length facts), (length facts, (facts, live_facts_agree s.size s.keeps (scene_of s) real fits, refl), refl)))
+      let facts = live_facts s.size s.keeps (state_scene s) in
+      inr (tt, (count_line (length facts), (length facts, (facts, live_facts_agree s.size s.keeps (state_scene s) real fits, refl), refl)))
 
-  pub has_line : FitsSize s.size (scene_of s) → (q : Command) → HasLine q
+  pub has_line : FitsSize s.size (state_scene s) → (q : Command) → HasLine q
   has_line fits (Order k) = order_line k (slice_get s.keeps k) refl
   has_line fits (Extreme k) = extreme_line k (slice_get s.keeps k) refl
-  has_line fits Hull = by_kind Hull keep.Hull hull_alone refl (λ h. h) (λ h. h) (list_line (cycle_of (scene_of s))) (cycle_of (scene_of s), cycle_proved (scene_of s) real, refl)
-  has_line fits Closest = by_kind Closest keep.Closest closest_alone refl (λ h. h) (λ h. h) (pair_line (closest_of (scene_of s))) (closest_of (scene_of s), closest_proved (scene_of s) real, refl)
+  has_line fits Hull = by_kind Hull keep.Hull hull_alone refl (λ h. h) (λ h. h) (list_line (cycle_of (state_scene s))) (cycle_of (state_scene s), cycle_proved (state_scene s) real, refl)
+  has_line fits Closest = by_kind Closest keep.Closest closest_alone refl (λ h. h) (λ h. h) (pair_line (closest_of (state_scene s))) (closest_of (state_scene s), closest_proved (state_scene s) real, refl)
   has_line fits (Inside r) = by_kind (Inside r) keep.Range range_alone refl (λ h. h) (λ h. h) (list_line (points_in s.motions s.moment r)) refl
   has_line fits Live = live_line fits
   has_line fits other = inl (λ h. h)

@@ -8,7 +8,7 @@ use Rattle.kin_script.specs.Lines.{lines_of, words_of, pieces_of}
 use Rattle.kin_script.specs.Left.{numbered}
 use Rattle.kin_script.specs.Numbers.{digits_after, numeral_of, natural_of, integer_of, ratio_of}
 use Rattle.kin_script.specs.Words.{natural_at, number_at, integer_at, motion_at, velocity_at, side_at, direction_at}
-use Rattle.kin_script.specs.Questions.{keep_of, order_of, extreme_of, box_of, question_of}
+use Rattle.kin_script.specs.Questions.{keep_of, order_question_of, extreme_question_of, box_question_of, question_of}
 use Rattle.kin_script.specs.Changes.{insert_of, remove_of, replace_of, turn_of}
 use Rattle.kin_script.specs.Commands.{quadratic_at, root_of, at_of, command_of, size_of, journal_of, header_line_of}
 use Rattle.kin_script.specs.Grammar.{IsScript, IsFirstOutside, commands_of, behind_size, script_of_lines, script_of}
@@ -81,5 +81,5 @@ WordsOnlyInComments = IsFirstOutside (codes "# one\n\n  # two") 4
 
 -- all of it is so
 rows : Spelling × TooFar × Fraction × Root × Changed × HalfAVelocity × JournalOn × SecondJournalLine × EmptyInput × NumberOutOfRange × LateKeep × WordsOnlyInComments
-unfolding script_of lines_of words_of pieces_of numbered commands_of behind_size script_of_lines command_of question_of insert_of remove_of replace_of turn_of side_at quadratic_at root_of at_of order_of extreme_of box_of motion_at velocity_at number_at natural_at integer_at size_of direction_at keep_of journal_of header_line_of digits_after numeral_of natural_of integer_of ratio_of
+unfolding script_of lines_of words_of pieces_of numbered commands_of behind_size script_of_lines command_of question_of insert_of remove_of replace_of turn_of side_at quadratic_at root_of at_of order_question_of extreme_question_of box_question_of motion_at velocity_at number_at natural_at integer_at size_of direction_at keep_of journal_of header_line_of digits_after numeral_of natural_of integer_of ratio_of
 rows = (refl, refl, refl, refl, refl, refl, refl, refl, refl, refl, refl, refl)

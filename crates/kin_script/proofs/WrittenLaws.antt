@@ -17,7 +17,7 @@ use Rattle.kin_script.specs.Lines.{Word}
 use Rattle.kin_script.specs.Left.{Numbered}
 use Rattle.kin_script.specs.Commands.{command_of, size_of, journal_of, header_line_of}
 use Rattle.kin_script.specs.Grammar.{◌>>◌, at_line, by_header_line, Header, commands_of, with_commands, with_header_line, behind_size, script_of_lines}
-use Rattle.kin_script.specs.Written.{keeps_of, journals_of, IsJournal, SaysHeaderLine, SaysCommand, IsWritten}
+use Rattle.kin_script.specs.Written.{keeps_of, journals_of, HasJournalLine, SaysHeaderLine, SaysCommand, IsWritten}
 
 abbrev Commands : Type 0
 Commands = List (ℕ × Command)
@@ -72,10 +72,10 @@ pub record Parts (h : Header) (ls : List Numbered) (s : Script) : Type 0 where
   pub header_says : AllZip SaysHeaderLine header header_lines
   pub keeps : s.keeps ≡ h.keeps ++ keeps_of header_lines
   pub few_keeps : IsTrue (are_few s.keeps)
-  pub journal : IsJournal (journal_lines h.journal ++ journals_of header_lines) s.journal
+  pub journal : HasJournalLine (journal_lines h.journal ++ journals_of header_lines) s.journal
   pub commands_say : AllZip (SaysCommand h.size) commands s.lines
 
-journal_stands : (journal : Option Bool) → IsJournal (journal_lines journal ++ []) (unwrap_or journal false)
+journal_stands : (journal : Option Bool) → HasJournalLine (journal_lines journal ++ []) (unwrap_or journal false)
 journal_stands None = refl
 journal_stands (Some on) = refl
 
@@ -103,7 +103,7 @@ behind_header h ls s few e = at (commands_of h.size ls) refl e
 -- one more line of the header
 one_more : (h : Header) (keeps : List Keep) (journal : Option Bool) (l : Numbered) (ls : List Numbered) (s : Script) (x : HeaderLine) → header_line_of l.1 ≡ Some x
     → (p : Parts (record h { keeps = keeps; journal = journal }) ls s) → s.keeps ≡ h.keeps ++ keeps_of (x ∷ p.header_lines)
-    → IsJournal (journal_lines h.journal ++ journals_of (x ∷ p.header_lines)) s.journal → Parts h (l ∷ ls) s
+    → HasJournalLine (journal_lines h.journal ++ journals_of (x ∷ p.header_lines)) s.journal → Parts h (l ∷ ls) s
 one_more h keeps journal l ls s x is p kept on = record {
   header = l ∷ p.header;
   header_lines = x ∷ p.header_lines;
@@ -185,14 +185,14 @@ commands_alone h [] cs z = refl
 commands_alone h (l ∷ ls) [] z = absurd z
 commands_alone h (l ∷ ls) (c ∷ cs) z = rw (apart h.size l.1 c.1 z.0.1) refl
 
-journal_is : (journal : Option Bool) (on : Bool) → IsJournal (journal_lines journal ++ []) on → on ≡ unwrap_or journal false
+journal_is : (journal : Option Bool) (on : Bool) → HasJournalLine (journal_lines journal ++ []) on → on ≡ unwrap_or journal false
 journal_is None on j = j
 journal_is (Some b) on j = j
 
 room_for : (keeps more : List Keep) (k : Keep) → are_few (keeps ++ k ∷ more) ≡ true → are_few (keeps ++ k ∷ []) ≡ true
 room_for keeps more k few = few_before (keeps ++ k ∷ []) more (ap are_few (append_assoc keeps (k ∷ []) more) ∙ few)
 
-no_journal_yet : (journal : Option Bool) (on later : Bool) (js : List Bool) → IsJournal (journal_lines journal ++ on ∷ js) later → journal ≡ None
+no_journal_yet : (journal : Option Bool) (on later : Bool) (js : List Bool) → HasJournalLine (journal_lines journal ++ on ∷ js) later → journal ≡ None
 no_journal_yet None on later js j = refl
 no_journal_yet (Some b) on later js j = absurd j
 
@@ -206,7 +206,7 @@ with_these h ls s size keeps journal e = rw e (ap (λ (t : Script). whole t) (as
 
 written_behind : (h : Header) (header : List Numbered) (header_lines : List HeaderLine) (commands : List Numbered) (s : Script)
     → AllZip SaysHeaderLine header header_lines → s.size ≡ h.size → s.keeps ≡ h.keeps ++ keeps_of header_lines → are_few s.keeps ≡ true
-    → IsJournal (journal_lines h.journal ++ journals_of header_lines) s.journal → AllZip (SaysCommand h.size) commands s.lines
+    → HasJournalLine (journal_lines h.journal ++ journals_of header_lines) s.journal → AllZip (SaysCommand h.size) commands s.lines
     → behind_size h (header ++ commands) ≡ Ok s
 unfolding behind_size
 written_behind h [] [] commands s z size keeps few j says =

@@ -12,11 +12,11 @@ use Rattle.kin_script.specs.Numbers.{◌>>=◌}
 use Rattle.kin_script.specs.Words.{number_at, motion_at, velocity_at, last}
 
 -- a number starts with a motion; it has none any more; it starts anew with another motion; or it gets another velocity where it is
-pub data Change : Type 0 where
-  enters : Course → Change
-  leaves : Change
-  restarts : Course → Change
-  turns : ℤ → ℤ → Change
+pub data PointChange : Type 0 where
+  enters : Course → PointChange
+  leaves : PointChange
+  restarts : Course → PointChange
+  turns : ℤ → ℤ → PointChange
 
 -- ---- how it is written
 
@@ -54,7 +54,7 @@ pub record IsSlowVelocity (u v : ℤ) : Type 0 where
   pub u_small : unsigned_abs u ≤ 4096
   pub v_small : unsigned_abs v ≤ 4096
 
-abbrev pub IsChangeInRange : Change → Type 0
+abbrev pub IsChangeInRange : PointChange → Type 0
 IsChangeInRange (enters motion) = IsSlow motion
 IsChangeInRange leaves = Unit {0}
 IsChangeInRange (restarts motion) = IsSlow motion
@@ -67,7 +67,7 @@ abbrev pub IsRefusedTurn : Moment → ℤ → ℤ → Course → Refusal → Typ
 IsRefusedTurn m u v old r = ((r ≡ NotWhole) × IsNotWhole m u v old) ⊎ ((r ≡ OutOfBounds) × IsOutOfBounds m u v old)
 
 -- why it is refused: a live number starts, one that isn't live leaves, starts anew or turns, or a live one can't turn so
-abbrev pub IsRefusedChange : Moment → Option Course → Change → Refusal → Type 0
+abbrev pub IsRefusedChange : Moment → Option Course → PointChange → Refusal → Type 0
 IsRefusedChange m now (enters motion) r = (r ≡ Taken) × IsTrue (is_some now)
 IsRefusedChange m now leaves r = (r ≡ Absent) × IsFalse (is_some now)
 IsRefusedChange m now (restarts motion) r = (r ≡ Absent) × IsFalse (is_some now)
@@ -82,7 +82,7 @@ pub record IsTurned (m : Moment) (u v : ℤ) (now next : Option Course) : Type 0
   pub is : next ≡ Some new
 
 -- which motion it has then, or none
-abbrev pub ChangesTo : Moment → Option Course → Change → Option Course → Type 0
+abbrev pub ChangesTo : Moment → Option Course → PointChange → Option Course → Type 0
 ChangesTo m now (enters motion) next = next ≡ Some motion
 ChangesTo m now leaves next = next ≡ None
 ChangesTo m now (restarts motion) next = next ≡ Some motion

@@ -4,11 +4,11 @@ use Rattle.kin_num.specs.Quadratic.{Quadratic}
 use Rattle.kin_num.specs.Instants.{line}
 use Rattle.kin_script.specs.declared.command.Command.{Command}
 use Rattle.kin_script.specs.declared.command.Command.TheVariants.{Insert, Remove, Replace, Turn, AtRatio, AtRoot, Next}
-use Rattle.kin_script.specs.Changes.{Change, enters, leaves, restarts, turns}
+use Rattle.kin_script.specs.Changes.{PointChange, enters, leaves, restarts, turns}
 
 -- a number is changed; time goes to the root that is named, the greater one or the lesser; it goes to the next failures; or a question is asked
 pub data Deed : Type 0 where
-  changes : ℕ → Change → Deed
+  changes : ℕ → PointChange → Deed
   goes_to : Bool → Quadratic → Deed
   goes_on : Deed
   asks : Command → Deed

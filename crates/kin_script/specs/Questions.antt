@@ -4,7 +4,7 @@ use Rattle.std.specs.Str.{bytes_eq}
 use Rattle.kin_motion.specs.declared.keep.Keep.{Keep}
 use Rattle.kin_motion.specs.declared.keep.Keep.TheVariants as keep
 use Rattle.kin_motion.specs.declared.keep.Rect.{Rect}
-use Rattle.kin_motion.specs.Boxes.{IsRectInRange, box_of as points_in}
+use Rattle.kin_motion.specs.Boxes.{IsRectInRange, points_in}
 use Rattle.kin_motion.specs.Chains.{IsHullCycle}
 use Rattle.kin_motion.specs.ClosestPairs.{IsClosest}
 use Rattle.kin_motion.specs.Extremes.{IsExtremePoint}
@@ -17,7 +17,7 @@ use Rattle.kin_script.specs.Lines.{Word}
 use Rattle.kin_script.specs.Numbers.{◌>>=◌}
 use Rattle.kin_script.specs.Printed.{list_line}
 use Rattle.kin_script.specs.PrintedJournal.{count_line, one_line, pair_line}
-use Rattle.kin_script.specs.States.{State, scene_of}
+use Rattle.kin_script.specs.States.{State, state_scene}
 use Rattle.kin_script.specs.Words.{natural_at, integer_at, direction_at, last}
 
 -- ---- what is kept
@@ -50,20 +50,20 @@ IsKeepInRange keep.Range = Unit {0}
 -- ---- what is asked
 
 -- order S
-unfoldable pub order_of : List Word → Option Command
-order_of ws = do
+unfoldable pub order_question_of : List Word → Option Command
+order_question_of ws = do
   s ← natural_at 0 31 ws
   last (Order s.0) s.1
 
 -- extreme S
-unfoldable pub extreme_of : List Word → Option Command
-extreme_of ws = do
+unfoldable pub extreme_question_of : List Word → Option Command
+extreme_question_of ws = do
   s ← natural_at 0 31 ws
   last (Extreme s.0) s.1
 
 -- box X1 X2 Y1 Y2
-unfoldable pub box_of : List Word → Option Command
-box_of ws = do
+unfoldable pub box_question_of : List Word → Option Command
+box_question_of ws = do
   x1 ← integer_at 16777216 ws
   x2 ← integer_at 16777216 x1.1
   y1 ← integer_at 16777216 x2.1
@@ -73,11 +73,11 @@ box_of ws = do
 -- the question of this name, with the words after it
 unfoldable pub question_of : Word → List Word → Option Command
 question_of name ws =
-    if bytes_eq name (codes "order") then order_of ws
-    else if bytes_eq name (codes "extreme") then extreme_of ws
+    if bytes_eq name (codes "order") then order_question_of ws
+    else if bytes_eq name (codes "extreme") then extreme_question_of ws
     else if bytes_eq name (codes "hull") then last Hull ws
     else if bytes_eq name (codes "closest") then last Closest ws
-    else if bytes_eq name (codes "box") then box_of ws
+    else if bytes_eq name (codes "box") then box_question_of ws
     else if bytes_eq name (codes "live") then last Live ws
     else None
 
@@ -92,16 +92,16 @@ IsQuestionInRange Live = Unit {0}
 IsQuestionInRange _ = ⊥
 
 -- a structure of this kind is kept
-abbrev pub IsKept : State → Keep → Type 0
-IsKept s kind = (k : ℕ) × (slice_get s.keeps k ≡ Some kind)
+abbrev pub HasKeep : State → Keep → Type 0
+HasKeep s kind = (k : ℕ) × (slice_get s.keeps k ≡ Some kind)
 
 -- what a question asks for is kept
 abbrev pub IsProvided : State → Command → Type 0
 IsProvided s (Order k) = (dx : ℤ) × (dy : ℤ) × (slice_get s.keeps k ≡ Some (keep.Order dx dy))
 IsProvided s (Extreme k) = (dx : ℤ) × (dy : ℤ) × (slice_get s.keeps k ≡ Some (keep.Extreme dx dy))
-IsProvided s Hull = IsKept s keep.Hull
-IsProvided s Closest = IsKept s keep.Closest
-IsProvided s (Inside r) = IsKept s keep.Range
+IsProvided s Hull = HasKeep s keep.Hull
+IsProvided s Closest = HasKeep s keep.Closest
+IsProvided s (Inside r) = HasKeep s keep.Range
 IsProvided s Live = Unit {0}
 IsProvided s _ = ⊥
 
@@ -125,11 +125,11 @@ pub record IsExtremeLine (keeps : List Keep) (s : Scene) (k : ℕ) (text : List 
 
 -- the line of the hull: its points counterclockwise, the leftmost first
 abbrev pub IsHullLine : State → List ℕ → Type 0
-IsHullLine s text = (cycle : List ℕ) × IsHullCycle (scene_of s) cycle × (text ≡ list_line cycle)
+IsHullLine s text = (cycle : List ℕ) × IsHullCycle (state_scene s) cycle × (text ≡ list_line cycle)
 
 -- the line of the closest pair
 abbrev pub IsClosestLine : State → List ℕ → Type 0
-IsClosestLine s text = (pair : Option (ℕ × ℕ)) × IsClosest (scene_of s) pair × (text ≡ pair_line pair)
+IsClosestLine s text = (pair : Option (ℕ × ℕ)) × IsClosest (state_scene s) pair × (text ≡ pair_line pair)
 
 -- the line of the points in a rectangle
 abbrev pub IsInsideLine : State → Rect → List ℕ → Type 0
@@ -137,12 +137,12 @@ IsInsideLine s r text = text ≡ list_line (points_in s.motions s.moment r)
 
 -- the line with the number of live facts
 abbrev pub IsLiveLine : State → List ℕ → Type 0
-IsLiveLine s text = (n : ℕ) × IsLiveCount s.size s.keeps (scene_of s) n × (text ≡ count_line n)
+IsLiveLine s text = (n : ℕ) × IsLiveCount s.size s.keeps (state_scene s) n × (text ≡ count_line n)
 
 -- the line that answers a question
 abbrev pub IsReplyLine : State → Command → List ℕ → Type 0
-IsReplyLine s (Order k) text = IsOrderLine s.keeps (scene_of s) k text
-IsReplyLine s (Extreme k) text = IsExtremeLine s.keeps (scene_of s) k text
+IsReplyLine s (Order k) text = IsOrderLine s.keeps (state_scene s) k text
+IsReplyLine s (Extreme k) text = IsExtremeLine s.keeps (state_scene s) k text
 IsReplyLine s Hull text = IsHullLine s text
 IsReplyLine s Closest text = IsClosestLine s text
 IsReplyLine s (Inside r) text = IsInsideLine s r text

@@ -8,12 +8,13 @@ use Rattle.kin_num.specs.Instants.{sign_at_instant}
 use Rattle.kin_num.specs.Order.{IsLess, IsEarlier}
 use Rattle.kin_motion.specs.Course.{Course, motion_of}
 use Rattle.kin_motion.specs.Journal.{Block, IsNextBlock, NothingFails}
-use Rattle.kin_script.specs.Changes.{Change, IsRefusedChange, ChangesTo}
+use Rattle.kin_motion.specs.Turning.{just_at}
+use Rattle.kin_script.specs.Changes.{PointChange, IsRefusedChange, ChangesTo}
 use Rattle.kin_script.specs.Deeds.{Deed, changes, goes_to, goes_on, asks}
 use Rattle.kin_script.specs.Questions.{IsProvided}
 use Rattle.kin_script.specs.declared.refusal.Refusal.{Refusal}
 use Rattle.kin_script.specs.declared.refusal.Refusal.TheVariants.{NotKept, NoRoot, Past}
-use Rattle.kin_script.specs.States.{State, at, state_setting}
+use Rattle.kin_script.specs.States.{State, state_setting}
 
 -- the polynomial is 0 at the instant
 pub record IsRootOf (p : Quadratic) (w : Shape) : Type 0 where
@@ -31,7 +32,7 @@ HasNoRoot p = discriminant p.a p.b p.c <ℤ pos 0
 
 -- the asked moment is before now
 abbrev pub IsPast : State → Bool → Quadratic → Type 0
-IsPast s upper p = (w : Shape) × IsNamedRoot upper p w × IsEarlier (at w) s.moment
+IsPast s upper p = (w : Shape) × IsNamedRoot upper p w × IsEarlier (just_at w) s.moment
 
 -- why a deed is refused: a number can't be changed so, there is no such root, its moment is past, or what is asked for is not kept
 abbrev pub IsRefused : State → Deed → Refusal → Type 0
@@ -50,12 +51,12 @@ LeadsToNext s t = ((b : Block) × IsNextBlock (state_setting s) s.moment b × (t
     ⊎ (NothingFails (state_setting s) s.moment × (t ≡ s))
 
 -- the number has the motion that it changes to, or none, and all others have theirs
-abbrev pub LeadsToChanged : State → ℕ → Change → State → Type 0
+abbrev pub LeadsToChanged : State → ℕ → PointChange → State → Type 0
 LeadsToChanged s number change t = (next : Option Course) × ChangesTo s.moment (motion_of s.motions number) change next × (t ≡ record s { motions = slice_set s.motions number next })
 
 -- the state after a deed that is not refused
 abbrev pub LeadsTo : State → Deed → State → Type 0
 LeadsTo s (changes number change) t = LeadsToChanged s number change t
-LeadsTo s (goes_to upper p) t = (w : Shape) × IsNamedRoot upper p w × (t ≡ record s { moment = at w })
+LeadsTo s (goes_to upper p) t = (w : Shape) × IsNamedRoot upper p w × (t ≡ record s { moment = just_at w })
 LeadsTo s goes_on t = LeadsToNext s t
 LeadsTo s (asks q) t = t ≡ s

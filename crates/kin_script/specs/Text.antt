@@ -3,6 +3,7 @@ use Rattle.std.specs.Prelude.{◌≡◌, ℕ, Bool, true, false, List, [], ◌�
 use Rattle.std.specs.Fmt.{decimal}
 use Rattle.kin_num.specs.declared.instant.Shape.{Shape}
 use Rattle.kin_motion.specs.Journal.{Block, IsNextBlock, IsJournal, NothingFails}
+use Rattle.kin_motion.specs.Turning.{just_at}
 use Rattle.kin_script.specs.declared.command.Command.{Command}
 use Rattle.kin_script.specs.declared.refusal.Refusal.{Refusal}
 use Rattle.kin_script.specs.Deeds.{Deed, changes, goes_to, goes_on, asks, deed_of}
@@ -10,7 +11,7 @@ use Rattle.kin_script.specs.Questions.{IsReplyLine}
 use Rattle.kin_script.specs.Printed.{name_of}
 use Rattle.kin_script.specs.PrintedJournal.{block_lines, journal_lines, now_line, none_line}
 use Rattle.kin_script.specs.Replay.{IsNamedRoot, IsRefused, IsAllowed, LeadsTo}
-use Rattle.kin_script.specs.States.{State, at, state_setting}
+use Rattle.kin_script.specs.States.{State, state_setting}
 
 -- the line that names the first line outside the grammar
 abbrev pub bad_line : ℕ → List ℕ
@@ -23,7 +24,7 @@ refused_line n r = codes "refused " ++ decimal n ++ codes " " ++ name_of r ++ co
 -- the lines of the journal from now to the asked instant; where the journal is off, nothing
 abbrev pub IsPassedText : Bool → State → Shape → List ℕ → Type 0
 IsPassedText false s w text = text ≡ []
-IsPassedText true s w text = (bs : List Block) × IsJournal (state_setting s) s.moment (at w) bs × (text ≡ journal_lines bs)
+IsPassedText true s w text = (bs : List Block) × IsJournal (state_setting s) s.moment (just_at w) bs × (text ≡ journal_lines bs)
 
 -- the lines of the next block where the journal is on, and its moment; where no live fact ever fails, none
 abbrev pub IsNextText : State → List ℕ → Type 0

@@ -25,10 +25,10 @@ journals_of (header_line.Keep k ∷ ss) = journals_of ss
 journals_of (header_line.Journal on ∷ ss) = on ∷ journals_of ss
 
 -- at most one line says it, and without one it is off
-abbrev pub IsJournal : List Bool → Bool → Type 0
-IsJournal [] on = on ≡ false
-IsJournal (b ∷ []) on = on ≡ b
-IsJournal (b ∷ c ∷ bs) on = ⊥
+abbrev pub HasJournalLine : List Bool → Bool → Type 0
+HasJournalLine [] on = on ≡ false
+HasJournalLine (b ∷ []) on = on ≡ b
+HasJournalLine (b ∷ c ∷ bs) on = ⊥
 
 -- a line of the header says this
 abbrev pub SaysHeaderLine : Numbered → HeaderLine → Type 0
@@ -49,7 +49,7 @@ pub record IsWritten (lines : List Numbered) (s : Script) : Type 0 where
   pub header_says : AllZip SaysHeaderLine header header_lines
   pub keeps : s.keeps ≡ keeps_of header_lines
   pub few_keeps : IsTrue (are_few s.keeps)
-  pub journal : IsJournal (journals_of header_lines) s.journal
+  pub journal : HasJournalLine (journals_of header_lines) s.journal
   pub commands_say : AllZip (SaysCommand s.size) commands s.lines
 
 -- a line of these that isn't allowed at its place, and has this number: the lines before it write a script, unless there are none, and with it they write none,

@@ -4,7 +4,7 @@ ghost use Rattle.std.specs.Prelude.{◌≡◌, ◌≤◌, IfSome, option_map};
 ghost use Rattle.kin_script.specs.declared.command.Command.TheVariants.{AtRoot};
 ghost use Rattle.kin_script.specs.Changes.{insert_of, remove_of, replace_of, turn_of};
 ghost use Rattle.kin_script.specs.Commands.{quadratic_at, root_of, at_of, command_of, size_of, journal_of, header_line_of};
-ghost use Rattle.kin_script.specs.Questions.{keep_of, order_of, extreme_of, box_of, question_of};
+ghost use Rattle.kin_script.specs.Questions.{keep_of, order_question_of, extreme_question_of, box_question_of, question_of};
 ghost use Rattle.kin_script.specs.Words.{direction_at};
 
 use crate::command::Command;
@@ -118,27 +118,27 @@ fn at(words: &mut Words<'_>) -> Option<Command>
 }
 
 /// What follows the word `order`: the number of a structure.
-#[tactic(auto, unfolding(crate::specs::Questions::order_of))]
+#[tactic(auto, unfolding(crate::specs::Questions::order_question_of))]
 fn order(words: &mut Words<'_>) -> Option<Command>
-    ensures { result ≡ order_of words.old }
+    ensures { result ≡ order_question_of words.old }
 {
     let s = words.natural(0, 31)?;
     words.last(Command::Order { s })
 }
 
 /// What follows the word `extreme`: the number of a structure.
-#[tactic(auto, unfolding(crate::specs::Questions::extreme_of))]
+#[tactic(auto, unfolding(crate::specs::Questions::extreme_question_of))]
 fn extreme(words: &mut Words<'_>) -> Option<Command>
-    ensures { result ≡ extreme_of words.old }
+    ensures { result ≡ extreme_question_of words.old }
 {
     let s = words.natural(0, 31)?;
     words.last(Command::Extreme { s })
 }
 
 /// What follows the word `box`: the bounds of a rectangle.
-#[tactic(auto, unfolding(crate::specs::Questions::box_of))]
+#[tactic(auto, unfolding(crate::specs::Questions::box_question_of))]
 fn inside(words: &mut Words<'_>) -> Option<Command>
-    ensures { result ≡ box_of words.old }
+    ensures { result ≡ box_question_of words.old }
 {
     let x1 = words.integer(1 << 24)?;
     let x2 = words.integer(1 << 24)?;

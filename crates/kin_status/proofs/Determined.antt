@@ -1,14 +1,14 @@
 -- What comes of a deed: it is refused for one cause; or it is allowed, prints one text, and leads to one state, of the same size and at a canonical instant.
 use Rattle.std.proofs.Common.{◌≡◌, inl, inr, Bool, List, ℕ, Option, ◌∙◌, sym, ap, subst, slice_set, refl}
-use Rattle.kin_status.proofs.Vocabulary.{IsCanonical, IsEarlier, Quadratic, Shape, Course, motion_of, Block, Deed, asks, changes, goes_on, goes_to, IsAllowed, IsNamedRoot, IsRefused, LeadsTo, State, at, IsPassedText, Prints, Step, Refusal, one_reply_line}
+use Rattle.kin_status.proofs.Vocabulary.{IsCanonical, IsEarlier, Quadratic, Shape, Course, motion_of, Block, Deed, asks, changes, goes_on, goes_to, IsAllowed, IsNamedRoot, IsRefused, LeadsTo, State, just_at, IsPassedText, Prints, Step, Refusal, one_reply_line}
 use Rattle.kin_status.proofs.NamedRoots.{one_named_root, named_root_of, has_root}
 use Rattle.kin_script.proofs.Changes.{one_refused_change, one_change}
 use Rattle.kin_status.proofs.Passing.{one_passed, one_next, one_told}
 
 -- it goes to an instant which isn't before now
-pub goes_allowed : (s : State) (upper : Bool) (p : Quadratic) (w : Shape) → IsNamedRoot upper p w → (IsEarlier (at w) s.moment → ⊥) → IsAllowed s (goes_to upper p)
+pub goes_allowed : (s : State) (upper : Bool) (p : Quadratic) (w : Shape) → IsNamedRoot upper p w → (IsEarlier (just_at w) s.moment → ⊥) → IsAllowed s (goes_to upper p)
 goes_allowed s upper p w named later r (inl h) = has_root p.a p.b p.c w (named_root_of upper p w named) h.1
-goes_allowed s upper p w named later r (inr h) = later (subst (λ (v : Shape). IsEarlier (at v) s.moment) (one_named_root upper p h.1.0 w h.1.1 named) h.1.2)
+goes_allowed s upper p w named later r (inr h) = later (subst (λ (v : Shape). IsEarlier (just_at v) s.moment) (one_named_root upper p h.1.0 w h.1.1 named) h.1.2)
 
 -- the size stays, and every state of a run stands at a canonical instant
 pub stays : (s : State) (d : Deed) (t : State) → IsCanonical s.moment.at → LeadsTo s d t → (t.size ≡ s.size) × IsCanonical t.moment.at
@@ -44,7 +44,7 @@ one_print s (asks q) x y canonical a b = one_reply_line s canonical q x y a b
 pub one_state : (s : State) (d : Deed) (t u : State) → IsCanonical s.moment.at → LeadsTo s d t → LeadsTo s d u → t ≡ u
 one_state s (changes n c) t u canonical a b =
     a.2 ∙ ap (λ (next : Option Course). record s { motions = slice_set s.motions n next }) (one_change s.moment (motion_of s.motions n) c a.0 b.0 canonical a.1 b.1) ∙ sym b.2
-one_state s (goes_to upper p) t u canonical a b = one_at_root upper p (λ (w : Shape) (v : State). v ≡ record s { moment = at w }) t u (λ w there e f. e ∙ sym f) a b
+one_state s (goes_to upper p) t u canonical a b = one_at_root upper p (λ (w : Shape) (v : State). v ≡ record s { moment = just_at w }) t u (λ w there e f. e ∙ sym f) a b
 one_state s goes_on t u canonical a b = one_told s (λ (b : Block). record s { moment = b.moment }) s t u canonical a b
 one_state s (asks q) t u canonical a b = a ∙ sym b
 

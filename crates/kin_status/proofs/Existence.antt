@@ -1,7 +1,7 @@
 -- Every change, every deed, every input and every generated script has its outcome.
 use Rattle.std.proofs.Common.{rules, ◌≡◌, ◌⊎◌, inl, inr, ◌≤◌, true, false, ℤ, ℕ, Bool, List, [], ◌∷◌, unsigned_abs, Option, Some, None, refl, sym, ap, ◌∙◌, subst, arith, is_some, length-set, slice_set, ◌^◌, ◌++◌, Result, Ok, Err, All, zero, suc, ◌+◌}
-use Rattle.kin_status.proofs.Vocabulary.{cases_lt, same_Some, IsCanonical, Quadratic, Moment, Shape, After, At, AreSlow, Course, IsSlow, motion_of, Block, Change, ChangesTo, IsChangeInRange, IsRefusedChange, enters, leaves, restarts, turns, Deed, asks, changes, goes_on, goes_to}
-use Rattle.kin_status.proofs.Vocabulary.{IsDeedInRange, IsNamedRoot, IsRefused, State, at, Step, Refusal, Absent, NoRoot, NotKept, NotWhole, OutOfBounds, Past, Taken, has_line, Passes, length-replicate, start_canonical, none_live, deed_of, IsGenerated, IsLeastSize, insertions, one_of_each, questions}
+use Rattle.kin_status.proofs.Vocabulary.{cases_lt, same_Some, IsCanonical, Quadratic, Moment, Shape, After, At, AreSlow, Course, IsSlow, motion_of, Block, PointChange, ChangesTo, IsChangeInRange, IsRefusedChange, enters, leaves, restarts, turns, Deed, asks, changes, goes_on, goes_to}
+use Rattle.kin_status.proofs.Vocabulary.{IsDeedInRange, IsNamedRoot, IsRefused, State, just_at, Step, Refusal, Absent, NoRoot, NotKept, NotWhole, OutOfBounds, Past, Taken, has_line, Passes, length-replicate, start_canonical, none_live, deed_of, IsGenerated, IsLeastSize, insertions, one_of_each, questions}
 use Rattle.kin_status.proofs.Vocabulary.{script_of, IsCommandInRange, IsWithin, start, Ending, Text, bad_line, refused_line, Script, deed_in_range, small_keep, DemoTextsExist, demo_line, start_of, IsAnswer, IsTextOf, TextsExist, PassesInTurn, Status}
 use Rattle.kin_num.specs.declared.instant.Phase.{Phase}
 use Rattle.kin_motion.specs.Turning.{TurnsTo}
@@ -27,13 +27,13 @@ abbrev IsSlowIfSome : Option Course → Type 0
 IsSlowIfSome now = (c : Course) → now ≡ Some c → IsSlow c
 
 -- the motion that the number has then, or none
-record Outcome (m : Moment) (now : Option Course) (c : Change) : Type 0 where
+record Outcome (m : Moment) (now : Option Course) (c : PointChange) : Type 0 where
   next : Option Course
   allowed : (r : Refusal) → ¬ (IsRefusedChange m now c r)
   leads : ChangesTo m now c next
   slow : IsSlowIfSome next
 
-abbrev IsDecided : Moment → Option Course → Change → Type 0
+abbrev IsDecided : Moment → Option Course → PointChange → Type 0
 IsDecided m now c = ((r : Refusal) × IsRefusedChange m now c r) ⊎ Outcome m now c
 
 slow_some : (c : Course) → IsSlow c → IsSlowIfSome (Some c)
@@ -70,7 +70,7 @@ module _ (m : Moment) (canonical : IsCanonical m.at) (u v : ℤ) (old : Course) 
       ]
 
 -- ---- one row for each change
-change_decided : (m : Moment) → IsCanonical m.at → (now : Option Course) (c : Change) → IsChangeInRange c → IsDecided m now c
+change_decided : (m : Moment) → IsCanonical m.at → (now : Option Course) (c : PointChange) → IsChangeInRange c → IsDecided m now c
 change_decided m canonical (Some old) (enters motion) range = inl (Taken, (refl, refl))
 change_decided m canonical None (enters motion) range = inr (record { next = Some motion; allowed = λ r h. let clash : false ≡ true = h.1 in cc; leads = refl; slow = slow_some motion range })
 change_decided m canonical (Some old) leaves range = inr (record { next = None; allowed = λ r h. let clash : true ≡ false = h.1 in cc; leads = refl; slow = λ c e. absurd cc })
@@ -106,7 +106,7 @@ module _ (s : State) (sound : IsSound s) where
   slow_after number (Some c) slow = slow-set s.motions number c sound.proper.slow (slow c refl)
   slow_after number None slow = slow-clear s.motions number sound.proper.slow
 
-  changes_end : (number : ℕ) (c : Change) → IsDecided s.moment (motion_of s.motions number) c → Ends s (changes number c)
+  changes_end : (number : ℕ) (c : PointChange) → IsDecided s.moment (motion_of s.motions number) c → Ends s (changes number c)
   changes_end number c (inl refused) = inl refused
   changes_end number c (inr out) =
       ends_in (changes number c) (record s { motions = slice_set s.motions number out.next })
@@ -120,10 +120,10 @@ module _ (s : State) (sound : IsSound s) where
   goes_ends : (upper : Bool) (p : Quadratic) (w : Shape) → IsNamedRoot upper p w → Ends s (goes_to upper p)
   goes_ends upper p w named =
       let canonical = (named_root_of upper p w named).canonical in
-      elim (earlier_or_not (at w) s.moment canonical sound.canonical) [
+      elim (earlier_or_not (just_at w) s.moment canonical sound.canonical) [
         | inl past ↦ inl (Past, inr (refl, (w, named, past)))
-        | inr not_past ↦ let j = journals_exist s.motions s.size s.keeps s.moment (at w) sound.proper sound.canonical canonical not_past in
-            at_moment (goes_to upper p) (at w) canonical (lines_if s.journal j.0) j.0 (record { allowed = goes_allowed s upper p w named not_past; prints = (w, named, is_text s.journal s w j.0 j.1); leads = (w, named, refl) }) (w, named, j.1)
+        | inr not_past ↦ let j = journals_exist s.motions s.size s.keeps s.moment (just_at w) sound.proper sound.canonical canonical not_past in
+            at_moment (goes_to upper p) (just_at w) canonical (lines_if s.journal j.0) j.0 (record { allowed = goes_allowed s upper p w named not_past; prints = (w, named, is_text s.journal s w j.0 j.1); leads = (w, named, refl) }) (w, named, j.1)
       ]
 
   -- one row for each deed

@@ -3,7 +3,7 @@ use Rattle.std.proofs.Common.{rules, ◌≡◌, inl, inr, ℕ, zero, suc, ◌+�
 use lib.IntN.{neg_ℤ}
 use Rattle.std.proofs.lemmas.Nat.Gcd.{IsGcd-from_zero, IsGcd-from_mod}
 use Rattle.kin_status.proofs.Vocabulary.{Appends, Appends-trans, ints, same_Some, line, sign_at_instant, IsEarlier, After, At, Shape, above_fraction, less_asym, start_canonical, is_live, none_live, AppendsFront, asks}
-use Rattle.kin_status.proofs.Vocabulary.{deed_of, IsGenerated, insertion, insertions, one_of_each, questions, IsProvided, IsNamedRoot, State, at, Ending, Text, Command, Script, IsDemoText}
+use Rattle.kin_status.proofs.Vocabulary.{deed_of, IsGenerated, insertion, insertions, one_of_each, questions, IsProvided, IsNamedRoot, State, just_at, Ending, Text, Command, Script, IsDemoText}
 use Rattle.kin_status.proofs.Vocabulary.{OneDemoText, WritesDemo, start_of, status_of_stop, PassesInTurn, IsCutOfText, IsFrontOfEach, HasTallied, tally_line, IsFront, Wrote, Tally, Stop, Fault, NoMemory}
 use Rattle.kin_num.specs.declared.instant.Shape.TheVariants.{Ratio}
 use Rattle.kin_num.proofs.FractionOrder.{fraction_itself, line_at_fraction}
@@ -19,7 +19,7 @@ use Rattle.kin_status.proofs.Tallying.{tallied_from_nothing}
 record IsAwaiting (first : ℕ) (s : State) : Type 0 where
   free : (number : ℕ) → first ≤ number → is_live s.motions number ≡ false
   keeps : s.keeps ≡ one_of_each
-  moment : s.moment ≡ at (Ratio (pos 0) (pos 1))
+  moment : s.moment ≡ just_at (Ratio (pos 0) (pos 1))
 
 -- what the commands of a suffix end in, from such a state
 abbrev EndWell : ℕ → List Line → Type 0
@@ -34,7 +34,7 @@ insertions_end_well seed zero cs more = more
 insertions_end_well seed (suc n) cs more = rw (append_assoc (insertions seed n) (insertion seed n ∷ []) cs) (insertions_end_well seed n (insertion seed n ∷ cs) (insertion_ends_well seed n cs more))
 
 -- ---- time goes to 20
-twenty_later : (w : Shape) → IsNamedRoot true (line (pos 20) (pos 1)) w → ¬ (IsEarlier (at w) (at (Ratio (pos 0) (pos 1))))
+twenty_later : (w : Shape) → IsNamedRoot true (line (pos 20) (pos 1)) w → ¬ (IsEarlier (just_at w) (just_at (Ratio (pos 0) (pos 1))))
 twenty_later w named (inr level) = let clash : At ≡ After = level.2 in cc
 twenty_later w named (inl less) =
     let is = fraction_itself (pos 20) (pos 1) (record { positive = omega arith; lowest = IsGcd-from_mod 20 1 1 (IsGcd-from_zero 1 0 refl) }) w named.0.canonical.form named.0.zero in
@@ -61,7 +61,7 @@ replies_end_well number =
 
 questions_end_well : (count number : ℕ) → EndWell count (questions number)
 questions_end_well count number s text ending awaiting (inl (r, inl none, text_is, ending_is)) = absurd (omega (arith, ints, none.1))
-questions_end_well count number s text ending awaiting (inl (r, inr (is, past), text_is, ending_is)) = absurd (twenty_later past.0 past.1 (subst (IsEarlier (at past.0)) awaiting.moment past.2))
+questions_end_well count number s text ending awaiting (inl (r, inr (is, past), text_is, ending_is)) = absurd (twenty_later past.0 past.1 (subst (IsEarlier (just_at past.0)) awaiting.moment past.2))
 questions_end_well count number s text ending awaiting (inr g) = (replies_end_well number).ends g.2 g.1 ending (ap (λ (t : State). t.keeps) g.3.leads.2 ∙ awaiting.keeps) g.4
 
 -- no command of a generated script is refused

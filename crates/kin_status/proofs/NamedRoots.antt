@@ -1,7 +1,7 @@
 -- The root that a line names: there is one where the discriminant is not negative, and no more than one.
 use Rattle.std.proofs.Common.{rules, arith, to_z, of_z, w64, ◌≡◌, zero, suc, Bool, true, false, [], ◌∷◌, inl, inr, refl, sym, ap, ◌∙◌, subst, ℤ, pos, negsuc, ◌<ℤ◌, ◌*ℤ◌, ◌↔◌, if◌then◌else◌, ◌≢◌, ◌⊎◌, Some, None}
 use Rattle.kin_status.proofs.Vocabulary.{ints, to_z-of_z, opposite_of, product_of, sign_of, Sign, Minus, Plus, Zero, sign_in, sign_of-times, sign_out, IsCanonical, IsCanonicalForm, discriminant, line, sign_at_instant, IsLess, Quadratic, Shape, level_same, less_asym, not_less_itself, AreRootsOf}
-use Rattle.kin_status.proofs.Vocabulary.{HasRoot, IsFraction, count_by_signs, Roots, All, Nowhere, One, Two, IsAskedFor, IsRatioInRange, HasNoRoot, IsNamedRoot, IsRootOf, at}
+use Rattle.kin_status.proofs.Vocabulary.{HasRoot, IsFraction, count_by_signs, Roots, All, Nowhere, One, Two, IsAskedFor, IsRatioInRange, HasNoRoot, IsNamedRoot, IsRootOf, just_at}
 use lib.IntN.{neg_ℤ}
 use Rattle.kin_algebra.proofs.Ring.{by_ring, quotes}
 use Rattle.kin_num.specs.Instants.{sign_at}
@@ -63,7 +63,7 @@ has_root (pos (suc n)) b c w root negative =
     let clash : Plus ≡ Zero = sym plus ∙ root.zero in cc
 has_root (negsuc n) b c w root negative =
     let plus = instant-negative w root.canonical.form (pos (suc n)) (neg_ℤ b) (neg_ℤ c) (sign_out Plus (pos (suc n)) refl) (rw (discriminant-negated (negsuc n) b c) negative) in
-    let clash : Plus ≡ Zero = sym plus ∙ sign_at-neg _ (at w) ∙ ap opposite_of root.zero in cc
+    let clash : Plus ≡ Zero = sym plus ∙ sign_at-neg _ (just_at w) ∙ ap opposite_of root.zero in cc
 
 -- a quadratic with a square has a number of roots, and where it has none its discriminant is negative
 counted : (a b c d : Sign) → a ≢ Zero → (Some 0 ≡ count_by_signs a b c d → d ≡ Minus) × (None ≡ count_by_signs a b c d → ⊥)

@@ -2,7 +2,7 @@
 use Rattle.std.proofs.Common.{◌≡◌, ℕ, Bool, true, false, List, [], ◌∷◌, ◌++◌, refl, sym, ap, ◌∙◌, subst, map, flat_map, append-nil, ◌≢◌, ◌⊎◌, inl, inr, Contains, if◌then◌else◌}
 use Rattle.std.proofs.lemmas.List.Concat.{flat_map-append}
 use Rattle.std.proofs.lemmas.List.Folds.{flat_map-map}
-use Rattle.kin_status.proofs.Vocabulary.{IsCanonical, IsEarlier, Moment, Shape, Block, Failure, IsJournal, IsNextBlock, NothingFails, Setting, block_is_listed, journal_is_one, next_block_is_one, failure_of, block_lines, failure_line, journal_lines, none_line, now_line, State, at, state_setting}
+use Rattle.kin_status.proofs.Vocabulary.{IsCanonical, IsEarlier, Moment, Shape, Block, Failure, IsJournal, IsNextBlock, NothingFails, Setting, block_is_listed, journal_is_one, next_block_is_one, failure_of, block_lines, failure_line, journal_lines, none_line, now_line, State, just_at, state_setting}
 use Rattle.kin_status.proofs.Vocabulary.{IsNextText, IsPassedText, IsFrontOfEach, printed_if}
 use Rattle.kin_fail.specs.declared.owned.Failure.{Failure as Failed}
 use Rattle.kin_num.proofs.MomentOrder.{not_earlier_itself, earlier_trans}
@@ -10,7 +10,7 @@ use Rattle.kin_algebra.proofs.Members.{contains_head}
 
 pub one_passed : (on : Bool) (s : State) (w : Shape) (x y : List ℕ) → IsCanonical s.moment.at → IsCanonical w → IsPassedText on s w x → IsPassedText on s w y → x ≡ y
 one_passed false s w x y now asked p q = p ∙ sym q
-one_passed true s w x y now asked p q = p.2 ∙ ap journal_lines (journal_is_one (state_setting s) s.moment (at w) p.0 q.0 now asked p.1 q.1) ∙ sym q.2
+one_passed true s w x y now asked p q = p.2 ∙ ap journal_lines (journal_is_one (state_setting s) s.moment (just_at w) p.0 q.0 now asked p.1 q.1) ∙ sym q.2
 
 some_failure : (fs : List Failure) → fs ≢ [] → (f : Failure) × Contains fs f
 some_failure [] some = absurd (some refl)
@@ -62,13 +62,13 @@ pub lines_behind : (journal : Bool) (bs : List Block) (b : Block) → lines_if j
 lines_behind false bs b = refl
 lines_behind true bs b = flat_map-append block_lines bs (b ∷ []) ∙ ap (λ (w : List ℕ). journal_lines bs ++ w) (append-nil (block_lines b))
 
-pub is_text : (journal : Bool) (s : State) (w : Shape) (bs : List Block) → IsJournal (state_setting s) s.moment (at w) bs → IsPassedText journal s w (lines_if journal bs)
+pub is_text : (journal : Bool) (s : State) (w : Shape) (bs : List Block) → IsJournal (state_setting s) s.moment (just_at w) bs → IsPassedText journal s w (lines_if journal bs)
 is_text false s w bs j = refl
 is_text true s w bs j = (bs, j, refl)
 
 -- what was printed on the way is a front of all that there is to print
 pub cut_on_the_way : (journal : Bool) (s : State) (now : Moment) (w : Shape) (bs : List Block)
-    → ArePassed (state_setting s) s.moment now (at w) bs → IsFrontOfEach (IsPassedText journal s w) (lines_if journal bs)
+    → ArePassed (state_setting s) s.moment now (just_at w) bs → IsFrontOfEach (IsPassedText journal s w) (lines_if journal bs)
 cut_on_the_way false s now w bs p text e = record { more = []; joined = e }
 cut_on_the_way true s now w bs p text e =
     let x = p.back e.0 e.1 in

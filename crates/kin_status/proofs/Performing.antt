@@ -1,6 +1,6 @@
 -- What came of a deed, from what came of its parts.
 use Rattle.std.proofs.Common.{◌≡◌, ◌≢◌, ℕ, Bool, List, ◌++◌, ◌∙◌, refl, sym, append-nil, subst, Result, Ok, Err, OnOk, OnErr, [], Option, slice_set}
-use Rattle.kin_status.proofs.Vocabulary.{IsCanonical, IsEarlier, Quadratic, Shape, Course, motion_of, Change, ChangesTo, asks, changes, goes_to, PutsFront, IsAllowed, IsNamedRoot, State, at, IsNextText, IsPassedText, Prints, Step}
+use Rattle.kin_status.proofs.Vocabulary.{IsCanonical, IsEarlier, Quadratic, Shape, Course, motion_of, PointChange, ChangesTo, asks, changes, goes_to, PutsFront, IsAllowed, IsNamedRoot, State, just_at, IsNextText, IsPassedText, Prints, Step}
 use Rattle.kin_status.proofs.Vocabulary.{Command, one_reply_line, BreaksOff, IsFrontOfEach, IsReply, Performs, PutsLine, Replies, GainsSome, Printer, printer, Halt, Broken, Refused, Stop, Fault, NoMemory}
 use Rattle.kin_print.specs.declared.reply.Reply.{Reply}
 use Rattle.kin_print.specs.Replies.{reply_line}
@@ -10,8 +10,8 @@ use Rattle.kin_status.proofs.Gathering.{Bytes, gains_put, some_is, gains_nothing
 use Rattle.kin_status.proofs.NamedRoots.{one_named_root}
 
 -- ---- to an instant
-module _ (s : State) (upper : Bool) (z : Quadratic) (w : Shape) (named : IsNamedRoot upper z w) (later : ¬ (IsEarlier (at w) s.moment)) where
-  pub moved : {p q : Printer} (t : State) → t ≡ record s { moment = at w } → GainsSome (IsPassedText s.journal s w) p q → GainsSome (λ text. Step s (goes_to upper z) text t) p q
+module _ (s : State) (upper : Bool) (z : Quadratic) (w : Shape) (named : IsNamedRoot upper z w) (later : ¬ (IsEarlier (just_at w) s.moment)) where
+  pub moved : {p q : Printer} (t : State) → t ≡ record s { moment = just_at w } → GainsSome (IsPassedText s.journal s w) p q → GainsSome (λ text. Step s (goes_to upper z) text t) p q
   moved t e x = some_is x (λ text. Step s (goes_to upper z) text t) (λ text is. record { allowed = goes_allowed s upper z w named later; prints = (w, named, is); leads = (w, named, e) })
 
   cut : (front : List ℕ) → IsFrontOfEach (IsPassedText s.journal s w) front → IsFrontOfEach (Prints s (goes_to upper z)) front
@@ -49,6 +49,6 @@ pub puts_next : {E : Type 0} (s : State) → IsCanonical s.moment.at → (line :
 puts_next s canonical line own (Ok x) before now ok err = (line, ok, own)
 puts_next s canonical line own (Err e) before now ok err = (err.front, err.put, λ text is. record { more = err.rest; joined = one_next s text line canonical is own ∙ err.cut })
 
-module _ (s : State) (number : ℕ) (c : Change) (p : Printer) (allowed : IsAllowed s (changes number c)) where
+module _ (s : State) (number : ℕ) (c : PointChange) (p : Printer) (allowed : IsAllowed s (changes number c)) where
   pub changed : (next : Option Course) (t : State) → ChangesTo s.moment (motion_of s.motions number) c next → t ≡ record s { motions = slice_set s.motions number next } → GainsSome (λ text. Step s (changes number c) text t) p p
   changed next t to e = record { text = []; gained = gains_nothing p; is = record { allowed = allowed; prints = refl; leads = (next, to, e) } }

@@ -1,6 +1,6 @@
 -- A run of commands: the text so far and the blocks passed so far, and the text and the blocks of what is left.
 use Rattle.std.proofs.Common.{rules, arith, ◌≡◌, ℕ, List, [], ◌∷◌, ◌++◌, drop, suc, ◌+◌, ◌<◌, ◌≤◌, length, get_or, drop-cons, add-one, Some, None, refl, sym, ap, ◌∙◌, subst, append_assoc, inl, inr, append-nil, Option}
-use Rattle.kin_status.proofs.Vocabulary.{drop_all, IsCanonical, Shape, Block, IsJournal, journal_is_one, AppendsFront, Deed, deed_of, goes_on, goes_to, IsAllowed, IsRefused, LeadsTo, State, at, state_setting, Ending, Prints}
+use Rattle.kin_status.proofs.Vocabulary.{drop_all, IsCanonical, Shape, Block, IsJournal, journal_is_one, AppendsFront, Deed, deed_of, goes_on, goes_to, IsAllowed, IsRefused, LeadsTo, State, just_at, state_setting, Ending, Prints}
 use Rattle.kin_status.proofs.Vocabulary.{Step, Text, refused_line, Command, Refusal, Passes, PassesInTurn, BreaksOff, IsCutOfText, IsFrontOfEach, HasTallied, Gains, GainsSome, IsFront, LosesSome, Printer, Tally, Stop}
 use Rattle.kin_status.proofs.Determined.{one_cause, one_step, stays, one_at_root, one_state}
 use Rattle.kin_status.proofs.Gathering.{some_then, some_is, some_broke, some_lost_here, front_through, front_after}
@@ -91,7 +91,7 @@ module _ {s : State} {all : List Line} {t : State} {old now : Option Tally} wher
 
 -- ---- commands pass the same blocks always
 one_passed : (s : State) (d : Deed) (x y : List Block) → IsCanonical s.moment.at → Passes s d x → Passes s d y → x ≡ y
-one_passed s (goes_to upper p) x y canonical a b = one_at_root upper p (λ (w : Shape) (bs : List Block). IsJournal (state_setting s) s.moment (at w) bs) x y (λ w there. journal_is_one (state_setting s) s.moment (at w) x y canonical there) a b
+one_passed s (goes_to upper p) x y canonical a b = one_at_root upper p (λ (w : Shape) (bs : List Block). IsJournal (state_setting s) s.moment (just_at w) bs) x y (λ w there. journal_is_one (state_setting s) s.moment (just_at w) x y canonical there) a b
 one_passed s goes_on x y canonical a b = one_told s (λ (b : Block). b ∷ []) [] x y canonical a b
 one_passed s d x y canonical a b = a ∙ sym b
 

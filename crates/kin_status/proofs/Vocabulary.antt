@@ -26,12 +26,13 @@ pub use Rattle.kin_instant.specs.declared.roots.Roots.{Roots}
 pub use Rattle.kin_instant.specs.declared.roots.Roots.TheVariants.{All, Nowhere, One, Two}
 pub use Rattle.kin_motion.specs.Course.{AreSlow, Course, IsSlow, is_live, motion_of}
 pub use Rattle.kin_motion.specs.Journal.{Block, Failure, IsJournal, IsNextBlock, NothingFails, Setting}
+pub use Rattle.kin_motion.specs.Turning.{just_at}
 pub use Rattle.kin_motion.proofs.JournalLaws.{block_is_listed, journal_is_one, next_block_is_one}
 pub use Rattle.kin_motion.proofs.SlotLaws.{none_live}
 pub use Rattle.kin_io.specs.Ends.{AppendsFront}
 pub use Rattle.kin_fail.specs.Blocks.{failure_of}
 pub use Rattle.kin_print.proofs.Fronts.{front_at, front_behind, front_first}
-pub use Rattle.kin_script.specs.Changes.{Change, ChangesTo, IsChangeInRange, IsRefusedChange, enters, leaves, restarts, turns}
+pub use Rattle.kin_script.specs.Changes.{PointChange, ChangesTo, IsChangeInRange, IsRefusedChange, enters, leaves, restarts, turns}
 pub use Rattle.kin_script.specs.Deeds.{Deed, asks, changes, deed_of, goes_on, goes_to}
 pub use Rattle.kin_script.specs.Generated.{IsGenerated, IsLeastSize, insertion, insertions, one_of_each, questions}
 pub use Rattle.kin_script.specs.Grammar.{script_of}
@@ -40,7 +41,7 @@ pub use Rattle.kin_script.specs.PrintedJournal.{block_lines, failure_line, journ
 pub use Rattle.kin_script.specs.Questions.{IsProvided}
 pub use Rattle.kin_script.specs.Ranges.{IsAskedFor, IsCommandInRange, IsDeedInRange, IsRatioInRange, IsWithin}
 pub use Rattle.kin_script.specs.Replay.{HasNoRoot, IsAllowed, IsNamedRoot, IsRefused, IsRootOf, LeadsTo}
-pub use Rattle.kin_script.specs.States.{State, at, start, state_setting}
+pub use Rattle.kin_script.specs.States.{State, start, state_setting}
 pub use Rattle.kin_script.specs.Text.{Ending, IsNextText, IsPassedText, Prints, Step, Text, bad_line, refused_line}
 pub use Rattle.kin_script.specs.declared.command.Command.{Command}
 pub use Rattle.kin_script.specs.declared.refusal.Refusal.{Refusal}

@@ -2,11 +2,12 @@
 use Rattle.std.specs.Prelude.{◌≡◌, ◌⊎◌, ℕ, Bool, List, [], ◌∷◌, ◌++◌, if◌then◌else◌}
 use Rattle.kin_num.specs.declared.instant.Shape.{Shape}
 use Rattle.kin_motion.specs.Journal.{Block, IsNextBlock, IsJournal, NothingFails}
+use Rattle.kin_motion.specs.Turning.{just_at}
 use Rattle.kin_script.specs.declared.command.Command.{Command}
 use Rattle.kin_script.specs.PrintedJournal.{block_lines}
 use Rattle.kin_script.specs.Deeds.{Deed, changes, goes_to, goes_on, asks, deed_of}
 use Rattle.kin_script.specs.Replay.{IsNamedRoot, IsAllowed, LeadsTo}
-use Rattle.kin_script.specs.States.{State, at, state_setting}
+use Rattle.kin_script.specs.States.{State, state_setting}
 
 -- the next block; where no live fact ever fails, none
 abbrev pub IsNextIfAny : State → List Block → Type 0
@@ -16,7 +17,7 @@ IsNextIfAny s bs = ((b : Block) × IsNextBlock (state_setting s) s.moment b × (
 -- the blocks that a deed passes: those of the journal up to the named instant, or the next one
 abbrev pub Passes : State → Deed → List Block → Type 0
 Passes s (changes number change) bs = bs ≡ []
-Passes s (goes_to upper p) bs = (w : Shape) × IsNamedRoot upper p w × IsJournal (state_setting s) s.moment (at w) bs
+Passes s (goes_to upper p) bs = (w : Shape) × IsNamedRoot upper p w × IsJournal (state_setting s) s.moment (just_at w) bs
 Passes s goes_on bs = IsNextIfAny s bs
 Passes s (asks q) bs = bs ≡ []
 

@@ -3,8 +3,8 @@
 ghost use Rattle.std.specs.Prelude.{◌≡◌, ◌≤◌, ◌<◌, ◌<ℤ◌, ◌^◌, ◌↔◌, IsTrue, MatchOption, if◌then◌else◌, pos, unsigned_abs};
 ghost use Rattle.kin_num.specs.Canonical.{discriminant};
 ghost use Rattle.kin_num.specs.Order.{IsEarlier};
+ghost use Rattle.kin_motion.specs.Turning.{just_at};
 ghost use Rattle.kin_script.specs.Replay.{IsNamedRoot};
-ghost use Rattle.kin_script.specs.States.{at};
 
 use kin_instant::order::compare;
 use kin_instant::roots::Roots;
@@ -15,7 +15,7 @@ use std::cmp::Ordering;
 
 /// Whether the instant is before the moment.
 pub fn is_before(instant: &Instant, moment: &Moment) -> bool
-    ensures { IsTrue result ↔ IsEarlier (at instant.now) moment.now }
+    ensures { IsTrue result ↔ IsEarlier (just_at instant.now) moment.now }
 {
     match compare(instant, &moment.at) {
         Ordering::Less => true,

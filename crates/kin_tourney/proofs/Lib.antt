@@ -16,3 +16,4 @@ pub mod Settled
 pub mod ExtremePoints
 pub mod EnterPoints
 pub mod LeavingPoints
+pub mod FollowingPoints

@@ -61,9 +61,6 @@ mark_more marked i inside e = let k = mark_set marked i inside in let old : one_
 pub mark_again : (marked : List Bool) (i : ℕ) → i < length marked → mark_in marked i ≡ true → mark_count (set marked i true) ≡ mark_count marked
 mark_again marked i inside e = let k = mark_set marked i inside in let old : one_if (mark_in marked i) ≡ 1 = ap one_if e in let new : one_if true ≡ 1 = refl in omega arith
 
-pub mark_none : (marked : List Bool) → ((i : ℕ) → mark_in marked i ≡ false) → mark_count marked ≡ 0
-mark_none marked none = let k = sum_by-le one_if 0 marked (All-from_get_or (λ m. one_if m ≤ 0) marked false (λ i inside. let e : one_if (mark_in marked i) ≡ 0 = ap one_if (none i) in omega arith)) in omega arith
-
 -- where only node 0 is in doubt, it alone counts
 pub count_of_top : (ds : List Doubt) → IsClosed ds → ((v : ℕ) → 0 < v → doubt_in ds v ≡ Clear) → doubt_count ds ≡ 1
 count_of_top ds closed clear =

@@ -22,7 +22,8 @@ use Rattle.kin_tourney.specs.Standings.{Standings, IsTree, IsRight, best_in, fac
 use Rattle.kin_tourney.specs.Repairs.{IsMarkedUp, IsFed, IsDoubted, IsDoubtful, needs_play}
 use Rattle.kin_tourney.specs.Sound.{IsSound}
 use Rattle.kin_tourney.proofs.AfterWrite.{read_set}
-use Rattle.kin_tourney.proofs.Marks.{leaf_doubt, mark_under, mark_more, mark_again, mark_none, count_of_top, clear_but_top}
+use Rattle.kin_tourney.specs.PointLaws.{mark_none}
+use Rattle.kin_tourney.proofs.Marks.{leaf_doubt, mark_under, mark_more, mark_again, count_of_top, clear_but_top}
 use Rattle.kin_tourney.proofs.Entries.{named_under, entry_in_slot, match_slot}
 use Rattle.kin_tourney.proofs.Placements.{fact_of_placed, placed_of_fact}
 use Rattle.kin_tourney.proofs.Entrants.{right_where_held, right_at_one}

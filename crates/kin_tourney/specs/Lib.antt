@@ -8,3 +8,4 @@ pub mod Ready
 pub mod Determined
 pub mod Points
 pub mod PointLaws
+pub mod FrugalLaws

@@ -35,9 +35,11 @@ impl Tourney<Along> {
 }
 
 impl Steady for Tourney<Along> {
-    ghost use Rattle.kin_tourney.specs.Points.{StaysTournament};
+    ghost use Rattle.kin_tourney.specs.Points.{StaysTournament, SpendsPoints};
 
     ghost stays = { StaysTournament };
+
+    ghost spends = { SpendsPoints };
 
     fn settle_steadily<O: Signs, L: Ledger>(
         &mut self,
@@ -51,14 +53,17 @@ impl Steady for Tourney<Along> {
 }
 
 impl Kept for Tourney<Along> {
-    ghost use Rattle.kin_tourney.specs.Points.{IsTournamentFor, IsExtremeKeep, HasPoints};
+    ghost use Rattle.kin_tourney.specs.Points.{IsTournamentFor, IsExtremeKeep, HasPoints, FollowsPoints};
     ghost use Rattle.kin_tourney.specs.PointLaws.{points_ready, points_spare_none, points_kind_stays, points_stay, points_exact};
+    ghost use Rattle.kin_tourney.specs.FrugalLaws.{points_follow_scene, points_frugal};
 
     ghost is_for = { IsTournamentFor };
 
     ghost serves = { IsExtremeKeep };
 
     ghost has_members = { HasPoints };
+
+    ghost follows = { FollowsPoints };
 
     ghost ready_over = { points_ready };
 
@@ -69,6 +74,10 @@ impl Kept for Tourney<Along> {
     ghost members_stay = { points_stay };
 
     ghost exact = { points_exact };
+
+    ghost follows_scene = { points_follow_scene };
+
+    ghost frugal = { points_frugal };
 
     ghost stands_alone = { λ t s. tt };
 

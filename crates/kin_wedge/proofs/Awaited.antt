@@ -5,7 +5,7 @@ use Rattle.std.proofs.lemmas.Option.{same_Some}
 use Rattle.std.proofs.lemmas.Bool.{cases_Bool}
 use Rattle.kin_algebra.proofs.Members.{contains_cases}
 use Rattle.kin_motion.specs.Octants.{Octant, Reading}
-use Rattle.kin_motion.specs.Changes.{stands_before}
+use Rattle.kin_motion.specs.Records.{stands_before}
 use Rattle.kin_motion.specs.Sets.{AreDistinct}
 use Rattle.kin_wedge.specs.Rows.{row_of, stands_after, is_in_wedge, IsFirst, IsFirstAnswer}
 use Rattle.kin_wedge.specs.Touched.{IsAwaited, IsRenewed}

@@ -7,7 +7,7 @@ use Rattle.std.proofs.lemmas.Option.{same_Some, slice_get_within}
 use Rattle.kin_algebra.proofs.Members.{contains_none}
 use Rattle.kin_algebra.proofs.Places.{get_within}
 use Rattle.kin_motion.specs.declared.fact.Placed.{Placed}
-use Rattle.kin_motion.specs.Changes.{stands_before}
+use Rattle.kin_motion.specs.Records.{stands_before}
 use Rattle.kin_motion.specs.Numbers.{is_in, IsOnce}
 use Rattle.kin_motion.specs.Octants.{Octant, Reading}
 use Rattle.kin_motion.specs.Parts.{moved_by}

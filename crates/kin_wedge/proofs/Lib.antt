@@ -33,3 +33,6 @@ pub mod Keeping
 pub mod Told
 pub mod Readiness
 pub mod Resettled
+pub mod OrdersAsk
+pub mod Led
+pub mod EmptyOctants

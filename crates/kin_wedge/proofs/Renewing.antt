@@ -4,7 +4,7 @@ use Rattle.std.specs.Prelude.{slice_get}
 use Rattle.std.proofs.lemmas.Option.{same_Some}
 use Rattle.std.proofs.lemmas.Bool.{cases_Bool, and_parts}
 use Rattle.kin_motion.specs.Numbers.{is_in}
-use Rattle.kin_motion.specs.Changes.{stands_before}
+use Rattle.kin_motion.specs.Records.{stands_before}
 use Rattle.kin_motion.specs.Octants.{Octant, octants}
 use Rattle.kin_wedge.specs.Rows.{row_of, stands_after, is_in_wedge, IsFirstAnswer, HaveSlots}
 use Rattle.kin_wedge.specs.Touched.{IsRenewed}

@@ -5,7 +5,7 @@ use Rattle.std.proofs.lemmas.Bool.{cases_order, false_from_ne_true}
 use Rattle.std.proofs.lemmas.Bool.Decides.{nat_tests}
 use Rattle.std.proofs.lemmas.Option.{same_Some}
 use Rattle.kin_motion.specs.Numbers.{is_in}
-use Rattle.kin_motion.specs.Changes.{stands_before}
+use Rattle.kin_motion.specs.Records.{stands_before}
 use Rattle.kin_motion.specs.Sets.{AreDistinct}
 use Rattle.kin_wedge.specs.Scans.{IsAhead, step_to, steps_in}
 use Rattle.kin_wedge.proofs.Places.{before_from_places, before_by_places, places_from_before, first_is_in, second_is_in}

@@ -4,7 +4,7 @@ use Rattle.std.specs.Prelude.{slice_get}
 use Rattle.std.proofs.lemmas.Bool.{cases_eq, and_parts, and_from}
 use Rattle.kin_motion.specs.Numbers.{is_in, IsIn}
 use Rattle.kin_motion.specs.Scene.{Scene}
-use Rattle.kin_motion.specs.Changes.{stands_before}
+use Rattle.kin_motion.specs.Records.{stands_before}
 use Rattle.kin_motion.specs.Orders.{is_before}
 use Rattle.kin_motion.specs.Octants.{Octant, Reading, octants, direction_of, comes_after, is_in_octant, octant_members, IsCandidateAnswer}
 use Rattle.kin_motion.specs.Laws.{HasLineLaws}

@@ -4,7 +4,7 @@ use Rattle.std.specs.Prelude.{slice_get}
 use Rattle.std.proofs.lemmas.List.{set-get_or}
 use Rattle.std.proofs.lemmas.Option.{slice_get_within, get_or_from_slice_get}
 use Rattle.kin_algebra.proofs.Places.{get_within, get-set_same, get-set_other}
-use Rattle.kin_motion.specs.Changes.{moved_pairs}
+use Rattle.kin_motion.specs.Records.{moved_pairs}
 use Rattle.kin_motion.specs.Deltas.{Change}
 use Rattle.kin_motion.specs.Kinetics.{HasGained, HasChanged}
 use Rattle.kin_motion.specs.Parts.{moved_by}

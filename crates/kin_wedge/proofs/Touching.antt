@@ -5,7 +5,7 @@ use Rattle.std.proofs.lemmas.Bool.{cases_eq, both_ways}
 use Rattle.std.proofs.lemmas.List.Elements.{Contains-append_left}
 use Rattle.kin_algebra.proofs.Members.{contains_tail, contains_cases}
 use Rattle.kin_motion.specs.Octants.{Octant, Reading, forward, back, octants}
-use Rattle.kin_motion.specs.Changes.{stands_before}
+use Rattle.kin_motion.specs.Records.{stands_before}
 use Rattle.kin_motion.specs.Sets.{AreDistinct}
 use Rattle.kin_wedge.specs.declared.touch.Touch.{Touch}
 use Rattle.kin_wedge.specs.Rows.{row_of, stands_after}

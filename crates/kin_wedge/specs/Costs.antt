@@ -1,6 +1,6 @@
 -- The sign tests of eight orders, one after another.
 use Rattle.std.specs.Prelude.{◌≡◌, ℕ, zero, suc, ◌+◌, ◌*◌, ◌≤◌, List, length}
-use Rattle.kin_motion.specs.Changes.{moved_pairs}
+use Rattle.kin_motion.specs.Records.{moved_pairs}
 use Rattle.kin_motion.specs.Deltas.{Change}
 use Rattle.kin_list.specs.declared.mark.Mark.{Mark}
 use Rattle.kin_list.specs.Listing.{AreHalvings}

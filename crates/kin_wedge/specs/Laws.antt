@@ -1,7 +1,7 @@
 -- Laws on which a look-up and the offers rest.
 use Rattle.std.specs.Prelude.{◌≡◌, ◌≢◌, ◌⊎◌, ℕ, true, List, Some, slice_get}
 use Rattle.kin_list.specs.Rows.{exchanged}
-use Rattle.kin_motion.specs.Changes.{stands_before}
+use Rattle.kin_motion.specs.Records.{stands_before}
 use Rattle.kin_motion.specs.Octants.{Octant, octants, is_in_octant, comes_after}
 use Rattle.kin_motion.specs.Scene.{Scene, IsReal}
 use Rattle.kin_wedge.specs.Rows.{WereExchanged}

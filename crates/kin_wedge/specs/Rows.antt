@@ -3,7 +3,7 @@ use Rattle.std.specs.Prelude.{◌≡◌, ℕ, suc, ◌+◌, ◌*◌, ◌∷◌, 
 use Rattle.kin_motion.specs.Numbers.{is_in}
 use Rattle.kin_motion.specs.Sets.{AreDistinct}
 use Rattle.kin_list.specs.Rows.{exchange}
-use Rattle.kin_motion.specs.Changes.{stands_before}
+use Rattle.kin_motion.specs.Records.{stands_before}
 use Rattle.kin_motion.specs.Orders.{IsOrder}
 use Rattle.kin_motion.specs.Scene.{Scene}
 use Rattle.kin_motion.specs.Octants.{Octant, Reading, octants, direction_of}

@@ -1,6 +1,6 @@
 -- On which sides of a point another one lies, by the four orders that bound the octants.
 use Rattle.std.specs.Prelude.{◌≡◌, ℕ, ◌+◌, ◌%◌, ◌<◌, true, false, cond, nat_eq, List, length, Option, Some, slice_get, slice_index_or, MatchOption}
-use Rattle.kin_motion.specs.Changes.{stands_before}
+use Rattle.kin_motion.specs.Records.{stands_before}
 use Rattle.kin_motion.specs.Numbers.{is_in}
 use Rattle.kin_motion.specs.Octants.{Octant, Reading, octants}
 use Rattle.kin_wedge.specs.declared.sides.Sides.{Sides}

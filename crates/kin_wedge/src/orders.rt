@@ -1,7 +1,7 @@
 //! The eight orders.
 
 ghost use Rattle.std.specs.Prelude.{◌≡◌, ℕ, ◌<◌, ◌≤◌, ◌^◌, Some, true, slice_get, length, IfOk};
-ghost use Rattle.kin_motion.specs.Changes.{stands_before};
+ghost use Rattle.kin_motion.specs.Records.{stands_before};
 ghost use Rattle.kin_motion.specs.Numbers.{is_in};
 ghost use Rattle.kin_wedge.specs.Parts.{AreVacant, vacant_listing};
 ghost use Rattle.kin_wedge.specs.Rows.{row_of, stands_after, is_in_wedge, AreAlike, AreRows};

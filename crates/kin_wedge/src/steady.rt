@@ -1,4 +1,4 @@
-//! What a settle leaves as it is.
+//! What a settle leaves as it is, and what it spends.
 
 use crate::wedges::Wedges;
 use kin_motion::fact::{Delta, Placed};
@@ -11,8 +11,11 @@ use std::sync::ledger::Ledger;
 
 impl Steady for Wedges {
     ghost use Rattle.std.specs.Prelude.{◌≡◌};
+    ghost use Rattle.kin_wedge.specs.Costs.{AreFewBelow};
 
     ghost stays = { λ old new. new.size ≡ old.size };
+
+    ghost spends = { λ old new failed out out' before after. AreFewBelow 8 old.mark old.orders new.orders out out' before after };
 
     fn settle_steadily<O: Signs, L: Ledger>(
         &mut self,

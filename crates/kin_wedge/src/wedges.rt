@@ -1,10 +1,10 @@
 //! The eight orders with their candidates.
 
-ghost use Rattle.std.specs.Prelude.{◌≡◌, ◌*◌, ◌≤◌, ◌<◌, ◌^◌, [], Some, None, true, false, replicate, IfOk, OnOk, OnErr};
+ghost use Rattle.std.specs.Prelude.{◌≡◌, ◌*◌, ◌≤◌, ◌<◌, ◌^◌, [], Some, None, true, false, replicate, slice_get, IfOk, OnOk, OnErr, MatchOption};
 ghost use Rattle.kin_motion.specs.Kinetics.{ListsFailing, HasChanged};
-ghost use Rattle.kin_motion.specs.Numbers.{is_in};
-ghost use Rattle.kin_motion.specs.Octants.{ListsHits, ListsChanged};
-ghost use Rattle.kin_motion.specs.Scene.{IsReal};
+ghost use Rattle.kin_motion.specs.Numbers.{is_in, IsIn};
+ghost use Rattle.kin_motion.specs.Octants.{Octant, octants, octant_members, IsCandidate, ListsHits, ListsChanged};
+ghost use Rattle.kin_motion.specs.Scene.{Scene, IsReal};
 ghost use Rattle.kin_list.specs.declared.mark.Mark.TheVariants.{Rest, Enters, Leaves, Broken};
 ghost use Rattle.kin_list.specs.Listing.{names_leaving};
 ghost use Rattle.kin_wedge.specs.Costs.{AreFewBelow};
@@ -86,11 +86,13 @@ impl Wedges {
     }
 
     /// The candidate of an apex in an octant as it was settled last: of the points there, the first in the
-    /// octant's third order. `None` where the octant is empty, and where the apex is no member.
+    /// octant's third order. For a member, `None` comes exactly where the octant is empty; for any other
+    /// number always.
     pub fn candidate(&self, apex: u32, octant: u32) -> Option<u32>
         requires apex { apex < 2 ^ self.now.size }
         requires octant { octant < 8 }
-        ensures { result ≡ candidate_told self.now apex octant }
+        ensures told { result ≡ candidate_told self.now apex octant }
+        ensures settled { (s : Scene) (o : Octant) → IsReal s → IsSettledWedging self.now s → IsIn apex s.live → slice_get octants octant ≡ Some o → MatchOption result (octant_members s o apex ≡ []) (IsCandidate s o apex) }
     {
         self.candidates.table.candidate(8 * apex + octant)
     }

@@ -19,7 +19,7 @@ use Rattle.kin_motion.specs.Live.{owned_by}
 use Rattle.kin_motion.specs.Merges.{IsHullFact, points_under}
 use Rattle.kin_motion.specs.Moments.{IsFromUntil, HoldsAt}
 use Rattle.kin_motion.specs.Numbers.{IsIn}
-use Rattle.kin_motion.specs.Scene.{Scene, IsReal, scene_at, turned, x_sign}
+use Rattle.kin_motion.specs.Scene.{Scene, IsReal, scene_at, x_sign}
 use Rattle.kin_motion.proofs.ChainLaws.{chain_within, plus_from}
 use Rattle.kin_motion.proofs.LiveLaws.{live-members}
 use Rattle.kin_motion.proofs.Members.{in_from_contains}
@@ -32,8 +32,7 @@ use Rattle.kin_chain.proofs.NodeChains.{under_live}
 use Rattle.kin_hull.specs.declared.side.Side.{Side}
 use Rattle.kin_hull.specs.declared.side.Side.TheVariants.{Upper, Lower}
 use Rattle.kin_hull.specs.Sides.{seen_from}
-use Rattle.kin_env.specs.Trees.{Envelope, IsSettledEnvelope, ChainsKeepOrder, chain_told}
-use Rattle.kin_world.specs.ChainOrder.{IsChainOfNode, NodesKeepOrder, TreesKeepOrder, BlocksKeepOrder, InsertionsKeepOrder, RemovalsKeepOrder, HullsFollowTrees}
+use Rattle.kin_world.specs.ChainOrder.{IsChainOfNode, TreeKeepsOrder, TreesKeepOrder, BlocksKeepOrder, InsertionsKeepOrder, RemovalsKeepOrder}
 use Rattle.kin_world.proofs.HullSights.{left_is_strict, seen_real, seen_live, seen_left, tree_holds}
 use Rattle.kin_world.proofs.NoJumps.{no_jump}
 use Rattle.kin_world.proofs.TwoOrders.{AreExchanged, before_in_both, keep_order}
@@ -45,7 +44,7 @@ ChangeSides v w old new i j = AreExchanged (is_left v) (is_left w) old new i j
 -- where there are none, the chain keeps its order
 module _ (size : ℕ) (v w : Scene) (real : IsReal v) (real' : IsReal w) where
   nodes_keep : ((node : ℕ) (old new : List ℕ) → 0 < node → node < 2 * 2 ^ size → IsChainOfNode size v node old → IsChainOfNode size w node new
-      → (i j : ℕ) → ChangeSides v w old new i j → ⊥) → NodesKeepOrder size v w
+      → (i j : ℕ) → ChangeSides v w old new i j → ⊥) → TreeKeepsOrder size v w
   nodes_keep none node old new some low was is =
       keep_order (is_left v) (is_left w) (left_is_strict v real) (left_is_strict w real') old new was.rising is.rising (none node old new some low was is)
       (rising_once v (real_line_laws v real) old was.rising) (rising_once w (real_line_laws w real') new is.rising)
@@ -108,7 +107,7 @@ module _ (ms : List (Option Course)) (size : ℕ) (slow : AreSlow ms) (fits : (m
             let laws = real_line_laws (scene_at ms later) (real_at ms later there) in
             laws.opposite (pos 1) (pos 0) j i ∙ ap opposite_of (plus_from (sym (seen_left side (scene_at ms later) j i) ∙ change.behind))
 
-  side_keeps : (side : Side) → NodesKeepOrder size (sight side ms now) (sight side ms later)
+  side_keeps : (side : Side) → TreeKeepsOrder size (sight side ms now) (sight side ms later)
   side_keeps side =
       nodes_keep size (sight side ms now) (sight side ms later) (sight_real side ms now here) (sight_real side ms later there)
       (λ node old new some low was is. none_change side node old some low was new)
@@ -145,7 +144,7 @@ module _ (ms ns : List (Option Course)) (alike : MoveAlike ms ns) (size : ℕ) (
         let strict = left_is_strict (sight side ns m) (sight_real side ns m c) in
         strict.never i (strict.through i j i left change.behind)
 
-  side_alike : (side : Side) → NodesKeepOrder size (sight side ms m) (sight side ns m)
+  side_alike : (side : Side) → TreeKeepsOrder size (sight side ms m) (sight side ns m)
   side_alike side =
       nodes_keep size (sight side ms m) (sight side ns m) (sight_real side ms m c) (sight_real side ns m c)
       (λ node old new some low was is. none_differ side node old new was is)
@@ -175,17 +174,3 @@ removals_keep_order ms size leaving m = alike_keeps ms (without ms leaving) alik
         at : (motion_of (without ms leaving) i ≡ None) ⊎ (motion_of (without ms leaving) i ≡ motion_of ms i) → motion_of ms i ≡ motion_of (without ms leaving) i
         at (inl gone) = absurd (let clash : true ≡ false = sym now ∙ live-members (without ms leaving) i ∙ ap is_some gone in cc)
         at (inr stays) = sym stays
-
--- ---- the chains that settled structures have
-chains_follow : (size : ℕ) (v w : Scene) (old new : Envelope) → old.size ≡ size → new.size ≡ size → IsSettledEnvelope old v → IsSettledEnvelope new w → NodesKeepOrder size v w → ChainsKeepOrder old new
-chains_follow size v w old new same_old same_new was is keep = λ node some low.
-    let within : node < 2 * 2 ^ size = subst (λ (n : ℕ). node < 2 * 2 ^ n) same_old low in
-    let before = subst (λ (n : ℕ). IsChainOfNode n v node (chain_told old node)) same_old (was.chains node some low) in
-    let after = subst (λ (n : ℕ). IsChainOfNode n w node (chain_told new node)) same_new (is.chains node some (subst (λ (n : ℕ). node < 2 * 2 ^ n) (sym same_new) within)) in
-    keep node (chain_told old node) (chain_told new node) some within before after
-
-pub hulls_follow_trees : HullsFollowTrees
-hulls_follow_trees size v w old new same_old same_new was is keep = record {
-  upper = chains_follow size v w old.upper new.upper same_old same_new was.upper is.upper keep.upper;
-  lower = chains_follow size (turned v) (turned w) old.lower new.lower (was.size ∙ same_old) (is.size ∙ same_new) was.lower is.lower keep.lower;
-}

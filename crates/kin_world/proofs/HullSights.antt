@@ -6,7 +6,7 @@ use Rattle.kin_motion.specs.Merges.{IsTreeFact, IsHullFact}
 use Rattle.kin_motion.specs.Scene.{Scene, IsReal, Holds, x_sign}
 use Rattle.kin_motion.proofs.ChainLaws.{left_through, never_left}
 use Rattle.kin_motion.proofs.RealLaws.{real_line_laws}
-use Rattle.kin_motion.proofs.TurnedLaws.{turned-real}
+use Rattle.kin_motion.proofs.ReflectedLaws.{reflected-real}
 use Rattle.kin_hull.specs.declared.side.Side.{Side}
 use Rattle.kin_hull.specs.declared.side.Side.TheVariants.{Upper, Lower}
 use Rattle.kin_hull.specs.Sides.{seen_from}
@@ -21,7 +21,7 @@ left_is_strict s real = record {
 
 pub seen_real : (side : Side) (s : Scene) → IsReal s → IsReal (seen_from side s)
 seen_real Upper s real = real
-seen_real Lower s real = turned-real s real
+seen_real Lower s real = reflected-real s real
 
 pub seen_live : (side : Side) (s : Scene) → (seen_from side s).live ≡ s.live
 seen_live Upper s = refl

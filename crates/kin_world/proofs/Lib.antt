@@ -20,3 +20,5 @@ pub mod NoJumps
 pub mod HullSights
 pub mod ChainOrder
 pub mod Sufficiency
+pub mod PaidLaws
+pub mod Frugal

@@ -1,6 +1,6 @@
 -- One structure is repaired, and the others stand as they were.
-use Rattle.kin_world.proofs.Vocabulary.{subst, ◌≡◌, inl, inr, ap, ℕ, List, slice_set, Contains, IsTrue, cases_Bool, All-contains, Certificate, owned_by, HoldsAt, Holds, scene_at, ListsExactly, Placed, Keep, exactly_in_words, Facts, LiveFact}
-use Rattle.kin_world.proofs.Vocabulary.{NoneWaits, HasFactsOf, timed_holds, placed_facts, HasRepaired, HasUpdated, IsSound, IsUnderRepair, ListsWaiting, Stage, sight, Structure}
+use Rattle.kin_world.proofs.Vocabulary.{subst, ◌≡◌, inl, inr, ap, ℕ, List, slice_set, true, Contains, IsTrue, cases_Bool, All-contains, Certificate, owned_by, HoldsAt, Holds, scene_at, ListsExactly, Placed, Keep, exactly_in_words, Facts, LiveFact}
+use Rattle.kin_world.proofs.Vocabulary.{NoneWaits, HasFactsOf, timed_holds, placed_facts, HasRepaired, HasUpdated, IsSettledFor, IsSound, IsUnderRepair, ListsWaiting, Stage, sight, Structure}
 use Rattle.kin_world.proofs.InOrder.{all_hold, restated, replaced, tabled_here, timed_new}
 use Rattle.kin_world.proofs.StructureLaws.{settled_holds, settled_from_hold}
 
@@ -39,6 +39,11 @@ module _ {s : Stage} (repair : IsUnderRepair s) where
       holds l there is =
           All-contains (λ (p : Placed). Holds (sight s) p.fact) (placed_facts after) l.certificate.placed (settled_holds s.size keep (sight s) after r.settled)
           ((tabled_here repair r l.certificate.placed).1 (l, there, ap (λ n. owned_by n l.certificate.placed) is))
+
+  -- a fact that waits isn't one of a structure that is settled now
+  pub given_leaves : (keep : Keep) (after : Structure) → IsSettledFor s.size keep (sight s) after → (l : LiveFact) → Contains s.table.live l → l.waits ≡ true → ¬ (Contains (placed_facts after) l.certificate.placed)
+  given_leaves keep after settled l there waits kept =
+      (repair.timely l there).failed waits (All-contains (λ (p : Placed). Holds (sight s) p.fact) (placed_facts after) l.certificate.placed (settled_holds s.size keep (sight s) after settled) kept)
 
   -- where no fact waits every structure is settled
   pub sound_when_none_waits : NoneWaits s.table.live → IsSound s

@@ -25,7 +25,7 @@ use Rattle.kin_motion.proofs.Proved.{order_proved, extreme_proved, cycle_proved,
 use Rattle.kin_chain.proofs.HullDetermined.{hull_is_determined}
 use Rattle.kin_near.proofs.DeterminedPairs.{closest_is_determined}
 use Rattle.kin_world.specs.Sufficiency.{HaveSameAnswers, LiveFactsHoldIn, LiveFactsHoldThere, LiveFactsImplyAnswers, LiveFactsStay}
-use Rattle.kin_world.specs.Worlds.{IsWhole, World, scene_of}
+use Rattle.kin_world.specs.Worlds.{IsWhole, World, world_scene}
 
 -- all facts of a list hold where those that it lists do
 all_hold : (w : Scene) (facts : List Placed) (which : Placed → Type 0) → ListsExactly facts which → ((p : Placed) → which p → Holds w p.fact) → AllHold w facts
@@ -112,8 +112,8 @@ live_facts_stay size keeps v w cs h = record { once = h.live.once; each = λ c. 
         (h.live.each c).1 (record { keep = f.keep; kept = f.kept; fact = (same_facts size keeps v w cs h f.keep (kept_holds size keeps v w cs h c.structure f.keep f.kept) c.placed).1 f.fact })
 
 -- where the live facts of a whole world hold, each kept structure has the answer that it has now
-pub answers_suffice : (w : World) (v : Scene) → IsWhole w → LiveFactsHoldIn w v → HaveSameAnswers w.keeps (scene_of w) v
-answers_suffice w v whole h = live_facts_imply_answers w.size w.keeps (scene_of w) v w.live (record {
+pub answers_suffice : (w : World) (v : Scene) → IsWhole w → LiveFactsHoldIn w v → HaveSameAnswers w.keeps (world_scene w) v
+answers_suffice w v whole h = live_facts_imply_answers w.size w.keeps (world_scene w) v w.live (record {
   real = real_at w.motions w.moment whole.canonical;
   real_there = h.real;
   fits = live_fits w.size w.motions w.moment whole.room;

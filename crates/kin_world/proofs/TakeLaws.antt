@@ -24,7 +24,7 @@ module _ {s : Stage} (sound : IsSound s) (table : Facts) {given : List Owned} (o
   first : FailsFirst (scene_at s.motions) s.moment has.moment has.least.some.0.certificate.placed.fact
   first = least_fails sound has.moment has.least
 
-  same_facts : HaveSameCertificates s.table.live table.live
+  pub same_facts : HaveSameCertificates s.table.live table.live
   same_facts = record {
     stay = λ l there. let k = has.stays l there in (k.0, k.1, k.2.certificate);
     only = λ k there. let l = has.only k there in (l.0, l.1, sym l.2.certificate);

@@ -44,6 +44,8 @@ pub use Rattle.kin_cert.specs.Told.{HasFactsOf, IsTimed, MayTell, certificates_o
 pub use Rattle.kin_fail.specs.declared.owned.Owned.{Owned}
 pub use Rattle.kin_cert.proofs.NextLaws.{IsInTime, earlier_still, fails_first, hold_before_least, later_start, next_block, nothing_fails, nothing_until, timed_holds}
 pub use Rattle.kin_world.specs.Kinds.{HasMembers, kinetic, placed_facts}
+pub use Rattle.kin_world.specs.Costs.{IsRepairCost, IsTurnCost}
+pub use Rattle.kin_world.specs.Paid.{HavePaid}
 pub use Rattle.kin_world.specs.Structures.{AreLiveAfter, AreVacant, HoldFor, IsSettledFor, IsSettledWhereAllHold, IsVacant}
 pub use Rattle.kin_world.specs.Upkeep.{AreLeft, AreTold, AreWaiting, HasComeTo, HasGoneOn, HasGoneOver, HasLanded, HasOneMore, HasRepaired, HasSameFrame, HasSettled, HasTimedNew, HasUpdated, IsBeyond, IsCarriedOut, IsDueWithin, IsFit}
 pub use Rattle.kin_world.specs.Upkeep.{IsInOrder, IsInPlace, IsLanding, IsMarked, IsRepairing, IsSound, IsTimedOrFailed, IsUnderRepair, ListsWaiting, Stage, is_line, meaning, setting, sight}

@@ -5,3 +5,5 @@ pub mod Upkeep
 pub mod Worlds
 pub mod ChainOrder
 pub mod Sufficiency
+pub mod Costs
+pub mod Paid

@@ -11,7 +11,7 @@ use Rattle.kin_motion.specs.Kinetics.{HaveSameLive}
 use Rattle.kin_motion.specs.Live.{Certificate, ListsLive}
 use Rattle.kin_motion.specs.Orders.{IsOrder}
 use Rattle.kin_motion.specs.Scene.{Scene, IsReal, Holds}
-use Rattle.kin_world.specs.Worlds.{World, scene_of}
+use Rattle.kin_world.specs.Worlds.{World, world_scene}
 
 -- each kept order, extreme point, hull and closest pair of the one scene is that of the other
 pub record HaveSameAnswers (keeps : List Keep) (v w : Scene) : Type 0 where
@@ -40,5 +40,5 @@ LiveFactsStay = (size : ℕ) (keeps : List Keep) (v w : Scene) (cs : List Certif
 -- a real scene with the world's live numbers, in which all its live facts hold; the motions and the moment there may be any
 pub record LiveFactsHoldIn (w : World) (v : Scene) : Type 0 where
   pub real : IsReal v
-  pub same : HaveSameLive (scene_of w) v
+  pub same : HaveSameLive (world_scene w) v
   pub hold : All (λ c. Holds v c.placed.fact) w.live

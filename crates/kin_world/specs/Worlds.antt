@@ -33,8 +33,8 @@ abbrev pub world_setting : World → Setting
 world_setting w = setting_of w.motions w.size w.keeps
 
 -- what is seen now
-abbrev pub scene_of : World → Scene
-scene_of w = scene_at w.motions w.moment
+abbrev pub world_scene : World → Scene
+world_scene w = scene_at w.motions w.moment
 
 -- the fact of this form with this sign, of a structure and a part
 abbrev pub certificate : ℕ → ℕ → Form → Sign → Certificate
@@ -54,7 +54,7 @@ pub record IsWhole (w : World) : Type 0 where
   pub room : length w.motions ≡ 2 ^ w.size
   pub slow : AreSlow w.motions
   pub canonical : IsCanonical w.moment.at
-  pub live : ListsLive w.size w.keeps (scene_of w) w.live
+  pub live : ListsLive w.size w.keeps (world_scene w) w.live
 
 -- no points yet, at the instant 0
 abbrev pub empty : ℕ → List Keep → World
@@ -139,7 +139,7 @@ HasStepped limit (Some b) old new = HasPassed limit b old new
 -- a live fact fails at or before the limit
 pub record FailsWithin (limit : Moment) (w : World) : Type 0 where
   pub certificate : Certificate
-  pub live : IsLiveFact w.size w.keeps (scene_of w) certificate
+  pub live : IsLiveFact w.size w.keeps (world_scene w) certificate
   pub moment : Moment
   pub fails : FailsFirst (scene_at w.motions) w.moment moment certificate.placed.fact
   pub within : ¬ (IsEarlier limit moment)

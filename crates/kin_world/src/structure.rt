@@ -6,7 +6,7 @@
 ghost use Rattle.std.specs.Prelude.{◌≡◌, ◌≤◌, ◌<◌, ◌^◌, ℕ, ℤ, List, [], Contains, IfOk, OnOk};
 ghost use Rattle.kin_motion.specs.declared.keep.Keep.{Keep as Kind};
 ghost use Rattle.kin_motion.specs.declared.keep.Keep.TheVariants.{Order as KeepOrder, Extreme as KeepExtreme, Hull as KeepHull, Closest as KeepClosest, Range as KeepRange};
-ghost use Rattle.kin_motion.specs.Boxes.{IsRectInRange, box_of};
+ghost use Rattle.kin_motion.specs.Boxes.{IsRectInRange, points_in};
 ghost use Rattle.kin_motion.specs.Chains.{IsHullCycle};
 ghost use Rattle.kin_motion.specs.ClosestPairs.{IsClosest};
 ghost use Rattle.kin_motion.specs.Extremes.{IsExtremePoint};
@@ -16,6 +16,7 @@ ghost use Rattle.kin_motion.specs.Live.{IsSmallKeep};
 ghost use Rattle.kin_motion.specs.Numbers.{HasEntered};
 ghost use Rattle.kin_motion.specs.Sets.{ListsExactly};
 ghost use Rattle.kin_motion.specs.Scene.{Scene, IsReal, scene_at};
+ghost use Rattle.kin_motion.specs.Spending.{AreInStep, HasRisenWithin, MayAsk};
 ghost use Rattle.kin_world.specs.Kinds.{placed_facts, IsFor, IsAtRest, HasMembers, IsSettledIn};
 ghost use Rattle.kin_world.specs.Structures.{AreFailing, AreLiveAfter, HoldBut, HoldFor, IsKept, marked};
 
@@ -87,6 +88,7 @@ impl Structure {
         ensures members { OnOk result (HasMembers (O.scene now.now).live self.new) }
         ensures settled { OnOk result (IsSettledIn (O.scene now.now) self.new) }
         ensures delta { OnOk result (HasChanged (placed_facts self.old) (placed_facts self.new) out.old out.new) }
+        ensures within { OnOk result ((size : ℕ) (keep : Kind) (v : Scene) → IsFor size keep self.old → AreInStep size keep v (O.scene now.now) → IsSettledIn v self.old → v.live ≡ (O.scene now.now).live → HasRisenWithin (MayAsk size keep v (O.scene now.now)) steps.old steps.new) }
     {
         match self {
             Structure::Order(list) => repair_all(list, now, failed, out, steps),
@@ -116,6 +118,7 @@ impl Structure {
         ensures members { OnOk result (HasMembers (O.scene now.now).live self.new) }
         ensures settled { OnOk result (IsSettledIn (O.scene now.now) self.new) }
         ensures delta { OnOk result (HasChanged (placed_facts self.old) (placed_facts self.new) out.old out.new) }
+        ensures within { OnOk result ((size : ℕ) (keep : Kind) (v : Scene) → IsFor size keep self.old → AreInStep size keep v (O.scene now.now) → IsSettledIn v self.old → HasMembers v.live self.old → AreLiveAfter mark v.live (O.scene now.now).live → HasRisenWithin (MayAsk size keep v (O.scene now.now)) steps.old steps.new) }
     {
         match mark {
             Mark::Enters(no) => self.enter(no, now, out, steps),
@@ -141,6 +144,7 @@ impl Structure {
         ensures members { OnOk result (HasMembers (O.scene now.now).live self.new) }
         ensures settled { OnOk result (IsSettledIn (O.scene now.now) self.new) }
         ensures delta { OnOk result (HasChanged (placed_facts self.old) (placed_facts self.new) out.old out.new) }
+        ensures within { OnOk result ((size : ℕ) (keep : Kind) (v : Scene) → IsFor size keep self.old → AreInStep size keep v (O.scene now.now) → IsSettledIn v self.old → HasMembers v.live self.old → HasEntered entering v.live (O.scene now.now).live → HasRisenWithin (MayAsk size keep v (O.scene now.now)) steps.old steps.new) }
     {
         match self {
             Structure::Order(list) => enter(list, entering, now, out, steps),
@@ -169,6 +173,7 @@ impl Structure {
         ensures members { OnOk result (HasMembers (O.scene now.now).live self.new) }
         ensures settled { OnOk result (IsSettledIn (O.scene now.now) self.new) }
         ensures delta { OnOk result (HasChanged (placed_facts self.old) (placed_facts self.new) out.old out.new) }
+        ensures within { OnOk result ((size : ℕ) (keep : Kind) (v : Scene) → IsFor size keep self.old → AreInStep size keep v (O.scene now.now) → IsSettledIn v self.old → HasMembers v.live self.old → HasEntered leaving (O.scene now.now).live v.live → HasRisenWithin (MayAsk size keep v (O.scene now.now)) steps.old steps.new) }
     {
         match self {
             Structure::Order(list) => let_go(list, leaving, now, out, steps),
@@ -232,7 +237,7 @@ impl Structure {
     pub fn inside(&self, motions: &Motions, now: &Moment, rect: &Rect) -> Result<Vec<u32>, NoMemory>
         requires kept { (size : ℕ) × IsKept size KeepRange (scene_at motions.now now.now) self.now }
         requires rect { IsRectInRange rect.now }
-        ensures { IfOk result (λ list. list.items ≡ box_of motions.now now.now rect.now) }
+        ensures { IfOk result (λ list. list.items ≡ points_in motions.now now.now rect.now) }
     {
         match self {
             Structure::Range(lists) => lists.inside(motions, now, rect),
@@ -258,6 +263,7 @@ fn repair_all<K: Kept, O: Signs, L: Ledger>(
     ensures members { OnOk result (K.has_members kept.new (O.scene now.now).live) }
     ensures settled { OnOk result (K.settled kept.new (O.scene now.now)) }
     ensures delta { OnOk result (HasChanged (K.facts kept.old) (K.facts kept.new) out.old out.new) }
+    ensures within { OnOk result ((size : ℕ) (keep : Kind) (v : Scene) → K.is_for kept.old size keep → AreInStep size keep v (O.scene now.now) → K.settled kept.old v → v.live ≡ (O.scene now.now).live → HasRisenWithin (MayAsk size keep v (O.scene now.now)) steps.old steps.new) }
 {
     repair(kept, now, failed, out, steps)
 }
@@ -280,6 +286,7 @@ fn let_go<K: Kept, O: Signs, L: Ledger>(
     ensures members { OnOk result (K.has_members kept.new (O.scene now.now).live) }
     ensures settled { OnOk result (K.settled kept.new (O.scene now.now)) }
     ensures delta { OnOk result (HasChanged (K.facts kept.old) (K.facts kept.new) out.old out.new) }
+    ensures within { OnOk result ((size : ℕ) (keep : Kind) (v : Scene) → K.is_for kept.old size keep → AreInStep size keep v (O.scene now.now) → K.settled kept.old v → K.has_members kept.old v.live → HasEntered leaving (O.scene now.now).live v.live → HasRisenWithin (MayAsk size keep v (O.scene now.now)) steps.old steps.new) }
 {
     leave(kept, leaving, now, out, steps)
 }

@@ -4,9 +4,11 @@ ghost use Rattle.std.specs.Prelude.{◌≡◌, ◌<◌, ◌≤◌, ◌+◌, ◌^
 ghost use Rattle.kin_motion.specs.Journal.{Block as Listed, IsNextBlock};
 ghost use Rattle.kin_cert.specs.Mails.{told_to};
 ghost use Rattle.kin_cert.specs.Taken.{IsLeastFailure};
-ghost use Rattle.kin_world.specs.Structures.{AreVacant};
+ghost use Rattle.kin_world.specs.Costs.{IsRepairCost};
+ghost use Rattle.kin_world.specs.Paid.{HasPaid, HavePaid};
+ghost use Rattle.kin_world.specs.Structures.{AreLiveAfter, AreVacant};
 ghost use Rattle.kin_world.specs.Worlds.{AreKeepable, empty};
-ghost use Rattle.kin_world.specs.Upkeep.{stage_of, meaning, setting, HasSameFrame, IsSound, IsUnderRepair, IsCarriedOut, ListsWaiting, AreWaiting, HasTimedNew, HasRepaired, HasGoneOn, HasSettled, AreTold};
+ghost use Rattle.kin_world.specs.Upkeep.{stage_of, meaning, setting, sight, HasSameFrame, IsSound, IsUnderRepair, IsCarriedOut, ListsWaiting, AreWaiting, HasTimedNew, HasRepaired, HasGoneOn, HasSettled, AreTold};
 
 use crate::structure::{Mark, Structure};
 use kin_cert::{Mail, Table};
@@ -79,6 +81,7 @@ impl Upkeep {
         ensures repaired { OnOk result (HasRepaired k (stage_of self.old) (stage_of self.new)) }
         ensures frame { HasSameFrame (stage_of self.old) (stage_of self.new) }
         ensures mail { self.new.mail ≡ self.old.mail }
+        ensures cost { OnOk result (HasPaid (λ live. live ≡ (sight (stage_of self.old)).live) k (stage_of self.old) (stage_of self.new) steps.old steps.new) }
     {
         let failed = self.mail.told(k);
         if failed.is_empty() {
@@ -101,6 +104,7 @@ impl Upkeep {
         requires boxes { length self.old.structures.items ≤ length self.old.mail }
         ensures settled { OnOk result (HasSettled self.old.table (stage_of self.new)) }
         ensures frame { HasSameFrame (stage_of self.old) (stage_of self.new) }
+        ensures cost { OnOk result (HavePaid (λ live. live ≡ (sight (stage_of self.old)).live) (length self.old.keeps.items) (stage_of self.old) (stage_of self.new) steps.old steps.new) }
     {
         let count = self.structures.len();
         for k in 0..count {
@@ -119,13 +123,14 @@ impl Upkeep {
         requires waiting { AreWaiting self.old.table.live taken.now }
         ensures settled { OnOk result (HasSettled self.old.table (stage_of self.new)) }
         ensures frame { HasSameFrame (stage_of self.old) (stage_of self.new) }
+        ensures cost { OnOk result (HavePaid (λ live. live ≡ (sight (stage_of self.old)).live) (length self.old.keeps.items) (stage_of self.old) (stage_of self.new) steps.old steps.new) }
     {
         self.mail.sort(self.structures.len(), taken)?;
         self.repair_told(steps)
     }
 
     /// Moves to the least failure moment, repairs all structures there, and answers what has failed.
-    pub fn pass<L: Ledger>(
+    pub fn step<L: Ledger>(
         &mut self,
         alloc: Global,
         moment: &Moment,
@@ -137,6 +142,7 @@ impl Upkeep {
         ensures moment { IfOk result (λ b. b.moment ≡ moment.now) }
         ensures settled { OnOk result (HasSettled self.old.table (stage_of self.new)) }
         ensures frame { HasSameFrame (record (stage_of self.old) { moment = moment.now }) (stage_of self.new) }
+        ensures cost { IfOk result (λ b. (before : ℕ) → steps.old ≤ before + 1 → IsRepairCost (meaning (stage_of self.old) true) (meaning (stage_of self.new) true) (length b.failures) before steps.new) }
     {
         self.moment = *moment;
         let taken = self.table.take_failing(steps)?;
@@ -151,7 +157,7 @@ impl Upkeep {
 
     /// Moves to the least failure moment and repairs all structures there. Lists no failures, but
     /// answers how many there were.
-    pub fn pass_unlisted<L: Ledger>(
+    pub fn pass<L: Ledger>(
         &mut self,
         moment: &Moment,
         steps: &mut Steps<L>,
@@ -161,6 +167,7 @@ impl Upkeep {
         ensures next { IfOk result (λ count. (b : Listed) × IsNextBlock (setting (stage_of self.old)) self.old.moment b × (b.moment ≡ moment.now) × (length b.failures ≡ count)) }
         ensures settled { OnOk result (HasSettled self.old.table (stage_of self.new)) }
         ensures frame { HasSameFrame (record (stage_of self.old) { moment = moment.now }) (stage_of self.new) }
+        ensures cost { IfOk result (λ count. (before : ℕ) → steps.old ≤ before + 1 → IsRepairCost (meaning (stage_of self.old) true) (meaning (stage_of self.new) true) count before steps.new) }
     {
         self.moment = *moment;
         let structures = self.structures.len();
@@ -181,6 +188,7 @@ impl Upkeep {
         requires marked { IsCarriedOut mark 0 (stage_of self.old) }
         ensures settled { OnOk result (HasSettled self.old.table (stage_of self.new)) }
         ensures frame { HasSameFrame (stage_of self.old) (stage_of self.new) }
+        ensures cost { OnOk result (HavePaid (λ live. AreLiveAfter mark live (sight (stage_of self.old)).live) (length self.old.keeps.items) (stage_of self.old) (stage_of self.new) steps.old steps.new) }
     {
         for k in 0..self.structures.len() {
             self.carry_out_one(k as u32, mark, steps)?;
@@ -199,6 +207,7 @@ impl Upkeep {
         requires marked { IsCarriedOut mark k (stage_of self.old) }
         ensures goes_on { OnOk result (HasGoneOn (IsCarriedOut mark) k (stage_of self.old) (stage_of self.new)) }
         ensures frame { HasSameFrame (stage_of self.old) (stage_of self.new) }
+        ensures cost { OnOk result (HasPaid (λ live. AreLiveAfter mark live (sight (stage_of self.old)).live) k (stage_of self.old) (stage_of self.new) steps.old steps.new) }
     {
         let now = Now {
             motions: &self.motions,

@@ -1,6 +1,6 @@
 //! The world: motions, structures and the table of live facts together.
 
-ghost use Rattle.std.specs.Prelude.{◌≡◌, ◌≤◌, ◌<◌, ◌^◌, ◌↔◌, ℕ, true, false, Option, Some, None, slice_get, length, Contains, IsTrue, IsFalse, Err, IfOk, OnOk, OnErr, IfSome, IsSome, IsNone, MatchOption, unsigned_abs};
+ghost use Rattle.std.specs.Prelude.{◌≡◌, ◌≤◌, ◌<◌, ◌+◌, ◌^◌, ◌↔◌, ℕ, true, false, Option, Some, None, slice_get, length, Contains, IsTrue, IsFalse, Err, IfOk, OnOk, OnErr, IfSome, IsSome, IsNone, MatchOption, unsigned_abs};
 ghost use Rattle.kin_algebra.specs.declared.sign.Sign.{Sign as Signum};
 ghost use Rattle.kin_num.specs.Grains.{moments_left};
 ghost use Rattle.kin_num.specs.Order.{IsEarlier};
@@ -11,6 +11,7 @@ ghost use Rattle.kin_motion.specs.Journal.{Block as Listed, NothingFails};
 ghost use Rattle.kin_motion.specs.Turning.{IsNotWhole, IsOutOfBounds};
 ghost use Rattle.kin_turn.specs.declared.turned.TurnError.TheVariants.{NotWhole as Broken, OutOfBounds as Outside};
 ghost use Rattle.kin_cert.specs.Taken.{NoneWaits, NoneFailsUntil};
+ghost use Rattle.kin_world.specs.Costs.{IsRepairCost, IsReplacementCost, IsStepCost, IsTurnCost};
 ghost use Rattle.kin_world.specs.Upkeep.{IsDueWithin};
 ghost use Rattle.kin_world.specs.Worlds.{AreKeepable, IsNextMoment, IsWhole, CanTurn, HasInserted, HasRemoved, HasReplaced, HasTurned, HasStepped, HasLeapt, failure_count, FailsWithin, certificate, empty, world_setting};
 
@@ -33,6 +34,9 @@ mod answers;
 /// Between two calls, while the world is whole, every structure is settled at the moment now, and the
 /// table has exactly the live facts. After a changing call that answered want of memory the world
 /// isn't whole, and only `is_whole`, `keep` and `keeps` may be asked.
+///
+/// Clause `cost` of a changing call bounds the steps of an `Ok` by the worlds before and after it and
+/// the number of failures (`specs/Costs`). `leap` has none.
 #[derive(Drop)]
 pub struct World {
     alloc: Global,
@@ -109,6 +113,7 @@ impl World {
         requires free { IsFalse (is_live self.old.motions no) }
         ensures inserted { OnOk result (HasInserted no m self.old self.new) }
         ensures broken { OnErr result (self.new.whole ≡ false) }
+        ensures cost { OnOk result (IsRepairCost self.old self.new 0 steps.old steps.new) }
         ensures keeps { OnErr result (self.new.keeps ≡ self.old.keeps) }
     {
         self.whole = false;
@@ -125,6 +130,7 @@ impl World {
         requires live { IsTrue (is_live self.old.motions no) }
         ensures removed { OnOk result (HasRemoved no self.old self.new) }
         ensures broken { OnErr result (self.new.whole ≡ false) }
+        ensures cost { OnOk result (IsRepairCost self.old self.new 0 steps.old steps.new) }
         ensures keeps { OnErr result (self.new.keeps ≡ self.old.keeps) }
     {
         self.whole = false;
@@ -146,6 +152,7 @@ impl World {
         requires live { IsTrue (is_live self.old.motions no) }
         ensures replaced { OnOk result (HasReplaced no m self.old self.new) }
         ensures broken { OnErr result (self.new.whole ≡ false) }
+        ensures cost { OnOk result (IsReplacementCost no m self.old self.new steps.old steps.new) }
         ensures keeps { OnErr result (self.new.keeps ≡ self.old.keeps) }
     {
         self.remove(no, steps)?;
@@ -188,6 +195,7 @@ impl World {
         requires turnable { (motion : Course) × CanTurn no u v self.old motion }
         ensures turned { OnOk result (HasTurned no u v self.old self.new) }
         ensures broken { OnErr result (self.new.whole ≡ false) }
+        ensures cost { OnOk result (IsTurnCost no self.old steps.old steps.new) }
         ensures keeps { OnErr result (self.new.keeps ≡ self.old.keeps) }
     {
         let Ok(motion) = self.turned(no, u, v) else {
@@ -218,6 +226,7 @@ impl World {
         ensures stepped { IfOk result (λ block. HasStepped limit.now block self.old self.new) }
         ensures fewer { IfOk result (λ block. IsSome block → moments_left self.new.moment < moments_left self.old.moment) }
         ensures broken { OnErr result (self.new.whole ≡ false) }
+        ensures cost { IfOk result (λ block. IsStepCost self.old self.new (failure_count block) steps.old steps.new) }
         ensures keeps { OnErr result (self.new.keeps ≡ self.old.keeps) }
         ensures cause { OnErr result (FailsWithin limit.now self.old) }
     {
@@ -227,7 +236,7 @@ impl World {
             return Ok(None);
         };
         self.whole = false;
-        let block = self.upkeep.pass(self.alloc, &moment, steps)?;
+        let block = self.upkeep.step(self.alloc, &moment, steps)?;
         self.whole = true;
         Ok(Some(block))
     }
@@ -244,6 +253,7 @@ impl World {
         ensures stepped { IfOk result (λ count. (block : Option Listed) × HasStepped limit.now block self.old self.new × (count ≡ failure_count block)) }
         ensures fewer { IfOk result (λ count. IsSome count → moments_left self.new.moment < moments_left self.old.moment) }
         ensures broken { OnErr result (self.new.whole ≡ false) }
+        ensures cost { IfOk result (λ count. IsStepCost self.old self.new count steps.old steps.new) }
         ensures keeps { OnErr result (self.new.keeps ≡ self.old.keeps) }
         ensures cause { OnErr result (FailsWithin limit.now self.old) }
     {
@@ -253,15 +263,15 @@ impl World {
             return Ok(None);
         };
         self.whole = false;
-        let count = self.upkeep.pass_unlisted(&moment, steps)?;
+        let count = self.upkeep.pass(&moment, steps)?;
         self.whole = true;
         Ok(Some(count))
     }
 
     /// Moves to a moment up to the limit by which a live fact has failed, or to the limit where none
     /// fails up to it; answers whether a live fact has failed. It may go from before an instant to
-    /// just after it. No clause says where it lands, but `fewer` says that it is later. After want of
-    /// memory the world isn't whole.
+    /// just after it. No clause says where it lands, but `fewer` says that it is later; none bounds its
+    /// steps. After want of memory the world isn't whole.
     pub fn leap<L: Ledger>(
         &mut self,
         limit: &Moment,
@@ -356,7 +366,8 @@ impl World {
 #[inline(always)]
 fn due_within<L: Ledger>(upkeep: &Upkeep, limit: &Moment, steps: &mut Steps<L>) -> Option<Moment>
     requires { NoneWaits upkeep.now.table.live }
-    ensures { MatchOption result (NoneFailsUntil upkeep.now.table.live limit.now) (IsDueWithin limit.now upkeep.now.table.live) }
+    ensures value { MatchOption result (NoneFailsUntil upkeep.now.table.live limit.now) (IsDueWithin limit.now upkeep.now.table.live) }
+    ensures count { steps.new ≤ steps.old + 1 }
 {
     let Some(moment) = upkeep.table.failing() else {
         return None;

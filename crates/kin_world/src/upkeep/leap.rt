@@ -3,7 +3,7 @@
 //! Usually what fails at an instant fails just after it, too: a sign goes from + by 0 to -. Then the structures need
 //! only one repair, and no fact that holds at that one instant alone is ever made.
 
-ghost use Rattle.std.specs.Prelude.{◌≡◌, ◌↔◌, IsTrue, false, OnOk};
+ghost use Rattle.std.specs.Prelude.{◌≡◌, ◌↔◌, ◌+◌, IsTrue, false, OnOk};
 ghost use Rattle.std.specs.List.{All};
 ghost use Rattle.kin_num.specs.Order.{IsEarlier};
 ghost use Rattle.kin_motion.specs.Course.{live_of};
@@ -80,9 +80,10 @@ fn landing<L: Ledger>(
     }
 }
 
-/// Whether the moment comes after the limit.
+/// Whether the moment comes after the limit. Counts one step.
 pub fn is_after<L: Ledger>(moment: &Moment, limit: &Moment, steps: &mut Steps<L>) -> bool
-    ensures { IsTrue result ↔ IsEarlier limit.now moment.now }
+    ensures value { IsTrue result ↔ IsEarlier limit.now moment.now }
+    ensures count { steps.new ≡ steps.old + 1 }
 {
     compare_moments(moment, limit, steps) == Ordering::Greater
 }

@@ -4,7 +4,7 @@
 ghost use Rattle.std.specs.Prelude.{◌≡◌, ℕ, ℤ, Some, slice_get, IsTrue, IfOk};
 ghost use Rattle.kin_motion.specs.declared.keep.Keep.{Keep as Kind};
 ghost use Rattle.kin_motion.specs.declared.keep.Keep.TheVariants as keep;
-ghost use Rattle.kin_motion.specs.Boxes.{IsRectInRange, box_of};
+ghost use Rattle.kin_motion.specs.Boxes.{IsRectInRange, points_in};
 ghost use Rattle.kin_motion.specs.Chains.{IsHullCycle};
 ghost use Rattle.kin_motion.specs.ClosestPairs.{IsClosest};
 ghost use Rattle.kin_motion.specs.Extremes.{IsExtremePoint};
@@ -13,7 +13,7 @@ ghost use Rattle.kin_motion.specs.Scene.{Scene};
 ghost use Rattle.kin_world.specs.Kinds.{IsAtRest};
 ghost use Rattle.kin_world.specs.Structures.{IsKept};
 ghost use Rattle.kin_world.specs.Sufficiency.{LiveFactsHoldIn};
-ghost use Rattle.kin_world.specs.Worlds.{IsWhole, scene_of};
+ghost use Rattle.kin_world.specs.Worlds.{IsWhole, world_scene};
 
 use crate::places::place_of;
 use crate::structure::Structure;
@@ -26,7 +26,7 @@ impl World {
     pub fn order(&self, s: u32) -> Result<Vec<u32>, NoMemory>
         requires whole { IsTrue self.now.whole }
         requires kept { (dx : ℤ) × (dy : ℤ) × (slice_get self.now.keeps s ≡ Some (keep.Order dx dy)) }
-        ensures order { IfOk result (λ list. (dx dy : ℤ) → slice_get self.now.keeps s ≡ Some (keep.Order dx dy) → IsOrder (scene_of self.now) dx dy list.items) }
+        ensures order { IfOk result (λ list. (dx dy : ℤ) → slice_get self.now.keeps s ≡ Some (keep.Order dx dy) → IsOrder (world_scene self.now) dx dy list.items) }
         ensures suffices { IfOk result (λ list. (dx dy : ℤ) → slice_get self.now.keeps s ≡ Some (keep.Order dx dy) → (v : Scene) → LiveFactsHoldIn self.now v → IsOrder v dx dy list.items) }
     {
         let Ok(list) = Vec::from_slice(self.alloc, self.structure(s).order()) else {
@@ -39,7 +39,7 @@ impl World {
     pub fn extreme(&self, s: u32) -> Option<u32>
         requires whole { IsTrue self.now.whole }
         requires kept { (dx : ℤ) × (dy : ℤ) × (slice_get self.now.keeps s ≡ Some (keep.Extreme dx dy)) }
-        ensures extreme { (dx dy : ℤ) → slice_get self.now.keeps s ≡ Some (keep.Extreme dx dy) → IsExtremePoint (scene_of self.now) dx dy result }
+        ensures extreme { (dx dy : ℤ) → slice_get self.now.keeps s ≡ Some (keep.Extreme dx dy) → IsExtremePoint (world_scene self.now) dx dy result }
         ensures suffices { (dx dy : ℤ) → slice_get self.now.keeps s ≡ Some (keep.Extreme dx dy) → (v : Scene) → LiveFactsHoldIn self.now v → IsExtremePoint v dx dy result }
     {
         self.structure(s).extreme()
@@ -50,7 +50,7 @@ impl World {
     pub fn hull(&self) -> Result<Vec<u32>, NoMemory>
         requires whole { IsTrue self.now.whole }
         requires kept { (k : ℕ) × (slice_get self.now.keeps k ≡ Some keep.Hull) }
-        ensures hull { IfOk result (λ list. IsHullCycle (scene_of self.now) list.items) }
+        ensures hull { IfOk result (λ list. IsHullCycle (world_scene self.now) list.items) }
         ensures suffices { IfOk result (λ list. (v : Scene) → LiveFactsHoldIn self.now v → IsHullCycle v list.items) }
     {
         self.structure(self.place_of(&Keep::Hull)).hull()
@@ -62,7 +62,7 @@ impl World {
     pub fn closest(&self) -> Option<(u32, u32)>
         requires whole { IsTrue self.now.whole }
         requires kept { (k : ℕ) × (slice_get self.now.keeps k ≡ Some keep.Closest) }
-        ensures closest { IsClosest (scene_of self.now) result }
+        ensures closest { IsClosest (world_scene self.now) result }
         ensures suffices { (v : Scene) → LiveFactsHoldIn self.now v → IsClosest v result }
     {
         self.structure(self.place_of(&Keep::Closest)).closest()
@@ -74,7 +74,7 @@ impl World {
         requires whole { IsTrue self.now.whole }
         requires kept { (k : ℕ) × (slice_get self.now.keeps k ≡ Some keep.Range) }
         requires rect { IsRectInRange rect.now }
-        ensures inside { IfOk result (λ list. list.items ≡ box_of self.now.motions self.now.moment rect.now) }
+        ensures inside { IfOk result (λ list. list.items ≡ points_in self.now.motions self.now.moment rect.now) }
     {
         let lists = self.structure(self.place_of(&Keep::Range));
         lists.inside(&self.upkeep.motions, &self.upkeep.moment, rect)
@@ -95,7 +95,7 @@ impl World {
         requires kept { (keep : Kind) × (slice_get self.now.keeps s ≡ Some keep) }
         ensures whole { IsWhole self.now }
         ensures rest { IsAtRest result.now }
-        ensures kept { (keep : Kind) → slice_get self.now.keeps s ≡ Some keep → IsKept self.now.size keep (scene_of self.now) result.now }
+        ensures kept { (keep : Kind) → slice_get self.now.keeps s ≡ Some keep → IsKept self.now.size keep (world_scene self.now) result.now }
     {
         &self.upkeep.structures[s as usize]
     }

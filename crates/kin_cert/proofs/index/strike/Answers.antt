@@ -4,8 +4,8 @@ use Rattle.indexmap.specs.IndexMap.{get as look_up}
 use Rattle.kin_cert.specs.declared.holder.Holder.{Holder}
 use Rattle.kin_fail.specs.Rank.{is_rank}
 use Rattle.kin_cert.specs.Layout.{entry_at}
-use Rattle.kin_cert.specs.Place.{place_of}
-use Rattle.kin_cert.specs.Rolls.{is_place}
+use Rattle.kin_cert.specs.Bucket.{bucket_of}
+use Rattle.kin_cert.specs.Rolls.{is_bucket}
 use Rattle.kin_cert.proofs.index.strike.Goals as goal
 
 if-some : (o p : Option ℕ) (which : ℕ → Type 0) → o ≡ p → ((id : ℕ) → p ≡ Some id → which id) → IfSome o which
@@ -28,7 +28,7 @@ returns-clause-some c =
 pub returns-clause-none : goal.returns-clause-none
 returns-clause-none c =
     let spot = c.in_ok-spot.spot in
-    let at : look_up is_place c.args.firsts.now (place_of c.args.structure c.args.part c.args.form.now) ≡ Some spot.holder = ap (look_up is_place c.args.firsts.now) (sym c.place-place.ensures) ∙ c.in_ok-spot.ensures.some.known in
+    let at : look_up is_bucket c.args.firsts.now (bucket_of c.args.structure c.args.part c.args.form.now) ≡ Some spot.holder = ap (look_up is_bucket c.args.firsts.now) (sym c.bucket-bucket.ensures) ∙ c.in_ok-spot.ensures.some.known in
     if-none c.swap_remove.result (look_up is_rank c.args.others.now c.rank.result) _ c.swap_remove.ensures.value (λ unknown.
     record {
       no_first = λ h e known there ranked.

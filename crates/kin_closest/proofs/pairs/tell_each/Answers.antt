@@ -29,4 +29,4 @@ loop-slot-preserved c =
     (subst (λ (n : ℕ). get_or c.args.slots.now c.loop-slot.slot-index 0 < n) (sym (c.loop-slot.invariant.slots_room ∙ c.requires.slots_room)) low)
     (subst (λ (n : ℕ). get_or c.args.slots.now c.loop-slot.slot-index 0 < n) (sym (c.loop-slot.invariant.marks_room ∙ c.requires.marks_room)) low)
     c.loop-slot.invariant
-    (subst (λ (r : Option ℕ). c.tell.new.pairs ≡ record c.loop-slot.pairs { slots = set c.loop-slot.pairs.slots (get_or c.args.slots.now c.loop-slot.slot-index 0) (near_of (get_or c.args.slots.now c.loop-slot.slot-index 0) (get_or c.args.slots.now c.loop-slot.slot-index 0 / 8) r); marked = set c.loop-slot.pairs.marked (get_or c.args.slots.now c.loop-slot.slot-index 0) true; winners = c.tell.new.pairs.winners }) c.candidate.ensures c.tell.ensures)
+    (subst (λ (r : Option ℕ). c.tell.new.pairs ≡ record c.loop-slot.pairs { slots = set c.loop-slot.pairs.slots (get_or c.args.slots.now c.loop-slot.slot-index 0) (near_of (get_or c.args.slots.now c.loop-slot.slot-index 0) (get_or c.args.slots.now c.loop-slot.slot-index 0 / 8) r); marked = set c.loop-slot.pairs.marked (get_or c.args.slots.now c.loop-slot.slot-index 0) true; winners = c.tell.new.pairs.winners }) c.candidate.ensures.told c.tell.ensures)

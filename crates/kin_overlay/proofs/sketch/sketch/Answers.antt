@@ -1,77 +1,66 @@
-use Rattle.std.proofs.Common.{◌≡◌, subst, arith, List, [], ℕ, ◌<◌, length}
-use Rattle.kin_algebra.proofs.Members.{contains_from_get}
-use Rattle.kin_motion.specs.Merges.{Half.{A, B}, breakpoints_of, IsInterleaving}
-use Rattle.kin_overlay.specs.declared.draft.Draft.{Draft}
-use Rattle.kin_motion.specs.Scene.{Scene}
-use Rattle.kin_overlay.specs.declared.standing.Standing.{Standing}
-use Rattle.kin_overlay.specs.Fingers.{AreLive}
-use Rattle.kin_overlay.specs.Sketches.{spots, AreFit}
-use Rattle.kin_overlay.specs.Standings.{StandIn}
-use Rattle.kin_overlay.specs.Sketching.{IsDrawn, IsSketched}
-use Rattle.kin_overlay.proofs.SketchLaws.{sketched-none, sketched-a, sketched-b, sketched-end}
-use Rattle.kin_overlay.proofs.KeptLaws.{retained}
-use Rattle.kin_overlay.proofs.SeatedLaws.{seated}
-use Rattle.kin_overlay.proofs.TraceLaws.{begun-none, begun-more, begun-all}
+use Rattle.std.proofs.Common.{sym, subst, arith, ℕ, ◌++◌, ◌-◌, take, drop}
+use Rattle.kin_overlay.specs.declared.shared.Shared.{Shared}
+use Rattle.kin_overlay.specs.Passing.{IsDrawnBefore}
+use Rattle.kin_overlay.specs.Spans.{drafts, whole_sketch}
+use Rattle.kin_overlay.proofs.PassLaws.{end-end}
+use Rattle.kin_overlay.proofs.SpanLaws.{clean, clean-front, all-whole, all-front, between, all-between, all-seated, all-retained}
 use Rattle.kin_overlay.proofs.sketch.sketch.Goals as goal
 
-pub loop-place-init : goal.loop-place-init
-loop-place-init c =
+pub returns-then-left-back-2 : goal.returns-then-left-back-2
+returns-then-left-back-2 c =
     let w = c.args.standing.now in
+    let puts = c.args.puts in
+    let rs = w.list.now.records in
     let a = c.args.a.now in
     let b = c.args.b.now in
+    let front = c.in_ok-front.front in
+    let back = c.pass_back-back.result in
+    let left = c.in_ok-left.left in
+    let begun = c.in_ok-front.ensures in
+    let passed = c.pass_back-back.ensures in
+    let u = passed.untouched in
+    let d = c.in_ok-left.ensures.drawn in
+    let out = c.draw_up_to.new.out.items in
+    let span : Shared = record { front = front.place; back = c.len.result - back.place } in
+    let all =
+    all-whole w puts.a.now puts.b.now a b span back.place out (omega (arith, passed.within, c.len.ensures))
+    (all-between w puts.a.now puts.b.now a b front.place back.place front.a.now front.b.now left.a.now left.b.now c.begin.new.out.items d.0 out begun.drawn d.1 d.2 back.a.now back.b.now u.0 u.1 passed.a_end passed.b_end c.if-left-back.true c.if-left-back-2.true u.2) in
+    let whole = whole_sketch span rs out in
     record {
-      drawn =
-          sketched-b w a b c.in_ok-first.first.now b c.in_ok-second.second.now c.draw_put.new.out.items c.draw_put-2.new.out.items
-          (sketched-a w a b a c.in_ok-first.first.now b [] c.draw_put.new.out.items (sketched-none w a b c.requires.a_some c.requires.b_some)
-          (subst (λ (l : List Draft). IsDrawn w A a c.in_ok-first.first.now l c.draw_put.new.out.items) c.clear.ensures.items (c.in_ok-first.ensures.drawn w)) c.in_ok-first.ensures.some) (c.in_ok-second.ensures.drawn w) c.in_ok-second.ensures.some;
-      begun = begun-none w c.args.puts.a.now c.args.puts.b.now a b c.in_ok-first.first.now c.in_ok-second.second.now c.clear.new.self.items c.draw_put.new.out.items c.draw_put-2.new.out.items c.clear.ensures.items c.in_ok-first.ensures.pushed c.in_ok-first.ensures.rest c.in_ok-second.ensures.pushed c.in_ok-second.ensures.rest;
+      clean =
+          clean rs span back.place a b begun.passed.0 begun.passed.1 back.a.now back.b.now u.0 u.1 (omega (arith, passed.within, c.len.ensures)) (omega (arith, passed.behind, passed.within, c.len.ensures)) begun.passed.2 begun.linked u.2.passed
+          (end-end back.a.now front.a.now a passed.a_end begun.a_end) (end-end back.b.now front.b.now b passed.b_end begun.b_end) passed.linked;
+      interleaved = all.interleaved;
+      fit = all.fit;
+      seated = all-seated w puts a b c.requires.a_some c.requires.b_some c.requires.a_once c.requires.b_once whole all;
+      retained = all-retained w puts a b c.requires.a_some c.requires.b_some c.requires.a_once c.requires.b_once whole all;
     }
 
-pub draw_at-requires-clause-there : goal.draw_at-requires-clause-there
-draw_at-requires-clause-there c = contains_from_get c.args.standing.now.list.now.records c.loop-place.place c.at-noted.result.now c.at-noted.ensures
-
-ended : (w : Standing) (a b first second : List ℕ) (out mid new : List Draft) → IsSketched w a b first second out
-    → (l : List ℕ) × (0 < length l) × (breakpoints_of A l ≡ []) × IsDrawn w A first l out mid → (m : List ℕ) × (0 < length m) × (breakpoints_of B m ≡ []) × IsDrawn w B second m mid new
-    → IsInterleaving a b (spots new) × ((s : Scene) → StandIn s w → AreLive s.live a → AreLive s.live b → AreFit s new)
-ended w a b first second out mid new k p q =
-    let one = sketched-a w a b first p.0 second out mid k p.3 p.1 in
-    let two = sketched-b w a b p.0 second q.0 mid new one q.3 q.1 in
-    (sketched-end w a b p.0 q.0 new two p.2 q.2, two.fit)
-
-pub loop-place-preserved : goal.loop-place-preserved
-loop-place-preserved c =
+pub returns : goal.returns
+returns c =
     let w = c.args.standing.now in
-    let step = c.in_ok-first-2.ensures.step in
+    let puts = c.args.puts in
+    let rs = w.list.now.records in
+    let a = c.args.a.now in
+    let b = c.args.b.now in
+    let front = c.in_ok-front.front in
+    let back = c.pass_back-back.result in
+    let left = c.in_ok-left.left in
+    let begun = c.in_ok-front.ensures in
+    let d = c.in_ok-left.ensures.drawn in
+    let drawn = c.draw_up_to.new.out.items in
+    let out = c.draw_rest.new.out.items in
+    let span : Shared = record { front = front.place; back = 0 } in
+    let start = drafts (take front.place rs) in
+    let here = between w puts.a.now puts.b.now a b front.place back.place front.a.now front.b.now left.a.now left.b.now c.begin.new.out.items d.0 drawn begun.drawn d.1 d.2 in
+    let all =
+    all-front w puts.a.now puts.b.now a b front.place out
+    (c.in_ok-draw_rest.ensures a b start (subst (λ (n : ℕ). IsDrawnBefore w puts.a.now puts.b.now a b (drop n rs) left.a.now left.b.now (start ++ drawn)) (sym c.in_ok-left.ensures.place) here)) in
+    let whole = whole_sketch span rs out in
     record {
-      drawn = c.in_ok-first-2.ensures.drawn c.args.a.now c.args.b.now c.loop-place.invariant.drawn;
-      begun =
-          begun-more w c.args.puts.a.now c.args.puts.b.now c.args.a.now c.args.b.now w.list.now.records c.loop-place.place c.at-noted.result.now c.loop-place.first.now c.loop-place.second.now _ _ c.loop-place.out.items c.draw_at.new.out.items step.0 c.at-noted.ensures c.loop-place.invariant.begun step.1 step.2;
+      clean = clean-front rs front.place a b begun.passed.0 begun.passed.1 begun.within c.requires.a_some c.requires.b_some begun.passed.2 begun.linked;
+      interleaved = all.interleaved;
+      fit = all.fit;
+      seated = all-seated w puts a b c.requires.a_some c.requires.b_some c.requires.a_once c.requires.b_once whole all;
+      retained = all-retained w puts a b c.requires.a_some c.requires.b_some c.requires.a_once c.requires.b_once whole all;
     }
-
-pub returns-clause-interleaved : goal.returns-clause-interleaved
-returns-clause-interleaved c =
-    let w = c.args.standing.now in
-    (ended w c.args.a.now c.args.b.now c.loop-place.first.now c.loop-place.second.now c.loop-place.out.items c.draw_all.new.out.items c.draw_all-2.new.out.items c.loop-place.invariant.drawn (c.in_ok-draw_all.ensures.drawn w) (c.in_ok-draw_all-2.ensures.drawn w)).0
-
-pub returns-clause-fit : goal.returns-clause-fit
-returns-clause-fit c =
-    let w = c.args.standing.now in
-    (ended w c.args.a.now c.args.b.now c.loop-place.first.now c.loop-place.second.now c.loop-place.out.items c.draw_all.new.out.items c.draw_all-2.new.out.items c.loop-place.invariant.drawn (c.in_ok-draw_all.ensures.drawn w) (c.in_ok-draw_all-2.ensures.drawn w)).1
-
-pub returns-clause-seated : goal.returns-clause-seated
-returns-clause-seated c =
-    let w = c.args.standing.now in
-    let a = c.args.a.now in
-    let b = c.args.b.now in
-    seated w c.args.puts.a.now c.args.puts.b.now a b c.requires.a_once c.requires.b_once c.draw_all-2.new.out.items c.requires.a_some c.requires.b_some
-    (begun-all w c.args.puts.a.now c.args.puts.b.now a b w.list.now.records c.loop-place.place c.loop-place.first.now c.loop-place.second.now c.loop-place.out.items c.draw_all.new.out.items c.draw_all-2.new.out.items
-    (omega (arith, c.loop-place-test.false, c.loop-place.auto.place-end, c.len-place-end.ensures)) c.loop-place.invariant.begun c.in_ok-draw_all.ensures.pushed c.in_ok-draw_all-2.ensures.pushed)
-
-pub returns-clause-retained : goal.returns-clause-retained
-returns-clause-retained c =
-    let w = c.args.standing.now in
-    let a = c.args.a.now in
-    let b = c.args.b.now in
-    λ p known. retained w c.args.puts a b p known c.requires.a_once c.requires.b_once c.draw_all-2.new.out.items c.requires.a_some c.requires.b_some
-    (begun-all w c.args.puts.a.now c.args.puts.b.now a b w.list.now.records c.loop-place.place c.loop-place.first.now c.loop-place.second.now c.loop-place.out.items c.draw_all.new.out.items c.draw_all-2.new.out.items
-    (omega (arith, c.loop-place-test.false, c.loop-place.auto.place-end, c.len-place-end.ensures)) c.loop-place.invariant.begun c.in_ok-draw_all.ensures.pushed c.in_ok-draw_all-2.ensures.pushed)

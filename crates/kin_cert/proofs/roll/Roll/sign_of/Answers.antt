@@ -4,7 +4,7 @@ use Rattle.kin_cert.specs.Entries.{Entry}
 use Rattle.kin_fail.specs.declared.owned.Owned.{Owned}
 use Rattle.kin_cert.specs.Layout.{entry_at, IsFoundAt, IsNotFound}
 use Rattle.kin_fail.specs.Rank.{padded_rank}
-use Rattle.kin_cert.proofs.Places.{some_none}
+use Rattle.kin_cert.proofs.Buckets.{some_none}
 use Rattle.kin_cert.proofs.Rolls.{id-there, nowhere}
 use Rattle.kin_cert.proofs.roll.Roll.sign_of.Goals as goal
 

@@ -51,5 +51,6 @@ returns-clause-tests g c =
       orders_out = c.settle.new.out;
       reported = c.in_ok-settle.ensures.delta;
       orders = c.in_ok-settle.ensures.tests;
+      changed = c.in_ok-settle.ensures.changed;
       pairs = tests_few (called c.self.view_is c.self.invariant c.requires.real c.requires.ready c.requires.failing) c.settle.ensures.same c.in_ok-settle.ensures.settled c.in_ok-settle.ensures.changed c.tell_all.ensures c.sort.new.self.pairs.items c.settle.new.steps c.settle_pairs.new.steps c.in_ok-sort.ensures.pairs c.in_ok-settle_pairs.ensures.cost;
     })

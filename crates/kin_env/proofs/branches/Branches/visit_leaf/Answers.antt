@@ -18,8 +18,8 @@ slot_is slots leaf len room held len_is room_is low high read b is =
     subst (λ n. own_chain (leaf - len) b ≡ own_chain (leaf - n) (slot_in slots (leaf - n))) (len_is ∙ room_is)
     (ap (own_chain (leaf - len)) (sym is ∙ get_or_read slots (leaf - len) held (omega (arith, len_is, room_is, low, high)) read false))
 
-pub pass-requires : goal.pass-requires
-pass-requires c =
+pub hand_on-requires : goal.hand_on-requires
+hand_on-requires c =
     let inside : c.args.leaf < length c.args.self.now.nodes.items = omega (arith, c.requires.inside, c.requires.shape.nodes_room) in
     let there = read_there c.args.self.now.nodes.items c.args.leaf c.index_mut-node.result.now inside c.index_mut-node.ensures.value in
     record { none = sym (ap merge_from there) ∙ c.requires.none }
@@ -28,42 +28,42 @@ pub returns-clause-same : goal.returns-clause-same
 returns-clause-same c = refl
 
 pub returns-clause-room : goal.returns-clause-room
-returns-clause-room c = length-set c.args.self.now.nodes.items c.args.leaf c.pass.new.self
+returns-clause-room c = length-set c.args.self.now.nodes.items c.args.leaf c.hand_on.new.self
 
 pub returns-clause-others : goal.returns-clause-others
-returns-clause-others c = λ u m. get-set_other c.args.self.now.nodes.items c.args.leaf u c.pass.new.self m
+returns-clause-others c = λ u m. get-set_other c.args.self.now.nodes.items c.args.leaf u c.hand_on.new.self m
 
 pub returns-clause-merge : goal.returns-clause-merge
 returns-clause-merge c =
     let inside : c.args.leaf < length c.args.self.now.nodes.items = omega (arith, c.requires.inside, c.requires.shape.nodes_room) in
-    ap merge_from (get-set_same c.args.self.now.nodes.items c.args.leaf c.pass.new.self inside) ∙ c.pass.ensures.merge
+    ap merge_from (get-set_same c.args.self.now.nodes.items c.args.leaf c.hand_on.new.self inside) ∙ c.hand_on.ensures.merge
 
 pub returns-clause-leads : goal.returns-clause-leads
 returns-clause-leads c =
     let ns = c.args.self.now.nodes.items in
     let leaf = c.args.leaf in
-    let new = c.pass.new.self in
-    let r = c.pass.result in
+    let new = c.hand_on.new.self in
+    let r = c.hand_on.result in
     let inside : leaf < length ns = omega (arith, c.requires.inside, c.requires.shape.nodes_room) in
     let there = read_there ns leaf c.index_mut-node.result.now inside c.index_mut-node.ensures.value in
     for_ok r _ (λ v e.
     subst (λ (o : Option Node). Leads (edits_from o) (passed_at ns leaf) (passed_from o)) (sym (get-set_same ns leaf new inside))
-    (subst (λ (o : Option Node). Leads new.edits.items (passed_from o) new.passed.items) (sym there) (at_ok r _ v e c.pass.ensures.leads)))
+    (subst (λ (o : Option Node). Leads new.edits.items (passed_from o) new.passed.items) (sym there) (at_ok r _ v e c.hand_on.ensures.leads)))
 
 pub returns-clause-failed : goal.returns-clause-failed
 returns-clause-failed c =
     let ns = c.args.self.now.nodes.items in
     let inside : c.args.leaf < length ns = omega (arith, c.requires.inside, c.requires.shape.nodes_room) in
     let there = read_there ns c.args.leaf c.index_mut-node.result.now inside c.index_mut-node.ensures.value in
-    ap failed_from (get-set_same ns c.args.leaf c.pass.new.self inside) ∙ c.pass.ensures.failed ∙ sym (ap failed_from there)
+    ap failed_from (get-set_same ns c.args.leaf c.hand_on.new.self inside) ∙ c.hand_on.ensures.failed ∙ sym (ap failed_from there)
 
 pub returns-clause-passed : goal.returns-clause-passed
 returns-clause-passed c =
     let ns = c.args.self.now.nodes.items in
-    let r = c.pass.result in
+    let r = c.hand_on.result in
     let inside : c.args.leaf < length ns = omega (arith, c.requires.inside, c.requires.shape.nodes_room) in
     let len_is : c.len.result ≡ length c.args.self.now.slots.items = omega (arith, c.len.ensures) in
     let held = slot_is c.args.self.now.slots.items c.args.leaf c.len.result (2 ^ c.args.self.now.size) c.index-held.result.now len_is c.requires.shape.slots_room c.requires.low c.requires.inside c.index-held.ensures in
-    let own : c.if-held.pass.now ≡ own_chain (c.args.leaf - 2 ^ c.args.self.now.size) (slot_in c.args.self.now.slots.items (c.args.leaf - 2 ^ c.args.self.now.size)) =
-    elim c.if-held.branch [ then-held w ↦ ap (λ (p : Bor (List ℕ)). p.now) w.pass-is ∙ held true w.if-held.true | else-held w ↦ ap (λ (p : Bor (List ℕ)). p.now) w.pass-is ∙ held false w.if-held.false ] in
-    for_ok r _ (λ v e. ap passed_from (get-set_same ns c.args.leaf c.pass.new.self inside) ∙ at_ok r _ v e c.pass.ensures.passed ∙ own)
+    let own : c.if-held.hand_on.now ≡ own_chain (c.args.leaf - 2 ^ c.args.self.now.size) (slot_in c.args.self.now.slots.items (c.args.leaf - 2 ^ c.args.self.now.size)) =
+    elim c.if-held.branch [ then-held w ↦ ap (λ (p : Bor (List ℕ)). p.now) w.hand_on-is ∙ held true w.if-held.true | else-held w ↦ ap (λ (p : Bor (List ℕ)). p.now) w.hand_on-is ∙ held false w.if-held.false ] in
+    for_ok r _ (λ v e. ap passed_from (get-set_same ns c.args.leaf c.hand_on.new.self inside) ∙ at_ok r _ v e c.hand_on.ensures.passed ∙ own)

@@ -1,8 +1,8 @@
 use Rattle.std.proofs.Common.{◌≡◌, sym, ap, ◌∙◌, subst, List, ◌++◌, map, ℕ, ◌≤◌, false, true, rules}
 use Rattle.kin_motion.specs.declared.fact.Placed.{Placed}
 use Rattle.kin_motion.specs.Kinetics.{ListsFailing, HasChanged}
-use Rattle.kin_motion.specs.Scene.{turned}
-use Rattle.kin_motion.proofs.TurnedLaws.{turned-real}
+use Rattle.kin_motion.specs.Scene.{reflected}
+use Rattle.kin_motion.proofs.ReflectedLaws.{reflected-real}
 use Rattle.kin_env.specs.Trees.{Envelope, names_leaving}
 use Rattle.kin_hull.specs.declared.side.Side.TheVariants.{Upper, Lower}
 use Rattle.kin_hull.specs.declared.sorting.Failed.{Failed}
@@ -24,18 +24,18 @@ settle-requires-clause-low g c =
     facts_low c.self.inside.upper pair.seen pair.settled.upper pair.small
 
 pub settle-requires-2-clause-real : goal.settle-requires-2-clause-real
-settle-requires-2-clause-real g c = turned-real (g.O.Signs.scene c.args.now.now) c.requires.real
+settle-requires-2-clause-real g c = reflected-real (g.O.Signs.scene c.args.now.now) c.requires.real
 
 pub settle-requires-2-clause-failing : goal.settle-requires-2-clause-failing
 settle-requires-2-clause-failing g c =
-    subst (λ (fs : List Placed). ListsFailing c.self.inside.lower.facts (names_leaving c.self.inside.lower) (turned (g.O.Signs.scene c.args.now.now)) fs)
+    subst (λ (fs : List Placed). ListsFailing c.self.inside.lower.facts (names_leaving c.self.inside.lower) (reflected (g.O.Signs.scene c.args.now.now)) fs)
     (sym (ap (λ (f : Failed). f.lower.items) c.settle.ensures.others ∙ c.in_ok-sort.ensures.lower))
     (lower_failing _ _ _ _ _ c.self.invariant c.self.view_is c.requires.ready _ c.requires.real c.requires.failing)
 
 pub settle-requires-2-clause-low : goal.settle-requires-2-clause-low
 settle-requires-2-clause-low g c =
     let pair = known _ _ _ (g.O.Signs.scene c.args.now.now) _ c.self.invariant c.self.view_is c.requires.ready in
-    facts_low c.self.inside.lower (turned pair.seen) pair.settled.lower (subst (λ (n : ℕ). n ≤ 12) (sym pair.size) pair.small)
+    facts_low c.self.inside.lower (reflected pair.seen) pair.settled.lower (subst (λ (n : ℕ). n ≤ 12) (sym pair.size) pair.small)
 
 pub invariant_of-self-2 : goal.invariant_of-self-2
 invariant_of-self-2 g c =

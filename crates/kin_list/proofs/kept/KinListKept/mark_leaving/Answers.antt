@@ -1,6 +1,8 @@
 use Rattle.std.proofs.Common.{sym, ap, ◌∙◌, subst}
 use Rattle.kin_list.specs.declared.mark.Mark.{Mark}
+use Rattle.kin_list.specs.declared.mark.Mark.TheVariants.{Leaves}
 use Rattle.kin_list.specs.Listing.{Listing, HasMarked, names_leaving}
+use Rattle.kin_list.proofs.FollowLaws.{follows_marked}
 use Rattle.kin_list.proofs.LeavingLaws.{list_left}
 use Rattle.kin_list.proofs.kept.KinListKept.mark_leaving.Goals as goal
 
@@ -15,3 +17,6 @@ returns-clause-members c = λ before after has left. list_left c.args.no c.args.
 
 pub returns-clause-spares : goal.returns-clause-spares
 returns-clause-spares c = λ p there free. sym (ap (λ (k : Listing). names_leaving k.mark p) c.remove.ensures) ∙ free
+
+pub returns-clause-follows : goal.returns-clause-follows
+returns-clause-follows c = λ s after members settled left. follows_marked (Leaves c.args.no) c.args.self.now c.remove.new.self s after c.remove.ensures settled left

@@ -1,4 +1,4 @@
-use Rattle.std.proofs.Common.{◌≡◌, sym, ap, subst, arith, List, [], ℕ, length, Result, rules, Contains}
+use Rattle.std.proofs.Common.{◌≡◌, sym, ap, ◌∙◌, subst, arith, List, [], ℕ, length, Result, rules, Contains}
 use Rattle.std.specs.Prelude.{IfOk, IsOk, Ok, Err}
 use Rattle.std.specs.Result.{IsErr}
 use Rattle.std.proofs.lemmas.Result.{IfOk-from_err}
@@ -13,6 +13,7 @@ use Rattle.kin_overlay.specs.Reports.{IsTold}
 use Rattle.kin_overlay.specs.Sound.{IsWhole}
 use Rattle.kin_overlay.proofs.FactLaws.{merged-settled}
 use Rattle.kin_overlay.proofs.PastLaws.{whole-new, whole-cleared}
+use Rattle.kin_overlay.proofs.ReadLaws.{read-merged}
 use Rattle.kin_overlay.proofs.SoundLaws.{all-born, told-all}
 use Rattle.kin_overlay.proofs.overlay.Overlay.build.Goals as goal
 
@@ -32,20 +33,25 @@ invariant_of-result g c =
     let b = c.args.b.now in
     let m = c.merge.new.self in
     let merged = c.in_ok-merge.ensures.merged in
-    let settled = merged-settled s c.requires.real _ _ _ c.args.part _ c.requires.a_some c.requires.b_some c.requires.less c.requires.a_chain c.requires.b_chain merged (c.in_ok-merged_chain.ensures s _ _ c.requires.a_some c.requires.b_some merged) in
+    let settled = merged-settled s c.requires.real _ _ _ c.args.part _ c.requires.a_some c.requires.b_some c.requires.less c.requires.a_chain c.requires.b_chain merged (c.in_ok-merged_chain.ensures ∙ read-merged s a b m _ c.requires.a_some c.requires.b_some merged merged.left) in
     let once_a = rising_once s (real_line_laws s c.requires.real) a c.requires.a_chain.rising in
     let once_b = rising_once s (real_line_laws s c.requires.real) b c.requires.b_chain.rising in
     let whole = whole-new s c.args.part m a b c.requires.a_some c.requires.b_some once_a once_b c.requires.less settled.exact.once merged in
     let with_b = subst (λ (l : List ℕ). IsWhole c.args.part m [] [] [] [] [] a l) (sym c.in_ok-copied-2.ensures) whole in
     let with_both = subst (λ (l : List ℕ). IsWhole c.args.part m [] [] [] [] [] l c.in_ok-copied-2.field-0.items) (sym c.in_ok-copied.ensures) with_b in
-    whole-cleared c.args.part m _ _ _ _ _ _ _ (search rules) (search rules) (search rules) (search rules) (search rules) with_both
+    record {
+      whole = whole-cleared c.args.part m _ _ _ _ _ _ _ (search rules) (search rules) (search rules) (search rules) (search rules) with_both;
+      read = c.in_ok-merged_chain.ensures;
+      once = rising_once s (real_line_laws s c.requires.real) _ settled.is_chain.rising;
+    }
 
 pub returns : goal.returns
 returns g c =
     let s = g.O.Signs.scene c.args.now.now in
     let a = c.args.a.now in
     let m = c.merge.new.self in
-    let settled = merged-settled s c.requires.real _ _ _ c.args.part _ c.requires.a_some c.requires.b_some c.requires.less c.requires.a_chain c.requires.b_chain c.in_ok-merge.ensures.merged (c.in_ok-merged_chain.ensures s _ _ c.requires.a_some c.requires.b_some c.in_ok-merge.ensures.merged) in
+    let settled = merged-settled s c.requires.real _ _ _ c.args.part _ c.requires.a_some c.requires.b_some c.requires.less c.requires.a_chain c.requires.b_chain c.in_ok-merge.ensures.merged
+    (c.in_ok-merged_chain.ensures ∙ read-merged s a c.args.b.now m _ c.requires.a_some c.requires.b_some c.in_ok-merge.ensures.merged c.in_ok-merge.ensures.merged.left) in
     let done = all-born c.args.part m c.new-none.result c.out.inside.dropped.items c.out.inside.born.items c.tell_missing.new.told.items c.new-none.ensures settled.exact.once c.in_ok-tell_missing.ensures in
     record {
       a = search rules;
@@ -73,16 +79,34 @@ none_asked : {T E : Type 0} (P : Type 0) (r : Result T E) → IsErr r → IsOk r
 none_asked P (Ok x) e ok = search rules
 none_asked P (Err x) e ok = search rules
 
-pub returns-in_err-merge : goal.returns-in_err-merge
-returns-in_err-merge g c =
+pub returns-in_err-list : goal.returns-in_err-list
+returns-in_err-list g c =
     let r = c.from_residual.result in
     let e = c.from_residual.ensures.0 in
+    record { a = none_made _ r e; b = none_made _ r e; part = none_made _ r e; rest = none_made _ r e; settled = none_made _ r e; edits = none_made _ r e; gone = none_made _ r e; unedited = none_made _ r e; born = none_made _ r e; tests = none_asked _ r e }
+
+pub returns-in_err-drawing : goal.returns-in_err-drawing
+returns-in_err-drawing g c =
+    let r = c.from_residual-in_err-drawing.result in
+    let e = c.from_residual-in_err-drawing.ensures.0 in
+    record { a = none_made _ r e; b = none_made _ r e; part = none_made _ r e; rest = none_made _ r e; settled = none_made _ r e; edits = none_made _ r e; gone = none_made _ r e; unedited = none_made _ r e; born = none_made _ r e; tests = none_asked _ r e }
+
+pub returns-in_err-merge : goal.returns-in_err-merge
+returns-in_err-merge g c =
+    let r = c.from_residual-in_err-merge.result in
+    let e = c.from_residual-in_err-merge.ensures.0 in
     record { a = none_made _ r e; b = none_made _ r e; part = none_made _ r e; rest = none_made _ r e; settled = none_made _ r e; edits = none_made _ r e; gone = none_made _ r e; unedited = none_made _ r e; born = none_made _ r e; tests = none_asked _ r e }
 
 pub returns-in_err-tell_missing : goal.returns-in_err-tell_missing
 returns-in_err-tell_missing g c =
     let r = c.from_residual-in_err-tell_missing.result in
     let e = c.from_residual-in_err-tell_missing.ensures.0 in
+    record { a = none_made _ r e; b = none_made _ r e; part = none_made _ r e; rest = none_made _ r e; settled = none_made _ r e; edits = none_made _ r e; gone = none_made _ r e; unedited = none_made _ r e; born = none_made _ r e; tests = none_asked _ r e }
+
+pub returns-in_err-chain : goal.returns-in_err-chain
+returns-in_err-chain g c =
+    let r = c.from_residual-in_err-chain.result in
+    let e = c.from_residual-in_err-chain.ensures.0 in
     record { a = none_made _ r e; b = none_made _ r e; part = none_made _ r e; rest = none_made _ r e; settled = none_made _ r e; edits = none_made _ r e; gone = none_made _ r e; unedited = none_made _ r e; born = none_made _ r e; tests = none_asked _ r e }
 
 pub returns-in_err-merged_chain : goal.returns-in_err-merged_chain

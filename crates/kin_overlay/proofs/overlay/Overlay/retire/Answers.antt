@@ -10,7 +10,7 @@ pub returns : goal.returns
 returns c =
     let o = c.self.inside in
     let rest = ap (λ (m : Merge). m.stage) c.self.view_is ∙ c.requires.rest in
-    let distinct = (sound-at-rest o.stage _ rest c.self.invariant).distinct in
+    let distinct = (sound-at-rest o.stage _ rest c.self.invariant).whole.distinct in
     let done = retired o.part o.list c.new-none.result c.out.inside.dropped.items c.tell_missing.new.told.items c.out.inside.born.items c.new-none.ensures distinct c.in_ok-tell_missing.ensures in
     record {
       dropped =

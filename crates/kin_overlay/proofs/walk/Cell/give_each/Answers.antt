@@ -13,6 +13,6 @@ returns c =
     let start = c.args.chain.now.items in
     let one = c.give.new.chain.items in
     let two = c.give-2.new.chain.items in
-    let first : one ≡ start ++ changes_of (last_item start) x = c.in_ok-give.ensures ∙ ap (λ (l : List ℕ). start ++ changes_of (last_item start) l) c.above.ensures in
-    let second : two ≡ start ++ changes_of (last_item start) (x ++ y) = c.in_ok-give-2.ensures ∙ ap (λ (l : List ℕ). one ++ changes_of (last_item one) l) c.above-2.ensures ∙ sym (given-more start one x y first) in
+    let first : one ≡ start ++ changes_of (last_item start) x = c.in_ok-give.ensures ∙ ap (λ (l : List ℕ). start ++ changes_of (last_item start) l) c.upper.ensures in
+    let second : two ≡ start ++ changes_of (last_item start) (x ++ y) = c.in_ok-give-2.ensures ∙ ap (λ (l : List ℕ). one ++ changes_of (last_item one) l) c.upper-2.ensures ∙ sym (given-more start one x y first) in
     c.in_ok-give-3.ensures ∙ ap (λ (l : List ℕ). two ++ changes_of (last_item two) l) c.shared.ensures ∙ sym (given-more start two (x ++ y) z second)

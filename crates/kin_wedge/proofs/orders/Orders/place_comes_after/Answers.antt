@@ -1,5 +1,5 @@
 use Rattle.std.proofs.Common.{◌≡◌, subst, List, ℕ, Bool, true, false, cond}
-use Rattle.kin_motion.specs.Changes.{stands_before}
+use Rattle.kin_motion.specs.Records.{stands_before}
 use Rattle.kin_motion.specs.Numbers.{is_in}
 use Rattle.kin_wedge.specs.Rows.{row_of}
 use Rattle.kin_wedge.specs.Seen.{rows_of}

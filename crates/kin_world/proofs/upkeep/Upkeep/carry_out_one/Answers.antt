@@ -1,6 +1,7 @@
-use Rattle.kin_world.proofs.Vocabulary.{rules, arith, from_two, real_at, IsSettledFor, sight, stage_of}
+use Rattle.kin_world.proofs.Vocabulary.{rules, ◌≡◌, sym, ◌∙◌, true, false, arith, from_two, AreLiveAfter, real_at, IsSettledFor, sight, stage_of}
 use Rattle.kin_world.proofs.MarkLaws.{live_after, hold_for, carried_on}
 use Rattle.kin_world.proofs.InOrder.{standing_read, may_tell}
+use Rattle.kin_world.proofs.PaidLaws.{has_paid}
 use Rattle.kin_world.proofs.upkeep.Upkeep.carry_out_one.Goals as goal
 
 pub carry_out-requires : goal.carry_out-requires
@@ -25,3 +26,14 @@ returns-clause-goes_on g c =
     from_two c.tell.result
     (λ told made. carried_on c.args.mark c.requires.marked c.index_mut.result.now (record { kept = s.1; here = s.2; settled = settled; change = c.carry_out.new.out; changed = rw c.clear.ensures at e.delta; told = told; made = made }))
     c.tell.ensures.told c.tell.ensures.made
+
+pub returns-clause-cost : goal.returns-clause-cost
+returns-clause-cost g c =
+    let h = c.requires.marked in
+    let s = standing_read h.1.in_order c.args.k c.index_mut.result.now c.requires.within c.index_mut.ensures.value in
+    let e = c.in_ok-carry_out.ensures in
+    let now = sight (stage_of c.args.self.now) in
+    from_two c.tell.result
+    (λ told cost. has_paid (λ live. AreLiveAfter c.args.mark live now.live) c.carry_out.new.self c.tell.new.self h.1.in_order.once told s.3.tabled (rw c.clear.ensures at e.delta)
+    (λ l there waits own. absurd (let clash : true ≡ false = sym waits ∙ h.1.none_waits l there in cc)) s.1 s.2 c.args.steps.now c.carry_out.new.steps c.tell.new.steps
+    (λ v live step. e.within c.args.self.now.size s.0 v step.settled.kind step.step step.settled.settled step.settled.members live) cost) c.tell.ensures.told c.tell.ensures.cost

@@ -1,7 +1,8 @@
-use Rattle.kin_world.proofs.Vocabulary.{rules, sym, ◌∙◌, from_two, real_at, placed_facts, IsSettledFor, sight, stage_of, told_to}
+use Rattle.kin_world.proofs.Vocabulary.{rules, ◌≡◌, sym, ◌∙◌, from_two, real_at, placed_facts, IsSettledFor, sight, stage_of, told_to}
 use Rattle.kin_world.proofs.InOrder.{standing_read, may_tell}
 use Rattle.kin_world.proofs.MailLaws.{none_told}
-use Rattle.kin_world.proofs.RepairLaws.{waiting_fail, repaired}
+use Rattle.kin_world.proofs.PaidLaws.{has_paid, has_paid_none}
+use Rattle.kin_world.proofs.RepairLaws.{given_leaves, repaired, waiting_fail}
 use Rattle.kin_world.proofs.upkeep.Upkeep.repair.Goals as goal
 
 pub settle-requires : goal.settle-requires
@@ -27,3 +28,17 @@ returns-clause-repaired g c =
     from_two c.tell.result
     (λ told made. repaired c.requires.repair c.args.k s.0 c.index_mut.result.now c.settle.new.self c.tell.new.self (record { kept = s.1; here = s.2; settled = settled; change = c.settle.new.out; changed = rw c.clear.ensures at e.delta; told = told; made = made }))
     c.tell.ensures.told c.tell.ensures.made
+
+pub returns-then-is_empty-clause-cost : goal.returns-then-is_empty-clause-cost
+returns-then-is_empty-clause-cost g c = has_paid_none _ c.args.k (stage_of c.args.self.now) c.args.steps.now
+
+pub returns-clause-cost : goal.returns-clause-cost
+returns-clause-cost g c =
+    let s = standing_read c.requires.repair c.args.k c.index_mut.result.now c.requires.within c.index_mut.ensures.value in
+    let e = c.in_ok-settle.ensures in
+    let now = sight (stage_of c.args.self.now) in
+    let settled : IsSettledFor c.args.self.now.size s.0 now c.settle.new.self = record { kind = (e.kind c.args.self.now.size s.0 s.3.fine.kind); rest = e.rest; members = e.members; settled = e.settled } in
+    from_two c.tell.result
+    (λ told cost. has_paid (λ live. live ≡ now.live) c.settle.new.self c.tell.new.self c.requires.repair.once told s.3.tabled (rw c.clear.ensures at e.delta)
+    (λ l there waits own. given_leaves c.requires.repair s.0 c.settle.new.self settled l there waits) s.1 s.2 c.args.steps.now c.settle.new.steps c.tell.new.steps
+    (λ v live step. e.within c.args.self.now.size s.0 v step.settled.kind step.step step.settled.settled live) cost) c.tell.ensures.told c.tell.ensures.cost

@@ -1,5 +1,9 @@
-use Rattle.kin_world.proofs.Vocabulary.{rules, subst, ◌<◌, true, meaning, stage_of, HasRemoved}
+use Rattle.kin_world.proofs.Vocabulary.{rules, arith, subst, sym, ◌<◌, true, meaning, scene_at, stage_of, HasRemoved, IsRepairCost, sight}
 use Rattle.kin_world.proofs.Inside.{sound_inside, as_seen}
+use Rattle.kin_motion.specs.KeptOrder.{TreesKeepOrder}
+use Rattle.kin_world.specs.declared.structure.Mark.TheVariants.{Leaves}
+use Rattle.kin_world.proofs.ChainOrder.{removals_keep_order}
+use Rattle.kin_world.proofs.Frugal.{marked_frugal}
 use Rattle.kin_world.proofs.MarkLaws.{live_within, may_remove}
 use Rattle.kin_world.proofs.SoundLaws.{has_removed}
 use Rattle.kin_world.proofs.world.World.remove.Goals as goal
@@ -19,3 +23,13 @@ returns-clause-removed g c =
     let s = stage_of c.self.inside.upkeep in
     as_seen c.self.inside c.self.view_is c.self.invariant c.requires.whole (λ v. HasRemoved c.args.no v (meaning (stage_of c.carry_out_each.new.self) true))
     (has_removed (record s { motions = c.clear.new.self }) c.in_ok-carry_out_each.ensures.settled c.carry_out_each.ensures.frame s.motions c.args.no c.clear.ensures)
+
+pub returns-clause-cost : goal.returns-clause-cost
+returns-clause-cost g c =
+    let sound = sound_inside c.self.inside c.self.view_is c.self.invariant c.requires.whole in
+    let live = rw (← c.self.view_is) at c.requires.live in
+    let low = subst (λ n. c.args.no < n) sound.in_order.fit.room (live_within c.self.inside.upkeep.motions c.args.no live) in
+    let s = stage_of c.self.inside.upkeep in
+    let trees = subst (λ ms. TreesKeepOrder s.size (sight s) (scene_at ms s.moment)) (sym c.clear.ensures) (removals_keep_order s.motions s.size c.args.no s.moment sound.in_order.canonical) in
+    as_seen c.self.inside c.self.view_is c.self.invariant c.requires.whole (λ v. IsRepairCost v (meaning (stage_of c.carry_out_each.new.self) true) 0 c.args.steps.now c.carry_out_each.new.steps)
+    (marked_frugal sound (Leaves c.args.no) c.clear.new.self (may_remove sound c.args.no c.clear.new.self live low c.clear.ensures) trees c.carry_out_each.ensures.frame c.in_ok-carry_out_each.ensures.settled.sound c.in_ok-carry_out_each.ensures.cost (omega arith))

@@ -1,0 +1,15 @@
+-- The buckets of facts.
+use Rattle.std.specs.Prelude.{ℕ, ◌-◌, ◌^◌, List, [], ◌∷◌}
+use Rattle.kin_motion.specs.declared.form.Form.{Form}
+use Rattle.kin_motion.specs.declared.form.Form.TheVariants.{Line, Turn, Slope, Dist}
+
+-- the first number that a form names, from the greatest one down for a slope, and 0 for a comparison of distances
+abbrev pub bucket_number : Form → ℕ
+bucket_number (Line dx dy off i j) = i
+bucket_number (Turn i j k) = i
+bucket_number (Slope i j k l) = 2 ^ 32 - 1 - i
+bucket_number (Dist i j k l) = 0
+
+-- structure, part and that number
+abbrev pub bucket_of : ℕ → ℕ → Form → List ℕ
+bucket_of structure part form = structure ∷ part ∷ bucket_number form ∷ []

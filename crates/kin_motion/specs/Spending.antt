@@ -1,0 +1,104 @@
+-- What a repair may ask: how many signs each kept structure may ask between a scene before and a scene now, by its keep and the two scenes. It is meant for scenes with the same live numbers, or of which one has one number more (`follows` of `Kept`).
+use Rattle.std.specs.Prelude.{◌≡◌, ◌≢◌, ℕ, ◌+◌, ◌*◌, ◌^◌, ◌≤◌, pos, List, [], ◌∷◌, length, sum_by, Some, slice_get, IsTrue, ◌⊎◌}
+use Rattle.kin_motion.specs.declared.fact.Placed.{Placed}
+use Rattle.kin_motion.specs.declared.keep.Keep.{Keep}
+use Rattle.kin_motion.specs.declared.keep.Keep.TheVariants.{Order, Extreme, Hull, Closest, Range}
+use Rattle.kin_motion.specs.Agreements.{FitsSize}
+use Rattle.kin_motion.specs.Records.{moved_pairs}
+use Rattle.kin_motion.specs.ClosestFacts.{IsPairFact, near_slots}
+use Rattle.kin_motion.specs.Deltas.{Change}
+use Rattle.kin_motion.specs.Extremes.{IsExtremeFact}
+use Rattle.kin_motion.specs.Forms.{names}
+use Rattle.kin_motion.specs.KeptOrder.{KeptHullKeepsOrder}
+use Rattle.kin_motion.specs.Merges.{IsHullFact}
+use Rattle.kin_motion.specs.Numbers.{IsIn, HasEntered}
+use Rattle.kin_motion.specs.Octants.{Direction, direction, eight_directions}
+use Rattle.kin_motion.specs.Orders.{order_of, IsOrderFact}
+use Rattle.kin_motion.specs.Scene.{Scene, IsReal, Holds}
+use Rattle.kin_motion.specs.Sets.{ListsExactly}
+
+-- what the bound requires of the two scenes: both are real, the live numbers have slots, and the chains of a kept hull keep their order
+pub record AreInStep (size : ℕ) (keep : Keep) (v w : Scene) : Type 0 where
+  pub old_real : IsReal v
+  pub new_real : IsReal w
+  pub old_fits : FitsSize size v
+  pub new_fits : FitsSize size w
+  pub chains : KeptHullKeepsOrder size keep v w
+
+-- ---- facts
+-- dropped are the facts that were there and are not, and born those that are there and were not
+pub record AreChanged (old new : Placed → Type 0) (change : Change) : Type 0 where
+  pub dropped : ListsExactly change.dropped (λ p. old p × ¬ (new p))
+  pub born : ListsExactly change.born (λ p. new p × ¬ (old p))
+
+-- a fact has failed: it was there, it names no number that has left, and it does not hold now
+pub record HasFailed (old : Placed → Type 0) (v w : Scene) (p : Placed) : Type 0 where
+  pub was : old p
+  pub stays : (i : ℕ) → IsTrue (names p.fact.form i) → IsIn i v.live → IsIn i w.live
+  pub fails : ¬ (Holds w p.fact)
+
+-- ---- orders
+-- a fact of one of the orders along these directions, each in its part
+pub record IsFactAlong (ways : List Direction) (s : Scene) (p : Placed) : Type 0 where
+  pub way : Direction
+  pub known : slice_get ways p.part ≡ Some way
+  pub fact : IsOrderFact s way.dx way.dy p.part p
+
+-- how many pairs of numbers change places along a direction
+abbrev pub moved_along : Scene → Scene → Direction → ℕ
+moved_along v w d = moved_pairs (order_of v d.dx d.dy) (order_of w d.dx d.dy)
+
+-- k signs may be asked to find a place: none, or where a number has entered n others, k with 2^k ≤ 2n + 2
+abbrev pub MayBisect : Scene → Scene → ℕ → Type 0
+MayBisect v w k = (k ≡ 0) ⊎ ((i : ℕ) × HasEntered i v.live w.live × (2 ^ k ≤ 2 * length v.live + 2))
+
+-- orders may ask 8 signs for each fact dropped or born and for each pair that changes places, and k more for each order where a number enters
+pub record MayOrdersAsk (ways : List Direction) (v w : Scene) (asked : ℕ) : Type 0 where
+  pub change : Change
+  pub changed : AreChanged (IsFactAlong ways v) (IsFactAlong ways w) change
+  pub halvings : ℕ
+  pub allowed : MayBisect v w halvings
+  pub bound : asked ≤ 8 * (length change.dropped + length change.born + sum_by (moved_along v w) ways) + length ways * halvings
+
+-- ---- tournaments
+-- n is 0, or it is 1 and one number has entered or left
+abbrev pub IsChangeCount : List ℕ → List ℕ → ℕ → Type 0
+IsChangeCount before after n = (n ≡ 0) ⊎ ((n ≡ 1) × ((i : ℕ) × (HasEntered i before after ⊎ HasEntered i after before)))
+
+-- an extreme point may ask `size` signs for each failed fact, and for a number that enters or leaves
+pub record MayExtremeAsk (size : ℕ) (d : Direction) (v w : Scene) (asked : ℕ) : Type 0 where
+  pub failed : List Placed
+  pub exactly : ListsExactly failed (HasFailed (IsExtremeFact size v d.dx d.dy) v w)
+  pub marks : ℕ
+  pub allowed : IsChangeCount v.live w.live marks
+  pub bound : asked ≤ size * (length failed + marks)
+
+-- a closest pair may ask what its eight orders may, and size + 3 signs for each slot whose pair changed and for each failed fact of its tournament
+pub record MayClosestAsk (size : ℕ) (v w : Scene) (asked : ℕ) : Type 0 where
+  pub in_orders : ℕ
+  pub orders : MayOrdersAsk eight_directions v w in_orders
+  pub slots : List ℕ
+  pub other : ListsExactly slots (λ k. slice_get (near_slots size v) k ≢ slice_get (near_slots size w) k)
+  pub failed : List Placed
+  pub exactly : ListsExactly failed (HasFailed (IsPairFact size v) v w)
+  pub bound : asked ≤ in_orders + (size + 3) * (length slots + length failed)
+
+-- ---- hulls
+-- a hull may ask 5 signs for each fact born and one for each dropped
+pub record MayHullAsk (size : ℕ) (v w : Scene) (asked : ℕ) : Type 0 where
+  pub change : Change
+  pub changed : AreChanged (IsHullFact size v) (IsHullFact size w) change
+  pub bound : asked ≤ 5 * length change.born + length change.dropped
+
+-- ---- all kinds
+-- so many signs a structure may ask, by its kind
+abbrev pub MayAsk : ℕ → Keep → Scene → Scene → ℕ → Type 0
+MayAsk size (Order dx dy) v w asked = MayOrdersAsk (direction dx dy ∷ []) v w asked
+MayAsk size (Extreme dx dy) v w asked = MayExtremeAsk size (direction dx dy) v w asked
+MayAsk size Hull v w asked = MayHullAsk size v w asked
+MayAsk size Closest v w asked = MayClosestAsk size v w asked
+MayAsk size Range v w asked = MayOrdersAsk (direction (pos 1) (pos 0) ∷ direction (pos 0) (pos 1) ∷ []) v w asked
+
+-- the count has risen by at most a number that may be asked
+abbrev pub HasRisenWithin : (ℕ → Type 0) → ℕ → ℕ → Type 0
+HasRisenWithin may before after = (asked : ℕ) × may asked × (after ≤ before + asked)

@@ -1,0 +1,56 @@
+use Rattle.std.proofs.Common.{◌≡◌, refl, sym, ap, ◌∙◌, subst, List, ℕ, ◌-◌, ◌++◌, map, take, drop, Result}
+use Rattle.std.specs.Prelude.{OnOk}
+use Rattle.std.proofs.lemmas.Result.{IfOk-weaker}
+use Rattle.kin_motion.specs.Edits.{all_edited, AreFitting}
+use Rattle.kin_motion.specs.Numbers.{IsOnce}
+use Rattle.kin_overlay.specs.Diffs.{KeepOrder, ArePutApart, IsDiff}
+use Rattle.kin_overlay.specs.Reading.{IsReadAgain}
+use Rattle.kin_overlay.specs.Remembered.{Remembered}
+use Rattle.kin_overlay.specs.Walks.{chain_read}
+use Rattle.kin_overlay.proofs.ShiftLaws.{renewed-lent}
+use Rattle.kin_overlay.proofs.reading.renew.Goals as goal
+
+-- what follows from what is so on `Ok`
+by : {T E P Q : Type 0} (r : Result T E) → OnOk r P → (P → Q) → OnOk r Q
+by {T} {E} {P} {Q} r h f = IfOk-weaker r (λ _. P) (λ _. Q) (λ _ p. f p) h
+
+-- the chain itself is read again
+again : (chain seen : List ℕ) (new old : Remembered) (given : List ℕ) (start end : ℕ) → seen ≡ chain → chain ≡ chain_read old → IsOnce chain → (seen ≡ chain_read old → IsOnce seen → IsReadAgain seen (chain_read new) given start end)
+    → IsReadAgain chain (chain_read new) given start end
+again chain seen new old given start end is read once k = subst (λ (l : List ℕ). IsReadAgain l (chain_read new) given start end) is (k (is ∙ read) (subst IsOnce (sym is) once))
+
+pub returns-clause-fit : goal.returns-clause-fit
+returns-clause-fit c =
+    let chain = c.args.chain.now.items in
+    let new = chain_read c.args.list.now in
+    let given = c.read_middle.new.given.items in
+    let start = c.in_ok-middle.middle.start in
+    let end = c.in_ok-middle.middle.end in
+    let d = c.in_ok-diff_middle.ensures in
+    let k = again chain c.deref.result.now c.args.list.now c.requires.read.0 given start end c.deref.ensures.value c.requires.read.1 c.requires.once (c.in_ok-middle.ensures c.requires.read.0 c.requires.read.2) in
+    let done = renewed-lent start end chain new given c.deref-2.result.now c.deref-3.result.now d.0 c.diff_middle.new.edits.items k c.deref-2.ensures.value c.deref-3.ensures.value d.1 d.2 in
+    by c.put_in.result c.put_in.ensures (λ put. done.1)
+
+pub returns-clause-lead : goal.returns-clause-lead
+returns-clause-lead c =
+    let chain = c.args.chain.now.items in
+    let new = chain_read c.args.list.now in
+    let given = c.read_middle.new.given.items in
+    let start = c.in_ok-middle.middle.start in
+    let end = c.in_ok-middle.middle.end in
+    let d = c.in_ok-diff_middle.ensures in
+    let k = again chain c.deref.result.now c.args.list.now c.requires.read.0 given start end c.deref.ensures.value c.requires.read.1 c.requires.once (c.in_ok-middle.ensures c.requires.read.0 c.requires.read.2) in
+    let done = renewed-lent start end chain new given c.deref-2.result.now c.deref-3.result.now d.0 c.diff_middle.new.edits.items k c.deref-2.ensures.value c.deref-3.ensures.value d.1 d.2 in
+    by c.put_in.result c.put_in.ensures (λ put. done.0 ∙ k.new_is ∙ ap (λ (l : List ℕ). take start chain ++ (l ++ drop end chain)) (sym c.deref-4.ensures.value) ∙ sym put)
+
+pub returns-clause-apart : goal.returns-clause-apart
+returns-clause-apart c =
+    let chain = c.args.chain.now.items in
+    let new = chain_read c.args.list.now in
+    let given = c.read_middle.new.given.items in
+    let start = c.in_ok-middle.middle.start in
+    let end = c.in_ok-middle.middle.end in
+    let d = c.in_ok-diff_middle.ensures in
+    let k = again chain c.deref.result.now c.args.list.now c.requires.read.0 given start end c.deref.ensures.value c.requires.read.1 c.requires.once (c.in_ok-middle.ensures c.requires.read.0 c.requires.read.2) in
+    let done = renewed-lent start end chain new given c.deref-2.result.now c.deref-3.result.now d.0 c.diff_middle.new.edits.items k c.deref-2.ensures.value c.deref-3.ensures.value d.1 d.2 in
+    by c.put_in.result c.put_in.ensures (λ put order. done.2 (subst (KeepOrder chain) (put ∙ ap (λ (l : List ℕ). take start chain ++ (l ++ drop end chain)) c.deref-4.ensures.value ∙ sym k.new_is) order))

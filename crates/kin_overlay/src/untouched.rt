@@ -1,0 +1,107 @@
+//! Which records of the old list can be drawn as they are.
+
+ghost use Rattle.std.specs.Prelude.{◌≡◌, ◌<◌, false, Contains, IsTrue, IsFalse, length};
+ghost use Rattle.kin_motion.specs.declared.fact.Fact.{Fact as Claim};
+ghost use Rattle.kin_motion.specs.declared.fact.Placed.{Placed as Put};
+ghost use Rattle.kin_motion.specs.Numbers.{is_in};
+ghost use Rattle.kin_overlay.specs.Overlays.{names_any};
+ghost use Rattle.kin_overlay.specs.Passing.{begins_with, put_of, IsUntouched, IsLinkedAt};
+ghost use Rattle.kin_overlay.specs.Remembered.{turn_fact, slope_facts};
+ghost use Rattle.kin_overlay.specs.Spans.{IsNextOf};
+
+use crate::half::Half;
+use crate::list::BreakpointList;
+use crate::record::Record;
+use crate::resort::goes_first;
+use crate::sketch::Puts;
+use crate::standing::{Standing, names_gone};
+use kin_motion::fact::Placed;
+use kin_motion::form::Form;
+
+/// Whether a turn or a slope form begins with this point.
+fn begins_with(form: &Form, point: u32) -> bool
+    ensures { result ≡ begins_with form.now point }
+{
+    match form {
+        Form::Turn { i, .. } | Form::Slope { i, .. } => *i == point,
+        Form::Line { .. } | Form::Dist { .. } => false,
+    }
+}
+
+/// Whether a fact has failed that begins with this point, as both facts of a record begin with its left
+/// point.
+fn is_doubted(left: u32, failed: &[Placed]) -> bool
+    ensures { IsFalse result → (p : Put) → Contains failed.now p → begins_with p.fact.form left ≡ false }
+{
+    for placed in failed {
+        if begins_with(&placed.fact.form, left) {
+            return true;
+        }
+    }
+    false
+}
+
+/// Whether a fact of the record names one of the numbers that have left.
+#[inline(always)]
+fn names_some(noted: &Record, gone: &[u32]) -> bool
+    ensures turn { IsFalse result → names_any (turn_fact noted.now).form gone.now ≡ false }
+    ensures slope { IsFalse result → (f : Claim) → Contains (slope_facts noted.now) f → names_any f.form gone.now ≡ false }
+{
+    if names_gone(noted.turn_fact(), gone) {
+        return true;
+    }
+    match noted.slope_fact() {
+        Some(fact) => names_gone(fact, gone),
+        None => false,
+    }
+}
+
+/// Whether the right point of the breakpoint was put into its half.
+fn is_put(noted: &Record, puts: Puts) -> bool
+    ensures { result ≡ is_in noted.now.at.right (put_of noted.now.at.half puts.entry.a.now puts.entry.b.now) }
+{
+    match noted.at.half {
+        Half::A => puts.a.contains(&noted.at.right),
+        Half::B => puts.b.contains(&noted.at.right),
+    }
+}
+
+/// True only if the record can be drawn as it is, where its breakpoint is still there and its point of
+/// the other half is current.
+pub fn is_untouched(noted: &Record, puts: Puts, standing: &Standing) -> bool
+    ensures { IsTrue result → IsUntouched standing.now puts.entry.a.now puts.entry.b.now noted.now }
+{
+    if is_doubted(noted.at.left, standing.failed) {
+        return false;
+    }
+    if names_some(noted, standing.gone) {
+        return false;
+    }
+    !is_put(noted, puts)
+}
+
+/// Whether a record is followed by this one as it remembers.
+fn is_next_of(noted: &Record, behind: &Record) -> bool
+    ensures { IsTrue result → IsNextOf noted.now.next noted.now behind.now }
+{
+    match noted.next {
+        Some(next) => {
+            next.at.is(behind.at)
+                && !noted.at.half.is(behind.at.half)
+                && goes_first(next.slope, noted.at.half, behind.at.half)
+        }
+        None => noted.at.half.is(behind.at.half),
+    }
+}
+
+/// Whether the record at a place is followed by the next as it remembers, or is the last and remembers
+/// none.
+pub fn is_linked(list: &BreakpointList, place: usize) -> bool
+    requires { place < length list.now.records }
+    ensures { IsTrue result → IsLinkedAt list.now.records place }
+{
+    if place == list.len() - 1 {
+        return list.at(place).next.is_none();
+    }
+    is_next_of(list.at(place), list.at(place + 1))
+}

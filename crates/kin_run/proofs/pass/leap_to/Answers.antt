@@ -1,5 +1,0 @@
-use Rattle.std.proofs.Common.{rules}
-use Rattle.kin_run.proofs.pass.leap_to.Goals as goal
-
-pub returns : goal.returns
-returns g c = search rules
