@@ -237,8 +237,8 @@ impl Stage {
             signs: &mirror,
             motions: now.motions,
         };
-        let turned = Mirror { inner: &watch };
-        visit(self, merging, None, &sight, &turned, steps)
+        let reflected = Mirror { inner: &watch };
+        visit(self, merging, None, &sight, &reflected, steps)
     }
 
     /// The merge of the chains of one side at a moment.

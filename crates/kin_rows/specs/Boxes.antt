@@ -3,7 +3,7 @@ use Rattle.std.specs.Prelude.{◌≡◌, pos, negsuc, List, [], ◌∷◌, Optio
 use Rattle.kin_num.specs.declared.instant.Shape.TheVariants.{Ratio}
 use Rattle.kin_num.specs.declared.instant.Phase.TheVariants.{At}
 use Rattle.kin_motion.specs.Course.{Course}
-use Rattle.kin_motion.specs.Boxes.{box_of}
+use Rattle.kin_motion.specs.Boxes.{points_in}
 use Rattle.kin_rows.specs.Settings.{point, at}
 use Rattle.kin_motion.specs.declared.keep.Rect.{Rect}
 
@@ -16,6 +16,6 @@ bounds = record { x1 = pos 1; x2 = pos 4; y1 = pos 0; y2 = pos 2 }
 
 -- points in a rectangle with its border
 pub record SlidingRow : Type 0 where
-  pub sliding_half : box_of sliding (record { at = Ratio (pos 1) (pos 2); phase = At }) bounds ≡ 0 ∷ 1 ∷ 2 ∷ []
-  pub sliding_1 : box_of sliding (at (pos 1)) bounds ≡ 0 ∷ 2 ∷ 3 ∷ []
-  pub sliding_none : box_of sliding (at (pos 1)) (record { x1 = pos 4; x2 = pos 1; y1 = pos 0; y2 = pos 2 }) ≡ []
+  pub sliding_half : points_in sliding (record { at = Ratio (pos 1) (pos 2); phase = At }) bounds ≡ 0 ∷ 1 ∷ 2 ∷ []
+  pub sliding_1 : points_in sliding (at (pos 1)) bounds ≡ 0 ∷ 2 ∷ 3 ∷ []
+  pub sliding_none : points_in sliding (at (pos 1)) (record { x1 = pos 4; x2 = pos 1; y1 = pos 0; y2 = pos 2 }) ≡ []

@@ -5,9 +5,9 @@ use Rattle.kin_motion.specs.declared.form.Form.TheVariants.{Line, Turn}
 use Rattle.kin_motion.specs.Scene.{scene_at}
 use Rattle.kin_motion.specs.Orders.{order_of}
 use Rattle.kin_rows.specs.Settings.{at, after}
-use Rattle.kin_motion.specs.Changes.{Record.{Inner, LeftEnd, RightEnd}, records_of, moved_pairs}
+use Rattle.kin_motion.specs.Records.{Record.{Inner, LeftEnd, RightEnd}, records_of, moved_pairs}
 use Rattle.kin_motion.specs.Merges.{Half.{A}, breakpoint_list}
-use Rattle.kin_motion.specs.Plans.{Plan, scene_of}
+use Rattle.kin_motion.specs.Plans.{Plan, plans_scene}
 use Rattle.kin_rows.specs.Triangle.{triangle}
 
 -- point 0 turns back at 2, before it meets point 1
@@ -27,6 +27,6 @@ pub record ChangeRows : Type 0 where
       ∷ RightEnd 1 2 (record { form = Line (pos 1) (pos 0) (pos 0) 1 2; sign = Plus } ∷ [])
       ∷ Inner (record { half = A; left = 0; right = 1 }) (record { form = Turn 0 1 2; sign = Minus } ∷ [])
       ∷ []
-  pub turning_2 : order_of (scene_of turning_back (at (pos 2))) (pos 1) (pos 0) ≡ 0 ∷ 1 ∷ []
-  pub turning_4 : order_of (scene_of turning_back (at (pos 4))) (pos 1) (pos 0) ≡ 0 ∷ 1 ∷ []
-  pub turning_0 : order_of (scene_of turning_back (at (pos 0))) (pos 0) (negsuc 0) ≡ 0 ∷ 1 ∷ []
+  pub turning_2 : order_of (plans_scene turning_back (at (pos 2))) (pos 1) (pos 0) ≡ 0 ∷ 1 ∷ []
+  pub turning_4 : order_of (plans_scene turning_back (at (pos 4))) (pos 1) (pos 0) ≡ 0 ∷ 1 ∷ []
+  pub turning_0 : order_of (plans_scene turning_back (at (pos 0))) (pos 0) (negsuc 0) ≡ 0 ∷ 1 ∷ []

@@ -14,3 +14,4 @@ pub mod PairLaws
 pub mod HullFactRows
 pub mod ClosestFactRows
 pub mod Generated
+pub mod Asking

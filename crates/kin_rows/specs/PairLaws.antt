@@ -1,5 +1,5 @@
 -- Two numbers in order along x and along y are settled, and their facts determine them.
-use Rattle.std.proofs.Common.{◌≡◌, ◌⊎◌, inl, inr, sym, ap, ◌∙◌, subst, arith, [], ◌∷◌, ℕ, ℤ, pos, IsTrue}
+use Rattle.std.proofs.Common.{◌≡◌, inl, inr, sym, ap, ◌∙◌, subst, arith, [], ◌∷◌, ℕ, ℤ, pos, IsTrue}
 use Rattle.std.specs.Prelude.{Contains}
 use Rattle.std.proofs.lemmas.List.Elements.{All-contains}
 use Rattle.kin_algebra.proofs.Members.{contains_head, contains_tail}
@@ -9,7 +9,7 @@ use Rattle.kin_motion.specs.declared.fact.Placed.{Placed}
 use Rattle.kin_motion.specs.Numbers.{is_in}
 use Rattle.kin_motion.specs.Sets.{ListsExactly}
 use Rattle.kin_motion.specs.Scene.{Scene, IsReal, Holds}
-use Rattle.kin_motion.specs.Orders.{leads, IsOrder, IsOrderFact}
+use Rattle.kin_motion.specs.Orders.{leads, IsOrder, IsOrderFact, IsRangeFact}
 use Rattle.kin_motion.specs.Kinetics.{AllHold, HaveSameLive}
 use Rattle.kin_motion.specs.Laws.{HasLineLaws}
 use Rattle.kin_motion.proofs.FactLaws.{neighbour_facts-exact}
@@ -55,7 +55,7 @@ module _ (k : Pair) (v w : Scene) (before : IsSettled k v) (hold : AllHold w (pa
   old_sign : (p : Placed) → Contains (pair_facts k) p → Holds v p.fact
   old_sign p h = at ((before.exact.each p).0 h)
     where
-      at : IsOrderFact v (pos 1) (pos 0) 0 p ⊎ IsOrderFact v (pos 0) (pos 1) 1 p → Holds v p.fact
+      at : IsRangeFact v p → Holds v p.fact
       at (inl f) = order_fact_holds v (pos 1) (pos 0) 0 p f
       at (inr f) = order_fact_holds v (pos 0) (pos 1) 1 p f
 

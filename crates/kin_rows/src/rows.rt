@@ -1,5 +1,6 @@
 //! Worked rows. Each function's contract is one example; none of them does anything.
 
+ghost use Rattle.kin_rows.specs.Asking.{AskingRows};
 ghost use Rattle.kin_rows.specs.Boxes.{SlidingRow};
 ghost use Rattle.kin_rows.specs.Carriageways.{CarriagewaysRow};
 ghost use Rattle.kin_rows.specs.Changes.{ChangeRows};
@@ -81,4 +82,10 @@ pub fn closest_fact_rows()
 /// The failures of two generated points, with every kind of structure kept.
 pub fn generated_rows()
     ensures { GeneratedRows }
+{}
+
+/// What an order and an extreme point may ask: where points pass each other, where one enters, and
+/// where nothing changes. No greater number meets the bound.
+pub fn asking_rows()
+    ensures { AskingRows }
 {}

@@ -6,6 +6,9 @@ use Rattle.kin_overlay.specs.Overlays.{Merge, names_any, names_gone}
 use Rattle.kin_cases.proofs.Reports.{lists_failing}
 use Rattle.kin_cases.proofs.telling.Driver+Overlay.settle_merge.Goals as goal
 
+pub failing-requires : goal.failing-requires
+failing-requires g c = subst (λ (fs : List Placed). AreDistinct fs) (sym c.deref.ensures.value) c.self.invariant.once
+
 pub settle-requires-clause-failing : goal.settle-requires-clause-failing
 settle-requires-clause-failing g c =
     let structure = c.self.inside.structure in
