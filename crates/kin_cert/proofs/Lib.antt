@@ -2,6 +2,7 @@ pub mod Changes
 pub mod Dues
 pub mod Giving
 pub mod Posting
+pub mod Popping
 pub mod Buckets
 pub mod Rolls
 pub mod Succession

@@ -10,15 +10,15 @@ use kin_motion::fact::{Fact, Placed};
 use kin_motion::form::Form;
 use kin_num::{Instant, Moment, Phase, Shape};
 use std::marker::Model;
+use std::snapshot::Snapshot;
 
 /// A live fact as the table keeps it.
 #[derive(Drop)]
 pub(crate) struct Entry {
     owned: Owned,
-    /// The instant of the first failure, and its phase. Where the fact never fails they mean nothing. They are two
-    /// fields, so that no gap between them is copied.
-    at: Instant,
-    phase: Phase,
+    /// The moment of the first failure, for proofs alone: it takes no memory. Where the fact never fails it means
+    /// nothing.
+    at: Snapshot<Moment>,
     /// Whether the fact ever fails.
     is_mortal: bool,
     /// Whether the fact was given out as failing and waits to be dropped.
@@ -30,7 +30,7 @@ impl Model for Entry {
 
     ghost Value = { Entry };
 
-    ghost view = { λ e. record { owned = e.owned; fails = first_failure e.is_mortal (record { at = e.at; phase = e.phase }); is_waiting = e.is_waiting } };
+    ghost view = { λ e. record { owned = e.owned; fails = first_failure e.is_mortal e.at.value; is_waiting = e.is_waiting } };
 }
 
 impl Entry {
@@ -44,8 +44,10 @@ impl Entry {
                 part: placed.part,
                 fact: placed.fact,
             },
-            at: Instant::of(Shape::Ratio { n: 0, d: 1 }),
-            phase: Phase::At,
+            at: Snapshot::of(&Moment {
+                at: Instant::of(Shape::Ratio { n: 0, d: 1 }),
+                phase: Phase::At,
+            }),
             is_mortal: false,
             is_waiting: false,
         }
@@ -102,8 +104,7 @@ impl Entry {
     pub(crate) fn set_failure(&mut self, at: &Moment)
         ensures { self.new ≡ timed self.old (Some at.now) }
     {
-        self.at = at.at;
-        self.phase = at.phase;
+        self.at = Snapshot::of(at);
         self.is_mortal = true;
     }
 

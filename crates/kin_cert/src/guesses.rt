@@ -11,14 +11,18 @@ use indexmap::IndexMap;
 use kin_num::NoMemory;
 use std::alloc::Global;
 
-/// How many guesses are kept.
-const COUNT: usize = 32_768;
+/// The most guesses that are kept, and the fewest.
+const MOST: usize = 32_768;
+
+const FEWEST: usize = 256;
 
 /// Positions at which buckets were last found. A guess may be wrong, so it is tested where it is used: the index at that
 /// position has the bucket, or it is asked by hash. There are no guesses before the first one is noted.
 #[derive(Drop)]
 pub(crate) struct Guesses {
     positions: Vec<u32>,
+    /// How many there are, once one is noted: a power of two.
+    count: usize,
 }
 
 impl Guesses {
@@ -26,6 +30,17 @@ impl Guesses {
     pub(crate) fn new(alloc: Global) -> Guesses {
         Guesses {
             positions: Vec::new(alloc),
+            count: MOST,
+        }
+    }
+
+    /// No guesses yet, for so many facts. There will be at least four for each, so that few facts share
+    /// one, but no more than the most.
+    pub(crate) fn for_facts(alloc: Global, facts: usize) -> Guesses {
+        let wanted = facts.saturating_mul(4).clamp(FEWEST, MOST);
+        Guesses {
+            positions: Vec::new(alloc),
+            count: wanted.next_power_of_two(),
         }
     }
 
@@ -87,7 +102,7 @@ impl Guesses {
     fn guessed(&self, firsts: &IndexMap<Bucket, Holder>, bucket: &Bucket) -> Option<Spot>
         ensures { IfSome result (λ spot. StandsAt firsts.now bucket.now spot) }
     {
-        let position = *self.positions.get(slot_of(bucket))? as usize;
+        let position = *self.positions.get(self.slot_of(bucket))? as usize;
         let (known, holder) = firsts.get_index(position)?;
         if *known == *bucket {
             Some(Spot {
@@ -125,15 +140,26 @@ impl Guesses {
 
     /// Notes the position of a bucket. Without memory there are no guesses.
     pub(crate) fn note(&mut self, bucket: &Bucket, position: usize) {
-        if self.positions.is_empty() && self.positions.resize(COUNT, 0).is_err() {
+        if self.positions.is_empty() && self.positions.resize(self.count, 0).is_err() {
             return;
         }
+        let slot = self.slot_of(bucket);
         if let (Some(guess), Ok(position)) = (
-            self.positions.get_mut(slot_of(bucket)),
+            self.positions.get_mut(slot),
             u32::try_from(position),
         ) {
             *guess = position;
         }
+    }
+
+    // The slot of the guess of a bucket. The lists of one structure of each kind, of up to 1,024 points, share none
+    // where the most guesses are kept.
+    fn slot_of(&self, bucket: &Bucket) -> usize {
+        let [structure, part, number] = *bucket;
+        let mixed = number
+            .wrapping_add(part.wrapping_mul(5_171))
+            .wrapping_add(structure.wrapping_mul(17_807));
+        mixed as usize & self.count.wrapping_sub(1)
     }
 }
 
@@ -163,13 +189,4 @@ fn restored(firsts: &mut IndexMap<Bucket, Holder>, bucket: &Bucket, holder: Hold
         unreachable!()
     };
     spot
-}
-
-// The slot of the guess of a bucket. The lists of one structure of each kind, of up to 1,024 points, share none.
-fn slot_of(bucket: &Bucket) -> usize {
-    let [structure, part, number] = *bucket;
-    let mixed = number
-        .wrapping_add(part.wrapping_mul(5_171))
-        .wrapping_add(structure.wrapping_mul(17_807));
-    mixed as usize % COUNT
 }

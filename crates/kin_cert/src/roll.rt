@@ -69,7 +69,7 @@ impl Roll {
             entries: Slab::with_capacity(alloc, count)?,
             firsts: IndexMap::with_capacity(alloc, count.saturating_mul(2))?,
             others: IndexMap::new(alloc),
-            guesses: Guesses::new(alloc),
+            guesses: Guesses::for_facts(alloc, count),
         })
     }
 

@@ -10,7 +10,8 @@ ghost use Rattle.kin_cert.specs.Schedules.{just_after};
 
 use kin_instant::order::compare;
 use kin_instant::ratio::ratio;
-use kin_num::{Instant, Moment, NoMemory, Phase, Shape, Steps};
+use kin_num::{Instant, Moment, NoMemory, Phase, Steps};
+use kin_queue::due::{Due, is_same_instant};
 use kin_queue::queue::Queue;
 use std::alloc::Global;
 use std::cmp::Ordering;
@@ -139,11 +140,7 @@ impl Schedule {
     /// Takes an id of this moment out, before which there is none, or `None` exactly where no id has it. In line in the
     /// loops that give all facts of a moment.
     #[inline(always)]
-    pub(crate) fn take_at<L: Ledger>(
-        &mut self,
-        moment: &Moment,
-        steps: &mut Steps<L>,
-    ) -> Option<usize>
+    pub(crate) fn take_at<L: Ledger>(&mut self, moment: &Due, steps: &mut Steps<L>) -> Option<usize>
         requires first { (id : ℕ) (n : Time) → get self.old id ≡ Some n → ¬ (IsEarlier n moment.now) }
         ensures there { IfSome result (λ id. get self.old id ≡ Some moment.now) }
         ensures rest { IfSome result (λ id. self.new ≡ remove self.old id) }
@@ -152,21 +149,13 @@ impl Schedule {
         ensures cost { TakesSteps (len self.old) steps.old steps.new }
         ensures idle { IfNone result (steps.new ≡ steps.old) }
     {
-        moment.at.recall_canonical();
-        if have_moment(&self.soon, &self.soon_from, moment) {
+        if have_moment(&self.soon, &self.soon_from, moment.moment()) {
             let Some(id) = self.soon.pop() else {
                 unreachable!()
             };
             return Some(id);
         }
-        let Some(next) = self.queue.first() else {
-            return None;
-        };
-        if !is_same(&next.1, moment) {
-            return None;
-        }
-        self.queue.pop(steps);
-        Some(next.0)
+        self.queue.pop_at(moment, steps)
     }
 }
 
@@ -227,41 +216,6 @@ fn place_of(ids: &[usize], id: usize) -> Option<usize>
         }
     }
     None
-}
-
-fn is_same(x: &Moment, y: &Moment) -> bool
-    ensures { IsTrue result ↔ (x.now ≡ y.now) }
-{
-    is_same_phase(x.phase, y.phase) && is_same_instant(&x.at, &y.at)
-}
-
-// Whether the canonical forms are one.
-fn is_same_instant(x: &Instant, y: &Instant) -> bool
-    ensures { IsTrue result ↔ (x.now ≡ y.now) }
-{
-    match (x.shape(), y.shape()) {
-        (Shape::Ratio { n, d }, Shape::Ratio { n: m, d: e }) => n == m && d == e,
-        (
-            Shape::Root { a, b, c, upper },
-            Shape::Root {
-                a: a2,
-                b: b2,
-                c: c2,
-                upper: upper2,
-            },
-        ) => a == a2 && b == b2 && c == c2 && upper == upper2,
-        _ => false,
-    }
-}
-
-fn is_same_phase(x: Phase, y: Phase) -> bool
-    ensures { IsTrue result ↔ (x ≡ y) }
-{
-    match (x, y) {
-        (Phase::At, Phase::At) => true,
-        (Phase::After, Phase::After) => true,
-        _ => false,
-    }
 }
 
 // Whether a moment is earlier than the one just after an instant.

@@ -6,6 +6,7 @@ use kin_instant::ratio::ratio;
 use kin_instant::roots::Roots;
 use kin_instant::solve::roots;
 use kin_num::{Instant, Moment, NoMemory, Phase, Poly, Steps};
+use kin_queue::due::Due;
 use kin_queue::queue::Queue;
 use std::alloc::Global;
 use std::marker::Brand;
@@ -183,5 +184,90 @@ fn close_moments_come_in_order(rt: HostRuntime) -> Result<(), Fail> {
         late: &[],
     };
     assert!(rt; runs(rt.alloc(), &course)?);
+    Ok(())
+}
+
+/// The ids that are due at a moment.
+#[derive(Drop)]
+struct Batch<'a> {
+    at: Moment,
+    ids: &'a [usize],
+}
+
+fn due(at: Moment, ids: &[usize]) -> Batch<'_> {
+    Batch { at, ids }
+}
+
+/// Whether `pop_at` gives these ids, in any order, and no other.
+fn comes_whole<L: Ledger>(queue: &mut Queue, batch: &Batch<'_>, steps: &mut Steps<L>) -> bool {
+    let due = Due::new(&batch.at);
+    for _ in batch.ids {
+        let Some(id) = queue.pop_at(&due, steps) else {
+            return false;
+        };
+        if !batch.ids.contains(&id) {
+            return false;
+        }
+    }
+    queue.pop_at(&due, steps).is_none()
+}
+
+/// Whether the batches come one after the other, and nothing is left then.
+fn give<L: Ledger>(
+    alloc: Global,
+    entries: &[Entry],
+    batches: &[Batch<'_>],
+    blank: Blank,
+) -> Result<bool, NoMemory>
+    requires name { blank.name ≡ L.name }
+    requires parts { blank.parts ≡ L.parts }
+    requires some { 0 < L.parts }
+{
+    let mut steps = Steps::<L>::open(blank);
+    let mut queue = Queue::new(alloc);
+    fill(&mut queue, entries, &mut steps)?;
+    for batch in batches {
+        if !comes_whole(&mut queue, batch, &mut steps) {
+            return Ok(false);
+        }
+    }
+    Ok(is_empty(&mut queue, &mut steps))
+}
+
+/// The same with a counter of its own.
+fn gives(alloc: Global, entries: &[Entry], batches: &[Batch<'_>]) -> Result<bool, NoMemory> {
+    give::<Brand>(alloc, entries, batches, Blank::new(1))
+}
+
+/// Ties at a fraction and at a root, a fraction that has the root's span, and moments that aren't the next.
+#[test]
+fn entries_come_at_their_moment(rt: HostRuntime) -> Result<(), Fail> {
+    let root = at(root_two());
+    let close = at(ratio(131_836_323, 93_222_358));
+    let later = at(ratio(3, 2));
+    let last = Moment {
+        at: ratio(3, 2),
+        phase: Phase::After,
+    };
+    let entries = [
+        (1, later),
+        (2, root),
+        (3, close),
+        (4, last),
+        (5, root),
+        (6, later),
+    ];
+    let batches = [
+        due(later, &[]),
+        due(close, &[]),
+        due(root, &[2, 5]),
+        due(root, &[]),
+        due(close, &[3]),
+        due(last, &[]),
+        due(later, &[1, 6]),
+        due(last, &[4]),
+        due(last, &[]),
+    ];
+    assert!(rt; gives(rt.alloc(), &entries, &batches)?);
     Ok(())
 }

@@ -6,6 +6,7 @@ use Rattle.std.proofs.lemmas.Cmp.{nat_cmp_total}
 use Rattle.std.proofs.lemmas.Bool.{eqb-true, eq-eqb, false_from_ne_true}
 use Rattle.kin_num.specs.declared.instant.Moment.{Moment}
 use Rattle.kin_queue.specs.Agenda.{Agenda}
+use Rattle.kin_queue.specs.declared.instants.Instants.{Instants}
 use Rattle.kin_queue.specs.declared.ticket.Ticket.{Ticket}
 use Rattle.kin_queue.specs.Tickets.{entry_of, entries_of}
 use Rattle.kin_queue.specs.Heap.{IsHeap, agenda_of, IsPlaceOf}
@@ -48,7 +49,7 @@ module _ (es : List (ℕ × Moment)) (ps : List ℕ) (heap : IsHeap es ps) (id :
       ∙ ap is_some (found_at es (heap_apart es ps heap) e (place, lt, stands))
 
 -- the ticket at the place of an id tells whether the id is there
-module _ (ms : List Moment) (ts : List Ticket) (ps : List ℕ) (heap : IsHeap (entries_of ms ts) ps) (id : ℕ) (a : Agenda) (view : agenda_of (entries_of ms ts) ≡ a) where
+module _ (ms : Instants) (ts : List Ticket) (ps : List ℕ) (heap : IsHeap (entries_of ms ts) ps) (id : ℕ) (a : Agenda) (view : agenda_of (entries_of ms ts) ≡ a) where
   pub unplaced : length ps ≤ id → is_some (map.get a.moments id) ≡ false
   unplaced far = nowhere_at (entries_of ms ts) ps heap id a view (λ k. absurd (let lt = k.known in omega arith))
 

@@ -14,4 +14,5 @@ pub mod Costs
 pub mod Whole
 pub mod Known
 pub mod Noting
+pub mod Keeping
 pub mod Spans

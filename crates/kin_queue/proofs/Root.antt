@@ -1,11 +1,12 @@
 -- The first entry of a heap is one of least moment.
-use Rattle.std.proofs.Common.{◌≡◌, ◌/◌, ◌<◌, ◌≤◌, ℕ, zero, suc, List, [], ◌∷◌, length, get_or, slice_get, Some, cond, Bool, refl, sym, ap, subst, ◌∙◌, arith}
-use Rattle.std.specs.FinMap.{from_entries, get-from_entries}
+use Rattle.std.proofs.Common.{◌≡◌, ◌/◌, ◌<◌, ◌≤◌, ℕ, zero, suc, List, [], ◌∷◌, length, get_or, slice_get, Some, IsSome, cond, Bool, true, false, refl, sym, ap, subst, ◌∙◌, arith}
+use Rattle.std.specs.Ordering.{nat_cmp}
+use Rattle.std.specs.FinMap.{FinMap, remove, from_entries, get-from_entries}
 use Rattle.std.proofs.lemmas.Cmp.{nat_cmp_total}
 use Rattle.std.proofs.lemmas.Option.{same_Some}
 use Rattle.kin_num.specs.declared.instant.Moment.{Moment}
-use Rattle.kin_queue.specs.Agenda.{IsNext}
-use Rattle.kin_queue.specs.Heap.{IsHeap, IsRightBelow, MayStandAbove}
+use Rattle.kin_queue.specs.Agenda.{Agenda, IsNext, without}
+use Rattle.kin_queue.specs.Heap.{IsHeap, IsRightBelow, MayStandAbove, agenda_of}
 use Rattle.kin_queue.proofs.Entries.{look_up, look_up-place, same_itself}
 use Rattle.kin_queue.proofs.Order.{canonical_at, above_trans, above_itself}
 
@@ -36,3 +37,22 @@ heap_next (e ∷ es) ps heap =
 pub first_there : (es : List (ℕ × Moment)) (e : ℕ × Moment) → slice_get es 0 ≡ Some e → (0 < length es) × ((d : ℕ × Moment) → get_or es 0 d ≡ e)
 first_there [] e h = absurd cc
 first_there (x ∷ es) e h = (omega arith, λ d. same_Some x e h)
+
+module _ (es : List (ℕ × Moment)) (a : Agenda) (view : agenda_of es ≡ a) (some : IsSome a.next) where
+  there : IsSome (slice_get es 0)
+  there = subst (λ (x : Agenda). IsSome x.next) (sym view) some
+
+  inside_of : (xs : List (ℕ × Moment)) → IsSome (slice_get xs 0) → 0 < length xs
+  inside_of [] h = absurd (let e : false ≡ true = h in cc)
+  inside_of (x ∷ xs) h = omega arith
+
+  pub first_inside : 0 < length es
+  first_inside = inside_of es there
+
+  left_of : (xs : List (ℕ × Moment)) (m : FinMap nat_cmp Moment) → IsSome (slice_get xs 0) → ((d : ℕ × Moment) → m ≡ remove (from_entries xs) (get_or xs 0 d).0) → m ≡ without (from_entries xs) (slice_get xs 0)
+  left_of [] m h taken = absurd (let e : false ≡ true = h in cc)
+  left_of (x ∷ xs) m h taken = taken x
+
+  -- what is left without the first entry
+  pub first_taken : (m : FinMap nat_cmp Moment) → ((d : ℕ × Moment) → m ≡ remove (from_entries es) (get_or es 0 d).0) → m ≡ without a.moments a.next
+  first_taken m taken = left_of es m there taken ∙ ap (λ (x : Agenda). without x.moments x.next) view

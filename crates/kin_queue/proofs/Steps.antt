@@ -1,9 +1,12 @@
 -- One step of a hole among tickets.
-use Rattle.std.proofs.Common.{◌≡◌, ◌≢◌, ◌⊎◌, ◌↔◌, inl, inr, ℕ, ◌+◌, ◌*◌, ◌<◌, ◌≤◌, List, length, get_or, set, sym, ap, subst, ◌∙◌, arith}
+use Rattle.std.proofs.Common.{◌≡◌, ◌≢◌, ◌⊎◌, ◌↔◌, inl, inr, ℕ, ◌+◌, ◌*◌, ◌^◌, ◌<◌, ◌≤◌, Bool, true, false, IsTrue, List, length, get_or, set, refl, sym, ap, subst, ◌∙◌, arith}
+use Rattle.std.specs.Int.{from_bool}
+use Rattle.std.proofs.lemmas.List.{length-set}
 use Rattle.std.proofs.lemmas.List.Elements.{All-set}
 use Rattle.std.proofs.lemmas.Bool.{cases_eq}
 use Rattle.kin_num.specs.declared.instant.Moment.{Moment}
 use Rattle.kin_num.specs.Order.{IsEarlier}
+use Rattle.kin_queue.specs.declared.instants.Instants.{Instants}
 use Rattle.kin_queue.specs.declared.ticket.Ticket.{Ticket}
 use Rattle.kin_queue.specs.Tickets.{entry_of, entries_of, IsStamped, AreStamped}
 use Rattle.kin_queue.specs.Heap.{IsRightBelow, IsPlaceOf, MayStandAbove, IsHeap, IsKeyed}
@@ -42,6 +45,13 @@ module _ (es : List (ℕ × Moment)) (p : ℕ) (l r : ℕ × Moment) (inside : 2
     ]);
   }
 
+-- its place, as a sum
+pub earlier_child : (es : List (ℕ × Moment)) (p : ℕ) (l r : ℕ × Moment) → 2 * p + 1 + 1 < length es → ((d : ℕ × Moment) → get_or es (2 * p + 1) d ≡ l) → ((d : ℕ × Moment) → get_or es (2 * p + 1 + 1) d ≡ r) → AtInstant l → AtInstant r → (b : Bool) → (IsTrue b ↔ IsEarlier r.1 l.1) → IsEarliestBelow es p (2 * p + 1 + from_bool b)
+earlier_child es p l r inside left right fl fr true h = right_earliest es p l r inside left right fl fr (h.0 refl)
+earlier_child es p l r inside left right fl fr false h =
+    let here : 2 * p + 1 ≡ 2 * p + 1 + 0 = omega arith in
+    subst (IsEarliestBelow es p) here (left_earliest es p l r inside left right (λ k. absurd (let e : false ≡ true = h.1 k in cc)))
+
 -- an entry that stands alone right below a place
 pub last_earliest : (es : List (ℕ × Moment)) (p : ℕ) → length es ≡ 2 * p + 2 → IsEarliestBelow es p (2 * p + 1)
 last_earliest es p n = record {
@@ -51,10 +61,10 @@ last_earliest es p n = record {
 }
 
 -- there is no entry below a place
-pub fits_above_none : (ms : List Moment) (ts : List Ticket) (p : ℕ) (t : Ticket) → length ts ≤ 2 * p + 1 → FitsAbove (entries_of ms ts) p (entry_of ms t)
+pub fits_above_none : (ms : Instants) (ts : List Ticket) (p : ℕ) (t : Ticket) → length ts ≤ 2 * p + 1 → FitsAbove (entries_of ms ts) p (entry_of ms t)
 fits_above_none ms ts p t n = λ c d b lt. absurd (let m = entries_length ms ts in omega arith)
 
-module _ (ms : List Moment) (ts : List Ticket) (ps : List ℕ) (h g : ℕ) (t : Ticket) (hollow : IsHollow (entries_of ms ts) ps h (entry_of ms t)) (inside : g < length ts) where
+module _ (ms : Instants) (ts : List Ticket) (ps : List ℕ) (h g : ℕ) (t : Ticket) (hollow : IsHollow (entries_of ms ts) ps h (entry_of ms t)) (inside : g < length ts) where
   abbrev es : List (ℕ × Moment)
   es = entries_of ms ts
 
@@ -95,11 +105,12 @@ module _ (ms : List Moment) (ts : List Ticket) (ps : List ℕ) (h g : ℕ) (t : 
     fits_above_there n = fits_above_at es ps h g x (entry_of ms u) hollow child is n
 
 -- the ticket in hand comes into the hole
-module _ (ms : List Moment) (ts : List Ticket) (ps : List ℕ) (h : ℕ) (t : Ticket) (hollow : IsHollow (entries_of ms ts) ps h (entry_of ms t)) where
-  pub ticket_filled : AreStamped ms ts → IsStamped ms t → FitsBelow (entries_of ms ts) h (entry_of ms t) → FitsAbove (entries_of ms ts) h (entry_of ms t) → IsKeyed ms (set ts h t) (set ps t.id h)
-  ticket_filled all stamped over under = record {
+module _ (ms : Instants) (ts : List Ticket) (ps : List ℕ) (h : ℕ) (t : Ticket) (hollow : IsHollow (entries_of ms ts) ps h (entry_of ms t)) where
+  pub ticket_filled : AreStamped ms ts → IsStamped ms t → length ts ≤ 2 ^ 32 → FitsBelow (entries_of ms ts) h (entry_of ms t) → FitsAbove (entries_of ms ts) h (entry_of ms t) → IsKeyed ms (set ts h t) (set ps t.id h)
+  ticket_filled all stamped few over under = record {
     heap = subst (λ (l : List (ℕ × Moment)). IsHeap l (set ps t.id h)) (sym (entries_set ms ts h t)) (filled (entries_of ms ts) ps h (entry_of ms t) hollow over under);
     stamped = All-set (IsStamped ms) ts h t stamped all;
+    few = subst (λ (n : ℕ). n ≤ 2 ^ 32) (sym (length-set ts h t)) few;
   }
 
   pub stands_there : (e : ℕ × Moment) → Stands (entries_of ms (set ts h t)) e ↔ ((e ≡ entry_of ms t) ⊎ StandsOutside (entries_of ms ts) h e)

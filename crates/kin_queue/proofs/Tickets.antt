@@ -1,13 +1,15 @@
 -- Tickets, and the entries that they stand for.
 use Rattle.std.proofs.Common.{◌≡◌, ◌≢◌, ℕ, suc, ◌+◌, ◌-◌, ◌<◌, List, [], ◌∷◌, ◌++◌, length, get_or, set, drop, take, false, refl, sym, ap, ap₂, ◌∙◌, subst, arith}
 use Rattle.std.proofs.lemmas.List.{get_or-map, get_or-drop, get_or-take, length-map, map-append, map-set}
+use Rattle.kin_num.specs.declared.instant.Shape.{Shape}
 use Rattle.kin_num.specs.declared.instant.Phase.TheVariants.{At}
 use Rattle.kin_num.specs.declared.instant.Moment.{Moment}
 use Rattle.kin_num.specs.Canonical.{IsCanonical}
 use Rattle.kin_instant.specs.Keys.{IsKeyOf}
+use Rattle.kin_queue.specs.declared.instants.Instants.{Instants}
 use Rattle.kin_queue.specs.declared.ticket.Ticket.{Ticket}
+use Rattle.kin_queue.specs.Cells.{AreKept}
 use Rattle.kin_queue.specs.Tickets.{moment_in, key_in, entry_of, entries_of, IsStamped, AreStamped}
-use Rattle.kin_queue.specs.Heap.{IsNoted}
 
 -- what a slice gives outside
 abbrev pub blank : Ticket
@@ -20,7 +22,7 @@ first_from ts i lt = get_or-take (length ts - i) (drop i ts) 0 blank (omega arit
 pub second_from : (ts : List Ticket) (i : ℕ) → i + 1 < length ts → get_or (take (length ts - i) (drop i ts)) 1 blank ≡ get_or ts (i + 1) blank
 second_from ts i lt = get_or-take (length ts - i) (drop i ts) 1 blank (omega arith) ∙ get_or-drop i ts 1 blank
 
-module _ (ms : List Moment) where
+module _ (ms : Instants) where
   -- the entry of the ticket at a place
   pub entry_at : (ts : List Ticket) (i : ℕ) → i < length ts → (d : ℕ × Moment) → get_or (entries_of ms ts) i d ≡ entry_of ms (get_or ts i blank)
   entry_at ts i lt d = get_or-map (entry_of ms) ts i blank d lt
@@ -41,14 +43,14 @@ module _ (ms : List Moment) where
   entries_append ts t = map-append (entry_of ms) ts (t ∷ [])
 
 -- the tickets of other ids keep their moments
-module _ (old new : List Moment) (id : ℕ) (at : Moment) (noted : IsNoted old id at new) where
+module _ (old new : Instants) (id : ℕ) (others : AreKept old id new) where
   module _ (t : Ticket) (stamped : IsStamped old t) (other : t.id ≢ id) where
-    same_moment : moment_in new t.id ≡ moment_in old t.id
-    same_moment = noted.others t.id stamped.within other
+    same_moment : moment_in new t ≡ moment_in old t
+    same_moment = ap (λ (w : Shape). record { at = w; phase = t.phase }) (others t.id stamped.held other).is
 
     still_stamped : IsStamped new t
     still_stamped = record {
-      within = noted.kept t.id stamped.within;
+      held = (others t.id stamped.held other).held;
       canonical = subst (λ (m : Moment). IsCanonical m.at) (sym same_moment) stamped.canonical;
       key = subst (λ (m : Moment). IsKeyOf (key_in t) m) (sym same_moment) stamped.key;
     }

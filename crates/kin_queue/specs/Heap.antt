@@ -1,13 +1,14 @@
 -- How a queue lies in memory: a heap of its entries, and the place of each id. No public clause cites this module.
-use Rattle.std.specs.Prelude.{◌≡◌, ◌≢◌, ℕ, ◌+◌, ◌*◌, ◌<◌, ◌≤◌, List, length, slice_get, slice_index, slice_index_or}
+use Rattle.std.specs.Prelude.{◌≡◌, ℕ, ◌+◌, ◌*◌, ◌^◌, ◌<◌, ◌≤◌, List, length, slice_get, slice_index, slice_index_or}
 use Rattle.std.specs.List.{All}
 use Rattle.std.specs.FinMap.{from_entries}
 use Rattle.kin_num.specs.declared.instant.Moment.{Moment}
 use Rattle.kin_num.specs.Canonical.{IsCanonical}
 use Rattle.kin_num.specs.Order.{IsEarlier}
 use Rattle.kin_queue.specs.Agenda.{Agenda}
+use Rattle.kin_queue.specs.declared.instants.Instants.{Instants}
 use Rattle.kin_queue.specs.declared.ticket.Ticket.{Ticket}
-use Rattle.kin_queue.specs.Tickets.{moment_in, entries_of, AreStamped}
+use Rattle.kin_queue.specs.Tickets.{entries_of, AreStamped}
 
 abbrev pub agenda_of : List (ℕ × Moment) → Agenda
 agenda_of es = record { moments = from_entries es; next = slice_get es 0 }
@@ -29,18 +30,8 @@ pub record IsHeap (es : List (ℕ × Moment)) (ps : List ℕ) : Type 0 where
   pub placed : (i : ℕ) (d : ℕ × Moment) → i < length es → IsPlaceOf ps (slice_index_or es i d).0 i
   pub ordered : (p c : ℕ) (d : ℕ × Moment) → IsRightBelow p c → c < length es → MayStandAbove (slice_index_or es p d) (slice_index_or es c d)
 
--- a heap of tickets that have the keys of their moments
-pub record IsKeyed (ms : List Moment) (ts : List Ticket) (ps : List ℕ) : Type 0 where
-  pub heap : IsHeap (entries_of ms ts) ps
-  pub stamped : AreStamped ms ts
-
--- the places known before are as they were
-abbrev pub Extends : List ℕ → List ℕ → Type 0
-Extends old new = (id : ℕ) → id < length old → IsPlaceOf new id (slice_index old id)
-
--- the moment is at its id, and the others are as they were
-pub record IsNoted (old : List Moment) (id : ℕ) (at : Moment) (new : List Moment) : Type 0 where
-  pub within : id < length new
-  pub here : moment_in new id ≡ at
-  pub kept : (k : ℕ) → k < length old → k < length new
-  pub others : (k : ℕ) → k < length old → k ≢ id → moment_in new k ≡ moment_in old k
+-- a heap of tickets that have the keys of their moments, and whose places fit 32 bits
+pub record IsKeyed (s : Instants) (ts : List Ticket) (ps : List ℕ) : Type 0 where
+  pub heap : IsHeap (entries_of s ts) ps
+  pub stamped : AreStamped s ts
+  pub few : length ts ≤ 2 ^ 32

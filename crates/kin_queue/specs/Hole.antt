@@ -3,6 +3,7 @@ use Rattle.std.specs.Prelude.{◌≡◌, ◌≢◌, ℕ, ◌+◌, ◌*◌, ◌^�
 use Rattle.std.specs.List.{All}
 use Rattle.kin_num.specs.declared.instant.Moment.{Moment}
 use Rattle.kin_num.specs.Canonical.{IsCanonical}
+use Rattle.kin_queue.specs.declared.instants.Instants.{Instants}
 use Rattle.kin_queue.specs.declared.ticket.Ticket.{Ticket}
 use Rattle.kin_queue.specs.Tickets.{entry_of, entries_of, IsStamped, AreStamped}
 use Rattle.kin_queue.specs.Heap.{IsRightBelow, MayStandAbove, IsPlaceOf}
@@ -18,11 +19,12 @@ pub record IsHollow (es : List (ℕ × Moment)) (ps : List ℕ) (hole : ℕ) (ha
   pub ordered : (p c : ℕ) (d : ℕ × Moment) → IsRightBelow p c → c < length es → p ≢ hole → c ≢ hole → MayStandAbove (slice_index_or es p d) (slice_index_or es c d)
   pub across : (p c : ℕ) (d : ℕ × Moment) → IsRightBelow p hole → IsRightBelow hole c → c < length es → MayStandAbove (slice_index_or es p d) (slice_index_or es c d)
 
--- the same of tickets that have the keys of their moments
-pub record IsOpen (ms : List Moment) (ts : List Ticket) (ps : List ℕ) (hole : ℕ) (hand : Ticket) : Type 0 where
-  pub hollow : IsHollow (entries_of ms ts) ps hole (entry_of ms hand)
-  pub stamped : AreStamped ms ts
-  pub stamped_hand : IsStamped ms hand
+-- the same of at most 2^32 tickets that have the keys of their moments
+pub record IsOpen (s : Instants) (ts : List Ticket) (ps : List ℕ) (hole : ℕ) (hand : Ticket) : Type 0 where
+  pub hollow : IsHollow (entries_of s ts) ps hole (entry_of s hand)
+  pub stamped : AreStamped s ts
+  pub stamped_hand : IsStamped s hand
+  pub few : length ts ≤ 2 ^ 32
 
 -- the entry in hand is not earlier than the one above the hole
 abbrev pub FitsBelow : List (ℕ × Moment) → ℕ → ℕ × Moment → Type 0

@@ -6,8 +6,11 @@
 //! moments are compared by `compare_moments` with the caller's counter.
 #![tactic(auto)]
 
+pub use due::Due;
 pub use queue::Queue;
 
+pub mod due;
 mod heap;
+mod instants;
 pub mod queue;
 mod ticket;

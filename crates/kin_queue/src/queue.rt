@@ -1,12 +1,13 @@
 //! The event queue.
 
-ghost use Rattle.std.specs.Prelude.{◌≡◌, ◌<◌, length, None, OnOk, OnErr, IfOk, IfSome, IsSome, is_some};
+ghost use Rattle.std.specs.Prelude.{◌≡◌, ◌≢◌, ℕ, Some, None, OnOk, OnErr, IfOk, IfSome, IfNone, IsSome, is_some};
 ghost use Rattle.std.specs.FinMap.{get, insert, remove, empty, len};
 ghost use Rattle.kin_queue.specs.Agenda.{IsNext, without};
 ghost use Rattle.kin_queue.specs.Cost.{TakesSteps};
-ghost use Rattle.kin_queue.specs.Heap.{Extends, IsNoted};
 
+use crate::due::Due;
 use crate::heap::{put_in, take_out};
+use crate::instants::{Instants, reach};
 use crate::ticket::Ticket;
 use kin_num::{Moment, NoMemory, Steps};
 use std::alloc::Global;
@@ -14,17 +15,17 @@ use std::marker::Model;
 use std::sync::ledger::Ledger;
 
 /// A finite map from ids to moments that gives an entry of least moment. Which one of several entries of the least
-/// moment comes next is free. `insert`, `remove` and `pop` compare moments at most `2 log2(n + 1)` times on `n` entries;
-/// `has` and `first` compare none. They are compared only where keys don't decide; no clause says so. The memory grows
-/// with the greatest id. An id of `2^32` or more counts as want of memory.
+/// moment comes next is free. `insert`, `remove`, `pop` and `pop_at` compare moments at most `2 log2(n + 1)` times on `n`
+/// entries; `has` and `first` compare none. They are compared only where keys don't decide; no clause says so. The
+/// memory grows with the greatest id. An id of `2^32` or more counts as want of memory.
 #[derive(Drop)]
 pub struct Queue {
     /// The entries, each id once. No entry is earlier than the one above it.
     entries: Vec<Ticket>,
     /// The place of each id's entry. For an id that isn't there it means nothing.
-    places: Vec<usize>,
-    /// The moment of each id. For an id that isn't there it means nothing.
-    moments: Vec<Moment>,
+    places: Vec<u32>,
+    /// The instant of each id. For an id that isn't there it means nothing. The phase is in the entry.
+    instants: Instants,
 }
 
 impl Model for Queue {
@@ -37,9 +38,9 @@ impl Model for Queue {
     ghost use Rattle.kin_queue.specs.Tickets.{entries_of};
     ghost use Rattle.kin_queue.specs.Heap.{agenda_of, IsKeyed};
 
-    ghost view = { λ q. agenda_of (entries_of q.moments.items q.entries.items) };
+    ghost view = { λ q. agenda_of (entries_of q.instants q.entries.items) };
 
-    ghost invariant = { λ q. IsKeyed q.moments.items q.entries.items q.places.items };
+    ghost invariant = { λ q. IsKeyed q.instants q.entries.items q.places.items };
 }
 
 impl Queue {
@@ -51,7 +52,7 @@ impl Queue {
         Queue {
             entries: Vec::new(alloc),
             places: Vec::new(alloc),
-            moments: Vec::new(alloc),
+            instants: Instants::new(alloc),
         }
     }
 
@@ -63,7 +64,7 @@ impl Queue {
         Ok(Queue {
             entries: Vec::with_capacity(alloc, count)?,
             places: Vec::with_capacity(alloc, count)?,
-            moments: Vec::with_capacity(alloc, count)?,
+            instants: Instants::with_room(alloc, count)?,
         })
     }
 
@@ -74,7 +75,7 @@ impl Queue {
         if id >= self.places.len() {
             return false;
         }
-        let known = self.places[id];
+        let known = self.places[id] as usize;
         if known >= self.entries.len() {
             return false;
         }
@@ -97,14 +98,18 @@ impl Queue {
         let Ok(short) = u32::try_from(id) else {
             return Err(NoMemory);
         };
+        // There are never so many: each id is there once, and this one isn't there. The test spares a proof of that.
+        if self.entries.len() > u32::MAX as usize {
+            return Err(NoMemory);
+        }
         self.entries.reserve(1)?;
-        reach(&mut self.places, id)?;
-        note(&mut self.moments, id, &at)?;
+        reach(&mut self.places, id, 0)?;
+        self.instants.note(id, &at.at)?;
         let entry = Ticket::new(short, &at);
         put_in(
             &mut self.entries,
             &mut self.places,
-            &self.moments,
+            &self.instants,
             entry,
             steps,
         );
@@ -117,11 +122,11 @@ impl Queue {
         ensures moments { self.new.moments ≡ remove self.old.moments id }
         ensures cost { TakesSteps (len self.old.moments) steps.old steps.new }
     {
-        let place = self.places[id];
+        let place = self.places[id] as usize;
         take_out(
             &mut self.entries,
             &mut self.places,
-            &self.moments,
+            &self.instants,
             place,
             steps,
         );
@@ -133,8 +138,7 @@ impl Queue {
         ensures least { IsNext self.now.moments self.now.next }
     {
         let entry = self.entries.first()?;
-        let id = entry.id as usize;
-        Some((id, self.moments[id]))
+        Some((entry.id as usize, entry.moment(&self.instants)))
     }
 
     /// Takes out the entry that `first` gives, and answers it. `None` exactly where the queue is empty.
@@ -145,47 +149,45 @@ impl Queue {
         ensures cost { TakesSteps (len self.old.moments) steps.old steps.new }
     {
         let first = self.first()?;
-        take_out(&mut self.entries, &mut self.places, &self.moments, 0, steps);
+        self.take_first(steps);
         Some(first)
     }
-}
 
-// How long a list becomes that is to reach an id: twice as long as it is, if that is enough.
-fn reaching(id: usize, len: usize) -> Option<usize>
-    ensures { IfSome result (λ count. id < count) }
-{
-    Some(id.checked_add(1)?.max(len.saturating_mul(2)))
-}
-
-// Makes the places reach the id.
-#[inline(always)]
-fn reach(places: &mut Vec<usize>, id: usize) -> Result<(), NoMemory>
-    ensures reached { OnOk result (id < length places.new.items) }
-    ensures kept { Extends places.old.items places.new.items }
-{
-    if id < places.len() {
-        return Ok(());
+    /// Takes the next entry out if it is at this moment, and answers its id. `None` exactly where there is no next entry or
+    /// it is at another moment: then nothing changes and no step is counted. In line, since it is asked once for each fact
+    /// that is given.
+    #[inline(always)]
+    pub fn pop_at<L: Ledger>(&mut self, moment: &Due, steps: &mut Steps<L>) -> Option<usize>
+        ensures some { IfSome result (λ id. self.old.next ≡ Some (id, moment.now)) }
+        ensures none { IfNone result ((id : ℕ) → self.old.next ≢ Some (id, moment.now)) }
+        ensures least { IsNext self.old.moments self.old.next }
+        ensures rest { IfSome result (λ id. self.new.moments ≡ remove self.old.moments id) }
+        ensures unchanged { IfNone result (self.new ≡ self.old) }
+        ensures cost { TakesSteps (len self.old.moments) steps.old steps.new }
+        ensures idle { IfNone result (steps.new ≡ steps.old) }
+    {
+        let first = self.entries.first()?;
+        if !moment.is_of(first, &self.instants) {
+            return None;
+        }
+        let id = first.id as usize;
+        self.take_first(steps);
+        Some(id)
     }
-    let Some(count) = reaching(id, places.len()) else {
-        return Err(NoMemory);
-    };
-    places.resize(count, 0)?;
-    Ok(())
-}
 
-// Writes the moment of an id down. In line, so that it is written once, and by its parts, so that no gap is copied.
-#[inline(always)]
-fn note(moments: &mut Vec<Moment>, id: usize, at: &Moment) -> Result<(), NoMemory>
-    ensures noted { OnOk result (IsNoted moments.old.items id at.now moments.new.items) }
-    ensures err { OnErr result (moments.new.items ≡ moments.old.items) }
-{
-    if id >= moments.len() {
-        let Some(count) = reaching(id, moments.len()) else {
-            return Err(NoMemory);
-        };
-        moments.resize(count, *at)?;
+    // Takes out the next entry.
+    fn take_first<L: Ledger>(&mut self, steps: &mut Steps<L>)
+        requires { IsSome self.old.next }
+        ensures rest { self.new.moments ≡ without self.old.moments self.old.next }
+        ensures cost { TakesSteps (len self.old.moments) steps.old steps.new }
+    {
+        let first = 0;
+        take_out(
+            &mut self.entries,
+            &mut self.places,
+            &self.instants,
+            first,
+            steps,
+        );
     }
-    let (at, phase) = (at.at, at.phase);
-    moments[id] = Moment { at, phase };
-    Ok(())
 }

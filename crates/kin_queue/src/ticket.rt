@@ -1,5 +1,6 @@
 //! Entries of the heap.
 
+use crate::instants::Instants;
 use kin_instant::key::{Key, key_of};
 use kin_num::{Moment, Phase};
 
@@ -16,7 +17,7 @@ impl Ticket {
     ghost use Rattle.std.specs.Prelude.{◌≡◌};
     ghost use Rattle.kin_num.specs.Canonical.{IsCanonical};
     ghost use Rattle.kin_instant.specs.Keys.{IsKeyOf};
-    ghost use Rattle.kin_queue.specs.Tickets.{key_in};
+    ghost use Rattle.kin_queue.specs.Tickets.{key_in, moment_in, IsStamped};
 
     /// The ticket of an id at a moment.
     #[inline(always)]
@@ -42,6 +43,17 @@ impl Ticket {
             span: self.span,
             phase: self.phase,
             is_vague: self.is_vague,
+        }
+    }
+
+    /// Its moment.
+    pub fn moment(&self, instants: &Instants) -> Moment
+        requires { IsStamped instants.now self.now }
+        ensures { result ≡ moment_in instants.now self.now }
+    {
+        Moment {
+            at: instants.at(self.id as usize),
+            phase: self.phase,
         }
     }
 }

@@ -24,7 +24,7 @@ returns-then-hole-start-clause-below g c = c.rise-hole.ensures.below c.if-hole-s
 pub returns-then-hole-start-clause-cost : goal.returns-then-hole-start-clause-cost
 returns-then-hole-start-clause-cost g c =
     let n = length c.args.entries.now in
-    let inside : c.args.start + 1 ≤ length c.args.entries.now = let w = ticket_there c.args.moments.now c.args.entries.now c.args.start c.requires.hollow.within in omega arith in
+    let inside : c.args.start + 1 ≤ length c.args.entries.now = let w = ticket_there c.args.instants.now c.args.entries.now c.args.start c.requires.hollow.within in omega arith in
     let square : n * 1 ≤ n * n = mul-le n 1 n n (omega arith) (omega arith) in
     more_bound 1 (c.args.start + 1) (n * n) c.args.steps.now c.rise-hole.new.steps c.rise-hole.ensures.cost (omega arith)
 
@@ -33,16 +33,17 @@ sink-requires-clause-hollow g c =
     let h = c.rise-hole in
     let here : c.rise-hole.result ≡ c.args.start = omega arith in
     record {
-      hollow = subst (λ (n : ℕ). IsHollow (entries_of c.args.moments.now h.new.entries) h.new.places n (entry_of c.args.moments.now c.args.entry.now)) here h.ensures.moved.hollow;
+      hollow = subst (λ (n : ℕ). IsHollow (entries_of c.args.instants.now h.new.entries) h.new.places n (entry_of c.args.instants.now c.args.entry.now)) here h.ensures.moved.hollow;
       stamped = h.ensures.stamped;
       stamped_hand = c.requires.stamped_hand;
+      few = let f = c.requires.few in omega arith;
     }
 
 pub sink-requires-clause-above : goal.sink-requires-clause-above
 sink-requires-clause-above g c =
     let h = c.rise-hole in
     let here : c.rise-hole.result ≡ c.args.start = omega arith in
-    subst (λ (n : ℕ). FitsBelow (entries_of c.args.moments.now h.new.entries) n (entry_of c.args.moments.now c.args.entry.now)) here h.ensures.above
+    subst (λ (n : ℕ). FitsBelow (entries_of c.args.instants.now h.new.entries) n (entry_of c.args.instants.now c.args.entry.now)) here h.ensures.above
 
 pub returns-clause-stamped : goal.returns-clause-stamped
 returns-clause-stamped g c = c.sink.ensures.stamped
@@ -55,10 +56,10 @@ returns-clause-below g c = c.sink.ensures.below
 
 pub returns-clause-moved : goal.returns-clause-moved
 returns-clause-moved g c =
-    let ms = c.args.moments.now in
+    let ms = c.args.instants.now in
     let here : c.rise-hole.result ≡ c.args.start = omega arith in
     let second = c.sink.ensures.moved in
-    let one : HasMoved (entry_of c.args.moments.now c.args.entry.now) (entries_of c.args.moments.now c.args.entries.now) c.args.start (entries_of c.args.moments.now c.rise-hole.new.entries) c.rise-hole.new.places c.args.start =
+    let one : HasMoved (entry_of c.args.instants.now c.args.entry.now) (entries_of c.args.instants.now c.args.entries.now) c.args.start (entries_of c.args.instants.now c.rise-hole.new.entries) c.rise-hole.new.places c.args.start =
     subst (HasMoved (entry_of ms c.args.entry.now) (entries_of ms c.args.entries.now) c.args.start (entries_of ms c.rise-hole.new.entries) c.rise-hole.new.places) here c.rise-hole.ensures.moved in
     record {
       hollow = second.hollow;

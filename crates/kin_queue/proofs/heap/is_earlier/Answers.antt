@@ -6,7 +6,7 @@ pub returns-then-x-y-clause-earlier : goal.returns-then-x-y-clause-earlier
 returns-then-x-y-clause-earlier g c =
     let x = c.args.x.now in
     let y = c.args.y.now in
-    let ms = c.args.moments.now in
+    let ms = c.args.instants.now in
     let d = Decides-ltb x.span y.span in (
       λ t. earlier_span ms x y c.requires.left c.requires.right (d.0 t),
       λ h. d.1 (span_earlier ms x y c.requires.left c.requires.right c.if-x-y.true h),

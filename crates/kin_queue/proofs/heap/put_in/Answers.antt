@@ -12,19 +12,19 @@ use Rattle.kin_queue.proofs.heap.put_in.Goals as goal
 
 pub lift-requires-clause-open : goal.lift-requires-clause-open
 lift-requires-clause-open g c =
-    let ms = c.args.moments.now in
+    let ms = c.args.instants.now in
     let ts = c.args.entries.now.items in
     let end : c.len-end.result ≡ length c.args.entries.now.items = omega arith in
     rw (c.deref_mut.ensures.value, c.push_reserved.ensures.items, end)
-    (open_in ms ts c.args.entry c.args.places.now c.requires.heap (sym (get-from_entries nat_cmp_total (entries_of ms ts) c.args.entry.id) ∙ c.requires.absent) c.requires.stamped c.requires.known)
+    (open_in ms ts c.args.entry c.args.places.now c.requires.heap (sym (get-from_entries nat_cmp_total (entries_of ms ts) c.args.entry.id) ∙ c.requires.absent) c.requires.stamped c.requires.known c.requires.few)
 
 pub returns-clause-moments : goal.returns-clause-moments
 returns-clause-moments g c =
-    let ms = c.args.moments.now in
+    let ms = c.args.instants.now in
     let ts = c.args.entries.now.items in
     let t = c.args.entry in
     let end : c.len-end.result ≡ length c.args.entries.now.items = omega arith in
-    let stands : (e : ℕ × Moment) → Stands (entries_of c.args.moments.now c.lift.new.entries) e ↔ ((e ≡ entry_of c.args.moments.now c.args.entry) ⊎ StandsOutside (entries_of c.args.moments.now (c.args.entries.now.items ++ c.args.entry ∷ [])) (length c.args.entries.now.items) e) =
+    let stands : (e : ℕ × Moment) → Stands (entries_of c.args.instants.now c.lift.new.entries) e ↔ ((e ≡ entry_of c.args.instants.now c.args.entry) ⊎ StandsOutside (entries_of c.args.instants.now (c.args.entries.now.items ++ c.args.entry ∷ [])) (length c.args.entries.now.items) e) =
     rw (c.deref_mut.ensures.value, c.push_reserved.ensures.items, end) at c.lift.ensures.stands in
     rw (take_whole c.push_reserved.new.self.len c.lift.new.entries (drop (length c.lift.new.entries) c.push_reserved.new.self.items) (omega arith))
     (moments_inserted (entries_of ms ts) (entries_of ms c.lift.new.entries) (entry_of ms t) (heap_apart (entries_of ms ts) c.args.places.now c.requires.heap.heap) (heap_apart (entries_of ms c.lift.new.entries) c.lift.new.places c.lift.ensures.heap.heap)

@@ -25,18 +25,18 @@ loop-hole-init g c = record {
 pub bounds-entries-parent : goal.bounds-entries-parent
 bounds-entries-parent g c =
     let l = c.loop-hole in
-    less l.hole (length l.entries) (ticket_there c.args.moments.now l.entries l.hole l.invariant.moved.hollow.within)
+    less l.hole (length l.entries) (ticket_there c.args.instants.now l.entries l.hole l.invariant.moved.hollow.within)
 
 pub is_earlier-requires-clause-left : goal.is_earlier-requires-clause-left
 is_earlier-requires-clause-left g c =
     let l = c.loop-hole in
-    let above = l.invariant.stamped ((l.hole - 1) / 2) blank (less l.hole (length l.entries) (ticket_there c.args.moments.now l.entries l.hole l.invariant.moved.hollow.within)) in
+    let above = l.invariant.stamped ((l.hole - 1) / 2) blank (less l.hole (length l.entries) (ticket_there c.args.instants.now l.entries l.hole l.invariant.moved.hollow.within)) in
     search (c.requires.stamped_hand, above)
 
 pub is_earlier-requires-clause-right : goal.is_earlier-requires-clause-right
 is_earlier-requires-clause-right g c =
     let l = c.loop-hole in
-    let above = l.invariant.stamped ((l.hole - 1) / 2) blank (less l.hole (length l.entries) (ticket_there c.args.moments.now l.entries l.hole l.invariant.moved.hollow.within)) in
+    let above = l.invariant.stamped ((l.hole - 1) / 2) blank (less l.hole (length l.entries) (ticket_there c.args.instants.now l.entries l.hole l.invariant.moved.hollow.within)) in
     search (c.requires.stamped_hand, above)
 
 pub returns-then-not-is_earlier-clause-moved : goal.returns-then-not-is_earlier-clause-moved
@@ -51,7 +51,7 @@ returns-then-not-is_earlier-clause-below g c = c.loop-hole.invariant.below
 pub returns-then-not-is_earlier-clause-above : goal.returns-then-not-is_earlier-clause-above
 returns-then-not-is_earlier-clause-above g c =
     let l = c.loop-hole in
-    let ms = c.args.moments.now in
+    let ms = c.args.instants.now in
     let w = l.invariant.moved.hollow in
     fits_below_there ms l.entries l.places l.hole ((l.hole - 1) / 2) c.args.entry.now w (less l.hole (length l.entries) (ticket_there ms l.entries l.hole w.within)) (halved l.hole c.loop-hole-test.true)
     (λ h. absurd (let k : false ≡ true = sym c.if-not-is_earlier.true ∙ c.is_earlier.ensures.earlier.1 h in cc))
@@ -64,22 +64,25 @@ returns-then-not-is_earlier-clause-cost g c =
 pub slice_copy_out-above : goal.slice_copy_out-above
 slice_copy_out-above g c =
     let l = c.loop-hole in
-    less l.hole (length l.entries) (ticket_there c.args.moments.now l.entries l.hole l.invariant.moved.hollow.within)
+    less l.hole (length l.entries) (ticket_there c.args.instants.now l.entries l.hole l.invariant.moved.hollow.within)
 
 pub put-requires-clause-place : goal.put-requires-clause-place
-put-requires-clause-place g c = let l = c.loop-hole in ticket_there c.args.moments.now l.entries l.hole l.invariant.moved.hollow.within
+put-requires-clause-place g c = let l = c.loop-hole in ticket_there c.args.instants.now l.entries l.hole l.invariant.moved.hollow.within
+
+pub put-requires-clause-few : goal.put-requires-clause-few
+put-requires-clause-few g c = let f = c.requires.few in omega arith
 
 pub put-requires-clause-known : goal.put-requires-clause-known
 put-requires-clause-known g c =
     let l = c.loop-hole in
-    let ms = c.args.moments.now in
+    let ms = c.args.instants.now in
     let w = l.invariant.moved.hollow in
     known_there ms l.entries l.places l.hole ((l.hole - 1) / 2) c.args.entry.now w (less l.hole (length l.entries) (ticket_there ms l.entries l.hole w.within)) (λ s. absurd (let h = c.loop-hole-test.true in omega arith))
 
 pub loop-hole-preserved : goal.loop-hole-preserved
 loop-hole-preserved g c =
     let l = c.loop-hole in
-    let ms = c.args.moments.now in
+    let ms = c.args.instants.now in
     let w = l.invariant.moved.hollow in
     let inside : (l.hole - 1) / 2 < length l.entries = less l.hole (length l.entries) (ticket_there ms l.entries l.hole w.within) in
     let up : IsRightBelow ((l.hole - 1) / 2) l.hole = halved l.hole c.loop-hole-test.true in
@@ -111,13 +114,13 @@ returns-clause-cost g c =
 pub offset_bounds-entries-parent : goal.offset_bounds-entries-parent
 offset_bounds-entries-parent g c =
     let l = c.loop-hole in
-    let inside : (c.loop-hole.hole - 1) / 2 < length c.loop-hole.entries = less l.hole (length l.entries) (ticket_there c.args.moments.now l.entries l.hole l.invariant.moved.hollow.within) in
+    let inside : (c.loop-hole.hole - 1) / 2 < length c.loop-hole.entries = less l.hole (length l.entries) (ticket_there c.args.instants.now l.entries l.hole l.invariant.moved.hollow.within) in
     omega arith
 
 pub offset_bounds-entries-parent-in-loop-hole : goal.offset_bounds-entries-parent-in-loop-hole
 offset_bounds-entries-parent-in-loop-hole g c =
     let l = c.loop-hole in
-    let inside : (c.loop-hole.hole - 1) / 2 < length c.loop-hole.entries = less l.hole (length l.entries) (ticket_there c.args.moments.now l.entries l.hole l.invariant.moved.hollow.within) in
+    let inside : (c.loop-hole.hole - 1) / 2 < length c.loop-hole.entries = less l.hole (length l.entries) (ticket_there c.args.instants.now l.entries l.hole l.invariant.moved.hollow.within) in
     omega arith
 
 pub loop-hole-smaller : goal.loop-hole-smaller

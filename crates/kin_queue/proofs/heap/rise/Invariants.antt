@@ -5,9 +5,9 @@ use Rattle.kin_queue.proofs.heap.rise.Given as goal
 
 abbrev pub invariant-loop-hole : goal.invariant-loop-hole
 invariant-loop-hole g l = record {
-  moved : HasMoved (entry_of l.moments l.entry) (entries_of l.moments l.initial.entries) l.start (entries_of l.moments l.entries) l.places l.hole;
-  stamped : AreStamped l.moments l.entries;
-  below : l.hole ≢ l.start → FitsAbove (entries_of l.moments l.entries) l.hole (entry_of l.moments l.entry);
+  moved : HasMoved (entry_of l.instants l.entry) (entries_of l.instants l.initial.entries) l.start (entries_of l.instants l.entries) l.places l.hole;
+  stamped : AreStamped l.instants l.entries;
+  below : l.hole ≢ l.start → FitsAbove (entries_of l.instants l.entries) l.hole (entry_of l.instants l.entry);
   cost : RisesWithin (l.hole + 1) (l.start + 1) l.initial.steps l.steps;
 }
 

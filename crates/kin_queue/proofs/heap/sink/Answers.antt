@@ -19,11 +19,11 @@ pub earlier_below-child-requires-clause-stamped : goal.earlier_below-child-requi
 earlier_below-child-requires-clause-stamped g c = c.levels.invariant.stamped
 
 pub bounds-entries-child : goal.bounds-entries-child
-bounds-entries-child g c = ticket_there c.args.moments.now c.levels.entries c.earlier_below-child.result c.earlier_below-child.ensures.child.within
+bounds-entries-child g c = ticket_there c.args.instants.now c.levels.entries c.earlier_below-child.result c.earlier_below-child.ensures.child.within
 
 pub is_earlier-requires-clause-left : goal.is_earlier-requires-clause-left
 is_earlier-requires-clause-left g c =
-    c.levels.invariant.stamped c.earlier_below-child.result blank (ticket_there c.args.moments.now c.levels.entries c.earlier_below-child.result c.earlier_below-child.ensures.child.within)
+    c.levels.invariant.stamped c.earlier_below-child.result blank (ticket_there c.args.instants.now c.levels.entries c.earlier_below-child.result c.earlier_below-child.ensures.child.within)
 
 pub is_earlier-requires-clause-right : goal.is_earlier-requires-clause-right
 is_earlier-requires-clause-right g c = c.requires.hollow.stamped_hand
@@ -40,38 +40,41 @@ returns-then-not-is_earlier-clause-above g c = c.levels.invariant.above
 pub returns-then-not-is_earlier-clause-below : goal.returns-then-not-is_earlier-clause-below
 returns-then-not-is_earlier-clause-below g c =
     let l = c.levels in
-    let ms = c.args.moments.now in
-    let child : IsEarliestBelow (entries_of c.args.moments.now c.levels.entries) c.levels.hole c.earlier_below-child.result = c.earlier_below-child.ensures.child in
+    let ms = c.args.instants.now in
+    let child : IsEarliestBelow (entries_of c.args.instants.now c.levels.entries) c.levels.hole c.earlier_below-child.result = c.earlier_below-child.ensures.child in
     fits_above_there ms l.entries l.places l.hole c.earlier_below-child.result c.args.entry.now l.invariant.moved.hollow (ticket_there ms l.entries c.earlier_below-child.result child.within) child
     (λ h. absurd (let k : false ≡ true = sym c.if-not-is_earlier.true ∙ c.is_earlier.ensures.earlier.1 h in cc))
 
 pub returns-then-not-is_earlier-clause-cost : goal.returns-then-not-is_earlier-clause-cost
 returns-then-not-is_earlier-clause-cost g c =
     let l = c.levels in
-    let ms = c.args.moments.now in
-    let child : IsEarliestBelow (entries_of c.args.moments.now c.levels.entries) c.levels.hole c.earlier_below-child.result = c.earlier_below-child.ensures.child in
+    let ms = c.args.instants.now in
+    let child : IsEarliestBelow (entries_of c.args.instants.now c.levels.entries) c.levels.hole c.earlier_below-child.result = c.earlier_below-child.ensures.child in
     let inside : c.earlier_below-child.result < length c.levels.entries = ticket_there ms l.entries c.earlier_below-child.result child.within in
     let room : 2 * (c.levels.hole + 1) ≤ length c.args.entries.now = let b = child.below in omega arith in
     two_more ((c.args.start + 1) * (c.args.start + 1)) (l.hole + 1) (length c.args.entries.now) c.args.steps.now l.steps c.is_earlier.new.steps l.invariant.cost (let a = c.earlier_below-child.ensures.low in let b = c.is_earlier.ensures.low in omega arith) (let a = c.earlier_below-child.ensures.high in let b = c.is_earlier.ensures.high in omega arith) room
 
 pub slice_copy_out-below : goal.slice_copy_out-below
-slice_copy_out-below g c = ticket_there c.args.moments.now c.levels.entries c.earlier_below-child.result c.earlier_below-child.ensures.child.within
+slice_copy_out-below g c = ticket_there c.args.instants.now c.levels.entries c.earlier_below-child.result c.earlier_below-child.ensures.child.within
 
 pub put-requires-clause-place : goal.put-requires-clause-place
-put-requires-clause-place g c = let l = c.levels in ticket_there c.args.moments.now l.entries l.hole l.invariant.moved.hollow.within
+put-requires-clause-place g c = let l = c.levels in ticket_there c.args.instants.now l.entries l.hole l.invariant.moved.hollow.within
+
+pub put-requires-clause-few : goal.put-requires-clause-few
+put-requires-clause-few g c = let f = c.requires.hollow.few in omega arith
 
 pub put-requires-clause-known : goal.put-requires-clause-known
 put-requires-clause-known g c =
     let l = c.levels in
-    let ms = c.args.moments.now in
-    let child : IsEarliestBelow (entries_of c.args.moments.now c.levels.entries) c.levels.hole c.earlier_below-child.result = c.earlier_below-child.ensures.child in
+    let ms = c.args.instants.now in
+    let child : IsEarliestBelow (entries_of c.args.instants.now c.levels.entries) c.levels.hole c.earlier_below-child.result = c.earlier_below-child.ensures.child in
     known_there ms l.entries l.places l.hole c.earlier_below-child.result c.args.entry.now l.invariant.moved.hollow (ticket_there ms l.entries c.earlier_below-child.result child.within) (λ s. absurd (let b = child.below in omega arith))
 
 pub levels-preserved : goal.levels-preserved
 levels-preserved g c =
     let l = c.levels in
-    let ms = c.args.moments.now in
-    let child : IsEarliestBelow (entries_of c.args.moments.now c.levels.entries) c.levels.hole c.earlier_below-child.result = c.earlier_below-child.ensures.child in
+    let ms = c.args.instants.now in
+    let child : IsEarliestBelow (entries_of c.args.instants.now c.levels.entries) c.levels.hole c.earlier_below-child.result = c.earlier_below-child.ensures.child in
     let inside : c.earlier_below-child.result < length c.levels.entries = ticket_there ms l.entries c.earlier_below-child.result child.within in
     let deeper : 2 * (c.levels.hole + 1) ≤ c.earlier_below-child.result + 1 = let b = child.below in omega arith in
     rw (c.put.ensures.entries, c.put.ensures.places) (record {
@@ -82,11 +85,14 @@ levels-preserved g c =
     })
 
 -- the last entry stands alone below
+pub put-requires-2-clause-few : goal.put-requires-2-clause-few
+put-requires-2-clause-few g c = let f = c.requires.hollow.few in omega arith
+
 pub put-requires-2-clause-known : goal.put-requires-2-clause-known
 put-requires-2-clause-known g c =
     let l = c.levels in
     let inside : 2 * c.levels.hole + 1 < length c.levels.entries = omega arith in
-    known_there c.args.moments.now l.entries l.places l.hole (2 * l.hole + 1) c.args.entry.now l.invariant.moved.hollow inside (λ s. absurd (omega arith))
+    known_there c.args.instants.now l.entries l.places l.hole (2 * l.hole + 1) c.args.entry.now l.invariant.moved.hollow inside (λ s. absurd (omega arith))
 
 pub returns-then-last-entries-clause-moved : goal.returns-then-last-entries-clause-moved
 returns-then-last-entries-clause-moved g c = c.levels.invariant.moved
@@ -98,12 +104,12 @@ pub returns-then-last-entries-clause-above : goal.returns-then-last-entries-clau
 returns-then-last-entries-clause-above g c = c.levels.invariant.above
 
 pub returns-then-last-entries-clause-below : goal.returns-then-last-entries-clause-below
-returns-then-last-entries-clause-below g c = fits_above_none c.args.moments.now c.levels.entries c.levels.hole c.args.entry.now (omega arith)
+returns-then-last-entries-clause-below g c = fits_above_none c.args.instants.now c.levels.entries c.levels.hole c.args.entry.now (omega arith)
 
 pub returns-then-last-entries-clause-cost : goal.returns-then-last-entries-clause-cost
 returns-then-last-entries-clause-cost g c =
     let l = c.levels in
-    let inside : c.levels.hole < length c.levels.entries = ticket_there c.args.moments.now l.entries l.hole l.invariant.moved.hollow.within in
+    let inside : c.levels.hole < length c.levels.entries = ticket_there c.args.instants.now l.entries l.hole l.invariant.moved.hollow.within in
     let side : c.levels.hole + 1 ≤ length c.args.entries.now = omega arith in
     more_bound ((c.args.start + 1) * (c.args.start + 1)) ((l.hole + 1) * (l.hole + 1)) (length c.args.entries.now * length c.args.entries.now) c.args.steps.now l.steps l.invariant.cost (mul-le-mul side side)
 
@@ -123,14 +129,14 @@ pub returns-then-not-is_earlier-2-clause-above : goal.returns-then-not-is_earlie
 returns-then-not-is_earlier-2-clause-above g c = c.levels.invariant.above
 
 pub put-requires-2-clause-place : goal.put-requires-2-clause-place
-put-requires-2-clause-place g c = let l = c.levels in ticket_there c.args.moments.now l.entries l.hole l.invariant.moved.hollow.within
+put-requires-2-clause-place g c = let l = c.levels in ticket_there c.args.instants.now l.entries l.hole l.invariant.moved.hollow.within
 
 pub returns-then-not-is_earlier-2-clause-below : goal.returns-then-not-is_earlier-2-clause-below
 returns-then-not-is_earlier-2-clause-below g c =
     let l = c.levels in
-    let ms = c.args.moments.now in
+    let ms = c.args.instants.now in
     let inside : 2 * c.levels.hole + 1 < length c.levels.entries = omega arith in
-    let size : length (entries_of c.args.moments.now c.levels.entries) ≡ 2 * c.levels.hole + 2 = let n = entries_length ms l.entries in omega arith in
+    let size : length (entries_of c.args.instants.now c.levels.entries) ≡ 2 * c.levels.hole + 2 = let n = entries_length ms l.entries in omega arith in
     fits_above_there ms l.entries l.places l.hole (2 * l.hole + 1) c.args.entry.now l.invariant.moved.hollow inside (last_earliest (entries_of ms l.entries) l.hole size)
     (λ h. absurd (let k : false ≡ true = sym c.if-not-is_earlier-2.true ∙ c.is_earlier-2.ensures.earlier.1 h in cc))
 
@@ -143,30 +149,30 @@ returns-then-not-is_earlier-2-clause-cost g c =
 pub returns-clause-moved : goal.returns-clause-moved
 returns-clause-moved g c =
     let l = c.levels in
-    let ms = c.args.moments.now in
+    let ms = c.args.instants.now in
     let inside : 2 * c.levels.hole + 1 < length c.levels.entries = omega arith in
-    let size : length (entries_of c.args.moments.now c.levels.entries) ≡ 2 * c.levels.hole + 2 = let n = entries_length ms l.entries in omega arith in
+    let size : length (entries_of c.args.instants.now c.levels.entries) ≡ 2 * c.levels.hole + 2 = let n = entries_length ms l.entries in omega arith in
     rw (c.put-2.ensures.entries, c.put-2.ensures.places)
     (ticket_sunk ms l.entries l.places l.hole (2 * l.hole + 1) c.args.entry.now l.invariant.moved.hollow inside (last_earliest (entries_of ms l.entries) l.hole size) _ c.args.start l.invariant.moved)
 
 pub returns-clause-stamped : goal.returns-clause-stamped
 returns-clause-stamped g c =
     let l = c.levels in
-    let ms = c.args.moments.now in
+    let ms = c.args.instants.now in
     let inside : 2 * c.levels.hole + 1 < length c.levels.entries = omega arith in
     rw c.put-2.ensures.entries (All-set (IsStamped ms) l.entries l.hole (get_or l.entries (2 * l.hole + 1) blank) (l.invariant.stamped (2 * l.hole + 1) blank inside) l.invariant.stamped)
 
 pub returns-clause-above : goal.returns-clause-above
 returns-clause-above g c =
     let l = c.levels in
-    let ms = c.args.moments.now in
+    let ms = c.args.instants.now in
     let inside : 2 * c.levels.hole + 1 < length c.levels.entries = omega arith in
-    let size : length (entries_of c.args.moments.now c.levels.entries) ≡ 2 * c.levels.hole + 2 = let n = entries_length ms l.entries in omega arith in
+    let size : length (entries_of c.args.instants.now c.levels.entries) ≡ 2 * c.levels.hole + 2 = let n = entries_length ms l.entries in omega arith in
     rw c.put-2.ensures.entries
     (fits_below_lowered ms l.entries l.places l.hole (2 * l.hole + 1) c.args.entry.now l.invariant.moved.hollow inside (last_earliest (entries_of ms l.entries) l.hole size) (c.is_earlier-2.ensures.earlier.0 c.if-not-is_earlier-2.false))
 
 pub returns-clause-below : goal.returns-clause-below
-returns-clause-below g c = fits_above_none c.args.moments.now c.put-2.new.entries (2 * c.levels.hole + 1) c.args.entry.now (omega arith)
+returns-clause-below g c = fits_above_none c.args.instants.now c.put-2.new.entries (2 * c.levels.hole + 1) c.args.entry.now (omega arith)
 
 pub returns-clause-cost : goal.returns-clause-cost
 returns-clause-cost g c =
@@ -176,12 +182,12 @@ returns-clause-cost g c =
 
 pub offset_bounds-entries-child : goal.offset_bounds-entries-child
 offset_bounds-entries-child g c =
-    let inside : c.earlier_below-child.result < length c.levels.entries = ticket_there c.args.moments.now c.levels.entries c.earlier_below-child.result c.earlier_below-child.ensures.child.within in
+    let inside : c.earlier_below-child.result < length c.levels.entries = ticket_there c.args.instants.now c.levels.entries c.earlier_below-child.result c.earlier_below-child.ensures.child.within in
     omega arith
 
 pub offset_bounds-entries-child-in-levels : goal.offset_bounds-entries-child-in-levels
 offset_bounds-entries-child-in-levels g c =
-    let inside : c.earlier_below-child.result < length c.levels.entries = ticket_there c.args.moments.now c.levels.entries c.earlier_below-child.result c.earlier_below-child.ensures.child.within in
+    let inside : c.earlier_below-child.result < length c.levels.entries = ticket_there c.args.instants.now c.levels.entries c.earlier_below-child.result c.earlier_below-child.ensures.child.within in
     omega arith
 
 pub offset_bounds-entries-last : goal.offset_bounds-entries-last
@@ -195,22 +201,22 @@ bounds-entries-last g c = omega arith
 
 pub overflow_mul-hole : goal.overflow_mul-hole
 overflow_mul-hole g c =
-    let inside : c.levels.hole < length c.levels.entries = ticket_there c.args.moments.now c.levels.entries c.levels.hole c.levels.invariant.moved.hollow.within in
+    let inside : c.levels.hole < length c.levels.entries = ticket_there c.args.instants.now c.levels.entries c.levels.hole c.levels.invariant.moved.hollow.within in
     omega arith
 
 pub overflow_add-hole : goal.overflow_add-hole
 overflow_add-hole g c =
-    let inside : c.levels.hole < length c.levels.entries = ticket_there c.args.moments.now c.levels.entries c.levels.hole c.levels.invariant.moved.hollow.within in
+    let inside : c.levels.hole < length c.levels.entries = ticket_there c.args.instants.now c.levels.entries c.levels.hole c.levels.invariant.moved.hollow.within in
     omega arith
 
 pub overflow_mul-last : goal.overflow_mul-last
 overflow_mul-last g c =
-    let inside : c.levels.hole < length c.levels.entries = ticket_there c.args.moments.now c.levels.entries c.levels.hole c.levels.invariant.moved.hollow.within in
+    let inside : c.levels.hole < length c.levels.entries = ticket_there c.args.instants.now c.levels.entries c.levels.hole c.levels.invariant.moved.hollow.within in
     omega arith
 
 pub overflow_add-last : goal.overflow_add-last
 overflow_add-last g c =
-    let inside : c.levels.hole < length c.levels.entries = ticket_there c.args.moments.now c.levels.entries c.levels.hole c.levels.invariant.moved.hollow.within in
+    let inside : c.levels.hole < length c.levels.entries = ticket_there c.args.instants.now c.levels.entries c.levels.hole c.levels.invariant.moved.hollow.within in
     omega arith
 
 pub earlier_below-child-requires-clause-both : goal.earlier_below-child-requires-clause-both
@@ -219,5 +225,5 @@ earlier_below-child-requires-clause-both g c = omega arith
 pub levels-smaller : goal.levels-smaller
 levels-smaller g c =
     let deeper = c.earlier_below-child.ensures.child.below in
-    let inside : c.earlier_below-child.result < length c.levels.entries = ticket_there c.args.moments.now c.levels.entries c.earlier_below-child.result c.earlier_below-child.ensures.child.within in
+    let inside : c.earlier_below-child.result < length c.levels.entries = ticket_there c.args.instants.now c.levels.entries c.earlier_below-child.result c.earlier_below-child.ensures.child.within in
     omega arith

@@ -15,7 +15,7 @@ unreachable-requires g c =
 pub returns-clause-taken : goal.returns-clause-taken
 returns-clause-taken g c =
     has-taken c.in-Some.moment c.args.self.now.live c.give_all.new.self.live c.give_all.new.taken.items
-    (due-least c.args.self.now.live c.in-Some.moment c.requires.none_waits c.in-Some.ensures) c.in_ok-give_all.ensures.given c.in_ok-give_all.ensures.all c.give_all.ensures.count
+    (due-least c.args.self.now.live c.in-Some.moment c.requires.none_waits c.in-Some.ensures) (rw c.new.ensures at c.in_ok-give_all.ensures.given) (rw c.new.ensures at c.in_ok-give_all.ensures.all) c.give_all.ensures.count
     c.put_in_order.new.taken.items c.put_in_order.ensures.same c.put_in_order.ensures.sorted
 
 pub returns-clause-cost : goal.returns-clause-cost

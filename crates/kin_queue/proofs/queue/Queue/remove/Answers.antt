@@ -10,8 +10,8 @@ use Rattle.kin_queue.proofs.Known.{known_at}
 use Rattle.kin_queue.proofs.Tickets.{entries_length, ticket_there}
 use Rattle.kin_queue.proofs.queue.Queue.remove.Goals as goal
 
-pub index-place-requires : goal.index-place-requires
-index-place-requires g c =
+pub index-requires : goal.index-requires
+index-requires g c =
     let k = known_at _ _ c.self.invariant.heap c.args.id _ c.self.view_is c.requires.present in
     let low = k.known in
     omega arith
@@ -19,20 +19,20 @@ index-place-requires g c =
 pub take_out-requires-clause-place : goal.take_out-requires-clause-place
 take_out-requires-clause-place g c =
     let k = known_at _ _ c.self.invariant.heap c.args.id _ c.self.view_is c.requires.present in
-    let place : c.index-place.result.now ≡ get_or c.self.inside.places.items c.args.id 0 = c.index-place.ensures ∙ get_or_default_zero c.self.inside.places.items c.args.id c.index-place.result.now k.known in
-    rw place (ticket_there c.self.inside.moments.items c.self.inside.entries.items (get_or c.self.inside.places.items c.args.id 0) k.within)
+    let place : c.index.result.now ≡ get_or c.self.inside.places.items c.args.id 0 = c.index.ensures ∙ get_or_default_zero c.self.inside.places.items c.args.id c.index.result.now k.known in
+    rw place (ticket_there c.self.inside.instants c.self.inside.entries.items (get_or c.self.inside.places.items c.args.id 0) k.within)
 
 pub returns-clause-moments : goal.returns-clause-moments
 returns-clause-moments g c =
-    let es = entries_of c.self.inside.moments.items c.self.inside.entries.items in
+    let es = entries_of c.self.inside.instants c.self.inside.entries.items in
     let k = known_at _ _ c.self.invariant.heap c.args.id _ c.self.view_is c.requires.present in
-    let place : c.index-place.result.now ≡ get_or c.self.inside.places.items c.args.id 0 = c.index-place.ensures ∙ get_or_default_zero c.self.inside.places.items c.args.id c.index-place.result.now k.known in
-    let id : (get_or es c.index-place.result.now k.entry).0 ≡ c.args.id = rw (place, k.stands k.entry) k.names in
-    let taken : from_entries {R = nat_cmp} (entries_of c.self.inside.moments.items c.take_out.new.entries.items) ≡ remove (from_entries {R = nat_cmp} es) (get_or es c.index-place.result.now k.entry).0 =
-    rw c.deref.ensures.value at (c.take_out.ensures.moments k.entry) in
+    let place : c.index.result.now ≡ get_or c.self.inside.places.items c.args.id 0 = c.index.ensures ∙ get_or_default_zero c.self.inside.places.items c.args.id c.index.result.now k.known in
+    let id : (get_or es c.index.result.now k.entry).0 ≡ c.args.id = rw (place, k.stands k.entry) k.names in
+    let taken : from_entries {R = nat_cmp} (entries_of c.self.inside.instants c.take_out.new.entries.items) ≡ remove (from_entries {R = nat_cmp} es) (get_or es c.index.result.now k.entry).0 =
+    c.take_out.ensures.moments k.entry in
     taken
     ∙ ap (λ (n : ℕ). remove (from_entries {R = nat_cmp} es) n) id
     ∙ ap (λ (a : Agenda). remove a.moments c.args.id) c.self.view_is
 
 pub returns-clause-cost : goal.returns-clause-cost
-returns-clause-cost g c = subst (λ (n : ℕ). TakesSteps n c.args.steps.now c.take_out.new.steps) (sym (entries_length c.self.inside.moments.items c.self.inside.entries.items) ∙ counted (entries_of c.self.inside.moments.items c.self.inside.entries.items) c.self.inside.places.items c.args.self.now c.self.view_is c.self.invariant.heap) c.take_out.ensures.cost
+returns-clause-cost g c = subst (λ (n : ℕ). TakesSteps n c.args.steps.now c.take_out.new.steps) (sym (entries_length c.self.inside.instants c.self.inside.entries.items) ∙ counted (entries_of c.self.inside.instants c.self.inside.entries.items) c.self.inside.places.items c.args.self.now c.self.view_is c.self.invariant.heap) c.take_out.ensures.cost
