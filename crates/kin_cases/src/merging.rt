@@ -14,7 +14,7 @@ use crate::telling::{Edited, Telling};
 use kin_motion::signs::Signs;
 use kin_motion::{Delta, Placed};
 use kin_num::Steps;
-use kin_overlay::{ChainEdit, Overlay};
+use kin_overlay::{ChainEdit, Overlay, Work};
 use std::alloc::Global;
 use std::marker::Model;
 use std::sync::ledger::Ledger;
@@ -105,7 +105,8 @@ impl Merging {
     {
         ask_chains(sight, a, b)?;
         let mut report = Delta::new(alloc);
-        let structure = Overlay::build(alloc, a, b, part, now, &mut report, steps)?;
+        let mut work = Work::new(alloc);
+        let structure = Overlay::build(alloc, &mut work, a, b, part, now, &mut report, steps)?;
         let facts = after(alloc, &[], &report)?;
         let overlay = Driver {
             alloc,

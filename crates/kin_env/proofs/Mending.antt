@@ -1,10 +1,11 @@
 -- A merge is given the edits of its halves, and is repaired.
-use Rattle.std.proofs.Common.{◌≡◌, ◌≢◌, sym, ap, ◌∙◌, subst, List, ℕ, ◌<◌, length}
+use Rattle.std.proofs.Common.{◌≡◌, ◌≢◌, refl, sym, ap, ◌∙◌, subst, List, [], ℕ, ◌<◌, length, true, false}
+use Rattle.std.specs.Prelude.{Option, Some, None, is_some, IsSomeAnd}
 use Rattle.kin_motion.specs.declared.fact.Placed.{Placed}
 use Rattle.kin_motion.specs.Chains.{IsUpperChain}
 use Rattle.kin_motion.specs.Deltas.{Change}
 use Rattle.kin_motion.specs.Edits.{Edit, all_edited, AreFitting}
-use Rattle.kin_motion.specs.Kinetics.{HasChanged}
+use Rattle.kin_motion.specs.Kinetics.{ListsFailing, HasChanged}
 use Rattle.kin_motion.specs.Scene.{Scene, IsReal}
 use Rattle.kin_overlay.specs.declared.half.Half.TheVariants.{A, B}
 use Rattle.kin_overlay.specs.declared.stage.Stage.{Stage}
@@ -13,8 +14,8 @@ use Rattle.kin_overlay.specs.Diffs.{KeepOrder, ArePutApart}
 use Rattle.kin_overlay.specs.Fingers.{AreLess, AreLive}
 use Rattle.kin_overlay.specs.Overlays.{Merge, ArePutsApart, IsAtRest, IsReady, IsSameMerge, IsSettled, IsUnedited, told}
 use Rattle.kin_env.specs.declared.node.Node.{Node}
-use Rattle.kin_env.specs.Nodes.{chain_of}
-use Rattle.kin_env.specs.Joints.{Leads, IsMergeOf, IsMergeTold}
+use Rattle.kin_env.specs.Nodes.{chain_of, chain_with, facts_with}
+use Rattle.kin_env.specs.Joints.{Leads, IsMergeOf, IsJoint, IsSettledThere, IsMergeTold, IsTold, IsVisited}
 use Rattle.kin_env.proofs.Paid.{puts_apart}
 
 -- edits between two lists lead from the one to the other
@@ -112,3 +113,42 @@ module _ {v : ℕ} {s : Scene} {m : Merge} {failed : List Placed} {left right : 
       pub mended_facts : {before after : Change} → HasChanged m3.facts m4.facts before after → HasChanged m.facts m5.facts before after
       mended_facts {before} {after} changed =
           subst (λ (n : Merge). HasChanged n.facts m5.facts before after) is (subst (λ (n : Merge). HasChanged m3.facts n.facts before after) (sym last) changed)
+
+-- ---- a node, which may have a merge
+pub no_merge : (o : Option Merge) → is_some o ≡ false → o ≡ None
+no_merge None e = refl
+no_merge (Some m) e = absurd cc
+
+is_there : (P : Merge → Type 0) (o : Option Merge) → IsSomeAnd o P → is_some o ≡ true
+is_there P (Some m) p = refl
+is_there P None p = absurd p
+
+-- the merge of a told node is told
+pub merge_told : {v : ℕ} {s : Scene} {node left right : Node} → is_some node.merge ≡ true → IsTold v s node left right → IsSomeAnd node.merge (λ m. IsMergeTold v s m node.failed.items left right)
+merge_told {v} {s} {node} {left} {right} some t = at node.merge some t.joint t.failing
+  where
+    at : (o : Option Merge) → is_some o ≡ true → IsJoint v o node.passed.items t.a t.b → ListsFailing (facts_with o) t.spared s node.failed.items → IsSomeAnd o (λ m. IsMergeTold v s m node.failed.items left right)
+    at None some of failing = absurd cc
+    at (Some m) some of failing = record { a = t.a; b = t.b; a_leads = t.a_leads; b_leads = t.b_leads; of = of; less = t.less; halves = t.halves; spared = t.spared; are_spared = t.are_spared; failing = failing }
+
+-- what a node passes on besides doesn't matter where it has a merge
+joint_there : (v : ℕ) (a b : List ℕ) (o : Option Merge) (xs : List ℕ) → IsSomeAnd o (λ m. IsMergeOf v m a b) → IsJoint v o xs a b
+joint_there v a b (Some m) xs of = of
+joint_there v a b None xs of = absurd of
+
+chain_there : (o : Option Merge) (xs : List ℕ) → is_some o ≡ true → chain_with o [] ≡ chain_with o xs
+chain_there (Some m) xs some = refl
+chain_there None xs some = absurd cc
+
+-- a node is visited where its merge is mended
+pub mended_node : {v : ℕ} {s : Scene} {old new left right : Node} {before after : Change} → is_some old.merge ≡ true → IsSomeAnd new.merge (λ m. IsMergeOf v m (chain_of left) (chain_of right)) → IsSettledThere s new.merge
+    → Leads new.edits.items (chain_with old.merge []) (chain_with new.merge []) → new.failed.items ≡ [] → HasChanged (facts_with old.merge) (facts_with new.merge) before after → IsVisited v s old new left right before after
+mended_node {v} {s} {old} {new} {left} {right} some of settled leads failed changed = record {
+  joint = joint_there v (chain_of left) (chain_of right) new.merge new.passed.items of;
+  now = settled;
+  leads =
+      subst (λ (l : List ℕ). Leads new.edits.items l (chain_of new)) (chain_there old.merge old.passed.items some)
+      (subst (λ (l : List ℕ). Leads new.edits.items (chain_with old.merge []) l) (chain_there new.merge new.passed.items (is_there (λ m. IsMergeOf v m (chain_of left) (chain_of right)) new.merge of)) leads);
+  failed = failed;
+  changed = changed;
+}

@@ -100,8 +100,8 @@ fn visit_among<O: Signs, L: Ledger>(
         out,
         steps,
     )?;
-    below[0].edits.clear();
-    below[1].edits.clear();
+    work.take_back(&mut below[0].edits);
+    work.take_back(&mut below[1].edits);
     Ok(())
 }
 
@@ -241,7 +241,8 @@ impl Branches {
         let number = [slot as u32];
         let held = self.slots[slot];
         let node = &mut self.nodes[leaf];
-        node.hand_on(self.alloc, if held { &number } else { &[] })
+        let work = &mut self.buffers;
+        node.hand_on(work, self.alloc, if held { &number } else { &[] })
     }
 
     /// Takes in what has changed of the halves of a node, and repairs what has failed.

@@ -12,10 +12,12 @@
 #![tactic(auto)]
 
 pub use branches::Branches;
+pub use held::Held;
 pub use node::Node;
 pub use tree::EnvTree;
 
 pub mod branches;
+pub mod held;
 pub mod node;
 mod steady;
 pub mod tree;

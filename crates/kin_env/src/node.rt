@@ -8,6 +8,7 @@ ghost use Rattle.kin_overlay.specs.Overlays.{names_gone, IsAtRest, IsSettled};
 ghost use Rattle.kin_env.specs.Nodes.{chain_of, facts_with};
 ghost use Rattle.kin_env.specs.Joints.{Leads, IsMergeOf, IsJoint, IsSettledThere, AreHalves, IsMergeTold, IsTold, IsVisited, IsRestingWith, HalvesKeepOrder, ArePaid};
 
+use crate::held::Held;
 use kin_motion::fact::{Delta, Placed};
 use kin_motion::signs::Signs;
 use kin_num::memory::NoMemory;
@@ -18,14 +19,13 @@ use kin_overlay::half::Half;
 use kin_overlay::overlay::Overlay;
 use kin_overlay::work::Work;
 use std::alloc::Global;
-use std::mem::replace;
 use std::sync::ledger::Ledger;
 
 /// A node of the tree. A leaf passes on its own number, or nothing.
 #[derive(Drop)]
 pub struct Node {
     /// The merge of both halves, where neither is empty.
-    pub merge: Option<Overlay>,
+    pub merge: Held,
     /// Where there is no merge, the chain that is passed on.
     pub passed: Vec<u32>,
     /// How the chain has changed, until the node above has taken it in.
@@ -43,7 +43,7 @@ impl Node {
         ensures failed { result.failed.items ≡ [] }
     {
         Node {
-            merge: None,
+            merge: Held::none(),
             passed: Vec::new(alloc),
             edits: Vec::new(alloc),
             failed: Vec::new(alloc),
@@ -55,7 +55,7 @@ impl Node {
         requires rest { IsRestingWith self.now.merge }
         ensures { result.now ≡ chain_of self.now }
     {
-        match &self.merge {
+        match self.merge.get() {
             Some(merge) => merge.chain(),
             None => &self.passed,
         }
@@ -72,14 +72,15 @@ impl Node {
         Ok(())
     }
 
-    /// Hands another chain on, where there is no merge.
-    pub fn hand_on(&mut self, alloc: Global, chain: &[u32]) -> Result<(), NoMemory>
+    /// Hands another chain on, where there is no merge. `work` is memory for it.
+    pub fn hand_on(&mut self, work: &mut Work, alloc: Global, chain: &[u32]) -> Result<(), NoMemory>
         requires none { self.old.merge ≡ None }
         ensures merge { self.new.merge ≡ None }
         ensures passed { OnOk result (self.new.passed.items ≡ chain.now) }
         ensures leads { OnOk result (Leads self.new.edits.items self.old.passed.items self.new.passed.items) }
         ensures failed { self.new.failed.items ≡ self.old.failed.items }
     {
+        work.lend(&mut self.edits);
         diff(alloc, &self.passed, chain, &mut self.edits)?;
         self.passed.clear();
         self.passed.extend_from_slice(chain)?;
@@ -89,6 +90,7 @@ impl Node {
     /// Begins the merge, where both halves hold a point from now on.
     fn join<O: Signs, L: Ledger>(
         &mut self,
+        work: &mut Work,
         alloc: Global,
         part: u32,
         a: &[u32],
@@ -109,25 +111,31 @@ impl Node {
         ensures changed { OnOk result (HasChanged [] (facts_with self.new.merge) out.old out.new) }
         ensures tests { OnOk result (ArePaid out.old out.new steps.old steps.new) }
     {
-        let merge = Overlay::build(alloc, a, b, part, now, out, steps)?;
-        self.begin(alloc, merge)
+        let merge = Overlay::build(alloc, work, a, b, part, now, out, steps)?;
+        self.begin(work, alloc, merge)
     }
 
     /// Has this merge from now on, in place of the chain that was passed on.
-    fn begin(&mut self, alloc: Global, mut merge: Overlay) -> Result<(), NoMemory>
+    fn begin(&mut self, work: &mut Work, alloc: Global, merge: Overlay) -> Result<(), NoMemory>
         requires rest { IsAtRest merge }
         ensures taken { OnOk result (self.new.merge ≡ Some merge) }
         ensures leads { OnOk result (Leads self.new.edits.items self.old.passed.items merge.chain) }
         ensures failed { OnOk result (self.new.failed.items ≡ self.old.failed.items) }
     {
+        work.lend(&mut self.edits);
         diff(alloc, &self.passed, merge.chain(), &mut self.edits)?;
-        merge.take_memory(replace(&mut self.passed, Vec::new(alloc)));
-        self.merge = Some(merge);
-        Ok(())
+        self.passed = Vec::new(alloc);
+        self.merge.set(alloc, merge)
     }
 
     /// Ends the merge, where only one half holds points from now on, or neither does.
-    fn end_merge(&mut self, alloc: Global, chain: &[u32], out: &mut Delta) -> Result<(), NoMemory>
+    fn end_merge(
+        &mut self,
+        work: &mut Work,
+        alloc: Global,
+        chain: &[u32],
+        out: &mut Delta,
+    ) -> Result<(), NoMemory>
         requires some { self.old.merge ≢ None }
         requires rest { IsRestingWith self.old.merge }
         ensures merge { OnOk result (self.new.merge ≡ None) }
@@ -136,9 +144,10 @@ impl Node {
         ensures failed { OnOk result (self.new.failed.items ≡ []) }
         ensures changed { OnOk result (HasChanged (facts_with self.old.merge) [] out.old out.new) }
     {
-        let Some(merge) = &self.merge else {
+        let Some(merge) = self.merge.get() else {
             unreachable!()
         };
+        work.lend(&mut self.edits);
         diff(alloc, merge.chain(), chain, &mut self.edits)?;
         self.passed.clear();
         self.passed.extend_from_slice(chain)?;
@@ -159,7 +168,13 @@ impl Node {
     }
 
     /// Passes a chain on from now on, where only one half holds points, or neither does.
-    fn keep_one(&mut self, alloc: Global, chain: &[u32], out: &mut Delta) -> Result<(), NoMemory>
+    fn keep_one(
+        &mut self,
+        work: &mut Work,
+        alloc: Global,
+        chain: &[u32],
+        out: &mut Delta,
+    ) -> Result<(), NoMemory>
         requires rest { IsRestingWith self.old.merge }
         requires idle { self.old.merge ≡ None → self.old.failed.items ≡ [] }
         ensures merge { OnOk result (self.new.merge ≡ None) }
@@ -169,9 +184,9 @@ impl Node {
         ensures changed { OnOk result (HasChanged (facts_with self.old.merge) [] out.old out.new) }
     {
         if self.merge.is_some() {
-            return self.end_merge(alloc, chain, out);
+            return self.end_merge(work, alloc, chain, out);
         }
-        self.hand_on(alloc, chain)
+        self.hand_on(work, alloc, chain)
     }
 
     /// Takes in what has changed of the halves, and repairs what has failed. `work` is memory for it.
@@ -195,24 +210,24 @@ impl Node {
     {
         let (a, b) = (left.chain(), right.chain());
         if a.is_empty() {
-            return self.keep_one(alloc, b, out);
+            return self.keep_one(work, alloc, b, out);
         }
         if b.is_empty() {
-            return self.keep_one(alloc, a, out);
+            return self.keep_one(work, alloc, a, out);
         }
-        if let Some(merge) = &mut self.merge {
+        if self.merge.is_some() {
             let (failed, edits) = (&mut self.failed, &mut self.edits);
-            return mend(
-                merge, work, part, left, right, failed, edits, now, out, steps,
-            );
+            return self
+                .merge
+                .mend(work, part, left, right, failed, edits, now, out, steps);
         }
-        self.join(alloc, part, a, b, now, out, steps)
+        self.join(work, alloc, part, a, b, now, out, steps)
     }
 }
 
 /// Repairs a merge whose halves both hold points. `part` is its part. The merge makes its edits in the
 /// memory of those of the node.
-fn mend<O: Signs, L: Ledger>(
+pub(crate) fn mend<O: Signs, L: Ledger>(
     merge: &mut Overlay,
     work: &mut Work,
     part: u32,
@@ -235,12 +250,15 @@ fn mend<O: Signs, L: Ledger>(
     ensures changed { OnOk result (HasChanged merge.old.facts merge.new.facts out.old out.new) }
     ensures tests { OnOk result (KeepOrder merge.old.a (chain_of left.now) → KeepOrder merge.old.b (chain_of right.now) → ArePaid out.old out.new steps.old steps.new) }
 {
+    work.lend(edits);
+    merge.trade_memory(work);
     merge.edit(Half::A, &left.edits)?;
     merge.edit(Half::B, &right.edits)?;
     leave_out_spared(merge, failed);
     merge.swap_edits(edits);
     merge.repair(work, now, failed, out, steps)?;
     merge.swap_edits(edits);
+    merge.trade_memory(work);
     failed.clear();
     Ok(())
 }

@@ -6,6 +6,7 @@ pub mod Reports
 pub mod Walks
 pub mod Reading
 pub mod Diffs
+pub mod Notes
 pub mod Overlays
 pub mod Sound
 pub mod Standings

@@ -33,6 +33,7 @@ impl Breakpoint {
     }
 
     /// Whether it is the same breakpoint.
+    #[inline(always)]
     pub fn is(self, other: Breakpoint) -> bool
         ensures { IsTrue result ↔ (self ≡ other) }
     {

@@ -41,6 +41,7 @@ impl Draft {
     }
 
     /// A breakpoint with all that its record remembers.
+    #[inline(always)]
     pub fn by(noted: &Record) -> Draft
         ensures { result ≡ draft_by noted.now }
     {
@@ -55,6 +56,7 @@ impl Draft {
     }
 
     /// The sign of the turn to a point, where it is known.
+    #[inline(always)]
     pub fn turn_to(&self, point: u32) -> Option<Sign>
         ensures some { IfSome result (λ sign. (s : Scene) → IsFit s self.now → sign ≡ s.sign (Turn self.now.at.left self.now.at.right point)) }
         ensures some_known { IsSome result → is_told self.now point ≡ true }
@@ -68,6 +70,7 @@ impl Draft {
     }
 
     /// The sign of the slope form of it and another one, where it is known.
+    #[inline(always)]
     pub fn slope_to(&self, other: &Draft) -> Option<Sign>
         ensures some { IfSome result (λ sign. (s : Scene) → IsFit s self.now → sign ≡ s.sign (slope_form (spot_of self.now) (spot_of other.now))) }
         ensures some_known { IsSome result → is_known self.now other.now ≡ true }

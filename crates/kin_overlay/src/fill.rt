@@ -25,6 +25,7 @@ use kin_num::steps::Steps;
 use std::sync::ledger::Ledger;
 
 /// The sign of the turn to a point. It isn't asked where it is known.
+#[inline(always)]
 fn turn_sign<O: Signs, L: Ledger>(draft: &Draft, across: u32, now: &O, steps: &mut Steps<L>) -> Sign
     requires fit { IsFit (O.scene now.now) draft.now }
     requires across { IsIn across (O.scene now.now).live }
@@ -39,6 +40,7 @@ fn turn_sign<O: Signs, L: Ledger>(draft: &Draft, across: u32, now: &O, steps: &m
 
 /// The next breakpoint, where it is of the other half, with the sign of the slope form. That isn't asked
 /// where it is known.
+#[inline(always)]
 fn next_of<O: Signs, L: Ledger>(
     draft: &Draft,
     next: Option<Draft>,
@@ -62,6 +64,7 @@ fn next_of<O: Signs, L: Ledger>(
 }
 
 /// The current point of the half that a breakpoint isn't of.
+#[inline(always)]
 fn across(half: Half, a: u32, b: u32) -> u32
     ensures { result ≡ other_current (half_of half) a b }
 {
@@ -72,6 +75,7 @@ fn across(half: Half, a: u32, b: u32) -> u32
 }
 
 /// The current points after a breakpoint.
+#[inline(always)]
 fn behind(at: Breakpoint, a: u32, b: u32) -> (u32, u32)
     ensures a { result.0 ≡ current_after A (seen at) a }
     ensures b { result.1 ≡ current_after B (seen at) b }
@@ -83,6 +87,7 @@ fn behind(at: Breakpoint, a: u32, b: u32) -> (u32, u32)
 }
 
 /// The current points after a record that remembers its own.
+#[inline(always)]
 fn behind_noted(noted: &Record) -> (u32, u32)
     ensures a { result.0 ≡ a_behind noted.now }
     ensures b { result.1 ≡ b_behind noted.now }
@@ -94,6 +99,7 @@ fn behind_noted(noted: &Record) -> (u32, u32)
 }
 
 /// The breakpoint that comes next, if there is one.
+#[inline(always)]
 fn coming(drawn: &[Draft], back: &[Record]) -> Option<Draft>
     ensures { result ≡ first_of (drawn.now ++ drafts back.now) }
 {
@@ -105,6 +111,7 @@ fn coming(drawn: &[Draft], back: &[Record]) -> Option<Draft>
 }
 
 /// The record of a draft, where a and b are current.
+#[inline(always)]
 fn note<O: Signs, L: Ledger>(
     draft: &Draft,
     next: Option<Draft>,

@@ -14,6 +14,7 @@ pub enum Half {
 
 impl Half {
     /// Whether it is the same half.
+    #[inline(always)]
     pub fn is(self, other: Half) -> bool
         ensures { result ≡ is_of (half_of self) (half_of other) }
     {

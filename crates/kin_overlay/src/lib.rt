@@ -27,6 +27,7 @@ pub mod half;
 mod list;
 mod merge;
 mod names;
+mod notes;
 pub mod overlay;
 mod passing;
 mod reading;

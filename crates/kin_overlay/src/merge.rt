@@ -38,14 +38,6 @@ impl Drawing {
             buffers: Buffers::new(alloc),
         }
     }
-
-    /// The same, with room for so many breakpoints.
-    pub fn with_room(alloc: Global, count: usize) -> Result<Drawing, NoMemory> {
-        Ok(Drawing {
-            sketch: Vec::with_capacity(alloc, count)?,
-            buffers: Buffers::with_room(alloc, count)?,
-        })
-    }
 }
 
 impl BreakpointList {

@@ -14,8 +14,8 @@ ghost use Rattle.kin_overlay.specs.Overlays.{told, told_chain, names_any, names_
 use crate::edit::{ChainEdit, edit_list};
 use crate::half::Half;
 use crate::list::BreakpointList;
-use crate::merge::Drawing;
 use crate::names::names_any;
+use crate::notes::Notes;
 use crate::reading::renew;
 use crate::report::tell_missing;
 use crate::shared::Shared;
@@ -50,16 +50,11 @@ pub struct Overlay {
     chain: Vec<u32>,
     /// From the merged chain before the last `settle` to the present one, unless they were swapped.
     edits: Vec<ChainEdit>,
-    /// The numbers that edits given since the last `settle` drop.
-    gone: Vec<u32>,
+    /// Of the waiting edits.
+    notes: Notes,
     stage: Stage,
     /// A buffer for numbers.
     spare: Vec<u32>,
-    /// The numbers that edits of each half given since the last `settle` put and drop.
-    put_a: Vec<u32>,
-    put_b: Vec<u32>,
-    drop_a: Vec<u32>,
-    drop_b: Vec<u32>,
 }
 
 /// A given chain may grow by this many points before it allocates again.
@@ -81,17 +76,18 @@ impl Model for Overlay {
 
     ghost Value = { Merge };
 
-    ghost view = { λ o. record { part = o.part; a = o.a.items; b = o.b.items; facts = all_placed o.part (facts_of o.list); chain = o.chain.items; edits = o.edits.items; gone = o.gone.items; put_a = o.put_a.items; put_b = o.put_b.items; drop_a = o.drop_a.items; drop_b = o.drop_b.items; stage = o.stage } };
+    ghost view = { λ o. record { part = o.part; a = o.a.items; b = o.b.items; facts = all_placed o.part (facts_of o.list); chain = o.chain.items; edits = o.edits.items; gone = o.notes.gone.items; put_a = o.notes.put_a.items; put_b = o.notes.put_b.items; drop_a = o.notes.drop_a.items; drop_b = o.notes.drop_b.items; stage = o.stage } };
 
-    ghost invariant = { λ o. UnlessBroken o.stage (IsSound o.part o.list o.chain.items o.put_a.items o.put_b.items o.drop_a.items o.drop_b.items o.gone.items o.a.items o.b.items) };
+    ghost invariant = { λ o. UnlessBroken o.stage (IsSound o.part o.list o.chain.items o.notes.put_a.items o.notes.put_b.items o.notes.drop_a.items o.notes.drop_b.items o.notes.gone.items o.a.items o.b.items) };
 }
 
 impl Overlay {
     /// The merge of two upper chains of live points, neither of them empty. Every number of the first
     /// is less than every number of the second. Its facts are in this part. On `Ok` all are reported
-    /// as born, and at most five signs were asked for each.
+    /// as born, and at most five signs were asked for each. `work` is memory for it.
     pub fn build<O: Signs, L: Ledger>(
         alloc: Global,
+        work: &mut Work,
         a: &[u32],
         b: &[u32],
         part: u32,
@@ -127,8 +123,7 @@ impl Overlay {
             gone: &[],
         };
         let puts = Puts { a: &[], b: &[] };
-        let mut drawing = Drawing::with_room(alloc, room)?;
-        list.merge(a, b, puts, &standing, &mut drawing, now, steps)?;
+        list.merge(a, b, puts, &standing, &mut work.drawing, now, steps)?;
         tell_missing(&list, &none, Shared::none(), part, &mut out.born)?;
         let mut chain = Vec::with_capacity(alloc, room)?;
         merged_chain(&list, &mut chain)?;
@@ -140,13 +135,9 @@ impl Overlay {
             list,
             chain,
             edits: Vec::new(alloc),
-            gone: Vec::new(alloc),
+            notes: Notes::new(alloc),
             stage: Stage::Rest,
             spare: Vec::new(alloc),
-            put_a: Vec::new(alloc),
-            put_b: Vec::new(alloc),
-            drop_a: Vec::new(alloc),
-            drop_b: Vec::new(alloc),
         })
     }
 
@@ -174,8 +165,9 @@ impl Overlay {
         ensures broken { OnErr result (self.new.stage ≡ Broken) }
     {
         self.stage = Stage::Broken;
-        let (chain, put, dropped) = (&mut self.a, &mut self.put_a, &mut self.drop_a);
-        edit_list(edits, chain, put, dropped, &mut self.gone, &mut self.spare)?;
+        let (chain, notes) = (&mut self.a, &mut self.notes);
+        let (put, dropped) = (&mut notes.put_a, &mut notes.drop_a);
+        edit_list(edits, chain, put, dropped, &mut notes.gone, &mut self.spare)?;
         self.stage = Stage::Told;
         Ok(())
     }
@@ -188,8 +180,9 @@ impl Overlay {
         ensures broken { OnErr result (self.new.stage ≡ Broken) }
     {
         self.stage = Stage::Broken;
-        let (chain, put, dropped) = (&mut self.b, &mut self.put_b, &mut self.drop_b);
-        edit_list(edits, chain, put, dropped, &mut self.gone, &mut self.spare)?;
+        let (chain, notes) = (&mut self.b, &mut self.notes);
+        let (put, dropped) = (&mut notes.put_b, &mut notes.drop_b);
+        edit_list(edits, chain, put, dropped, &mut notes.gone, &mut self.spare)?;
         self.stage = Stage::Told;
         Ok(())
     }
@@ -214,11 +207,11 @@ impl Overlay {
         let standing = Standing {
             list: &self.list,
             failed,
-            gone: &self.gone,
+            gone: &self.notes.gone,
         };
         let puts = Puts {
-            a: &self.put_a,
-            b: &self.put_b,
+            a: &self.notes.put_a,
+            b: &self.notes.put_b,
         };
         let (made, drawing) = (&mut work.list, &mut work.drawing);
         let known = made.merge(&self.a, &self.b, puts, &standing, drawing, now, steps)?;
@@ -238,11 +231,7 @@ impl Overlay {
             &mut self.spare,
         )?;
         self.list.copy(&work.list)?;
-        self.gone.clear();
-        self.put_a.clear();
-        self.put_b.clear();
-        self.drop_a.clear();
-        self.drop_b.clear();
+        self.notes.clear();
         self.stage = Stage::Rest;
         Ok(())
     }
@@ -284,18 +273,24 @@ impl Overlay {
         swap(&mut self.edits, edits);
     }
 
-    /// Takes a list of the caller to use its memory. Its content doesn't matter.
-    pub fn take_memory(&mut self, numbers: Vec<u32>)
+    /// Exchanges the memory in which it notes edits with that of these buffers, unless an edit waits. So
+    /// merges that are repaired one after another share it: each exchanges before its edits, and again
+    /// after its repair.
+    pub fn trade_memory(&mut self, work: &mut Work)
         ensures { self.new ≡ self.old }
     {
-        self.spare = numbers;
+        if self.notes.are_blank() {
+            work.notes.clear();
+            swap(&mut self.notes, &mut work.notes);
+            swap(&mut self.spare, &mut work.spare);
+        }
     }
 
     /// Whether a fact names a number that a waiting edit drops.
     pub fn spares(&self, fact: &Placed) -> bool
         ensures { result ≡ names_gone self.now fact.now }
     {
-        names_any(&fact.fact.form, &self.gone)
+        names_any(&fact.fact.form, &self.notes.gone)
     }
 }
 

@@ -22,6 +22,7 @@ pub struct Remainder<'a> {
 
 /// What is left of a chain after the breakpoint of a record, where that comes next and the current point
 /// of the other chain is the one of the record.
+#[inline(always)]
 fn take_first<'a>(noted: &Record, chain: &'a [u32], other: &[u32]) -> Option<&'a [u32]>
     ensures { IfSome result (λ left. (more rest : List ℕ) × (chain.now ≡ noted.now.at.left ∷ noted.now.at.right ∷ more) × (other.now ≡ noted.now.across ∷ rest) × (left.now ≡ noted.now.at.right ∷ more)) }
 {
@@ -35,6 +36,7 @@ fn take_first<'a>(noted: &Record, chain: &'a [u32], other: &[u32]) -> Option<&'a
 }
 
 /// The same of both chains.
+#[inline(always)]
 fn take_next<'a>(noted: &Record, a: &'a [u32], b: &'a [u32]) -> Option<(&'a [u32], &'a [u32])>
     ensures { IfSome result (λ left. IsTaken noted.now.at.half noted.now a.now b.now left.0.now left.1.now) }
 {
@@ -52,6 +54,7 @@ fn take_next<'a>(noted: &Record, a: &'a [u32], b: &'a [u32]) -> Option<(&'a [u32
 
 /// What is left of both chains after the record at a place, where that comes next and can be drawn as it
 /// is.
+#[inline(always)]
 fn pass_next<'a>(
     place: usize,
     a: &'a [u32],
@@ -98,6 +101,7 @@ pub fn pass_front<'a>(a: &'a [u32], b: &'a [u32], puts: Puts, standing: &Standin
 
 /// Whether the breakpoint of a record comes just before this point of a chain, and this is its point of
 /// the other half.
+#[inline(always)]
 fn is_before(noted: &Record, chain: &[u32], from: usize, across: u32) -> bool
     requires { from < length chain.now }
     ensures { IsTrue result → (0 < from) × (get_or chain.now (from - 1) 0 ≡ noted.now.at.left) × (get_or chain.now from 0 ≡ noted.now.at.right) × (across ≡ noted.now.across) }
@@ -110,6 +114,7 @@ fn is_before(noted: &Record, chain: &[u32], from: usize, across: u32) -> bool
 
 /// Where both chains go on from before the breakpoint of a record, if that comes just before these places
 /// of them.
+#[inline(always)]
 fn take_last(
     noted: &Record,
     a: &[u32],
@@ -141,6 +146,7 @@ fn take_last(
 
 /// Where both chains go on from before the record at a place, if that comes just before these places of
 /// them and can be drawn as it is.
+#[inline(always)]
 fn pass_last(
     place: usize,
     left: Remainder,

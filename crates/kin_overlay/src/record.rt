@@ -29,6 +29,7 @@ pub struct Record {
 
 impl Record {
     /// Whether it is the same record.
+    #[inline(always)]
     pub fn is(&self, other: &Record) -> bool
         ensures { IsTrue result ↔ (self.now ≡ other.now) }
     {
@@ -61,6 +62,7 @@ impl Record {
 }
 
 /// Whether nothing is next of either, or they are the same.
+#[inline(always)]
 fn are_same(one: Option<Next>, other: Option<Next>) -> bool
     ensures { IsTrue result ↔ (one ≡ other) }
 {

@@ -28,6 +28,7 @@ pub struct Standing<'a> {
 }
 
 /// Whether one of the failed facts is this one.
+#[inline(always)]
 fn has_failed(failed: &[Placed], fact: Fact) -> bool
     ensures none { IsFalse result → (k : ℕ) (p : Put) → slice_get failed.now k ≡ Some p → p.fact ≡ fact → ⊥ }
     ensures some { IsTrue result → (p : Put) × Contains failed.now p × (p.fact ≡ fact) }
@@ -50,6 +51,7 @@ pub fn names_gone(fact: Fact, gone: &[u32]) -> bool
 
 impl Standing<'_> {
     /// Whether a fact is known neither to have failed nor to name a number that has left.
+    #[inline(always)]
     pub fn is_unfailed(&self, fact: Fact) -> bool
         ensures yes { IsTrue result → IsUnfailed self.now.failed.now self.now.gone.now fact }
         ensures otherwise { IsFalse result → IsUnfailed self.now.failed.now self.now.gone.now fact → ⊥ }

@@ -19,6 +19,7 @@ use kin_motion::fact::Placed;
 use kin_motion::form::Form;
 
 /// Whether a turn or a slope form begins with this point.
+#[inline(always)]
 fn begins_with(form: &Form, point: u32) -> bool
     ensures { result ≡ begins_with form.now point }
 {
@@ -30,6 +31,7 @@ fn begins_with(form: &Form, point: u32) -> bool
 
 /// Whether a fact has failed that begins with this point, as both facts of a record begin with its left
 /// point.
+#[inline(always)]
 fn is_doubted(left: u32, failed: &[Placed]) -> bool
     ensures { IsFalse result → (p : Put) → Contains failed.now p → begins_with p.fact.form left ≡ false }
 {
@@ -57,6 +59,7 @@ fn names_some(noted: &Record, gone: &[u32]) -> bool
 }
 
 /// Whether the right point of the breakpoint was put into its half.
+#[inline(always)]
 fn is_put(noted: &Record, puts: Puts) -> bool
     ensures { result ≡ is_in noted.now.at.right (put_of noted.now.at.half puts.entry.a.now puts.entry.b.now) }
 {
@@ -68,6 +71,7 @@ fn is_put(noted: &Record, puts: Puts) -> bool
 
 /// True only if the record can be drawn as it is, where its breakpoint is still there and its point of
 /// the other half is current.
+#[inline(always)]
 pub fn is_untouched(noted: &Record, puts: Puts, standing: &Standing) -> bool
     ensures { IsTrue result → IsUntouched standing.now puts.entry.a.now puts.entry.b.now noted.now }
 {
@@ -81,6 +85,7 @@ pub fn is_untouched(noted: &Record, puts: Puts, standing: &Standing) -> bool
 }
 
 /// Whether a record is followed by this one as it remembers.
+#[inline(always)]
 fn is_next_of(noted: &Record, behind: &Record) -> bool
     ensures { IsTrue result → IsNextOf noted.now.next noted.now behind.now }
 {
@@ -96,6 +101,7 @@ fn is_next_of(noted: &Record, behind: &Record) -> bool
 
 /// Whether the record at a place is followed by the next as it remembers, or is the last and remembers
 /// none.
+#[inline(always)]
 pub fn is_linked(list: &BreakpointList, place: usize) -> bool
     requires { place < length list.now.records }
     ensures { IsTrue result → IsLinkedAt list.now.records place }

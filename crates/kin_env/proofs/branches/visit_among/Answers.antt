@@ -37,12 +37,12 @@ returns-clause-heard g c =
     let visited = subst (λ (m : Node). IsVisited c.args.node (g.O.Signs.scene c.args.now.now) m c.visit.new.self c.index-below-0.result c.index-below-1.result c.args.out.now c.visit.new.out) (sym own) c.in_ok-visit.ensures.visited in
     let high = c.split_at_mut-above.result.1.now in
     let left_was = get_or high 0 c.index-below-0-2.result in
-    let left : Node = record left_was { edits = c.clear.new.self } in
+    let left : Node = record left_was { edits = c.take_back.new.edits } in
     let next = set high 0 left in
     let right_was = get_or next 1 c.index-below-1-2.result in
-    let right : Node = record right_was { edits = c.clear-2.new.self } in
+    let right : Node = record right_was { edits = c.take_back-2.new.edits } in
     heard _ _ c.requires.some c.requires.room _ _ whole front _ _ _ c.visit.new.self left_was right_was left right
     (read_above _ _ c.requires.some c.requires.room _ _ whole front _ own) (read_left _ _ c.requires.some c.requires.room _ _ whole front _ c.index-below-0.is) (read_right _ _ c.requires.some c.requires.room _ _ whole front _ c.index-below-1.is)
     _ _ _ visited
-    (ap (λ (m : Node). get_or high 0 m) c.index-below-0-2.is) refl refl refl c.clear.ensures.items
-    (ap (λ (m : Node). get_or next 1 m) c.index-below-1-2.is) refl refl refl c.clear-2.ensures.items
+    (ap (λ (m : Node). get_or high 0 m) c.index-below-0-2.is) refl refl refl c.take_back.ensures
+    (ap (λ (m : Node). get_or next 1 m) c.index-below-1-2.is) refl refl refl c.take_back-2.ensures

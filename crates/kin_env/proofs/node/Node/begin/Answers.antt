@@ -1,8 +1,8 @@
-use Rattle.std.proofs.Common.{refl, ap, Result}
-use Rattle.std.specs.Prelude.{OnOk, Some}
+use Rattle.std.proofs.Common.{refl, Result}
+use Rattle.std.specs.Prelude.{OnOk}
 use Rattle.std.specs.Result.{IsErr}
 use Rattle.std.proofs.lemmas.Result.{IfOk-from_err}
-use Rattle.kin_overlay.specs.Overlays.{Merge}
+use Rattle.kin_algebra.proofs.Results.{on_ok}
 use Rattle.kin_env.proofs.Mending.{leads_between}
 use Rattle.kin_env.proofs.node.Node.begin.Goals as goal
 
@@ -10,9 +10,9 @@ pub returns : goal.returns
 returns c =
     let d = c.in_ok-diff.ensures in
     record {
-      taken = ap (λ (m : Merge). Some m) c.take_memory.ensures;
-      leads = leads_between c.deref.ensures.value c.chain.ensures d.fit d.lead d.apart;
-      failed = refl;
+      taken = c.set.ensures;
+      leads = on_ok c.set.result (leads_between c.deref.ensures.value c.chain.ensures d.fit d.lead d.apart);
+      failed = on_ok c.set.result refl;
     }
 
 -- of an `Err` nothing is said

@@ -10,6 +10,7 @@ use Rattle.kin_overlay.specs.Overlays.{Merge}
 use Rattle.kin_env.specs.declared.node.Node.{Node}
 use Rattle.kin_env.specs.Joints.{Leads, IsJoint, IsSettledThere, IsVisited}
 use Rattle.kin_env.specs.Nodes.{chain_with, chain_of, facts_with}
+use Rattle.kin_env.proofs.Mending.{no_merge, merge_told, mended_node}
 use Rattle.kin_env.proofs.Paid.{nothing_asked}
 use Rattle.kin_env.proofs.Tellings.{none_failed}
 use Rattle.kin_env.proofs.node.Node.visit.Goals as goal
@@ -57,7 +58,7 @@ returns-clause-tests g c = for_ok c.join.result _ (λ v e h. at_ok c.join.result
 
 pub returns-clause-visited : goal.returns-clause-visited
 returns-clause-visited g c =
-    let none = c.in_default.is in
+    let none = no_merge c.args.self.now.merge (sym c.is_some.ensures ∙ c.if-is_some.false) in
     let r = c.join.result in
     let idle = none_failed c.args.self.now.merge c.requires.told.spared (g.O.Signs.scene c.args.now.now) c.args.self.now.failed.items c.requires.told.failing none in
     for_ok r _ (λ v e. record {
@@ -69,3 +70,13 @@ returns-clause-visited g c =
       failed = at_ok r _ v e c.join.ensures.failed ∙ idle;
       changed = subst (λ (m : Option Merge). HasChanged (facts_with m) (facts_with c.join.new.self.merge) c.args.out.now c.join.new.out) (sym none) (at_ok r _ v e c.join.ensures.changed);
     })
+
+pub mend-requires-clause-told : goal.mend-requires-clause-told
+mend-requires-clause-told g c = merge_told (sym c.is_some.ensures ∙ c.if-is_some.true) c.requires.told
+
+pub returns-then-is_some-clause-visited : goal.returns-then-is_some-clause-visited
+returns-then-is_some-clause-visited g c =
+    let r = c.mend.result in
+    let e = c.mend.ensures in
+    for_ok r _ (λ v is. mended_node (sym c.is_some.ensures ∙ c.if-is_some.true)
+    (at_ok r _ v is e.of) (at_ok r _ v is e.settled) (at_ok r _ v is e.leads) (at_ok r _ v is e.failed) (at_ok r _ v is e.changed))

@@ -85,12 +85,6 @@ returns-in_err-list g c =
     let e = c.from_residual.ensures.0 in
     record { a = none_made _ r e; b = none_made _ r e; part = none_made _ r e; rest = none_made _ r e; settled = none_made _ r e; edits = none_made _ r e; gone = none_made _ r e; unedited = none_made _ r e; born = none_made _ r e; tests = none_asked _ r e }
 
-pub returns-in_err-drawing : goal.returns-in_err-drawing
-returns-in_err-drawing g c =
-    let r = c.from_residual-in_err-drawing.result in
-    let e = c.from_residual-in_err-drawing.ensures.0 in
-    record { a = none_made _ r e; b = none_made _ r e; part = none_made _ r e; rest = none_made _ r e; settled = none_made _ r e; edits = none_made _ r e; gone = none_made _ r e; unedited = none_made _ r e; born = none_made _ r e; tests = none_asked _ r e }
-
 pub returns-in_err-merge : goal.returns-in_err-merge
 returns-in_err-merge g c =
     let r = c.from_residual-in_err-merge.result in

@@ -14,4 +14,4 @@ invariant_of-self-2 c =
     let less = subst (λ (m : Merge). AreLess m.a (all_edited c.args.edits.now m.b)) (sym c.self.view_is) c.requires.less in
     let told = c.in_ok-edit_list.ensures in
     let kept = sound o.stage _ usable c.self.invariant in
-    record { whole = rw (sym told.list, sym told.put, sym told.dropped, sym told.gone) at (whole-edited-b o.part o.list o.put_a.items o.put_b.items o.drop_a.items o.drop_b.items o.gone.items o.a.items o.b.items c.args.edits.now kept.whole less); read = kept.read; once = kept.once }
+    record { whole = rw (sym told.list, sym told.put, sym told.dropped, sym told.gone) at (whole-edited-b o.part o.list o.notes.put_a.items o.notes.put_b.items o.notes.drop_a.items o.notes.drop_b.items o.notes.gone.items o.a.items o.b.items c.args.edits.now kept.whole less); read = kept.read; once = kept.once }

@@ -34,8 +34,8 @@ paid g c apart =
     let are = rw (sym c.self.view_is) at apart in
     let listed = rw (sym c.self.view_is) at c.requires.failing in
     c.in_ok-known.ensures.tests w.past
-    (known-past w.past _ _ o.put_a.items o.put_b.items o.gone.items o.a.items o.b.items _ _ c.deref-2.ensures.value c.deref-3.ensures.value c.deref.ensures.value c.deref-4.ensures.value c.deref-5.ensures.value w.is_past
-    (subst (λ (l : List ℕ). AreApart o.put_a.items l) (sym w.a_dropped) are.a) (subst (λ (l : List ℕ). AreApart o.put_b.items l) (sym w.b_dropped) are.b))
+    (known-past w.past _ _ o.notes.put_a.items o.notes.put_b.items o.notes.gone.items o.a.items o.b.items _ _ c.deref-2.ensures.value c.deref-3.ensures.value c.deref.ensures.value c.deref-4.ensures.value c.deref-5.ensures.value w.is_past
+    (subst (λ (l : List ℕ). AreApart o.notes.put_a.items l) (sym w.a_dropped) are.a) (subst (λ (l : List ℕ). AreApart o.notes.put_b.items l) (sym w.b_dropped) are.b))
     (failed-fail (g.O.Signs.scene c.args.now.now) _ _ c.args.failed.now listed)
 
 -- the new merge
@@ -83,7 +83,7 @@ merge-requires-clause-standing g c = λ f there u.
     let s = g.O.Signs.scene c.args.now.now in
     let o = c.self.inside in
     let listed = rw (sym c.self.view_is) at c.requires.failing in
-    still-stand s o.part o.list c.args.failed.now o.gone.items listed f there (subst (λ (l : List ℕ). IsUnfailed c.args.failed.now l f) c.deref.ensures.value u)
+    still-stand s o.part o.list c.args.failed.now o.notes.gone.items listed f there (subst (λ (l : List ℕ). IsUnfailed c.args.failed.now l f) c.deref.ensures.value u)
 
 pub invariant_of-self-2 : goal.invariant_of-self-2
 invariant_of-self-2 g c =
@@ -95,7 +95,7 @@ invariant_of-self-2 g c =
     let once_b = rising_once s (real_line_laws s c.requires.real) o.b.items settled.b_chain.rising in
     let whole = whole-new s o.part c.copy.new.self o.a.items o.b.items settled.a_some settled.b_some once_a once_b settled.less settled.exact.once (merged g here) in
     record {
-      whole = whole-cleared o.part c.copy.new.self _ _ _ _ _ o.a.items o.b.items c.clear-2.ensures.items c.clear-3.ensures.items c.clear-4.ensures.items c.clear-5.ensures.items c.clear.ensures.items whole;
+      whole = whole-cleared o.part c.copy.new.self _ _ _ _ _ o.a.items o.b.items c.clear.ensures.put_a c.clear.ensures.put_b c.clear.ensures.drop_a c.clear.ensures.drop_b c.clear.ensures.gone whole;
       read = c.in_ok-renew.ensures.read ∙ ap chain_read (sym c.in_ok-copy.ensures);
       once = rising_once s (real_line_laws s c.requires.real) _ settled.is_chain.rising;
     }
