@@ -1,6 +1,7 @@
 pub mod RowLaws
 pub mod PigeonLaws
 pub mod PlaceLaws
+pub mod CellLaws
 pub mod InversionLaws
 pub mod RepairLaws
 pub mod LeaveLaws

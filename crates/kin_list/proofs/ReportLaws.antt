@@ -1,19 +1,18 @@
 -- A link is written, and the change is told.
-use Rattle.std.proofs.Common.{◌≡◌, ◌≢◌, refl, sym, ap, ◌∙◌, subst, arith, List, [], ◌∷◌, ◌++◌, ℕ, zero, suc, ◌+◌, ◌<◌, ◌≤◌, length, map, set, get_or, Some, None, Option, ℤ, false, inl, inr}
+use Rattle.std.proofs.Common.{◌≡◌, ◌≢◌, refl, sym, ap, ◌∙◌, subst, arith, List, [], ◌∷◌, ◌++◌, ℕ, zero, suc, ◌+◌, ◌<◌, ◌≤◌, length, map, set, Some, None, Option, ℤ, false, inl, inr}
 use Rattle.std.specs.Prelude.{slice_get, ◌⊎◌}
 use Rattle.std.proofs.lemmas.Bool.{cases_eq, cases_lt, cases_order, both_ways}
 use Rattle.std.proofs.lemmas.List.{set_past, append_assoc, map-append}
-use Rattle.std.proofs.lemmas.Option.{same_Some, none-some, slice_get-get_or, get_or_from_slice_get}
+use Rattle.std.proofs.lemmas.Option.{same_Some}
 use Rattle.kin_algebra.proofs.Signs.{equal_or_not}
 use Rattle.kin_algebra.proofs.Places.{get_within, get-set_same, get-set_other}
-use Rattle.kin_algebra.specs.declared.sign.Sign.{Sign}
 use Rattle.kin_motion.specs.declared.fact.Placed.{Placed}
 use Rattle.kin_motion.specs.Deltas.{Change}
 use Rattle.kin_motion.specs.Kinetics.{HasChanged}
 use Rattle.kin_motion.specs.Parts.{moved_by}
 use Rattle.kin_motion.specs.Numbers.{is_in}
 use Rattle.kin_list.specs.declared.link.Link.{Link}
-use Rattle.kin_list.specs.Links.{linked, fact_of, link_facts, facts_from, AreKept}
+use Rattle.kin_list.specs.Links.{link_facts, facts_from}
 use Rattle.kin_list.specs.Telling.{nothing_told, told_more, IsToldIn}
 use Rattle.kin_list.proofs.ChangeLaws.{changed_at}
 use Rattle.kin_list.proofs.RowLaws.{is_in_from_get}
@@ -30,7 +29,7 @@ same_link_or_not (Some o) (Some n) = elim (cases_eq o.right n.right) [
   | inr d ↦ inr (λ g. d (ap (λ (l : Link). l.right) (same_Some o n g)))
 ]
 
-set_same : {A : Type 0} (xs : List A) (i : ℕ) (x : A) → slice_get xs i ≡ Some x → set xs i x ≡ xs
+pub set_same : {A : Type 0} (xs : List A) (i : ℕ) (x : A) → slice_get xs i ≡ Some x → set xs i x ≡ xs
 set_same [] i x h = refl
 set_same (y ∷ ys) zero x h = ap (λ z. z ∷ ys) (sym (same_Some y x h))
 set_same (y ∷ ys) (suc i) x h = ap (λ zs. y ∷ zs) (set_same ys i x h)
@@ -114,36 +113,3 @@ module _ (dx dy : ℤ) (first ls ls' : List (Option Link)) (i : ℕ) (new : Opti
   pub renewed_others : (touched : List ℕ) (index : ℕ) → slice_get touched index ≡ Some i → ((j : ℕ) → is_in j touched ≡ false → slice_get ls j ≡ slice_get first j) → (j : ℕ) → is_in j touched ≡ false → slice_get ls' j ≡ slice_get first j
   renewed_others touched index at others j out =
       ap (λ (xs : List (Option Link)). slice_get xs j) written ∙ get-set_other ls i j new (λ e. both_ways _ out (is_in_from_get touched index j (at ∙ ap (λ (m : ℕ). Some m) (sym e)))) ∙ others j out
-
--- ---- one number's link and fact, at their place in the lists
-module _ (links : List (Option Link)) (no : ℕ) (inside : no < length links) (told : Option Link) (at : told ≡ get_or links no told) where
-  pub told_before : (old : Option Link) → slice_get links no ≡ Some old → told ≡ old
-  told_before old h = at ∙ get_or_from_slice_get links no old told h
-
-  module _ (dx dy : ℤ) (facts : List Placed) (kept : AreKept dx dy links facts) where
-    pub kept_before : (fact : Placed) → no < length facts → fact ≡ get_or facts no fact → (l : Link) → told ≡ Some l → fact.fact ≡ (fact_of dx dy no l).fact
-    kept_before fact has read l e = kept no l fact (slice_get-get_or links no told inside ∙ ap Some (sym at ∙ e)) (slice_get-get_or facts no fact has ∙ ap Some (sym read))
-
-    -- both are written
-    pub kept_linked : (new : Option Link) (link : Link) (fact : Placed) → no < length facts → new ≡ Some link → fact.fact ≡ (fact_of dx dy no link).fact → AreKept dx dy (set links no new) (set facts no fact)
-    kept_linked new link fact has is same i l p a b = elim (cases_eq i no) [
-      | inl e ↦
-          (let own : new ≡ Some l = same_Some new (Some l) (sym (ap (slice_get (set links no new)) e ∙ get-set_same links no new inside) ∙ a) in
-          let its : fact ≡ p = same_Some fact p (sym (ap (slice_get (set facts no fact)) e ∙ get-set_same facts no fact has) ∙ b) in
-          let link_is : link ≡ l = same_Some link l (sym is ∙ own) in
-          subst (λ (k : ℕ). p.fact ≡ (fact_of dx dy k l).fact) (sym e) (ap (λ (q : Placed). q.fact) (sym its) ∙ same ∙ ap (λ (x : Link). (fact_of dx dy no x).fact) link_is))
-      | inr n ↦ kept i l p (sym (get-set_other links no i new n) ∙ a) (sym (get-set_other facts no i fact n) ∙ b)
-    ]
-
-    -- the link is taken away
-    pub kept_unlinked : (new : Option Link) → new ≡ None → AreKept dx dy (set links no new) facts
-    kept_unlinked new is i l p a b = elim (cases_eq i no) [
-      | inl e ↦ absurd (none-some l (sym is ∙ same_Some new (Some l) (sym (ap (slice_get (set links no new)) e ∙ get-set_same links no new inside) ∙ a)))
-      | inr n ↦ kept i l p (sym (get-set_other links no i new n) ∙ a) b
-    ]
-
--- a number is linked to the one found on its right, with the sign that it has
-pub linked_now : (found : Option ℕ) (signs : List Sign) (i right : ℕ) (sign : Sign) (target : Option Link) → i < length signs → found ≡ Some right → sign ≡ get_or signs i sign
-    → linked found (slice_get signs i) ≡ target → Some (record { right = right; sign = sign }) ≡ target
-linked_now found signs i right sign target inside is at e =
-    sym (ap (λ (o : Option ℕ). linked o (slice_get signs i)) is ∙ ap (linked (Some right)) (slice_get-get_or signs i sign inside ∙ ap Some (sym at))) ∙ e

@@ -15,8 +15,7 @@ use Rattle.kin_list.specs.declared.link.Link.{Link}
 use Rattle.kin_list.specs.declared.mark.Mark.{Mark}
 use Rattle.kin_list.specs.declared.mark.Mark.TheVariants.{Rest, Enters, Leaves, Broken}
 use Rattle.kin_list.specs.Costs.{IsArranged}
-use Rattle.std.proofs.lemmas.Option.{same_Some, none-some}
-use Rattle.kin_list.specs.Links.{link_for, facts_from, AreKept}
+use Rattle.kin_list.specs.Links.{link_for, facts_from}
 use Rattle.kin_list.specs.Listing.{IsReadyMark, names_leaving, AreFewTests}
 use Rattle.kin_list.specs.Repairs.{IsHeld}
 use Rattle.kin_list.specs.Rows.{Row}
@@ -94,11 +93,3 @@ no_facts dx dy m (suc n) = no_facts dx dy (m + 1) n
 
 pub empty_facts : (dx dy : ℤ) (n : ℕ) (links : List (Option Link)) → links ≡ replicate n None → facts_from dx dy 0 links ≡ []
 empty_facts dx dy n links e = ap (facts_from dx dy 0) e ∙ no_facts dx dy 0 n
-
-no_link : (n i : ℕ) (l : Link) → slice_get {X = Option Link} (replicate n None) i ≡ Some (Some l) → ⊥
-no_link zero i l h = none-some (Some l) h
-no_link (suc n) zero l h = none-some l (same_Some None (Some l) h)
-no_link (suc n) (suc i) l h = no_link n i l h
-
-pub none_kept : (dx dy : ℤ) (n : ℕ) (links : List (Option Link)) (facts : List Placed) → links ≡ replicate n None → AreKept dx dy links facts
-none_kept dx dy n links facts e i l p h at = absurd (no_link n i l (sym (ap (λ (ls : List (Option Link)). slice_get ls i) e) ∙ h))

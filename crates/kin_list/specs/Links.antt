@@ -32,10 +32,6 @@ abbrev pub link_facts : ℤ → ℤ → ℕ → Option Link → List Placed
 link_facts dx dy i None = []
 link_facts dx dy i (Some l) = fact_of dx dy i l ∷ []
 
--- the fact of each link is kept at its number, in whatever part
-abbrev pub AreKept : ℤ → ℤ → List (Option Link) → List Placed → Type 0
-AreKept dx dy links facts = (i : ℕ) (l : Link) (p : Placed) → slice_get links i ≡ Some (Some l) → slice_get facts i ≡ Some p → p.fact ≡ (fact_of dx dy i l).fact
-
 -- the fact of one link took the place of another's in a part, where they differ
 pub record IsTold (part : ℕ) (dx dy : ℤ) (i : ℕ) (old new : Option Link) (dropped born dropped' born' : List Placed) : Type 0 where
   pub same : old ≡ new → (dropped' ≡ dropped) × (born' ≡ born)

@@ -1,13 +1,10 @@
 -- What is true of every kinetic list.
-use Rattle.std.specs.Prelude.{◌≡◌, ℕ, ◌<◌, true, false, List, [], Option, length}
+use Rattle.std.specs.Prelude.{◌≡◌, ℕ, ◌<◌, true, false, List, [], Option}
 use Rattle.kin_algebra.specs.declared.sign.Sign.{Sign}
 use Rattle.kin_motion.specs.Numbers.{is_in}
-use Rattle.kin_motion.specs.declared.fact.Placed.{Placed}
-use Rattle.kin_list.specs.declared.direction.Direction.{Direction}
 use Rattle.kin_list.specs.declared.link.Link.{Link}
 use Rattle.kin_list.specs.declared.mark.Mark.{Mark}
 use Rattle.kin_list.specs.declared.mark.Mark.TheVariants.{Rest, Enters, Leaves, Broken}
-use Rattle.kin_list.specs.Links.{AreKept}
 use Rattle.kin_list.specs.Repairs.{IsHeld}
 use Rattle.kin_list.specs.Rows.{Row}
 
@@ -25,9 +22,6 @@ IsHeldIf (Enters i) links items signs = IsHeld links items signs [] []
 IsHeldIf (Leaves i) links items signs = IsHeld links items signs [] []
 IsHeldIf Broken links items signs = Unit {0}
 
-pub record IsSound (along : Direction) (mark : Mark) (row : Row) (signs : List Sign) (links : List (Option Link)) (facts : List Placed) : Type 0 where
-  pub fits : length links ≡ row.room
+pub record IsSound (mark : Mark) (row : Row) : Type 0 where
   pub markable : IsMarkable mark row
-  pub held : IsHeldIf mark links row.items signs
-  pub kept : AreKept along.dx along.dy links facts
-  pub matched : length facts ≡ length links
+  pub held : IsHeldIf mark row.links row.items row.signs

@@ -57,9 +57,10 @@ impl Lineup {
         requires member { is_in no self.old.row.items ≡ true }
         requires none { self.old.doubts ≡ [] }
         ensures taken { OnOk result (IsTakenOut no self.old.row.items self.new.row.items self.new.doubts self.new.touched.items) }
-        ensures signs { OnOk result (self.new.signs.items ≡ self.old.signs.items) }
+        ensures signs { OnOk result (self.new.row.signs ≡ self.old.row.signs) }
         ensures swaps { OnOk result (self.new.swaps.items ≡ self.old.swaps.items) }
         ensures room { self.new.row.room ≡ self.old.row.room }
+        ensures links { self.new.row.links ≡ self.old.row.links }
     {
         self.touched.push(no)?;
         let place = self.row.place_of_member(no) as usize;

@@ -13,6 +13,7 @@
 pub use list::KinList;
 pub use mark::Mark;
 
+mod cell;
 mod direction;
 mod doubts;
 mod enter;

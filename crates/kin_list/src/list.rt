@@ -12,7 +12,6 @@ ghost use Rattle.kin_list.specs.Rows.{exchanged};
 
 use crate::direction::Direction;
 use crate::lineup::Lineup;
-use crate::link::{Link, no_facts, no_links};
 use crate::mark::Mark;
 use crate::report::report;
 use kin_motion::fact::{Delta, Placed};
@@ -29,10 +28,6 @@ use std::sync::ledger::Ledger;
 pub struct KinList {
     along: Direction,
     lineup: Lineup,
-    /// By number: the live fact whose left number it is.
-    links: Vec<Option<Link>>,
-    /// By number: that fact as it was reported, so that a further report copies it.
-    facts: Vec<Placed>,
     mark: Mark,
 }
 
@@ -43,9 +38,9 @@ impl Model for KinList {
 
     ghost Value = { Listing };
 
-    ghost view = { λ k. record { dx = k.along.dx; dy = k.along.dy; room = k.lineup.row.room; items = k.lineup.row.items; facts = facts_from k.along.dx k.along.dy 0 k.links.items; swaps = k.lineup.swaps.items; mark = k.mark } };
+    ghost view = { λ k. record { dx = k.along.dx; dy = k.along.dy; room = k.lineup.row.room; items = k.lineup.row.items; facts = facts_from k.along.dx k.along.dy 0 k.lineup.row.links; swaps = k.lineup.swaps.items; mark = k.mark } };
 
-    ghost invariant = { λ k. IsSound k.along k.mark k.lineup.row k.lineup.signs.items k.links.items k.facts.items };
+    ghost invariant = { λ k. IsSound k.mark k.lineup.row };
 }
 
 /// How many numbers have this size.
@@ -67,15 +62,10 @@ impl KinList {
         ensures { IfOk result (λ k. k ≡ record { dx = dx; dy = dy; room = 2 ^ size; items = []; facts = []; swaps = []; mark = Rest }) }
     {
         let along = Direction::new(dx, dy);
-        let room = room_for(size);
-        let lineup = Lineup::new(alloc, room)?;
-        let links = no_links(alloc, room)?;
-        let facts = no_facts(alloc, along, room)?;
+        let lineup = Lineup::new(alloc, room_for(size))?;
         Ok(KinList {
             along,
             lineup,
-            links,
-            facts,
             mark: Mark::Rest,
         })
     }
@@ -150,11 +140,10 @@ impl KinList {
         self.mark = Mark::Broken;
         self.lineup.arrange(mark, self.along, failed, now, steps)?;
         report(
-            &self.lineup,
+            &mut self.lineup.row,
+            &self.lineup.touched,
             part,
             self.along,
-            &mut self.links,
-            &mut self.facts,
             out,
         )?;
         self.mark = Mark::Rest;

@@ -1,166 +1,127 @@
 //! The links of the touched numbers are brought up to date, and the change of the facts is reported.
 
-ghost use Rattle.std.specs.Prelude.{◌≡◌, ℕ, ℤ, ◌+◌, ◌<◌, ◌≤◌, List, Option, Some, None, true, false, length, slice_get, slice_set, vec_len, vec_capacity, OnOk};
+ghost use Rattle.std.specs.Prelude.{◌≡◌, ℕ, ◌+◌, ◌<◌, ◌≤◌, List, Option, Some, None, true, false, length, slice_get, slice_set, vec_len, vec_capacity, IfSome, OnOk};
 ghost use Rattle.kin_motion.specs.declared.fact.Placed.{Placed as Put};
-ghost use Rattle.kin_motion.specs.declared.form.Form.TheVariants.{Line};
 ghost use Rattle.kin_motion.specs.Numbers.{is_in};
 ghost use Rattle.kin_list.specs.declared.link.Link.{Link as LinkValue};
 ghost use Rattle.kin_algebra.specs.declared.sign.Sign.{Sign as Signum};
-ghost use Rattle.kin_list.specs.Links.{linked, link_for, fact_of, facts_from, AreKept, IsTold};
+ghost use Rattle.kin_list.specs.Links.{linked, link_for, facts_from, IsTold};
 ghost use Rattle.kin_list.specs.Telling.{IsToldIn};
 
 use crate::direction::Direction;
-use crate::lineup::Lineup;
 use crate::link::Link;
 use crate::row::Row;
-use kin_motion::fact::{Delta, Fact, Placed};
-use kin_motion::form::Form;
-use kin_num::Sign;
+use kin_motion::fact::{Delta, Placed};
 use kin_num::memory::NoMemory;
 use std::alloc::AllocError;
 
 /// The right neighbour of a number, if it has one.
 fn right_of(row: &Row, no: u32) -> Option<u32>
     requires within { no < row.now.room }
-    ensures { (signs : List Signum) → linked result (slice_get signs no) ≡ link_for row.now.items signs no }
+    ensures link { (signs : List Signum) → linked result (slice_get signs no) ≡ link_for row.now.items signs no }
+    ensures within { IfSome result (λ right. right < row.now.room) }
 {
     let place = row.place_of_left(no)? as usize;
     Some(row.at(place + 1))
 }
 
-/// Gives the fact of a line another right number and another sign, in place.
-fn turn(fact: &mut Fact, right: u32, sign: Sign)
-    ensures { (dx dy off : ℤ) (i j : ℕ) → fact.old.form ≡ Line dx dy off i j → fact.new ≡ record { form = Line dx dy off i right; sign = sign } }
-{
-    if let Form::Line { j, .. } = &mut fact.form {
-        *j = right;
-    }
-    fact.sign = sign;
-}
-
-/// Links a number to this one with this sign. Where it wasn't linked so, the change is reported: its
-/// fact is copied as it was, and as it has become.
+/// Links a number to its right neighbour. Where it wasn't linked so, the change is reported.
 fn link_to(
-    told: &mut Option<Link>,
-    fact: &mut Placed,
+    row: &mut Row,
     part: u32,
     along: Direction,
     no: u32,
-    right: u32,
-    sign: Sign,
+    link: Link,
     dropped: &mut Vec<Placed>,
     born: &mut Vec<Placed>,
 )
-    requires kept { (l : LinkValue) → told.old ≡ Some l → fact.old.fact ≡ (fact_of along.dx along.dy no l).fact }
+    requires within { no < row.old.room }
+    requires right { link.right < row.old.room }
     requires dropped_room { vec_len dropped.old < vec_capacity dropped.old }
     requires born_room { vec_len born.old < vec_capacity born.old }
-    ensures told { told.new ≡ Some (record { right = right; sign = sign }) }
-    ensures kept { fact.new.fact ≡ (fact_of along.dx along.dy no (record { right = right; sign = sign })).fact }
-    ensures tells { IsTold part along.dx along.dy no told.old (Some (record { right = right; sign = sign })) dropped.old.items born.old.items dropped.new.items born.new.items }
+    ensures links { row.new.links ≡ slice_set row.old.links no (Some link) }
+    ensures tells { (old : Option LinkValue) → slice_get row.old.links no ≡ Some old → IsTold part along.dx along.dy no old (Some link) dropped.old.items born.old.items dropped.new.items born.new.items }
+    ensures same { (row.new.items ≡ row.old.items) × (row.new.room ≡ row.old.room) × (row.new.signs ≡ row.old.signs) }
     ensures dropped_fits { (vec_len dropped.new ≤ vec_len dropped.old + 1) × (vec_capacity dropped.new ≡ vec_capacity dropped.old) }
     ensures born_fits { (vec_len born.new ≤ vec_len born.old + 1) × (vec_capacity born.new ≡ vec_capacity born.old) }
 {
-    if let Some(old) = told {
-        if old.right == right && old.sign == sign {
+    if let Some(old) = row.link_of(no) {
+        if old.right == link.right && old.sign == link.sign {
             return;
         }
-        fact.part = part;
-        dropped.push_reserved(*fact);
-        turn(&mut fact.fact, right, sign);
-    } else {
-        *fact = along.fact(part, no, right, sign);
+        dropped.push_reserved(along.fact(part, no, old.right, old.sign));
     }
-    born.push_reserved(*fact);
-    *told = Some(Link { right, sign });
+    born.push_reserved(along.fact(part, no, link.right, link.sign));
+    row.set_link(no, link);
 }
 
 /// Takes a number's link away, and reports it where there was one.
-fn unlink(told: &mut Option<Link>, part: u32, along: Direction, no: u32, dropped: &mut Vec<Placed>)
+fn unlink(row: &mut Row, part: u32, along: Direction, no: u32, dropped: &mut Vec<Placed>)
+    requires within { no < row.old.room }
     requires dropped_room { vec_len dropped.old < vec_capacity dropped.old }
-    ensures told { told.new ≡ None }
-    ensures tells { (born : List Put) → IsTold part along.dx along.dy no told.old None dropped.old.items born dropped.new.items born }
+    ensures links { row.new.links ≡ slice_set row.old.links no None }
+    ensures tells { (old : Option LinkValue) (born : List Put) → slice_get row.old.links no ≡ Some old → IsTold part along.dx along.dy no old None dropped.old.items born dropped.new.items born }
+    ensures same { (row.new.items ≡ row.old.items) × (row.new.room ≡ row.old.room) × (row.new.signs ≡ row.old.signs) }
     ensures dropped_fits { (vec_len dropped.new ≤ vec_len dropped.old + 1) × (vec_capacity dropped.new ≡ vec_capacity dropped.old) }
 {
-    if let Some(link) = told {
+    if let Some(link) = row.link_of(no) {
         dropped.push_reserved(along.fact(part, no, link.right, link.sign));
-        *told = None;
+        row.clear_link(no);
     }
 }
 
 /// Writes the link of a number as its neighbour and its sign now are, and reports the change.
 fn renew(
-    links: &mut Vec<Option<Link>>,
-    facts: &mut Vec<Placed>,
-    lineup: &Lineup,
+    row: &mut Row,
     part: u32,
     along: Direction,
     no: u32,
     dropped: &mut Vec<Placed>,
     born: &mut Vec<Placed>,
 )
-    requires fits { length links.old.items ≡ lineup.now.row.room }
-    requires matched { length facts.old.items ≡ length links.old.items }
-    requires kept { AreKept along.dx along.dy links.old.items facts.old.items }
+    requires fits { length row.old.links ≡ row.old.room }
     requires dropped_room { vec_len dropped.old < vec_capacity dropped.old }
     requires born_room { vec_len born.old < vec_capacity born.old }
-    ensures length { length links.new.items ≡ length links.old.items }
-    ensures matched { length facts.new.items ≡ length links.new.items }
-    ensures kept { AreKept along.dx along.dy links.new.items facts.new.items }
-    ensures links { links.new.items ≡ slice_set links.old.items no (link_for lineup.now.row.items lineup.now.signs.items no) }
-    ensures past { length links.old.items ≤ no → (dropped.new.items ≡ dropped.old.items) × (born.new.items ≡ born.old.items) }
-    ensures tells { (old : Option LinkValue) → slice_get links.old.items no ≡ Some old → IsTold part along.dx along.dy no old (link_for lineup.now.row.items lineup.now.signs.items no) dropped.old.items born.old.items dropped.new.items born.new.items }
+    ensures links { row.new.links ≡ slice_set row.old.links no (link_for row.old.items row.old.signs no) }
+    ensures past { length row.old.links ≤ no → (dropped.new.items ≡ dropped.old.items) × (born.new.items ≡ born.old.items) }
+    ensures tells { (old : Option LinkValue) → slice_get row.old.links no ≡ Some old → IsTold part along.dx along.dy no old (link_for row.old.items row.old.signs no) dropped.old.items born.old.items dropped.new.items born.new.items }
+    ensures same { (row.new.items ≡ row.old.items) × (row.new.room ≡ row.old.room) × (row.new.signs ≡ row.old.signs) }
     ensures dropped_fits { (vec_len dropped.new ≤ vec_len dropped.old + 1) × (vec_capacity dropped.new ≡ vec_capacity dropped.old) }
     ensures born_fits { (vec_len born.new ≤ vec_len born.old + 1) × (vec_capacity born.new ≡ vec_capacity born.old) }
 {
-    let place = no as usize;
-    if place >= links.len() {
+    if no as usize >= row.room() {
         return;
     }
-    let told = &mut links[place];
-    match right_of(&lineup.row, no) {
+    match right_of(row, no) {
         Some(right) => {
-            let fact = &mut facts[place];
-            link_to(
-                told,
-                fact,
-                part,
-                along,
-                no,
-                right,
-                lineup.signs[place],
-                dropped,
-                born,
-            );
+            let sign = row.sign_of(no);
+            link_to(row, part, along, no, Link { right, sign }, dropped, born);
         }
-        None => unlink(told, part, along, no, dropped),
+        None => unlink(row, part, along, no, dropped),
     }
 }
 
 /// Brings the links of the touched numbers up to date. There is room for what the facts may lose and
 /// gain before any of it is reported, in a part.
 fn renew_touched(
-    lineup: &Lineup,
+    row: &mut Row,
+    touched: &[u32],
     part: u32,
     along: Direction,
-    links: &mut Vec<Option<Link>>,
-    facts: &mut Vec<Placed>,
     dropped: &mut Vec<Placed>,
     born: &mut Vec<Placed>,
 ) -> Result<(), AllocError>
-    requires fits { length links.old.items ≡ lineup.now.row.room }
-    requires matched { length facts.old.items ≡ length links.old.items }
-    requires kept { AreKept along.dx along.dy links.old.items facts.old.items }
-    ensures length { length links.new.items ≡ length links.old.items }
-    ensures matched { length facts.new.items ≡ length links.new.items }
-    ensures kept { AreKept along.dx along.dy links.new.items facts.new.items }
-    ensures touched { OnOk result ((i : ℕ) → i < length links.old.items → is_in i lineup.now.touched.items ≡ true → slice_get links.new.items i ≡ Some (link_for lineup.now.row.items lineup.now.signs.items i)) }
-    ensures others { OnOk result ((i : ℕ) → is_in i lineup.now.touched.items ≡ false → slice_get links.new.items i ≡ slice_get links.old.items i) }
-    ensures told { OnOk result (IsToldIn part (facts_from along.dx along.dy 0 links.old.items) (facts_from along.dx along.dy 0 links.new.items) (record { dropped = dropped.old.items; born = born.old.items }) (record { dropped = dropped.new.items; born = born.new.items })) }
+    requires fits { length row.old.links ≡ row.old.room }
+    ensures same { (row.new.items ≡ row.old.items) × (row.new.room ≡ row.old.room) × (row.new.signs ≡ row.old.signs) }
+    ensures length { length row.new.links ≡ length row.old.links }
+    ensures touched { OnOk result ((i : ℕ) → i < length row.old.links → is_in i touched.now ≡ true → slice_get row.new.links i ≡ Some (link_for row.old.items row.old.signs i)) }
+    ensures others { OnOk result ((i : ℕ) → is_in i touched.now ≡ false → slice_get row.new.links i ≡ slice_get row.old.links i) }
+    ensures told { OnOk result (IsToldIn part (facts_from along.dx along.dy 0 row.old.links) (facts_from along.dx along.dy 0 row.new.links) (record { dropped = dropped.old.items; born = born.old.items }) (record { dropped = dropped.new.items; born = born.new.items })) }
 {
-    dropped.reserve(lineup.touched.len())?;
-    born.reserve(lineup.touched.len())?;
-    for no in &lineup.touched {
-        renew(links, facts, lineup, part, along, *no, dropped, born);
+    dropped.reserve(touched.len())?;
+    born.reserve(touched.len())?;
+    for no in touched {
+        renew(row, part, along, *no, dropped, born);
     }
     Ok(())
 }
@@ -168,31 +129,19 @@ fn renew_touched(
 /// Brings the links of the touched numbers up to date. What the facts have lost and gained is
 /// reported once, in a part.
 pub fn report(
-    lineup: &Lineup,
+    row: &mut Row,
+    touched: &[u32],
     part: u32,
     along: Direction,
-    links: &mut Vec<Option<Link>>,
-    facts: &mut Vec<Placed>,
     out: &mut Delta,
 ) -> Result<(), NoMemory>
-    requires fits { length links.old.items ≡ lineup.now.row.room }
-    requires matched { length facts.old.items ≡ length links.old.items }
-    requires kept { AreKept along.dx along.dy links.old.items facts.old.items }
-    ensures length { length links.new.items ≡ length links.old.items }
-    ensures matched { length facts.new.items ≡ length links.new.items }
-    ensures kept { AreKept along.dx along.dy links.new.items facts.new.items }
-    ensures touched { OnOk result ((i : ℕ) → i < length links.old.items → is_in i lineup.now.touched.items ≡ true → slice_get links.new.items i ≡ Some (link_for lineup.now.row.items lineup.now.signs.items i)) }
-    ensures others { OnOk result ((i : ℕ) → is_in i lineup.now.touched.items ≡ false → slice_get links.new.items i ≡ slice_get links.old.items i) }
-    ensures told { OnOk result (IsToldIn part (facts_from along.dx along.dy 0 links.old.items) (facts_from along.dx along.dy 0 links.new.items) out.old out.new) }
+    requires fits { length row.old.links ≡ row.old.room }
+    ensures same { (row.new.items ≡ row.old.items) × (row.new.room ≡ row.old.room) × (row.new.signs ≡ row.old.signs) }
+    ensures length { length row.new.links ≡ length row.old.links }
+    ensures touched { OnOk result ((i : ℕ) → i < length row.old.links → is_in i touched.now ≡ true → slice_get row.new.links i ≡ Some (link_for row.old.items row.old.signs i)) }
+    ensures others { OnOk result ((i : ℕ) → is_in i touched.now ≡ false → slice_get row.new.links i ≡ slice_get row.old.links i) }
+    ensures told { OnOk result (IsToldIn part (facts_from along.dx along.dy 0 row.old.links) (facts_from along.dx along.dy 0 row.new.links) out.old out.new) }
 {
-    renew_touched(
-        lineup,
-        part,
-        along,
-        links,
-        facts,
-        &mut out.dropped,
-        &mut out.born,
-    )?;
+    renew_touched(row, touched, part, along, &mut out.dropped, &mut out.born)?;
     Ok(())
 }

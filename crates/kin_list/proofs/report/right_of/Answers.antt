@@ -24,10 +24,10 @@ module _ (xs : List ℕ) (who : ℕ) (apart : AreDistinct xs) (signs : List Sign
       from true e = let w = get_from_is_in xs who e in last_link w.0 w.1 (past w.0 w.1)
       from false e = sym (link_for-absent xs signs who e)
 
-pub returns-in_err-place : goal.returns-in_err-place
-returns-in_err-place c = λ signs.
+pub returns-in_err-place-clause-link : goal.returns-in_err-place-clause-link
+returns-in_err-place-clause-link c = λ signs.
     ap (λ (o : Option ℕ). linked o (slice_get signs c.args.no)) c.from_residual.ensures
     ∙ no_link c.args.row.now.items c.args.no c.in_err-place.ensures.apart signs (c.in_err-place.ensures.none refl)
 
-pub returns : goal.returns
-returns c = λ signs. next_link c.args.row.now.items c.args.no c.in_ok-place.ensures.apart signs c.in_ok-place.field-0 c.at.result c.in_ok-place.ensures.some c.at.ensures.item
+pub returns-clause-link : goal.returns-clause-link
+returns-clause-link c = λ signs. next_link c.args.row.now.items c.args.no c.in_ok-place.ensures.apart signs c.in_ok-place.field-0 c.at.result c.in_ok-place.ensures.some c.at.ensures.item

@@ -1,6 +1,14 @@
-use Rattle.std.proofs.Common.{sym, ◌∙◌, length, rules}
+use Rattle.std.proofs.Common.{sym, ap, ap₂, ◌∙◌, subst, [], List, ℕ, Option, Some, length, map, rules}
+use Rattle.kin_algebra.specs.declared.sign.Sign.{Sign}
+use Rattle.kin_motion.specs.Kinetics.{ListsFailing, HasChanged}
+use Rattle.kin_motion.specs.Numbers.{is_in}
+use Rattle.kin_motion.specs.Parts.{moved_by}
 use Rattle.kin_motion.proofs.RealLaws.{real_line_laws}
+use Rattle.kin_list.specs.declared.link.Link.{Link}
 use Rattle.kin_list.specs.Costs.{IsArranged}
+use Rattle.kin_list.specs.Links.{link_for, facts_from}
+use Rattle.kin_list.specs.Listing.{names_leaving}
+use Rattle.kin_list.specs.Repairs.{IsHeld}
 use Rattle.kin_list.specs.Telling.{nothing_told}
 use Rattle.kin_list.proofs.TellingLaws.{changed_in_part, few_in_part}
 use Rattle.kin_list.proofs.WholeLaws.{IsWholeSettle, held_when_ready, whole_settle}
@@ -13,37 +21,46 @@ done : (g : given.Over) (c : In_ok-report g) →
     let s = g.O.Signs.scene c.args.now.now in
     let k = c.self.inside in
     let n = c.arrange.new.self in
-    IsArranged s k.along.dx k.along.dy k.mark k.links.items k.lineup.row.items n.row.items n.signs.items n.touched.items n.swaps.items (length c.args.failed.now) c.args.steps.now c.arrange.new.steps
-    × IsWholeSettle s k.along.dx k.along.dy k.mark k.lineup.row.items k.links.items c.report.new.links.items n.row.items n.signs.items nothing_told c.in_ok-report.ensures.told.change c.args.steps.now c.arrange.new.steps
+    let r = c.report.new.row in
+    IsArranged s k.along.dx k.along.dy k.mark n.row.links k.lineup.row.items r.items r.signs n.touched.items n.swaps.items (length c.args.failed.now) c.args.steps.now c.arrange.new.steps
+    × IsWholeSettle s k.along.dx k.along.dy k.mark k.lineup.row.items n.row.links r.links r.items r.signs nothing_told c.in_ok-report.ensures.told.change c.args.steps.now c.arrange.new.steps
 done g c =
     let s = g.O.Signs.scene c.args.now.now in
     let k = c.self.inside in
     let n = c.arrange.new.self in
+    let r = c.report.new.row in
     let told = c.in_ok-report.ensures in
+    let same = c.report.ensures.same in
+    let touched = c.deref.ensures.value in
+    let links = sym c.in_ok-arrange.ensures.links in
     let ready = rw (sym c.self.view_is) at c.requires.ready in
-    let failing = rw (sym c.self.view_is) at c.requires.failing in
-    let held = held_when_ready k.mark k.links.items k.lineup.row.items k.lineup.signs.items s ready c.self.invariant.held in
-    let arranged = c.in_ok-arrange.ensures.arranged k.links.items held failing in
-    let fits = c.self.invariant.fits ∙ sym c.in_ok-arrange.ensures.room ∙ sym n.fits in (
+    let failing = subst (λ (ls : List (Option Link)). ListsFailing (facts_from k.along.dx k.along.dy 0 ls) (names_leaving k.mark) s c.args.failed.now) links (rw (sym c.self.view_is) at c.requires.failing) in
+    let held = subst (λ (ls : List (Option Link)). IsHeld ls k.lineup.row.items k.lineup.row.signs [] []) links (held_when_ready k.mark k.lineup.row.links k.lineup.row.items k.lineup.row.signs s ready c.self.invariant.held) in
+    let arranged = subst (λ (ts : List Sign). IsArranged s k.along.dx k.along.dy k.mark n.row.links k.lineup.row.items r.items ts n.touched.items n.swaps.items (length c.args.failed.now) c.args.steps.now c.arrange.new.steps) (sym same.2)
+    (subst (λ (xs : List ℕ). IsArranged s k.along.dx k.along.dy k.mark n.row.links k.lineup.row.items xs n.row.signs n.touched.items n.swaps.items (length c.args.failed.now) c.args.steps.now c.arrange.new.steps) (sym same.0)
+    (c.in_ok-arrange.ensures.arranged n.row.links held failing)) in
+    let fits = n.linked ∙ sym n.signed ∙ sym (ap length same.2) in (
       arranged,
-      whole_settle s (real_line_laws s c.requires.real) k.along.dx k.along.dy k.mark k.lineup.row k.links.items c.report.new.links.items n.row.items k.lineup.signs.items n.signs.items n.touched.items n.swaps.items c.args.failed.now c.args.steps.now c.arrange.new.steps nothing_told told.told.change
-          ready c.self.invariant.markable held failing arranged told.length fits told.touched told.others,
+      whole_settle s (real_line_laws s c.requires.real) k.along.dx k.along.dy k.mark k.lineup.row n.row.links r.links r.items k.lineup.row.signs r.signs n.touched.items n.swaps.items c.args.failed.now c.args.steps.now c.arrange.new.steps nothing_told told.told.change
+          ready c.self.invariant.markable held failing arranged told.length fits
+          (λ i l h. told.touched i l (ap (is_in i) touched ∙ h) ∙ ap₂ (λ xs ts. Some (link_for xs ts i)) (sym same.0) (sym same.2)) (λ i h. told.others i (ap (is_in i) touched ∙ h)),
     )
 
 pub invariant_of-self-2 : goal.invariant_of-self-2
-invariant_of-self-2 g c = record { fits = c.in_ok-report.ensures.length ∙ c.self.invariant.fits ∙ sym c.in_ok-arrange.ensures.room; markable = tt; held = (done g (goal.at.invariant_of-self-2 g c).In_ok-report).1.held; kept = c.report.ensures.kept; matched = c.report.ensures.matched }
+invariant_of-self-2 g c = record { markable = tt; held = (done g (goal.at.invariant_of-self-2 g c).In_ok-report).1.held }
 
 pub returns : goal.returns
 returns g c =
     let k = c.self.inside in
     let (arranged, whole) = done g (goal.at.returns g c).In_ok-report in
+    let told = c.in_ok-report.ensures.told in
     record {
       rest = search rules;
       settled = whole.settled;
-      delta = rw (sym c.self.view_is) (changed_in_part c.args.part _ _ _ _ c.in_ok-report.ensures.told);
+      delta = rw (sym c.self.view_is) (subst (λ (ls : List (Option Link)). HasChanged (map (moved_by c.args.part) (facts_from k.along.dx k.along.dy 0 ls)) (map (moved_by c.args.part) (facts_from k.along.dx k.along.dy 0 c.report.new.row.links)) c.args.out.now c.report.new.out) c.in_ok-arrange.ensures.links (changed_in_part c.args.part _ _ _ _ told));
       broken = tt;
       exchanges = rw (sym c.self.view_is) arranged.exchanges;
       moved = rw (sym c.self.view_is) arranged.moved;
-      tests = rw (sym c.self.view_is) (few_in_part c.args.part k.mark k.lineup.row.items c.arrange.new.self.row.items _ _ _ _ c.args.steps.now c.arrange.new.steps c.in_ok-report.ensures.told (whole.tests c.in_ok-report.ensures.told.changed));
+      tests = rw (sym c.self.view_is) (few_in_part c.args.part k.mark k.lineup.row.items c.report.new.row.items _ _ _ _ c.args.steps.now c.arrange.new.steps told (whole.tests told.changed));
       same = search rules;
     }
