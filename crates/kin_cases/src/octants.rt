@@ -181,10 +181,12 @@ impl Octants {
     /// The slots whose candidate a number is, rising.
     pub fn hits(&self, no: u32) -> Result<Vec<u64>, Fault> {
         let mut slots = Vec::new(self.wedges.alloc);
-        for (apex, octant) in self.wedges.structure.hits(no) {
-            slots
-                .push(8 * u64::from(apex) + u64::from(octant))
-                .map_err(|_| Fault::NoMemory)?;
+        for octant in 0..8 {
+            for apex in self.wedges.structure.hits(no, octant) {
+                slots
+                    .push(8 * u64::from(apex) + u64::from(octant))
+                    .map_err(|_| Fault::NoMemory)?;
+            }
         }
         slots.sort_unstable();
         Ok(slots)

@@ -11,7 +11,12 @@ pub mod Halves
 pub mod Facing
 pub mod Passing
 pub mod Touching
-pub mod HitLists
+pub mod Threading
+pub mod Reaching
+pub mod Weaving
+pub mod Linking
+pub mod Pointing
+pub mod Hitting
 pub mod Lost
 pub mod Following
 pub mod Renewing

@@ -1,11 +1,11 @@
 -- What is told of the slots.
-use Rattle.std.proofs.Common.{◌≡◌, refl, sym, ap, ◌∙◌, subst, arith, List, ℕ, ◌+◌, ◌*◌, ◌/◌, ◌%◌, ◌^◌, ◌<◌, length, Some, None, Option}
-use Rattle.std.specs.Prelude.{Contains, slice_get}
+use Rattle.std.proofs.Common.{◌≡◌, refl, sym, ap, ◌∙◌, arith, List, ℕ, ◌+◌, ◌*◌, ◌^◌, ◌<◌, length, Some, None, Option}
+use Rattle.std.specs.Prelude.{slice_get}
 use Rattle.std.proofs.lemmas.Nat.{pow-add}
 use Rattle.std.proofs.lemmas.Option.{slice_get_within, get_or_from_slice_get, slice_get-get_or}
-use Rattle.kin_motion.specs.Octants.{ListsHits, ListsChanged}
+use Rattle.kin_motion.specs.Octants.{ListsChanged}
+use Rattle.kin_motion.specs.Sets.{ListsExactly}
 use Rattle.kin_wedge.specs.Passages.{AreChanged}
-use Rattle.kin_wedge.specs.Tables.{AreHits}
 use Rattle.kin_wedge.specs.Wedging.{candidate_at}
 
 module _ (size : ℕ) (candidates : List (Option ℕ)) (slots : length candidates ≡ 8 * 2 ^ size) where
@@ -19,17 +19,14 @@ module _ (size : ℕ) (candidates : List (Option ℕ)) (slots : length candidate
   apex_within : (p w n : ℕ) → n ≡ 2 ^ size → 8 * p + w < 8 * n → p < 2 ^ size
   apex_within p w n e h = omega (arith, e, h)
 
-  pub hits_told : (c : ℕ) (pairs : List (ℕ × ℕ)) → AreHits candidates c pairs → ListsHits size (candidate_at candidates) c pairs
-  hits_told c pairs h = record {
+  pub hits_told : (c w : ℕ) (apexes : List ℕ) → w < 8 → ListsExactly apexes (λ p. slice_get candidates (8 * p + w) ≡ Some (Some c)) → ListsExactly apexes (λ p. (p < 2 ^ size) × (candidate_at candidates p w ≡ Some c))
+  hits_told c w apexes low h = record {
     once = h.once;
-    each = λ x. (
-      λ k. let o = h.only x k in
-          let l = slice_get_within candidates (8 * x.0 + x.1) _ o.1 in
-          (apex_within x.0 x.1 (2 ^ size) refl (omega (arith, l, slots)), o.0, told_as_held x.0 x.1 _ o.1),
-      λ k. let small = k.1 in
-          let a : (8 * x.0 + x.1) / 8 ≡ x.0 = omega (arith, small) in
-          let b : (8 * x.0 + x.1) % 8 ≡ x.1 = omega (arith, small) in
-          subst (Contains pairs) (λ t. (a t, b t)) (h.all (8 * x.0 + x.1) (held_as_told x.0 x.1 k.0 k.1 ∙ ap (λ (v : Option ℕ). Some v) k.2)),
+    each = λ p. (
+      λ k. let e = (h.each p).0 k in
+          let l = slice_get_within candidates (8 * p + w) _ e in
+          (apex_within p w (2 ^ size) refl (omega (arith, l, slots)), told_as_held p w _ e),
+      λ k. (h.each p).1 (held_as_told p w k.0 low ∙ ap (λ (v : Option ℕ). Some v) k.1),
     );
   }
 

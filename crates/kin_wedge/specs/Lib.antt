@@ -3,6 +3,7 @@ pub mod Scans
 pub mod Seen
 pub mod EightLaws
 pub mod Tables
+pub mod Threads
 pub mod Touched
 pub mod Laws
 pub mod Parts

@@ -1,19 +1,17 @@
--- The candidates of the slots, and the slots of each candidate.
-use Rattle.std.specs.Prelude.{◌≡◌, ℕ, ◌+◌, ◌*◌, ◌/◌, ◌%◌, ◌<◌, List, length, Option, Some, slice_get, Contains}
-use Rattle.kin_motion.specs.Sets.{AreDistinct}
-use Rattle.kin_pointers.specs.Pointing.{Pointing, PointsAt}
+-- The candidates of the slots, as slots that point at each other.
+use Rattle.std.specs.Prelude.{◌≡◌, ℕ, ◌*◌, ◌/◌, ◌%◌, ◌≤◌, ◌^◌, List, length, map, Option, Some, None, slice_get}
 
--- the apex and the octant of a slot
-abbrev pub pair_of : ℕ → ℕ × ℕ
-pair_of slot = (slot / 8, slot % 8)
+-- slot 8p + w points at slot 8q + w, where q is the candidate of p in octant w
+abbrev pub number_of : Option ℕ → Option ℕ
+number_of None = None
+number_of (Some target) = Some (target / 8)
 
--- eight slots for each number, which point at these numbers
-pub record AreSlots (p : Pointing) : Type 0 where
-  pub room : length p.targets ≡ 8 * p.numbers
-  pub low : (slot number : ℕ) → PointsAt p number slot → number < p.numbers
+abbrev pub candidates_of : List (Option ℕ) → List (Option ℕ)
+candidates_of targets = map number_of targets
 
--- the pairs are exactly the apexes and octants whose candidate c is, each once
-pub record AreHits (candidates : List (Option ℕ)) (c : ℕ) (pairs : List (ℕ × ℕ)) : Type 0 where
-  pub once : AreDistinct pairs
-  pub all : (slot : ℕ) → slice_get candidates slot ≡ Some (Some c) → Contains pairs (slot / 8, slot % 8)
-  pub only : (h : ℕ × ℕ) → Contains pairs h → (h.1 < 8) × (slice_get candidates (8 * h.0 + h.1) ≡ Some (Some c))
+-- eight slots for each number, each of which points at a slot of its own octant
+pub record AreSlots (targets : List (Option ℕ)) : Type 0 where
+  pub numbers : ℕ
+  pub room : length targets ≡ 8 * numbers
+  pub small : length targets ≤ 2 ^ 15
+  pub octant : (slot target : ℕ) → slice_get targets slot ≡ Some (Some target) → target % 8 ≡ slot % 8

@@ -89,7 +89,7 @@ impl Candidates {
     {
         self.note(mark, orders)?;
         let touches = self.touches.all();
-        renew_all(orders, &mut self.table, touches)?;
+        renew_all(orders, &mut self.table, touches);
         list_changed(&self.table, touches, &mut self.changed)?;
         Ok(())
     }

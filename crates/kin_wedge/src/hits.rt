@@ -1,47 +1,47 @@
-//! The slots that a number is the candidate of.
+//! The apexes that a number is the candidate of.
 
-ghost use Rattle.std.specs.Prelude.{◌≡◌, map};
+ghost use Rattle.std.specs.Prelude.{◌≡◌, ◌/◌, map};
 ghost use Rattle.std.specs.Iterator.{YieldsFirst, item_count};
-ghost use Rattle.kin_wedge.specs.Tables.{pair_of};
 
+use crate::walk::Walk;
 use std::marker::Model;
 
-/// The apexes and octants whose candidate a number is, each once.
+/// The apexes whose candidate in an octant a number is, each once.
 #[derive(Drop)]
 pub struct Hits<'a> {
-    slots: &'a [u32],
+    slots: Walk<'a>,
 }
 
 impl<'a> Model for Hits<'a> {
-    ghost use Rattle.std.specs.Prelude.{List, ℕ, map};
-    ghost use Rattle.kin_wedge.specs.Tables.{pair_of};
+    ghost use Rattle.std.specs.Prelude.{List, ℕ, ◌/◌, map};
 
-    ghost Value = { List (ℕ × ℕ) };
+    ghost Value = { List ℕ };
 
-    ghost view = { λ h. map pair_of h.slots.now };
+    ghost view = { λ h. map (λ slot. slot / 8) h.slots };
 }
 
 impl<'a> Hits<'a> {
-    /// The hits at these slots.
-    pub(crate) fn new(slots: &'a [u32]) -> Hits<'a>
-        ensures { result ≡ map pair_of slots.now }
+    /// The apexes of these slots.
+    #[inline(always)]
+    pub(crate) fn new(slots: Walk<'a>) -> Hits<'a>
+        ensures { result ≡ map (λ slot. slot / 8) slots.entry }
     {
         Hits { slots }
     }
 }
 
 impl Iterator for Hits<'_> {
-    type Item = (u32, u32);
+    type Item = u32;
 
     ghost next_gives = { YieldsFirst (λ rest. rest) };
 
     ghost remaining = { item_count (λ rest. rest) };
 
-    fn next(&mut self) -> Option<(u32, u32)> {
-        let Some((slot, rest)) = self.slots.split_first() else {
+    #[inline(always)]
+    fn next(&mut self) -> Option<u32> {
+        let Some(slot) = self.slots.next() else {
             return None;
         };
-        self.slots = rest;
-        Some((*slot / 8, *slot % 8))
+        Some(slot / 8)
     }
 }

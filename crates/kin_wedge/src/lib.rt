@@ -4,7 +4,7 @@
 //! Algorithms 31 (1999).
 //!
 //! `Wedges` is `Kinetic`. It keeps eight kinetic lists, the candidate of each point in each octant, and
-//! for each point the list of the slots that it is the candidate of. A `settle` looks only at those slots
+//! for each point and octant the thread of the points that it is the candidate of. A `settle` looks only at those slots
 //! that an exchange, or the number that enters or leaves, can have touched: a lost candidate is looked
 //! up by a scan that begins after the apex, and every other one is compared with what is offered to its
 //! slot. No clause says so. The sign tests of a `settle` are those of its eight lists.
@@ -30,5 +30,8 @@ mod settle;
 mod sides;
 mod steady;
 mod table;
+mod thread;
+mod threads;
 mod touch;
+mod walk;
 pub mod wedges;

@@ -2,11 +2,11 @@
 
 ghost use Rattle.std.specs.Prelude.{◌%◌, ℕ, ◌≡◌, ◌+◌, ◌*◌, ◌<◌, ◌^◌, Some, true, length, slice_get};
 ghost use Rattle.kin_motion.specs.Octants.{Octant as Bounds, octants};
-ghost use Rattle.kin_wedge.specs.Rows.{row_of, is_in_wedge, AreRows};
+ghost use Rattle.kin_wedge.specs.Rows.{row_of, AreRows};
 ghost use Rattle.kin_wedge.specs.Seen.{rows_of};
 ghost use Rattle.kin_wedge.specs.Touched.{ComesFirst};
 
-use crate::octant::{orders_of, third_of};
+use crate::octant::third_of;
 use crate::orders::Orders;
 use crate::table::Table;
 
@@ -24,15 +24,4 @@ pub fn leads(orders: &Orders, table: &Table, apex: u32, w: u32, rank: usize) -> 
         Some(best) => !orders.place_comes_after(third_of(w), best, rank),
         None => true,
     }
-}
-
-/// Whether an octant is the one that is asked for, and a number is in it. A true answer promises
-/// nothing: a false one only saves work.
-#[inline(always)]
-pub fn is_within(orders: &Orders, apex: u32, v: u32, w: u32, no: u32) -> bool
-    requires rows { AreRows (rows_of orders.now.lists.items) }
-    requires octant { w < 8 }
-    ensures { (o : Bounds) → slice_get octants w ≡ Some o → v ≡ w → is_in_wedge (rows_of orders.now.lists.items) o apex no ≡ true → result ≡ true }
-{
-    v == w && orders.is_in_octant(orders_of(w), apex, no)
 }

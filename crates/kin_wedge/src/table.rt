@@ -1,38 +1,43 @@
-//! The candidates, and the slots that each number is the candidate of.
+//! The candidates, and the apexes that each number is the candidate of.
 
-ghost use Rattle.std.specs.Prelude.{◌≡◌, ℕ, ◌+◌, ◌*◌, ◌^◌, ◌<◌, ◌≤◌, List, Option, Some, None, true, length, replicate, slice_get, slice_set, IfOk, OnOk, OnErr};
-ghost use Rattle.kin_wedge.specs.Tables.{AreHits};
+ghost use Rattle.std.specs.Prelude.{◌≡◌, ℕ, ◌+◌, ◌*◌, ◌^◌, ◌<◌, ◌≤◌, Option, Some, None, true, length, replicate, slice_get, slice_set, IfOk};
+ghost use Rattle.kin_motion.specs.Sets.{ListsExactly};
 
 use crate::hits::Hits;
+use crate::threads::Threads;
 use kin_num::memory::NoMemory;
-use kin_pointers::pointers::Pointers;
 use std::alloc::Global;
 use std::marker::Model;
 
-/// The candidate of each slot, and for each number the slots that it is the candidate of.
+/// The candidate of each slot, and for each number and octant the apexes whose candidate it is.
 #[derive(Drop)]
 pub struct Table {
-    pointers: Pointers,
+    /// A slot points at the slot of its octant that its candidate has.
+    threads: Threads,
 }
 
 impl Model for Table {
     ghost use Rattle.std.specs.Prelude.{List, Option, ℕ};
-    ghost use Rattle.kin_wedge.specs.Tables.{AreSlots};
+    ghost use Rattle.kin_wedge.specs.Tables.{AreSlots, candidates_of};
 
     ghost Value = { List (Option ℕ) };
 
-    ghost view = { λ t. t.pointers.targets };
+    ghost view = { λ t. candidates_of t.threads };
 
-    ghost invariant = { λ t. AreSlots t.pointers };
+    ghost invariant = { λ t. AreSlots t.threads };
 }
 
 impl Table {
     /// The candidate of a slot.
+    #[inline(always)]
     pub fn candidate(&self, slot: u32) -> Option<u32>
         requires { slot < length self.now }
         ensures { slice_get self.now slot ≡ Some result }
     {
-        self.pointers.target(slot)
+        match self.threads.target(slot) {
+            Some(target) => Some(target / 8),
+            None => None,
+        }
     }
 
     /// Whether a number is the candidate of a slot. A true answer promises nothing: a false one only
@@ -48,46 +53,43 @@ impl Table {
     }
 
     /// Takes the candidate of a slot away.
+    #[inline(always)]
     fn clear(&mut self, slot: u32)
         requires { slot < length self.old }
         ensures { self.new ≡ slice_set self.old slot None }
     {
-        self.pointers.release(slot);
+        self.threads.release(slot);
     }
 
     /// Gives a slot that has none a candidate.
-    fn fill(&mut self, slot: u32, candidate: u32) -> Result<(), NoMemory>
+    #[inline(always)]
+    fn fill(&mut self, slot: u32, candidate: u32)
         requires slot { slice_get self.old slot ≡ Some None }
         requires candidate { 8 * candidate < length self.old }
-        ensures ok { OnOk result (self.new ≡ slice_set self.old slot (Some candidate)) }
-        ensures err { OnErr result (self.new ≡ self.old) }
+        ensures { self.new ≡ slice_set self.old slot (Some candidate) }
     {
-        self.pointers.point(slot, candidate)
+        self.threads.point(slot, 8 * candidate + slot % 8);
     }
 
     /// Gives a slot a candidate, or none.
-    pub fn put(&mut self, slot: u32, candidate: Option<u32>) -> Result<(), NoMemory>
+    pub fn put(&mut self, slot: u32, candidate: Option<u32>)
         requires slot { slot < length self.old }
         requires candidate { (c : ℕ) → candidate ≡ Some c → 8 * c < length self.old }
-        ensures ok { OnOk result (self.new ≡ slice_set self.old slot candidate) }
-        ensures length { length self.new ≡ length self.old }
+        ensures { self.new ≡ slice_set self.old slot candidate }
     {
         self.clear(slot);
-        match candidate {
-            Some(candidate) => self.fill(slot, candidate),
-            None => Ok(()),
+        if let Some(candidate) = candidate {
+            self.fill(slot, candidate);
         }
     }
 
-    /// The apexes and octants whose candidate a number is, each once.
-    pub fn hits(&self, no: u32) -> Hits<'_>
-        ensures { AreHits self.now no result }
+    /// The apexes whose candidate in an octant a number is, each once.
+    #[inline(always)]
+    pub fn hits(&self, no: u32, octant: u32) -> Hits<'_>
+        requires { octant < 8 }
+        ensures { ListsExactly result (λ apex. slice_get self.now (8 * apex + octant) ≡ Some (Some no)) }
     {
-        if (no as usize) < self.pointers.numbers() {
-            Hits::new(self.pointers.slots_of(no))
-        } else {
-            Hits::new(&[])
-        }
+        Hits::new(self.threads.pointing(8 * no as usize + octant as usize))
     }
 }
 
@@ -95,21 +97,9 @@ impl Table {
 fn numbers_of(size: u32) -> usize
     requires { size ≤ 12 }
     ensures value { result ≡ 2 ^ size }
-    ensures small { result ≤ 2 ^ 15 }
+    ensures small { result ≤ 2 ^ 12 }
 {
     1 << size
-}
-
-/// This many slots that point at none, over the numbers below `numbers`.
-fn vacant(alloc: Global, slots: usize, numbers: usize) -> Result<Pointers, NoMemory>
-    ensures { IfOk result (λ p. p ≡ record { targets = replicate slots None; numbers = numbers }) }
-{
-    let mut pointers = Pointers::new(alloc, numbers)?;
-    for slot in 0..slots {
-        let _ = slot;
-        pointers.add_slot()?;
-    }
-    Ok(pointers)
 }
 
 /// No candidates, with eight slots for each number below `2^size`.
@@ -117,7 +107,6 @@ pub fn new_table(alloc: Global, size: u32) -> Result<Table, NoMemory>
     requires { size ≤ 12 }
     ensures { IfOk result (λ t. t ≡ replicate (8 * 2 ^ size) None) }
 {
-    let numbers = numbers_of(size);
-    let pointers = vacant(alloc, 8 * numbers, numbers)?;
-    Ok(Table { pointers })
+    let threads = Threads::new(alloc, 8 * numbers_of(size))?;
+    Ok(Table { threads })
 }

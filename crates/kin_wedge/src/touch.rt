@@ -9,8 +9,8 @@ ghost use Rattle.kin_wedge.specs.Seen.{reading_seen, rows_of};
 ghost use Rattle.kin_wedge.specs.Sides.{AreParted};
 ghost use Rattle.kin_wedge.specs.Touched.{AreLeft, IsOffered, IsOfferedIn, IsOfferedWithin, ComesFirst, HasTouched, HasOfferedBoth};
 
-use crate::octant::{Reading, back, bounded_by, forward};
-use crate::offer::{is_within, leads};
+use crate::octant::{Reading, back, bounded_by, forward, orders_of};
+use crate::offer::leads;
 use crate::orders::Orders;
 use crate::table::Table;
 use kin_num::memory::NoMemory;
@@ -106,14 +106,27 @@ impl Touches {
         Ok(())
     }
 
+    /// Notes the slots of an octant whose candidate a number is for a look-up.
+    fn add_lost_in(&mut self, table: &Table, w: u32, no: u32) -> Result<(), NoMemory>
+        requires octant { w < 8 }
+        requires small { length table.now < 2 ^ 32 }
+        ensures offered { OnOk result ((apex : ℕ) → slice_get table.now (8 * apex + w) ≡ Some (Some no) → IsOffered self.new.all.items (8 * apex + w) None) }
+        ensures touched { OnOk result (HasTouched table.now self.old.all.items self.new.all.items) }
+    {
+        for apex in table.hits(no, w) {
+            self.add(table, apex, w, None)?;
+        }
+        Ok(())
+    }
+
     /// Notes all slots whose candidate a number is for a look-up.
     pub fn add_lost(&mut self, table: &Table, no: u32) -> Result<(), NoMemory>
         requires small { length table.now < 2 ^ 32 }
         ensures offered { OnOk result ((slot : ℕ) → slice_get table.now slot ≡ Some (Some no) → IsOffered self.new.all.items slot None) }
         ensures touched { OnOk result (HasTouched table.now self.old.all.items self.new.all.items) }
     {
-        for (apex, w) in table.hits(no) {
-            self.add(table, apex, w, None)?;
+        for w in 0..8 {
+            self.add_lost_in(table, w, no)?;
         }
         Ok(())
     }
@@ -134,9 +147,10 @@ impl Touches {
         ensures offered { OnOk result (IsOfferedIn (rows_of orders.now.lists.items) table.now self.new.all.items w of no) }
         ensures touched { OnOk result (HasTouched table.now self.old.all.items self.new.all.items) }
     {
-        for (apex, v) in table.hits(of) {
-            let wanted = is_within(orders, apex, v, w, no);
-            self.add_if(wanted, table, apex, v, no)?;
+        let octant = orders_of(w);
+        for apex in table.hits(of, w) {
+            let wanted = orders.is_in_octant(octant, apex, no);
+            self.add_if(wanted, table, apex, w, no)?;
         }
         Ok(())
     }

@@ -3,7 +3,8 @@
 ghost use Rattle.std.specs.Prelude.{◌≡◌, ◌*◌, ◌≤◌, ◌<◌, ◌^◌, [], Some, None, true, false, replicate, slice_get, IfOk, OnOk, OnErr, MatchOption};
 ghost use Rattle.kin_motion.specs.Kinetics.{ListsFailing, HasChanged};
 ghost use Rattle.kin_motion.specs.Numbers.{is_in, IsIn};
-ghost use Rattle.kin_motion.specs.Octants.{Octant, octants, octant_members, IsCandidate, ListsHits, ListsChanged};
+ghost use Rattle.kin_motion.specs.Octants.{Octant, octants, octant_members, IsCandidate, ListsChanged};
+ghost use Rattle.kin_motion.specs.Sets.{ListsExactly};
 ghost use Rattle.kin_motion.specs.Scene.{Scene, IsReal};
 ghost use Rattle.kin_list.specs.declared.mark.Mark.TheVariants.{Rest, Enters, Leaves, Broken};
 ghost use Rattle.kin_list.specs.Listing.{names_leaving};
@@ -97,11 +98,12 @@ impl Wedges {
         self.candidates.table.candidate(8 * apex + octant)
     }
 
-    /// The apexes and octants whose candidate a number is, each once, in no order.
-    pub fn hits(&self, no: u32) -> Hits<'_>
-        ensures { ListsHits self.now.size (candidate_told self.now) no result }
+    /// The apexes whose candidate in an octant a number is, each once, in no order.
+    pub fn hits(&self, no: u32, octant: u32) -> Hits<'_>
+        requires { octant < 8 }
+        ensures { ListsExactly result (λ apex. (apex < 2 ^ self.now.size) × (candidate_told self.now apex octant ≡ Some no)) }
     {
-        self.candidates.table.hits(no)
+        self.candidates.table.hits(no, octant)
     }
 
     /// The slots whose candidate the last `settle` has changed, rising and each once. Slot

@@ -14,8 +14,8 @@ put-requires-clause-candidate c = λ k e.
     within_slots (rows_of c.args.orders.now.lists.items) (octant_seen c.orders_of-around.result) (c.args.touch.slot / 8) _ k c.requires.members
     (renewed_within (rows_of c.args.orders.now.lists.items) (octant_seen c.orders_of-around.result) (c.args.touch.slot / 8) c.candidate-old.result c.args.touch.offer c.renewed-new.result k c.renewed-new.ensures (search rules) e)
 
-pub returns-then-eq-clause-renewed : goal.returns-then-eq-clause-renewed
-returns-then-eq-clause-renewed c = λ o old e f.
+pub returns-else-ne-clause-renewed : goal.returns-else-ne-clause-renewed
+returns-else-ne-clause-renewed c = λ o old e f.
     let here = same_octant (c.args.touch.slot % 8) (octant_seen c.orders_of-around.result) o c.orders_of-around.ensures.octant e in
     let was : c.candidate-old.result ≡ old = same_Some _ _ (sym c.candidate-old.ensures ∙ f) in
     let same : c.candidate-old.result ≡ c.renewed-new.result = search rules in (
@@ -25,7 +25,7 @@ returns-then-eq-clause-renewed c = λ o old e f.
           (subst (λ (x : Option ℕ). IsRenewed (rows_of c.args.orders.now.lists.items) (octant_seen c.orders_of-around.result) (c.args.touch.slot / 8) x c.args.touch.offer c.renewed-new.result) was c.renewed-new.ensures),
     )
 
-pub returns-then-eq-clause-written : goal.returns-then-eq-clause-written
-returns-then-eq-clause-written c =
+pub returns-else-ne-clause-written : goal.returns-else-ne-clause-written
+returns-else-ne-clause-written c =
     let same : c.candidate-old.result ≡ c.renewed-new.result = search rules in
     (c.renewed-new.result, set_as_it_is c.args.table.now c.args.touch.slot c.renewed-new.result (c.candidate-old.ensures ∙ ap (λ (x : Option ℕ). Some x) same))

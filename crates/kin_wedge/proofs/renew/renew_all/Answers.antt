@@ -18,7 +18,7 @@ loop-touch-preserved c =
     (drop_more c.args.touches.now c.loop-touch.touch-index (record { slot = 0; old = None; offer = None }) c.loop-touch-test.true)
     (subst (λ (n : ℕ). (get_or c.args.touches.now c.loop-touch.touch-index (record { slot = 0; old = None; offer = None })).slot < n) (sym c.loop-touch.invariant.count)
     (c.requires.slots (get_or c.args.touches.now c.loop-touch.touch-index (record { slot = 0; old = None; offer = None })) (Contains-get_or c.args.touches.now c.loop-touch.touch-index (record { slot = 0; old = None; offer = None }) c.loop-touch-test.true)))
-    c.in_ok-renew.ensures.length c.in_ok-renew.ensures.renewed c.in_ok-renew.ensures.written
+    c.renew.ensures.length c.renew.ensures.renewed c.renew.ensures.written
 
 pub returns-clause-answered : goal.returns-clause-answered
 returns-clause-answered c = λ slot o e h. taken_all (rows_of c.args.orders.now.lists.items) c.requires.rows c.requires.ranked c.args.table.now c.args.touches.now c.loop-touch.table c.loop-touch.touch-index c.loop-touch-test.false c.loop-touch.invariant slot o e h

@@ -26,12 +26,12 @@ returns-clause-answered c =
     (subst (AreExchangesOffered c.args.mark (swaps_of c.args.orders.now.lists.items) c.args.self.now.rows.rows.items (rows_of c.args.orders.now.lists.items) c.args.self.now.table) e c.in_ok-note.ensures.exchanges)
     (subst (IsMarkOffered c.args.mark (rows_of c.args.orders.now.lists.items) c.args.self.now.table) e c.in_ok-note.ensures.number)
     c.renew_all.new.table (c.renew_all.ensures.length ∙ ap (λ (v : List (Option ℕ)). length v) c.note.ensures.table) c.requires.answered
-    (λ slot o here h. c.in_ok-renew_all.ensures.answered slot o here (subst (λ (v : List (Option ℕ)). IsOnItsWay (rows_of c.args.orders.now.lists.items) o slot v (offers_for slot c.all-touches.result.now)) (sym c.note.ensures.table) h))
+    (λ slot o here h. c.renew_all.ensures.answered slot o here (subst (λ (v : List (Option ℕ)). IsOnItsWay (rows_of c.args.orders.now.lists.items) o slot v (offers_for slot c.all-touches.result.now)) (sym c.note.ensures.table) h))
 
 pub returns-clause-changed : goal.returns-clause-changed
 returns-clause-changed c =
     let e = sym c.all-touches.ensures in
     changed_listed c.args.self.now.table c.renew_all.new.table c.all-touches.result.now c.list_changed.new.changed.items (c.renew_all.ensures.length ∙ ap (λ (v : List (Option ℕ)). length v) c.note.ensures.table)
     (subst (AreKnown c.args.self.now.table) e c.in_ok-note.ensures.known)
-    (λ slot h. c.in_ok-renew_all.ensures.kept slot h ∙ ap (λ (v : List (Option ℕ)). slice_get v slot) c.note.ensures.table)
+    (λ slot h. c.renew_all.ensures.kept slot h ∙ ap (λ (v : List (Option ℕ)). slice_get v slot) c.note.ensures.table)
     c.in_ok-list_changed.ensures.noted c.in_ok-list_changed.ensures.rising

@@ -1,9 +1,10 @@
-use Rattle.std.proofs.Common.{sym, subst, List, map, ℕ, Option}
-use Rattle.kin_wedge.specs.Tables.{pair_of, AreHits}
-use Rattle.kin_wedge.proofs.HitLists.{exact_hits}
+use Rattle.std.proofs.Common.{◌≡◌, sym, subst, List, ℕ, ◌+◌, ◌*◌, ◌/◌, map, Option}
+use Rattle.std.specs.Prelude.{slice_get, Some}
+use Rattle.kin_motion.specs.Sets.{ListsExactly}
+use Rattle.kin_wedge.proofs.Hitting.{exact_hits}
 use Rattle.kin_wedge.proofs.table.Table.hits.Goals as goal
 
-pub returns-then-no-numbers : goal.returns-then-no-numbers
-returns-then-no-numbers c =
-    subst (AreHits c.args.self.now c.args.no) (sym c.new.ensures)
-    (subst (λ (v : List (Option ℕ)). AreHits v c.args.no (map pair_of c.slots_of.result.now)) c.self.view_is (exact_hits c.self.inside.pointers c.args.no c.slots_of.result.now c.slots_of.ensures))
+pub returns : goal.returns
+returns c =
+    subst (λ (xs : List ℕ). ListsExactly xs (λ apex. slice_get c.args.self.now (8 * apex + c.args.octant) ≡ Some (Some c.args.no))) (sym c.new.ensures)
+    (subst (λ (v : List (Option ℕ)). ListsExactly (map (λ slot. slot / 8) c.pointing.result) (λ apex. slice_get v (8 * apex + c.args.octant) ≡ Some (Some c.args.no))) c.self.view_is (exact_hits c.self.inside.threads c.self.invariant c.args.no c.args.octant c.requires c.pointing.result c.pointing.ensures))

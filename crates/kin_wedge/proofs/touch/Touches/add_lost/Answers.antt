@@ -1,22 +1,11 @@
-use Rattle.std.specs.Prelude.{None, ⊤}
-use Rattle.kin_wedge.proofs.Lost.{offered_first, hit_within, head_in, offered_more, offered_done}
+use Rattle.kin_wedge.proofs.Lost.{lost_none, lost_more, lost_all}
 use Rattle.kin_wedge.proofs.touch.Touches.add_lost.Goals as goal
 
-pub loop-apex-init : goal.loop-apex-init
-loop-apex-init c = offered_first c.args.table.now c.args.no (λ w. ⊤) None c.args.self.now.all.items c.hits-apex-items.result _ c.into_iter-apex-iterator.ensures.into_iter_gives c.hits-apex-items.ensures
+pub loop-w-init : goal.loop-w-init
+loop-w-init c = lost_none c.args.table.now c.args.self.now.all.items c.args.self.now.all.items c.args.no
 
-pub add-requires-clause-slot : goal.add-requires-clause-slot
-add-requires-clause-slot c =
-    hit_within c.args.table.now c.args.no (λ w. ⊤) None c.args.self.now.all.items c.loop-apex.self.all.items c.loop-apex.apex-iterator (c.in-Some.apex, c.in-Some.w) c.loop-apex.invariant
-    (head_in c.args.table.now c.args.no (λ w. ⊤) None c.loop-apex.apex-iterator _ (c.in-Some.apex, c.in-Some.w) c.in-Some.ensures.steps)
-
-pub loop-apex-preserved : goal.loop-apex-preserved
-loop-apex-preserved c =
-    offered_more c.args.table.now c.args.no (λ w. ⊤) None c.args.self.now.all.items c.loop-apex.self.all.items c.add.new.self.all.items c.loop-apex.apex-iterator c.next.new.self (c.in-Some.apex, c.in-Some.w)
-    c.in-Some.ensures.steps c.loop-apex.invariant (λ w. c.in_ok-add.ensures.offered) c.in_ok-add.ensures.touched
+pub loop-w-preserved : goal.loop-w-preserved
+loop-w-preserved c = lost_more c.args.table.now c.args.self.now.all.items c.loop-w.self.all.items c.args.no _ c.loop-w.w c.loop-w.invariant c.in_ok-add_lost_in.ensures.offered c.in_ok-add_lost_in.ensures.touched
 
 pub returns-clause-offered : goal.returns-clause-offered
-returns-clause-offered c = λ slot e. offered_done c.args.table.now c.args.no (λ w. ⊤) None c.args.self.now.all.items c.loop-apex.self.all.items c.loop-apex.apex-iterator c.in-None.ensures.steps.0 c.loop-apex.invariant slot tt e
-
-pub returns-clause-touched : goal.returns-clause-touched
-returns-clause-touched c = c.loop-apex.invariant.touched
+returns-clause-offered c = lost_all c.args.table.now c.args.self.now.all.items c.loop-w.self.all.items c.args.no c.loop-w.w c.loop-w-test.false c.loop-w.invariant

@@ -1,6 +1,5 @@
-use Rattle.std.specs.Prelude.{None, ⊤}
-use Rattle.kin_wedge.proofs.Lost.{AreOfferedBut}
+use Rattle.kin_wedge.proofs.Lost.{AreLost}
 use Rattle.kin_wedge.proofs.touch.Touches.add_lost.Given as goal
 
-abbrev pub invariant-loop-apex : goal.invariant-loop-apex
-invariant-loop-apex l = AreOfferedBut l.table l.no (λ w. ⊤) None l.fn.self.all.items l.self.all.items l.apex-iterator
+abbrev pub invariant-loop-w : goal.invariant-loop-w
+invariant-loop-w l = AreLost l.table l.fn.self.all.items l.self.all.items l.no l.w
