@@ -14,7 +14,7 @@ use Rattle.kin_fail.specs.Rank.{padded_rank}
 use Rattle.kin_cert.specs.Taken.{NoneWaits, NoneFails, IsLeastFailure}
 use Rattle.kin_cert.specs.Layout.{IsTable, live_fact, live_in, entry_at, queued_at, waiting, HasSlot, NoneTwice, IsDue, IsDueAt, NoneDue, HasGiven}
 use Rattle.kin_cert.proofs.Slots.{live-there, live-from}
-use Rattle.kin_cert.proofs.Buckets.{some_none}
+use Rattle.kin_cert.proofs.Keys.{some_none}
 
 -- what a queued entry says
 pub record IsQueued (o : Option Entry) (m : Moment) : Type 0 where

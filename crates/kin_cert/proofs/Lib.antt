@@ -3,7 +3,8 @@ pub mod Dues
 pub mod Giving
 pub mod Posting
 pub mod Popping
-pub mod Buckets
+pub mod Keys
+pub mod Seats
 pub mod Rolls
 pub mod Succession
 pub mod Enrolling

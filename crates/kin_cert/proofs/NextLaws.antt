@@ -19,7 +19,7 @@ use Rattle.kin_fail.specs.Blocks.{certificate_of}
 use Rattle.kin_cert.specs.Facts.{LiveFact}
 use Rattle.kin_fail.specs.Failures.{IsFirstFailure}
 use Rattle.kin_cert.specs.Taken.{NoneFails, NoneFailsUntil, IsLeastFailure, HasTaken, is_taken_before}
-use Rattle.kin_cert.proofs.Buckets.{some_none}
+use Rattle.kin_cert.proofs.Keys.{some_none}
 use Rattle.kin_cert.specs.Told.{certificates_of, IsTimed}
 
 -- what is not before a moment is not before an earlier one

@@ -11,7 +11,7 @@ use Rattle.kin_algebra.proofs.Members.{contains_none, contains_head, contains_ca
 use Rattle.kin_num.specs.declared.instant.Moment.{Moment}
 use Rattle.kin_motion.specs.Scene.{Scene}
 use Rattle.kin_cert.specs.Entries.{Entry}
-use Rattle.kin_cert.specs.declared.entry.Seat.{Seat}
+use Rattle.kin_cert.specs.declared.entry.Vacancy.{Vacancy}
 use Rattle.kin_fail.specs.declared.owned.Owned.{Owned}
 use Rattle.kin_fail.specs.Failures.{IsFirstFailure}
 use Rattle.kin_cert.specs.Layout.{entry_at, live_in, fresh, timed, HasSlot, IsTable, IsTimed}
@@ -24,7 +24,7 @@ pub of-fact : (x : Option Entry) (o : Owned) → owned_in x ≡ Some o → (e : 
 of-fact None o h = absurd (none-some o h)
 of-fact (Some e) o h = (e, refl, same_Some e.owned o h)
 
-module _ (old mid : List (Option Entry)) (id : ℕ) (owned : Owned) (seat : Seat) (freed : IsFreed old id owned seat mid) where
+module _ (old mid : List (Option Entry)) (id : ℕ) (owned : Owned) (vacancy : Vacancy) (freed : IsFreed old id owned vacancy mid) where
   -- the slot of a fact that is as new
   pub freed-slot : HasSlot old mid id (Some (fresh owned))
   freed-slot =
@@ -32,9 +32,9 @@ module _ (old mid : List (Option Entry)) (id : ℕ) (owned : Owned) (seat : Seat
       (subst (λ (xs : List (Option Entry)). HasSlot old xs id (Some (fresh freed.entry.owned))) (sym freed.slots) (has-slot old id freed.entry (Some (fresh freed.entry.owned)) freed.there))
 
   -- the id is taken out of the queue
-  pub freed-table : (moments fewer : FinMap nat_cmp Moment) → IsTable old moments → fewer ≡ map.remove moments seat.id → IsTable mid fewer
+  pub freed-table : (moments fewer : FinMap nat_cmp Moment) → IsTable old moments → fewer ≡ map.remove moments vacancy.id → IsTable mid fewer
   freed-table moments fewer table less =
-      unqueued-table old mid moments fewer id (Some (fresh owned)) table freed-slot refl (less ∙ ap (λ (s : Seat). map.remove moments s.id) freed.seat_is)
+      unqueued-table old mid moments fewer id (Some (fresh owned)) table freed-slot refl (less ∙ ap (λ (s : Vacancy). map.remove moments s.id) freed.vacancy_is)
 
   pub freed-count : length (live_in mid) ≡ length (live_in old)
   freed-count = ap (λ (xs : List (Option Entry)). length (live_in xs)) freed.slots ∙ live-set-count old id freed.entry (fresh freed.entry.owned) freed.there

@@ -12,7 +12,7 @@ use Rattle.kin_motion.specs.declared.fact.Placed.{Placed}
 use Rattle.kin_motion.specs.Live.{Certificate}
 use Rattle.kin_motion.specs.Scene.{Scene}
 use Rattle.kin_cert.specs.Entries.{Entry}
-use Rattle.kin_cert.specs.declared.entry.Seat.{Seat}
+use Rattle.kin_cert.specs.declared.entry.Vacancy.{Vacancy}
 use Rattle.kin_fail.specs.declared.owned.Owned.{Owned}
 use Rattle.kin_cert.specs.Facts.{LiveFact, NoneAlike}
 use Rattle.kin_cert.specs.Applied.{IsOf, IsLiveIn, MayApply, IsBorn, HasApplied}
@@ -27,9 +27,9 @@ pub twice : (slots after later : List (Option Entry)) (id : ℕ) (o o' : Option 
 twice slots after later id o o' first second = record { changed = second.changed; others = λ j n. second.others j n ∙ first.others j n }
 
 -- the slot of a fact that is taken over
-pub taken-slot : (slots after : List (Option Entry)) (rank : List ℤ) (o : Owned) (seat : Seat) → IsTakenOver slots rank o seat after → HasSlot slots after seat.id (Some (fresh o))
-taken-slot slots after rank o seat k =
-    subst (λ (xs : List (Option Entry)). HasSlot slots xs seat.id (Some (fresh o))) (sym k.slots) (has-slot slots seat.id k.seat_of.entry (Some (fresh o)) k.seat_of.there)
+pub taken-slot : (slots after : List (Option Entry)) (rank : List ℤ) (o : Owned) (vacancy : Vacancy) → IsTakenOver slots rank o vacancy after → HasSlot slots after vacancy.id (Some (fresh o))
+taken-slot slots after rank o vacancy k =
+    subst (λ (xs : List (Option Entry)). HasSlot slots xs vacancy.id (Some (fresh o))) (sym k.slots) (has-slot slots vacancy.id k.vacancy_of.entry (Some (fresh o)) k.vacancy_of.there)
 
 module _ (s : ℕ) (scene : Moment → Scene) (now : Moment) (p : Placed) (slots after later : List (Option Entry)) (id : ℕ) (moments moments_later : FinMap nat_cmp Moment)
     (there : entry_at after id ≡ Some (fresh (held s p))) (timed_so : IsTimed scene now (held s p) id after moments later moments_later) where
@@ -56,10 +56,10 @@ module _ (s : ℕ) (scene : Moment → Scene) (now : Moment) (p : Placed) (slots
   pub born-count : length (live_in after) ≡ length (live_in slots) + 1 → length (live_in later) ≡ length (live_in slots) + 1
   born-count more = later-count ∙ more
 
-  pub has-replaced : (dropped : Placed) (seat : Seat) → seat.id ≡ id → IsTakenOver slots (owned_rank (held s dropped)) (held s p) seat after → HasReplaced s scene now dropped p (live_in slots) (live_in later)
-  has-replaced dropped seat id_is k =
-      let e = k.seat_of.entry in
-      let at_id : entry_at slots id ≡ Some e = ap (entry_at slots) (sym id_is) ∙ k.seat_of.there in
+  pub has-replaced : (dropped : Placed) (vacancy : Vacancy) → vacancy.id ≡ id → IsTakenOver slots (owned_rank (held s dropped)) (held s p) vacancy after → HasReplaced s scene now dropped p (live_in slots) (live_in later)
+  has-replaced dropped vacancy id_is k =
+      let e = k.vacancy_of.entry in
+      let at_id : entry_at slots id ≡ Some e = ap (entry_at slots) (sym id_is) ∙ k.vacancy_of.there in
       let after_is : after ≡ set slots id (Some (fresh (held s p))) = k.slots ∙ ap (λ (j : ℕ). set slots j (Some (fresh (held s p)))) id_is in
       let slot : HasSlot slots after id (Some (fresh (held s p))) =
       subst (λ (xs : List (Option Entry)). HasSlot slots xs id (Some (fresh (held s p)))) (sym after_is) (has-slot slots id e (Some (fresh (held s p))) at_id) in
@@ -69,11 +69,11 @@ module _ (s : ℕ) (scene : Moment → Scene) (now : Moment) (p : Placed) (slots
         is_born = is-born;
         free = λ l c of.
             let h = live-from slots l c in
-            let h_id : h.id ≡ seat.id = k.free h.id h.entry h.there (rank-of-live slots s p.part p.fact.form l of h) in
-            let h_is : e ≡ h.entry = same_Some e h.entry (sym k.seat_of.there ∙ ap (entry_at slots) (sym h_id) ∙ h.there) in
-            subst (λ (x : LiveFact). IsOf s dropped x) (ap live_fact h_is ∙ h.is) (at-rank s dropped.part dropped.fact.form e k.seat_of.ranked);
+            let h_id : h.id ≡ vacancy.id = k.free h.id h.entry h.there (rank-of-live slots s p.part p.fact.form l of h) in
+            let h_is : e ≡ h.entry = same_Some e h.entry (sym k.vacancy_of.there ∙ ap (entry_at slots) (sym h_id) ∙ h.there) in
+            subst (λ (x : LiveFact). IsOf s dropped x) (ap live_fact h_is ∙ h.is) (at-rank s dropped.part dropped.fact.form e k.vacancy_of.ranked);
         exactly = replaced-exactly slots later k.once id e entry at_id (twice slots after later id (Some (fresh (held s p))) (Some entry) slot later-slot) s dropped.part dropped.fact.form
-            (at-rank s dropped.part dropped.fact.form e k.seat_of.ranked);
+            (at-rank s dropped.part dropped.fact.form e k.vacancy_of.ranked);
         count = later-count ∙ count;
         once = table-once slots k.once;
       }

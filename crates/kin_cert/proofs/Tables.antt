@@ -18,7 +18,7 @@ use Rattle.kin_cert.specs.Facts.{LiveFact, IsAt, NoneAlike}
 use Rattle.kin_fail.specs.Rank.{padded_rank}
 use Rattle.kin_cert.specs.Layout.{IsTable, live_fact, live_in, entry_at, entry_rank, queued_at, with, fresh, timed, HasSlot, NoneTwice, IsNotFound, IsTimed}
 use Rattle.kin_fail.proofs.Ranks.{rank_names}
-use Rattle.kin_cert.proofs.Buckets.{some_none}
+use Rattle.kin_cert.proofs.Keys.{some_none}
 use Rattle.kin_cert.proofs.Slots.{live-there, live-from, live-once, IsEntryOf}
 
 -- the rank of a fact at an owner and a form

@@ -8,12 +8,12 @@ use Rattle.kin_num.specs.declared.instant.Moment.{Moment}
 use Rattle.kin_motion.specs.declared.fact.Placed.{Placed}
 use Rattle.kin_motion.specs.declared.form.Form.{Form}
 use Rattle.kin_cert.specs.Entries.{Entry}
-use Rattle.kin_cert.specs.declared.entry.Seat.{Seat}
+use Rattle.kin_cert.specs.declared.entry.Vacancy.{Vacancy}
 use Rattle.kin_cert.specs.Facts.{LiveFact}
 use Rattle.kin_cert.specs.Applied.{IsOf}
 use Rattle.kin_cert.specs.Cost.{is_of, is_ungiven, ungiven}
 use Rattle.kin_fail.specs.Rank.{is_rank, padded_rank, owned_rank}
-use Rattle.kin_cert.specs.Layout.{held, live_fact, live_in, IsSeatOf}
+use Rattle.kin_cert.specs.Layout.{held, live_fact, live_in, IsVacancyOf}
 use Rattle.kin_fail.proofs.Ranks.{both_hold, rank_names, rank_same, rank_itself}
 use Rattle.kin_cert.proofs.Slots.{live-there}
 use Rattle.kin_cert.proofs.Tables.{at-rank}
@@ -88,10 +88,10 @@ waits_not true o e = sym e
 waits_not false o e = refl
 
 -- what the queue has wasn't given
-pub queued-ungiven : (s : ℕ) (p : Placed) (slots : List (Option Entry)) (seat : Seat) → IsSeatOf slots (owned_rank (held s p)) seat → seat.is_queued ≡ true → is_ungiven s (live_in slots) p ≡ true
-queued-ungiven s p slots seat k queued = ungiven-some s (live_in slots) p (record {
+pub queued-ungiven : (s : ℕ) (p : Placed) (slots : List (Option Entry)) (vacancy : Vacancy) → IsVacancyOf slots (owned_rank (held s p)) vacancy → vacancy.is_queued ≡ true → is_ungiven s (live_in slots) p ≡ true
+queued-ungiven s p slots vacancy k queued = ungiven-some s (live_in slots) p (record {
   fact = live_fact k.entry;
-  there = live-there slots seat.id k.entry k.there;
+  there = live-there slots vacancy.id k.entry k.there;
   of = at-rank s p.part p.fact.form k.entry k.ranked;
   waits_not = waits_not k.entry.is_waiting k.entry.fails (sym k.queued ∙ queued);
 })

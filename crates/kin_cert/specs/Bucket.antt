@@ -1,5 +1,6 @@
 -- The buckets of facts.
-use Rattle.std.specs.Prelude.{ℕ, ◌-◌, ◌^◌, List, [], ◌∷◌}
+use Rattle.std.specs.Prelude.{ℕ, ◌-◌, ◌^◌, Bool, nat_eq, List, [], ◌∷◌}
+use lib.Pointwise.{pointwise}
 use Rattle.kin_motion.specs.declared.form.Form.{Form}
 use Rattle.kin_motion.specs.declared.form.Form.TheVariants.{Line, Turn, Slope, Dist}
 
@@ -13,3 +14,6 @@ bucket_number (Dist i j k l) = 0
 -- structure, part and that number
 abbrev pub bucket_of : ℕ → ℕ → Form → List ℕ
 bucket_of structure part form = structure ∷ part ∷ bucket_number form ∷ []
+
+abbrev pub is_bucket : List ℕ → List ℕ → Bool
+is_bucket = pointwise nat_eq

@@ -10,7 +10,7 @@ use Rattle.kin_motion.specs.declared.fact.Fact.{Fact}
 use Rattle.kin_motion.specs.declared.fact.Placed.{Placed}
 use Rattle.kin_motion.specs.Scene.{Scene}
 use Rattle.kin_cert.specs.Entries.{Entry}
-use Rattle.kin_cert.specs.declared.entry.Seat.{Seat}
+use Rattle.kin_cert.specs.declared.entry.Vacancy.{Vacancy}
 use Rattle.kin_fail.specs.declared.owned.Owned.{Owned}
 use Rattle.kin_fail.specs.Blocks.{certificate_of}
 use Rattle.kin_cert.specs.Facts.{Facts, LiveFact, NoneAlike}
@@ -19,7 +19,6 @@ use Rattle.kin_motion.specs.Deltas.{Change}
 use Rattle.kin_fail.specs.Failures.{IsFirstFailure}
 use Rattle.kin_cert.specs.Applied.{IsBorn, IsOf, HasApplied}
 use Rattle.kin_cert.specs.Cost.{IsEnough, TakesAtMost, is_ungiven}
-use Rattle.kin_cert.specs.Bucket.{bucket_of}
 use Rattle.kin_fail.specs.Rank.{padded_rank, owned_rank}
 
 abbrev pub live_fact : Entry → LiveFact
@@ -42,9 +41,6 @@ queued_at (Some e) = cond e.is_waiting None e.fails
 abbrev pub with : FinMap nat_cmp Moment → ℕ → Option Moment → FinMap nat_cmp Moment
 with moments id None = moments
 with moments id (Some m) = map.insert moments id m
-
-abbrev pub owned_bucket : Owned → List ℕ
-owned_bucket o = bucket_of o.structure o.part o.fact.form
 
 -- the fact in a part of a structure, with its owner
 abbrev pub held : ℕ → Placed → Owned
@@ -87,17 +83,17 @@ abbrev pub IsNotFound : List (Option Entry) → List ℤ → Type 0
 IsNotFound slots rank = (id : ℕ) (e : Entry) → entry_at slots id ≡ Some e → entry_rank e ≢ rank
 
 -- the id of the entry of this rank, and whether the queue has it
-pub record IsSeatOf (slots : List (Option Entry)) (rank : List ℤ) (seat : Seat) : Type 0 where
+pub record IsVacancyOf (slots : List (Option Entry)) (rank : List ℤ) (vacancy : Vacancy) : Type 0 where
   pub entry : Entry
-  pub there : entry_at slots seat.id ≡ Some entry
+  pub there : entry_at slots vacancy.id ≡ Some entry
   pub ranked : entry_rank entry ≡ rank
-  pub queued : seat.is_queued ≡ is_some (queued_at (Some entry))
+  pub queued : vacancy.is_queued ≡ is_some (queued_at (Some entry))
 
 -- the fact is where that of this rank was, and no other entry has its owner and form
-pub record IsTakenOver (old : List (Option Entry)) (rank : List ℤ) (o : Owned) (seat : Seat) (new : List (Option Entry)) : Type 0 where
-  pub seat_of : IsSeatOf old rank seat
-  pub slots : new ≡ slice_set old seat.id (Some (fresh o))
-  pub free : (j : ℕ) (e : Entry) → entry_at old j ≡ Some e → entry_rank e ≡ owned_rank o → j ≡ seat.id
+pub record IsTakenOver (old : List (Option Entry)) (rank : List ℤ) (o : Owned) (vacancy : Vacancy) (new : List (Option Entry)) : Type 0 where
+  pub vacancy_of : IsVacancyOf old rank vacancy
+  pub slots : new ≡ slice_set old vacancy.id (Some (fresh o))
+  pub free : (j : ℕ) (e : Entry) → entry_at old j ≡ Some e → entry_rank e ≡ owned_rank o → j ≡ vacancy.id
   pub once : NoneTwice old
 
 -- the queue has exactly the ids of the facts that will fail and don't wait

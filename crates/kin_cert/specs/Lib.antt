@@ -1,4 +1,6 @@
 pub mod Bucket
+pub mod Keys
+pub mod Holders
 pub mod Facts
 pub mod Applied
 pub mod Taken

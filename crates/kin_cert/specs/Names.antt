@@ -9,7 +9,7 @@ use Rattle.kin_motion.specs.Forms.{numbers_of, IsAskable}
 use Rattle.kin_motion.specs.Scene.{Scene, Holds}
 use Rattle.kin_pointers.specs.Pointing.{Pointing, AreSlotsOf}
 use Rattle.kin_cert.specs.Entries.{Entry}
-use Rattle.kin_cert.specs.declared.entry.Seat.{Seat}
+use Rattle.kin_cert.specs.declared.entry.Vacancy.{Vacancy}
 use Rattle.kin_fail.specs.declared.owned.Owned.{Owned}
 use Rattle.kin_fail.specs.Failures.{IsFirstFailure}
 use Rattle.kin_cert.specs.Layout.{entry_at, live_in, fresh, timed, queued_at, IsTable}
@@ -99,12 +99,12 @@ owned_in (Some e) = Some e.owned
 abbrev pub HaveSameFacts : List (Option Entry) → List (Option Entry) → Type 0
 HaveSameFacts old new = (id : ℕ) → owned_in (entry_at new id) ≡ owned_in (entry_at old id)
 
--- an entry of this id is as new, and this is its fact and what its seat was
-pub record IsFreed (old : List (Option Entry)) (id : ℕ) (owned : Owned) (seat : Seat) (new : List (Option Entry)) : Type 0 where
+-- an entry of this id is as new, and this is its fact and what its vacancy was
+pub record IsFreed (old : List (Option Entry)) (id : ℕ) (owned : Owned) (vacancy : Vacancy) (new : List (Option Entry)) : Type 0 where
   pub entry : Entry
   pub there : entry_at old id ≡ Some entry
   pub owned_is : owned ≡ entry.owned
-  pub seat_is : seat ≡ record { id = id; is_queued = is_some (queued_at (Some entry)) }
+  pub vacancy_is : vacancy ≡ record { id = id; is_queued = is_some (queued_at (Some entry)) }
   pub slots : new ≡ slice_set old id (Some (fresh entry.owned))
 
 -- the id's fact may be asked for, and holds

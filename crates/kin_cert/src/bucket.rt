@@ -5,8 +5,7 @@ ghost use Rattle.kin_cert.specs.Bucket.{bucket_number, bucket_of};
 
 use kin_motion::form::Form;
 
-/// Structure, part and a number of the form. Most buckets have one live fact at a time, and a repair
-/// usually puts another fact into it.
+/// Structure, part and a number of the form.
 pub type Bucket = [u32; 3];
 
 /// The bucket of a form of an owner.
@@ -19,6 +18,7 @@ pub fn bucket(structure: u32, part: u32, form: Form) -> Bucket
 /// The number that distinguishes a form from others of its part: the first one that it names, and 0
 /// for a comparison of distances, since a match of a tournament has one. Slopes count from the
 /// greatest number down, since a breakpoint of a merge has a turn and a slope.
+#[inline(always)]
 pub fn bucket_number(form: &Form) -> u32
     ensures { result ≡ bucket_number form.now }
 {

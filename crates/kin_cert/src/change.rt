@@ -12,7 +12,6 @@ ghost use Rattle.kin_cert.specs.Applied.{IsOf, IsLiveIn, IsAmong, AreUnlike, May
 ghost use Rattle.kin_cert.specs.Cost.{TakesAtMost, is_ungiven, ungiven, change_cost};
 ghost use Rattle.kin_cert.specs.Layout.{HasBorn, HasTriedToReplace, IsLeftToApply, AreCounted, IsPaid, change_of};
 
-use crate::index::have_one_bucket;
 use crate::table::Table;
 use crate::timing::{time, unqueue};
 use kin_motion::fact::{Delta, Placed};
@@ -97,7 +96,9 @@ impl Table {
                     dropped: later_dropped,
                     born: later_born,
                 };
-            } else if fits_next(dropped, later_born) && self.is_free(structure, born) {
+            } else if self.fits_next(structure, dropped, later_born)
+                && self.is_free(structure, born)
+            {
                 self.bear_one(structure, born, motions, now, steps)?;
                 rest.born = later_born;
             } else {
@@ -124,15 +125,15 @@ impl Table {
         requires holds { Holds (scene_at motions.now now.now) born.now.fact }
         ensures { IfOk result (λ is. HasTriedToReplace structure (scene_at motions.now) now.now dropped.now born.now is self.old self.new steps.old steps.new) }
     {
-        let Some(seat) = self.roll.take_over(structure, dropped, born) else {
+        let Some(vacancy) = self.roll.take_over(structure, dropped, born) else {
             return Ok(false);
         };
-        unqueue(&mut self.schedule, seat, steps);
-        self.names.note(seat.id, &born.fact.form)?;
+        unqueue(&mut self.schedule, vacancy, steps);
+        self.names.note(vacancy.id, &born.fact.form)?;
         time(
             &mut self.roll,
             &mut self.schedule,
-            seat.id,
+            vacancy.id,
             &born.fact,
             motions,
             now,
@@ -159,6 +160,14 @@ impl Table {
         self.replace(structure, dropped, born, motions, now, steps)
     }
 
+    // Whether the first one of the born facts may come to the key of a dropped one.
+    fn fits_next(&self, structure: u32, dropped: &Placed, born: &[Placed]) -> bool {
+        match born.first() {
+            Some(next) => self.roll.have_one_key(structure, dropped, next),
+            None => false,
+        }
+    }
+
     // Whether no live fact has the owner and the form of a born one, as one that is still to be dropped may have.
     fn is_free(&self, structure: u32, born: &Placed) -> bool
         ensures { IsTrue result → (l : LiveFact) → Contains self.now.live l → ¬ (IsOf structure born.now l) }
@@ -177,12 +186,12 @@ impl Table {
         ensures made { self.new.made ≡ self.old.made }
         ensures cost { TakesAtMost (length self.old.live) (λ r. cond (is_ungiven structure self.old.live placed.now) r 0) steps.old steps.new }
     {
-        let seat = self
+        let vacancy = self
             .roll
             .take_out(structure, placed.part, &placed.fact.form);
-        unqueue(&mut self.schedule, seat, steps);
+        unqueue(&mut self.schedule, vacancy, steps);
         // Without memory for it the index is given up, and gathered again when it is asked for.
-        let _ = self.names.forget(seat.id);
+        let _ = self.names.forget(vacancy.id);
     }
 
     // Drops these live facts.
@@ -257,14 +266,6 @@ impl Table {
             steps,
         )?;
         Ok(())
-    }
-}
-
-// Whether the first one of the born facts may come into the bucket of a dropped one.
-fn fits_next(dropped: &Placed, born: &[Placed]) -> bool {
-    match born.first() {
-        Some(next) => have_one_bucket(dropped, next),
-        None => false,
     }
 }
 

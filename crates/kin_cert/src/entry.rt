@@ -2,9 +2,11 @@
 
 ghost use Rattle.std.specs.Prelude.{◌≡◌, ◌↔◌, Some, is_some, IsTrue};
 ghost use Rattle.kin_fail.specs.Rank.{padded_rank};
-ghost use Rattle.kin_cert.specs.Layout.{entry_rank, owned_bucket, with_fact, held, fresh, timed, waiting, queued_at};
+ghost use Rattle.kin_cert.specs.Keys.{owned_key};
+ghost use Rattle.kin_cert.specs.Layout.{entry_rank, with_fact, held, fresh, timed, waiting, queued_at};
 
-use crate::bucket::{Bucket, bucket};
+use crate::key::{Key, key_of};
+use crate::plan::Plan;
 use kin_fail::owned::Owned;
 use kin_motion::fact::{Fact, Placed};
 use kin_motion::form::Form;
@@ -70,11 +72,16 @@ impl Entry {
             && are_same(&self.owned.fact.form, form)
     }
 
-    /// The bucket of the fact.
-    pub(crate) fn bucket(&self) -> Bucket
-        ensures { result ≡ owned_bucket self.now.owned }
+    /// The key of the fact.
+    pub(crate) fn key(&self, plan: &Plan) -> Key
+        ensures { result ≡ owned_key plan.now self.now.owned }
     {
-        bucket(self.owned.structure, self.owned.part, self.owned.fact.form)
+        key_of(
+            plan,
+            self.owned.structure,
+            self.owned.part,
+            &self.owned.fact.form,
+        )
     }
 
     /// Whether the queue has it.
@@ -144,9 +151,9 @@ fn is_one_form(x: &Form, y: &Form) -> bool
     x.is(*y)
 }
 
-/// The id of a fact, and whether the queue has it.
+/// An id that a fact has left, and whether the queue still has it.
 #[derive(Clone, Copy)]
-pub(crate) struct Seat {
+pub(crate) struct Vacancy {
     pub(crate) id: usize,
     pub(crate) is_queued: bool,
 }

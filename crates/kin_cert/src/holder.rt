@@ -1,73 +1,49 @@
-//! What an index of buckets says of a bucket.
+//! Who holds a key, and how a seat says it in four bytes.
 
-ghost use Rattle.std.specs.Prelude.{◌≡◌};
-ghost use Rattle.kin_cert.specs.Rolls.{StandsAt, MayHaveLeft, HasHolder};
+ghost use Rattle.std.specs.Prelude.{◌≡◌, true, Some, IfOk};
+ghost use Rattle.kin_cert.specs.declared.holder.Holder.{Holder as Kept};
+ghost use Rattle.kin_cert.specs.Holders.{holder_in};
 
-use crate::bucket::Bucket;
-use indexmap::IndexMap;
+use kin_num::NoMemory;
 
-/// The id by which a bucket is known. A bucket outlives its facts: the fact may be gone by now, and the id another's.
+/// The id by which a key is known. A key outlives its facts: the fact may be gone by now, and the id another's.
 #[derive(Clone, Copy)]
 pub(crate) struct Holder {
     pub(crate) id: usize,
-    /// Whether further facts may have the bucket, which are found by their owners and forms.
+    /// Whether further facts may have the key, which are found by their owners and forms.
     pub(crate) is_shared: bool,
 }
 
-/// The position of a bucket in its index, with its holder.
-#[derive(Clone, Copy)]
-pub(crate) struct Spot {
-    pub(crate) position: usize,
-    pub(crate) holder: Holder,
-}
-
-/// An index may have this many times as many buckets as there are facts.
-const WIDTH: usize = 4;
-
-/// Fewer facts count as this many.
-const FEW: usize = 1_024;
-
-/// Takes a bucket that its only fact leaves out of its index, where the index has far more buckets than there are facts.
+/// The holder that a seat has, if any.
 #[inline(always)]
-pub(crate) fn leave(
-    firsts: &mut IndexMap<Bucket, Holder>,
-    bucket: &Bucket,
-    spot: Spot,
-    facts: usize,
-)
-    requires { StandsAt firsts.old bucket.now spot }
-    ensures { MayHaveLeft firsts.old bucket.now firsts.new }
+pub(crate) fn holder_in(word: u32) -> Option<Holder>
+    ensures { result ≡ holder_in word }
 {
-    if firsts.len() / WIDTH > facts.max(FEW) {
-        take_away(firsts, bucket, spot);
+    if word < 2 {
+        return None;
     }
+    Some(Holder {
+        id: (word / 2 - 1) as usize,
+        is_shared: word % 2 == 1,
+    })
 }
 
-// Takes a bucket out of its index, unless it is shared.
-#[inline(never)]
-fn take_away(firsts: &mut IndexMap<Bucket, Holder>, bucket: &Bucket, spot: Spot)
-    requires { StandsAt firsts.old bucket.now spot }
-    ensures { MayHaveLeft firsts.old bucket.now firsts.new }
+/// What a seat says of its holder. There is no memory for ids from `2^31 - 1` on.
+pub(crate) fn word_of(holder: Holder) -> Result<u32, NoMemory>
+    ensures { IfOk result (λ word. holder_in word ≡ Some holder) }
 {
-    let _ = bucket;
-    if !spot.holder.is_shared {
-        firsts.swap_remove_index(spot.position);
-    }
-}
-
-/// Gives a known bucket another holder.
-pub(crate) fn hand_over(
-    firsts: &mut IndexMap<Bucket, Holder>,
-    bucket: &Bucket,
-    spot: Spot,
-    holder: Holder,
-)
-    requires { StandsAt firsts.old bucket.now spot }
-    ensures { HasHolder firsts.old bucket.now holder firsts.new }
-{
-    let _ = bucket;
-    let Some(known) = firsts.get_index_mut(spot.position) else {
-        unreachable!()
+    let Ok(short) = u32::try_from(holder.id) else {
+        return Err(NoMemory);
     };
-    *known = holder;
+    if short >= (1 << 31) - 1 {
+        return Err(NoMemory);
+    }
+    Ok(2 * short + if holder.is_shared { 3 } else { 2 })
+}
+
+/// What a seat says once it is marked as one of which there are further facts.
+pub(crate) fn marked(word: u32) -> u32
+    ensures { (h : Kept) → holder_in word ≡ Some h → holder_in result ≡ Some (record { id = h.id; is_shared = true }) }
+{
+    word / 2 * 2 + 1
 }

@@ -1,16 +1,19 @@
 //! The indices of a roll: how the id of an owner's form is found.
 
-ghost use Rattle.std.specs.Prelude.{◌≡◌, ◌⊎◌, ℕ, Some, None, OnOk, OnErr, IfSome, IfNone, IsTrue, ◌↔◌};
+ghost use Rattle.std.specs.Prelude.{◌≡◌, ◌⊎◌, Some, None, OnOk, OnErr, IfSome, IfNone, IsTrue, ◌↔◌};
 ghost use Rattle.indexmap.specs.IndexMap.{get as look_up};
 ghost use Rattle.kin_cert.specs.Entries.{Entry as Kept};
 ghost use Rattle.kin_fail.specs.Rank.{padded_rank, is_rank, owned_rank};
-ghost use Rattle.kin_cert.specs.Layout.{entry_at, entry_rank, owned_bucket, held};
+ghost use Rattle.kin_cert.specs.Keys.{owned_key};
+ghost use Rattle.kin_cert.specs.Holders.{holder_of};
+ghost use Rattle.kin_cert.specs.Layout.{entry_at, entry_rank, held};
 ghost use Rattle.kin_cert.specs.Rolls.{IsIdOf, HasNoId, IsStruck, MayFollow, IsEnrolled, IsSameIndex};
 
-use crate::bucket::{Bucket, bucket, bucket_number};
 use crate::entry::Entry;
-use crate::guesses::Guesses;
-use crate::holder::{Holder, hand_over, leave};
+use crate::holder::Holder;
+use crate::holders::Holders;
+use crate::key::{Key, key_of};
+use crate::plan::Plan;
 use indexmap::IndexMap;
 use kin_fail::rank::{Rank, rank};
 use kin_motion::fact::Placed;
@@ -38,58 +41,49 @@ pub(crate) fn has_fact(
 /// The id of an owner's form, if there is one.
 pub(crate) fn id_of(
     entries: &Slab<Entry>,
-    firsts: &IndexMap<Bucket, Holder>,
+    plan: &Plan,
+    holders: &Holders,
     others: &IndexMap<Rank, usize>,
-    guesses: &Guesses,
     structure: u32,
     part: u32,
     form: &Form,
 ) -> Option<usize>
-    ensures some { IfSome result (λ id. IsIdOf entries.now.slots firsts.now others.now structure part form.now id) }
-    ensures none { IfNone result (HasNoId entries.now.slots firsts.now others.now structure part form.now) }
+    ensures some { IfSome result (λ id. IsIdOf plan.now entries.now.slots (holder_of holders.now) others.now structure part form.now id) }
+    ensures none { IfNone result (HasNoId plan.now entries.now.slots (holder_of holders.now) others.now structure part form.now) }
 {
-    let spot = guesses.look_up(firsts, &bucket(structure, part, *form))?;
-    if has_fact(entries, spot.holder.id, structure, part, form) {
-        return Some(spot.holder.id);
+    let holder = holders.look_up(&key_of(plan, structure, part, form))?;
+    if has_fact(entries, holder.id, structure, part, form) {
+        return Some(holder.id);
     }
-    if !spot.holder.is_shared {
+    if !holder.is_shared {
         return None;
     }
     others.get(&rank(structure, part, *form)).copied()
 }
 
-/// Strikes an owner's form out of the indices. Answers its id, if it has one. Its bucket usually stays known by the
-/// id.
+/// Strikes an owner's form out of the indices. Answers its id, if it has one. Its key usually stays known by the id.
 pub(crate) fn strike(
     entries: &Slab<Entry>,
-    firsts: &mut IndexMap<Bucket, Holder>,
+    plan: &Plan,
+    holders: &mut Holders,
     others: &mut IndexMap<Rank, usize>,
-    guesses: &mut Guesses,
     structure: u32,
     part: u32,
     form: &Form,
 ) -> Option<usize>
-    ensures some { IfSome result (λ id. IsStruck entries.now.slots firsts.old others.old structure part form.now id firsts.new others.new) }
-    ensures none { IfNone result (HasNoId entries.now.slots firsts.old others.old structure part form.now) }
+    ensures some { IfSome result (λ id. IsStruck plan.now entries.now.slots (holder_of holders.old) others.old structure part form.now id (holder_of holders.new) others.new) }
+    ensures none { IfNone result (HasNoId plan.now entries.now.slots (holder_of holders.old) others.old structure part form.now) }
 {
-    let bucket = bucket(structure, part, *form);
-    let spot = guesses.spot_of(firsts, &bucket)?;
-    if has_fact(entries, spot.holder.id, structure, part, form) {
-        leave(firsts, &bucket, spot, entries.len());
-        return Some(spot.holder.id);
+    let key = key_of(plan, structure, part, form);
+    let holder = holders.find(&key)?;
+    if has_fact(entries, holder.id, structure, part, form) {
+        holders.leave(&key, entries.len());
+        return Some(holder.id);
     }
     others.swap_remove(&rank(structure, part, *form))
 }
 
-/// Whether both facts have one bucket, where they have one structure.
-#[inline(always)]
-pub(crate) fn have_one_bucket(old: &Placed, new: &Placed) -> bool
-    ensures { IsTrue result → (s : ℕ) → owned_bucket (held s new.now) ≡ owned_bucket (held s old.now) }
-{
-    new.part == old.part && bucket_number(&new.fact.form) == bucket_number(&old.fact.form)
-}
-
-/// Whether the new fact isn't among the others, where the old one holds its bucket.
+/// Whether the new fact isn't among the others, where the old one holds its key.
 #[inline(always)]
 pub(crate) fn may_follow(
     others: &IndexMap<Rank, usize>,
@@ -106,64 +100,60 @@ pub(crate) fn may_follow(
     is_none_of(others, structure, old, new)
 }
 
-// Whether the new fact has the form of the old one, or isn't among the others.
+// Whether the new fact has the owner and form of the old one, or isn't among the others.
 #[inline(never)]
 fn is_none_of(others: &IndexMap<Rank, usize>, structure: u32, old: &Placed, new: &Placed) -> bool
-    ensures { IsTrue result → (new.now.fact.form ≡ old.now.fact.form) ⊎ (look_up is_rank others.now (owned_rank (held structure new.now)) ≡ None) }
+    ensures { IsTrue result → (owned_rank (held structure new.now) ≡ owned_rank (held structure old.now)) ⊎ (look_up is_rank others.now (owned_rank (held structure new.now)) ≡ None) }
 {
-    new.fact.form.is(old.fact.form)
-        || !others.contains_key(&rank(structure, new.part, new.fact.form))
+    if new.part == old.part && new.fact.form.is(old.fact.form) {
+        return true;
+    }
+    !others.contains_key(&rank(structure, new.part, new.fact.form))
 }
 
 /// Notes the id of a fact of an owner that has no fact of its form.
 pub(crate) fn enrol(
     entries: &Slab<Entry>,
-    firsts: &mut IndexMap<Bucket, Holder>,
+    plan: &Plan,
+    holders: &mut Holders,
     others: &mut IndexMap<Rank, usize>,
-    guesses: &mut Guesses,
     structure: u32,
     placed: &Placed,
     id: usize,
 ) -> Result<(), NoMemory>
-    ensures ok { OnOk result (IsEnrolled entries.now.slots firsts.old others.old (owned_bucket (held structure placed.now)) (owned_rank (held structure placed.now)) id firsts.new others.new) }
-    ensures err { OnErr result (IsSameIndex firsts.old others.old firsts.new others.new) }
+    ensures ok { OnOk result (IsEnrolled plan.now entries.now.slots (holder_of holders.old) others.old (owned_key plan.now (held structure placed.now)) (owned_rank (held structure placed.now)) id (holder_of holders.new) others.new) }
+    ensures err { OnErr result (IsSameIndex (holder_of holders.old) others.old (holder_of holders.new) others.new) }
 {
-    let bucket = bucket(structure, placed.part, placed.fact.form);
-    let newcomer = Holder {
-        id,
-        is_shared: false,
+    let key = key_of(plan, structure, placed.part, &placed.fact.form);
+    let Some(holder) = holders.find(&key) else {
+        let newcomer = Holder {
+            id,
+            is_shared: false,
+        };
+        return holders.set(&key, newcomer);
     };
-    let Some(spot) = guesses.spot_or_enter(firsts, &bucket, newcomer)? else {
-        return Ok(());
-    };
-    let holder = spot.holder;
-    if !is_held(entries, holder.id, &bucket) {
+    if !is_held(entries, plan, holder.id, &key) {
         let successor = Holder {
             id,
             is_shared: holder.is_shared,
         };
-        hand_over(firsts, &bucket, spot, successor);
-        return Ok(());
+        return holders.set(&key, successor);
     }
     let rank = rank(structure, placed.part, placed.fact.form);
     let Ok(_) = others.insert(rank, id) else {
         return Err(NoMemory);
     };
-    // The bucket stays known by the fact by which it was.
-    let shared = Holder {
-        id: holder.id,
-        is_shared: true,
-    };
-    hand_over(firsts, &bucket, spot, shared);
+    // The key stays known by the fact by which it was.
+    holders.share(&key, holder);
     Ok(())
 }
 
-// Whether an id has a fact of this bucket.
-fn is_held(entries: &Slab<Entry>, id: usize, bucket: &Bucket) -> bool
-    ensures { IsTrue result ↔ ((e : Kept) × (entry_at entries.now.slots id ≡ Some e) × (owned_bucket e.owned ≡ bucket.now)) }
+// Whether an id has a fact of this key.
+fn is_held(entries: &Slab<Entry>, plan: &Plan, id: usize, key: &Key) -> bool
+    ensures { IsTrue result ↔ ((e : Kept) × (entry_at entries.now.slots id ≡ Some e) × (owned_key plan.now e.owned ≡ key.now)) }
 {
     match entries.get(id) {
-        Some(entry) => entry.bucket() == *bucket,
+        Some(entry) => entry.key(plan).is(key),
         None => false,
     }
 }

@@ -9,6 +9,7 @@
 
 pub use kin_fail::{Block, Failure, Now, Owned, first_fail};
 pub use mail::Mail;
+pub use plan::Plan;
 pub use table::Table;
 
 mod bucket;
@@ -16,10 +17,13 @@ mod change;
 mod entry;
 mod guesses;
 mod holder;
+mod holders;
 mod index;
+mod key;
 pub mod laws;
 pub mod mail;
 mod names;
+pub mod plan;
 mod roll;
 mod schedule;
 pub mod table;

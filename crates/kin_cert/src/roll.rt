@@ -3,14 +3,14 @@
 ghost use Rattle.std.specs.Prelude.{◌≡◌, ◌≤◌, length, ◌+◌, [], Some, None, is_some, count_by, OnOk, OnErr, IfOk, IfSome, IfNone, IsSome, slice_set, ⊤};
 ghost use Rattle.kin_cert.specs.Entries.{Entry as Kept};
 ghost use Rattle.kin_fail.specs.Rank.{padded_rank, owned_rank};
-ghost use Rattle.kin_cert.specs.Layout.{entry_at, fresh, waiting, timed, held, HasSlot, NoneTwice, IsFoundAt, IsNotFound, IsSeatOf, IsTakenOver};
+ghost use Rattle.kin_cert.specs.Layout.{entry_at, fresh, waiting, timed, held, HasSlot, NoneTwice, IsFoundAt, IsNotFound, IsVacancyOf, IsTakenOver};
 ghost use Rattle.kin_cert.specs.Names.{form_in, IsFreed};
 
-use crate::bucket::{Bucket, bucket};
-use crate::entry::{Entry, Seat};
-use crate::guesses::Guesses;
-use crate::holder::Holder;
-use crate::index::{enrol, has_fact, have_one_bucket, id_of, may_follow, strike};
+use crate::entry::{Entry, Vacancy};
+use crate::holders::Holders;
+use crate::index::{enrol, has_fact, id_of, may_follow, strike};
+use crate::key::have_one_key;
+use crate::plan::Plan;
 use indexmap::IndexMap;
 use kin_fail::owned::Owned;
 use kin_fail::rank::Rank;
@@ -26,12 +26,12 @@ use std::marker::Model;
 pub(crate) struct Roll {
     /// The live facts by id.
     entries: Slab<Entry>,
-    /// The buckets that facts have had, each with the id of one live fact there, if it has any but those among the others.
-    firsts: IndexMap<Bucket, Holder>,
+    /// Where facts have their seats.
+    plan: Plan,
+    /// The keys that facts have had, each with the id of one live fact there, if it has any but those among the others.
+    holders: Holders,
     /// The ids of all other live facts, by owner and form.
     others: IndexMap<Rank, usize>,
-    /// Guesses of the positions of buckets in `firsts`.
-    guesses: Guesses,
 }
 
 impl Model for Roll {
@@ -41,35 +41,36 @@ impl Model for Roll {
     ghost Value = { List (Option Kept) };
 
     ghost use Rattle.kin_cert.specs.Rolls.{IsRoll};
+    ghost use Rattle.kin_cert.specs.Holders.{holder_of};
 
     ghost view = { λ r. r.entries.slots };
 
-    ghost invariant = { λ r. IsRoll r.entries.slots r.firsts r.others };
+    ghost invariant = { λ r. IsRoll r.plan r.entries.slots (holder_of r.holders) r.others };
 }
 
 impl Roll {
-    /// A roll without facts.
+    /// A roll without facts, and without seats.
     pub(crate) fn new(alloc: Global) -> Roll
         ensures { result ≡ [] }
     {
         Roll {
             entries: Slab::new(alloc),
-            firsts: IndexMap::new(alloc),
+            plan: Plan::new(alloc, 0),
+            holders: Holders::new(alloc),
             others: IndexMap::new(alloc),
-            guesses: Guesses::new(alloc),
         }
     }
 
-    /// A roll without facts, with room for so many, and for twice as many buckets, since these outlive
-    /// their facts.
-    pub(crate) fn with_room(alloc: Global, count: usize) -> Result<Roll, NoMemory>
+    /// A roll without facts, with the seats of the plan, and room for so many facts in all.
+    pub(crate) fn with_room(alloc: Global, facts: usize, plan: Plan) -> Result<Roll, NoMemory>
         ensures { IfOk result (λ r. r ≡ []) }
     {
+        let holders = Holders::with_room(alloc, plan.count(), facts)?;
         Ok(Roll {
-            entries: Slab::with_capacity(alloc, count)?,
-            firsts: IndexMap::with_capacity(alloc, count.saturating_mul(2))?,
+            entries: Slab::with_capacity(alloc, facts)?,
+            plan,
+            holders,
             others: IndexMap::new(alloc),
-            guesses: Guesses::for_facts(alloc, count),
         })
     }
 
@@ -88,9 +89,9 @@ impl Roll {
     {
         let id = id_of(
             &self.entries,
-            &self.firsts,
+            &self.plan,
+            &self.holders,
             &self.others,
-            &self.guesses,
             structure,
             part,
             &form,
@@ -111,9 +112,9 @@ impl Roll {
         let id = self.entries.vacant_key();
         enrol(
             &self.entries,
-            &mut self.firsts,
+            &self.plan,
+            &mut self.holders,
             &mut self.others,
-            &mut self.guesses,
             structure,
             placed,
             id,
@@ -123,18 +124,18 @@ impl Roll {
     }
 
     /// Takes out the fact of an owner's form, which is there.
-    pub(crate) fn take_out(&mut self, structure: u32, part: u32, form: &Form) -> Seat
+    pub(crate) fn take_out(&mut self, structure: u32, part: u32, form: &Form) -> Vacancy
         requires there { IsFoundAt self.old (padded_rank structure part form.now) (λ _. ⊤) }
-        ensures seat { IsSeatOf self.old (padded_rank structure part form.now) result }
+        ensures vacancy { IsVacancyOf self.old (padded_rank structure part form.now) result }
         ensures slots { self.new ≡ slice_set self.old result.id None }
         ensures count { count_by is_some self.new + 1 ≡ count_by is_some self.old }
         ensures once { NoneTwice self.old }
     {
         let Some(id) = strike(
             &self.entries,
-            &mut self.firsts,
+            &self.plan,
+            &mut self.holders,
             &mut self.others,
-            &mut self.guesses,
             structure,
             part,
             form,
@@ -142,30 +143,35 @@ impl Roll {
             unreachable!()
         };
         let entry = self.entries.remove(id);
-        Seat {
+        Vacancy {
             id,
             is_queued: entry.is_queued(),
         }
     }
 
-    /// Replaces a live fact by one of the same bucket, where the bucket is known by the old one and no other fact has the
-    /// owner and the form of the new one. The new one never fails as yet. Otherwise nothing changes. It is in line, for
-    /// lines on their own.
+    /// Replaces a live fact by one of the same key, where the key is known by the old one and no other fact has the owner
+    /// and the form of the new one. The new one never fails as yet. Otherwise nothing changes. It is in line, for lines on
+    /// their own.
     #[inline(always)]
-    pub(crate) fn take_over(&mut self, structure: u32, old: &Placed, new: &Placed) -> Option<Seat>
-        ensures taken { IfSome result (λ seat. IsTakenOver self.old (owned_rank (held structure old.now)) (held structure new.now) seat self.new) }
+    pub(crate) fn take_over(
+        &mut self,
+        structure: u32,
+        old: &Placed,
+        new: &Placed,
+    ) -> Option<Vacancy>
+        ensures taken { IfSome result (λ vacancy. IsTakenOver self.old (owned_rank (held structure old.now)) (held structure new.now) vacancy self.new) }
         ensures none { IfNone result (self.new ≡ self.old) }
     {
-        if !have_one_bucket(old, new) {
+        if !have_one_key(&self.plan, structure, old, new) {
             return None;
         }
-        let bucket = bucket(structure, old.part, old.fact.form);
-        let spot = self.guesses.spot_of(&self.firsts, &bucket)?;
-        let id = spot.holder.id;
-        if !has_fact(&self.entries, id, structure, old.part, &old.fact.form) {
+        let form = &old.fact.form;
+        let holder = self.holders.find_of(&self.plan, structure, old.part, form)?;
+        let id = holder.id;
+        if !has_fact(&self.entries, id, structure, old.part, form) {
             return None;
         }
-        if !may_follow(&self.others, spot.holder, structure, old, new) {
+        if !may_follow(&self.others, holder, structure, old, new) {
             return None;
         }
         let Some(entry) = self.entries.get_mut(id) else {
@@ -173,7 +179,12 @@ impl Roll {
         };
         let is_queued = entry.is_queued();
         entry.replace_with(&new.fact);
-        Some(Seat { id, is_queued })
+        Some(Vacancy { id, is_queued })
+    }
+
+    /// Whether a dropped fact and a born one of a structure are known by one key.
+    pub(crate) fn have_one_key(&self, structure: u32, old: &Placed, new: &Placed) -> bool {
+        have_one_key(&self.plan, structure, old, new)
     }
 
     /// Notes when a live fact fails first.
@@ -187,8 +198,8 @@ impl Roll {
         entry.set_failure(at);
     }
 
-    /// Lets a live fact count as a new one, which never fails as yet. Answers it with what its seat was.
-    pub(crate) fn free(&mut self, id: usize) -> (Owned, Seat)
+    /// Lets a live fact count as a new one, which never fails as yet. Answers it with what it leaves.
+    pub(crate) fn free(&mut self, id: usize) -> (Owned, Vacancy)
         requires { IsSome (entry_at self.old id) }
         ensures { IsFreed self.old id result.0 result.1 self.new }
     {
@@ -197,7 +208,7 @@ impl Roll {
         };
         let is_queued = entry.is_queued();
         entry.renew();
-        (*entry.owned(), Seat { id, is_queued })
+        (*entry.owned(), Vacancy { id, is_queued })
     }
 
     /// From this id on there is no fact.

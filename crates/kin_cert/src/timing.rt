@@ -11,7 +11,7 @@ ghost use Rattle.kin_cert.specs.Layout.{entry_at, live_in, IsTable, IsTimedFact}
 ghost use Rattle.kin_cert.specs.Cost.{TakesAtMost};
 ghost use Rattle.kin_cert.specs.Names.{HaveSameFacts, MayRenew, HasRenewed, AreRenewed};
 
-use crate::entry::Seat;
+use crate::entry::Vacancy;
 use crate::roll::Roll;
 use crate::schedule::Schedule;
 use kin_fail::first_fail::first_fail;
@@ -105,13 +105,13 @@ fn time_by<L: Ledger>(
 
 /// Takes out the id of a fact that is gone, if the schedule has it.
 #[inline(always)]
-pub(crate) fn unqueue<L: Ledger>(schedule: &mut Schedule, seat: Seat, steps: &mut Steps<L>)
-    requires { is_some (map.get schedule.old seat.id) ≡ seat.is_queued }
-    ensures rest { schedule.new ≡ map.remove schedule.old seat.id }
-    ensures cost { TakesAtMost (map.len schedule.old) (λ r. cond seat.is_queued r 0) steps.old steps.new }
+pub(crate) fn unqueue<L: Ledger>(schedule: &mut Schedule, vacancy: Vacancy, steps: &mut Steps<L>)
+    requires { is_some (map.get schedule.old vacancy.id) ≡ vacancy.is_queued }
+    ensures rest { schedule.new ≡ map.remove schedule.old vacancy.id }
+    ensures cost { TakesAtMost (map.len schedule.old) (λ r. cond vacancy.is_queued r 0) steps.old steps.new }
 {
-    if seat.is_queued {
-        schedule.remove(seat.id, steps);
+    if vacancy.is_queued {
+        schedule.remove(vacancy.id, steps);
     }
 }
 
@@ -153,8 +153,8 @@ fn time_anew<L: Ledger>(
     ensures facts { HaveSameFacts roll.old roll.new }
     ensures cost { OnOk result (TakesAtMost (length (live_in roll.old)) (λ r. 2 * r + 1) steps.old steps.new) }
 {
-    let (owned, seat) = roll.free(id);
-    unqueue(schedule, seat, steps);
+    let (owned, vacancy) = roll.free(id);
+    unqueue(schedule, vacancy, steps);
     time(roll, schedule, id, &owned.fact, motions, now, steps)?;
     Ok(())
 }

@@ -3,7 +3,7 @@
 ghost use Rattle.std.specs.Prelude.{◌≡◌, ◌<◌};
 ghost use Rattle.kin_cert_cases.specs.Listed.{AreListed};
 
-use crate::trial::{Trial, line};
+use crate::trial::{Seats, Trial, line};
 use kin_fail::Owned;
 use kin_motion::form::Form;
 use kin_motion::motion::{Motion, Motions};
@@ -95,13 +95,26 @@ fn turns_late<L: Ledger>(
     Ok(first && trial.is_next(18, 4))
 }
 
+/// Three facts are live, of which two have one first number, and each is found. A fourth one isn't there.
+fn are_found<L: Ledger>(trial: &mut Trial<L>, motions: &Motions) -> Result<bool, NoMemory>
+    requires { AreListed trial.old.table.live trial.old.facts.items }
+{
+    trial.bear(line(0, 1), motions, 0)?;
+    trial.bear(line(0, 2), motions, 0)?;
+    trial.bear(line(3, 1), motions, 0)?;
+    let are_there = trial.has(&line(0, 1)) && trial.has(&line(0, 2)) && trial.has(&line(3, 1));
+    Ok(are_there && trial.live() == 3 && !trial.has(&line(0, 3)))
+}
+
 /// What is shown of a table.
+#[derive(Clone, Copy)]
 enum Case {
     FailsAtFive,
     IsMadeAnew,
     Stops,
     IsNamedTwice,
     TurnsLate,
+    AreFound,
 }
 
 /// Whether it holds of a table, under these motions and then those.
@@ -119,6 +132,7 @@ fn holds_of<L: Ledger>(
         Case::Stops => stops(trial, before, after),
         Case::IsNamedTwice => is_named_twice(trial, before, after),
         Case::TurnsLate => turns_late(trial, before, after),
+        Case::AreFound => are_found(trial, before),
     }
 }
 
@@ -126,6 +140,7 @@ fn holds_of<L: Ledger>(
 fn is_shown<L: Ledger>(
     case: Case,
     alloc: Global,
+    seats: Seats,
     before: &Motions,
     after: &Motions,
     blank: Blank,
@@ -134,7 +149,7 @@ fn is_shown<L: Ledger>(
     requires parts { blank.parts ≡ L.parts }
     requires some { 0 < L.parts }
 {
-    let mut trial = Trial::<L>::begin(alloc, blank);
+    let mut trial = Trial::<L>::begin(alloc, seats, blank)?;
     holds_of(case, &mut trial, before, after)
 }
 
@@ -156,31 +171,65 @@ fn meeting(alloc: Global) -> Result<Motions, NoMemory> {
     Ok(motions)
 }
 
+/// No plan, a plan in which no fact has a seat, one in which each first number has one, one in which only the number 0
+/// has one, and one in which all facts have the same.
+fn plans() -> [Seats; 5] {
+    [
+        Seats::None,
+        Seats::Planned {
+            size: 2,
+            lists: 0,
+            nodes: 0,
+        },
+        Seats::Planned {
+            size: 2,
+            lists: 1,
+            nodes: 0,
+        },
+        Seats::Planned {
+            size: 0,
+            lists: 1,
+            nodes: 0,
+        },
+        Seats::Planned {
+            size: 2,
+            lists: 0,
+            nodes: 1,
+        },
+    ]
+}
+
 #[test]
 fn a_table_gives_its_failing_fact(rt: HostRuntime) -> Result<(), Fail> {
     let motions = meeting(rt.alloc())?;
-    let holds = is_shown::<Brand>(
-        Case::FailsAtFive,
-        rt.alloc(),
-        &motions,
-        &motions,
-        Blank::new(1),
-    )?;
-    assert!(rt; holds);
+    for seats in plans() {
+        let holds = is_shown::<Brand>(
+            Case::FailsAtFive,
+            rt.alloc(),
+            seats,
+            &motions,
+            &motions,
+            Blank::new(1),
+        )?;
+        assert!(rt; holds, "{seats:?}");
+    }
     Ok(())
 }
 
 #[test]
 fn a_point_goes_on_as_before(rt: HostRuntime) -> Result<(), Fail> {
     let motions = meeting(rt.alloc())?;
-    let holds = is_shown::<Brand>(
-        Case::IsMadeAnew,
-        rt.alloc(),
-        &motions,
-        &motions,
-        Blank::new(1),
-    )?;
-    assert!(rt; holds);
+    for seats in plans() {
+        let holds = is_shown::<Brand>(
+            Case::IsMadeAnew,
+            rt.alloc(),
+            seats,
+            &motions,
+            &motions,
+            Blank::new(1),
+        )?;
+        assert!(rt; holds, "{seats:?}");
+    }
     Ok(())
 }
 
@@ -189,8 +238,17 @@ fn a_point_stops(rt: HostRuntime) -> Result<(), Fail> {
     let fourth = Motion::new(20, 0, 0, 0);
     let before = points(rt.alloc(), Motion::new(10, 0, -1, 0), fourth)?;
     let after = points(rt.alloc(), Motion::new(6, 0, 0, 0), fourth)?;
-    let holds = is_shown::<Brand>(Case::Stops, rt.alloc(), &before, &after, Blank::new(1))?;
-    assert!(rt; holds);
+    for seats in plans() {
+        let holds = is_shown::<Brand>(
+            Case::Stops,
+            rt.alloc(),
+            seats,
+            &before,
+            &after,
+            Blank::new(1),
+        )?;
+        assert!(rt; holds, "{seats:?}");
+    }
     Ok(())
 }
 
@@ -199,14 +257,17 @@ fn a_fact_names_a_point_twice(rt: HostRuntime) -> Result<(), Fail> {
     let fourth = Motion::new(20, 0, 0, 0);
     let before = points(rt.alloc(), Motion::new(10, 0, -1, 0), fourth)?;
     let after = points(rt.alloc(), Motion::new(6, 0, 0, 0), fourth)?;
-    let holds = is_shown::<Brand>(
-        Case::IsNamedTwice,
-        rt.alloc(),
-        &before,
-        &after,
-        Blank::new(1),
-    )?;
-    assert!(rt; holds);
+    for seats in plans() {
+        let holds = is_shown::<Brand>(
+            Case::IsNamedTwice,
+            rt.alloc(),
+            seats,
+            &before,
+            &after,
+            Blank::new(1),
+        )?;
+        assert!(rt; holds, "{seats:?}");
+    }
     Ok(())
 }
 
@@ -215,7 +276,37 @@ fn a_later_point_turns(rt: HostRuntime) -> Result<(), Fail> {
     let stopped = Motion::new(6, 0, 0, 0);
     let before = points(rt.alloc(), stopped, Motion::new(20, 0, 0, 0))?;
     let after = points(rt.alloc(), stopped, Motion::new(24, 0, -1, 0))?;
-    let holds = is_shown::<Brand>(Case::TurnsLate, rt.alloc(), &before, &after, Blank::new(1))?;
-    assert!(rt; holds);
+    for seats in plans() {
+        let holds = is_shown::<Brand>(
+            Case::TurnsLate,
+            rt.alloc(),
+            seats,
+            &before,
+            &after,
+            Blank::new(1),
+        )?;
+        assert!(rt; holds, "{seats:?}");
+    }
+    Ok(())
+}
+
+#[test]
+fn facts_of_one_seat_are_found(rt: HostRuntime) -> Result<(), Fail> {
+    let motions = points(
+        rt.alloc(),
+        Motion::new(10, 0, -1, 0),
+        Motion::new(20, 0, 0, 0),
+    )?;
+    for seats in plans() {
+        let holds = is_shown::<Brand>(
+            Case::AreFound,
+            rt.alloc(),
+            seats,
+            &motions,
+            &motions,
+            Blank::new(1),
+        )?;
+        assert!(rt; holds, "{seats:?}");
+    }
     Ok(())
 }

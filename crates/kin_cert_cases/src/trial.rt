@@ -1,6 +1,6 @@
 //! A small table with all its facts at hand.
 
-ghost use Rattle.std.specs.Prelude.{◌≡◌, ◌<◌, ◌^◌, unsigned_abs, Contains, IsTrue, OnOk};
+ghost use Rattle.std.specs.Prelude.{◌≡◌, ◌<◌, ◌^◌, [], unsigned_abs, Contains, IsTrue, OnOk, IfOk};
 ghost use Rattle.std.specs.List.{All};
 ghost use Rattle.kin_motion.specs.Course.{live_of};
 ghost use Rattle.kin_motion.specs.Forms.{IsAskable};
@@ -11,7 +11,7 @@ ghost use Rattle.kin_cert.specs.Facts.{LiveFact};
 ghost use Rattle.kin_cert_cases.specs.Listed.{AreListed};
 
 use crate::moments::moment;
-use kin_cert::Table;
+use kin_cert::{Plan, Table};
 use kin_fail::{Now, Owned};
 use kin_motion::fact::{Delta, Fact, Placed};
 use kin_motion::form::Form;
@@ -104,6 +104,29 @@ fn bear_listed<L: Ledger>(
     Ok(())
 }
 
+/// The seats of a table.
+#[derive(Clone, Copy, Debug)]
+pub enum Seats {
+    /// The table has no plan.
+    None,
+    /// It has seats in so many lists of the numbers below `2^size`, and in so many nodes.
+    Planned { size: u32, lists: u32, nodes: u32 },
+}
+
+// A table without facts, with these seats.
+fn table_with(alloc: Global, seats: Seats) -> Result<Table, NoMemory>
+    ensures { IfOk result (λ t. t.live ≡ []) }
+{
+    match seats {
+        Seats::None => Ok(Table::new(alloc)),
+        Seats::Planned { size, lists, nodes } => {
+            let mut plan = Plan::new(alloc, size);
+            plan.add(lists, nodes)?;
+            Table::with_room(alloc, 4, plan)
+        }
+    }
+}
+
 /// A small table with its facts, and a counter.
 #[derive(Drop)]
 pub struct Trial<L: Ledger> {
@@ -115,18 +138,24 @@ pub struct Trial<L: Ledger> {
 }
 
 impl<L: Ledger> Trial<L> {
-    pub fn begin(alloc: Global, blank: Blank) -> Trial<L>
+    /// A trial without facts, of a table with these seats.
+    pub fn begin(alloc: Global, seats: Seats, blank: Blank) -> Result<Trial<L>, NoMemory>
         requires name { blank.name ≡ L.name }
         requires parts { blank.parts ≡ L.parts }
         requires some { 0 < L.parts }
-        ensures { AreListed result.table.live result.facts.items }
+        ensures { IfOk result (λ t. AreListed t.table.live t.facts.items) }
     {
-        Trial {
+        Ok(Trial {
             alloc,
-            table: Table::new(alloc),
+            table: table_with(alloc, seats)?,
             facts: Vec::new(alloc),
             steps: Steps::<L>::open(blank),
-        }
+        })
+    }
+
+    /// Whether there is a live fact of this form.
+    pub fn has(&self, form: &Form) -> bool {
+        self.table.sign_of(0, 0, form).is_some()
     }
 
     /// Bears the fact that the form has its sign at this second, if the form may be asked for and no

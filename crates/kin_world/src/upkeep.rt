@@ -11,7 +11,7 @@ ghost use Rattle.kin_world.specs.Worlds.{AreKeepable, empty};
 ghost use Rattle.kin_world.specs.Upkeep.{stage_of, meaning, setting, sight, HasSameFrame, IsSound, IsUnderRepair, IsCarriedOut, ListsWaiting, AreWaiting, HasTimedNew, HasRepaired, HasGoneOn, HasSettled, AreTold};
 
 use crate::structure::{Mark, Structure};
-use kin_cert::{Mail, Table};
+use kin_cert::{Mail, Plan, Table};
 use kin_fail::failures::block_of;
 use kin_fail::{Block, Now, Owned};
 use kin_motion::{Delta, Keep, Motions};
@@ -56,6 +56,7 @@ impl Upkeep {
         };
         let structures = vacant_structures(alloc, size, keeps)?;
         let room = room_for_facts(size, keeps);
+        let plan = plan_of(alloc, size, keeps)?;
         let Ok(keeps) = Vec::from_slice(alloc, keeps) else {
             return Err(NoMemory);
         };
@@ -63,7 +64,7 @@ impl Upkeep {
             size,
             keeps,
             structures,
-            table: Table::with_room(alloc, room)?,
+            table: Table::with_room(alloc, room, plan)?,
             motions,
             moment,
             delta: Delta::new(alloc),
@@ -245,4 +246,36 @@ fn room_for_facts(size: u32, keeps: &[Keep]) -> usize
         room = room.saturating_add(keep.facts_of_a_point() << size);
     }
     room
+}
+
+// The seats of the facts of these keeps.
+fn plan_of(alloc: Global, size: u32, keeps: &[Keep]) -> Result<Plan, NoMemory>
+    requires { size ≤ 12 }
+{
+    let mut plan = Plan::new(alloc, size);
+    for keep in keeps {
+        plan.add(lists_of(keep), nodes_of(keep, size))?;
+    }
+    Ok(plan)
+}
+
+// How many orders a keep has. Their facts are in its first parts, and each fact is known by its first number.
+fn lists_of(keep: &Keep) -> u32 {
+    match *keep {
+        Keep::Order { .. } => 1,
+        Keep::Range => 2,
+        Keep::Closest => 8,
+        Keep::Extreme { .. } | Keep::Hull => 0,
+    }
+}
+
+// How many nodes its tournament has, in the parts after those. Nodes are numbered from 1 on.
+fn nodes_of(keep: &Keep, size: u32) -> u32
+    requires { size ≤ 12 }
+{
+    match *keep {
+        Keep::Extreme { .. } => 1 << size,
+        Keep::Closest => 8 << size,
+        Keep::Order { .. } | Keep::Range | Keep::Hull => 0,
+    }
 }

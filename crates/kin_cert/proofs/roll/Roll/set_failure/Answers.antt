@@ -4,11 +4,12 @@ use Rattle.kin_cert.specs.Rolls.{IsRoll}
 use Rattle.kin_cert.specs.Layout.{entry_at, timed}
 use Rattle.kin_cert.proofs.Rolls.{kept-roll}
 use Rattle.kin_cert.proofs.Tables.{has-slot}
+use Rattle.kin_cert.specs.Holders.{holder_of}
 use Rattle.kin_cert.proofs.roll.Roll.set_failure.Goals as goal
 
 pub invariant_of-self : goal.invariant_of-self
 invariant_of-self c =
     let e = c.in-Some.entry.now in
     let there : entry_at c.self.inside.entries.slots c.args.id ≡ Some e = sym c.in-Some.ensures.value in
-    subst (λ (x : Entry). IsRoll (slice_set c.self.inside.entries.slots c.args.id (Some x)) c.self.inside.firsts c.self.inside.others) (sym c.set_failure.ensures)
-    (kept-roll c.self.inside.entries.slots c.self.inside.firsts c.self.inside.others c.self.invariant _ c.args.id e (timed e (Some c.args.at.now)) there (has-slot c.self.inside.entries.slots c.args.id e (Some (timed e (Some c.args.at.now))) there) refl)
+    subst (λ (x : Entry). IsRoll c.self.inside.plan (slice_set c.self.inside.entries.slots c.args.id (Some x)) (holder_of c.self.inside.holders) c.self.inside.others) (sym c.set_failure.ensures)
+    (kept-roll c.self.inside.plan c.self.inside.entries.slots (holder_of c.self.inside.holders) c.self.inside.others c.self.invariant _ c.args.id e (timed e (Some c.args.at.now)) there (has-slot c.self.inside.entries.slots c.args.id e (Some (timed e (Some c.args.at.now))) there) refl)

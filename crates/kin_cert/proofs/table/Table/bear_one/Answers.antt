@@ -2,10 +2,8 @@ use Rattle.std.proofs.Common.{◌≡◌, ◌+◌, List, Option, length, Some, re
 use Rattle.std.specs.List.{Contains}
 use Rattle.kin_motion.specs.Scene.{scene_at}
 use Rattle.kin_cert.specs.Entries.{Entry}
-use Rattle.kin_fail.specs.declared.owned.Owned.{Owned}
 use Rattle.kin_cert.specs.Facts.{Facts}
-use Rattle.kin_fail.specs.Rank.{owned_rank}
-use Rattle.kin_cert.specs.Layout.{live_in, held, fresh, timed, IsNotFound, HasBorn}
+use Rattle.kin_cert.specs.Layout.{live_in, held, fresh, timed, HasBorn}
 use Rattle.kin_cert.specs.Names.{numbers_at, IsListed}
 use Rattle.kin_cert.proofs.Schedules.{Moments}
 use Rattle.kin_cert.proofs.Naming.{renamed, still-named, same-facts}

@@ -14,8 +14,8 @@ use Rattle.kin_cert.proofs.QueueSizes.{few-queued-of}
 use Rattle.kin_cert.proofs.Ungiven.{cost_if, queued-ungiven}
 use Rattle.kin_cert.proofs.table.Table.drop_one.Goals as goal
 
-pub take_out-seat-requires : goal.take_out-seat-requires
-take_out-seat-requires g c =
+pub take_out-vacancy-requires : goal.take_out-vacancy-requires
+take_out-vacancy-requires g c =
     let l = c.requires.live.0 in
     let there = subst (λ (t : Facts). Contains t.live l) (sym c.self.view_is) c.requires.live.1 in
     let h = live-from c.self.inside.roll l there in
@@ -24,37 +24,37 @@ take_out-seat-requires g c =
 
 pub invariant_of-self : goal.invariant_of-self
 invariant_of-self g c =
-    let k = c.take_out-seat.ensures.seat in
-    let slot : HasSlot c.self.inside.roll c.take_out-seat.new.self c.take_out-seat.result.id None =
-    subst (λ (xs : List (Option Entry)). HasSlot c.self.inside.roll xs c.take_out-seat.result.id None) (sym c.take_out-seat.ensures.slots) (has-slot c.self.inside.roll c.take_out-seat.result.id k.entry None k.there) in
+    let k = c.take_out-vacancy.ensures.vacancy in
+    let slot : HasSlot c.self.inside.roll c.take_out-vacancy.new.self c.take_out-vacancy.result.id None =
+    subst (λ (xs : List (Option Entry)). HasSlot c.self.inside.roll xs c.take_out-vacancy.result.id None) (sym c.take_out-vacancy.ensures.slots) (has-slot c.self.inside.roll c.take_out-vacancy.result.id k.entry None k.there) in
     record {
-      table = unqueued-table c.self.inside.roll c.take_out-seat.new.self c.self.inside.schedule c.unqueue.new.schedule c.take_out-seat.result.id None c.self.invariant.table slot refl c.unqueue.ensures.rest;
-      named = renamed c.self.inside.names c.forget.new.self c.self.inside.roll c.take_out-seat.new.self c.take_out-seat.result.id [] None c.self.invariant.named slot c.forget.ensures refl;
+      table = unqueued-table c.self.inside.roll c.take_out-vacancy.new.self c.self.inside.schedule c.unqueue.new.schedule c.take_out-vacancy.result.id None c.self.invariant.table slot refl c.unqueue.ensures.rest;
+      named = renamed c.self.inside.names c.forget.new.self c.self.inside.roll c.take_out-vacancy.new.self c.take_out-vacancy.result.id [] None c.self.invariant.named slot c.forget.ensures refl;
     }
 
 pub returns-clause-rest : goal.returns-clause-rest
 returns-clause-rest g c = λ l.
-    let k = c.take_out-seat.ensures.seat in
-    let slot : HasSlot c.self.inside.roll c.take_out-seat.new.self c.take_out-seat.result.id None =
-    subst (λ (xs : List (Option Entry)). HasSlot c.self.inside.roll xs c.take_out-seat.result.id None) (sym c.take_out-seat.ensures.slots) (has-slot c.self.inside.roll c.take_out-seat.result.id k.entry None k.there) in
-    subst (λ (t : Facts). Contains (live_in c.take_out-seat.new.self) l ↔ (Contains t.live l × ¬ (IsOf c.args.structure c.args.placed.now l))) c.self.view_is
-    (dropped-rest c.self.inside.roll c.take_out-seat.new.self c.take_out-seat.ensures.once c.take_out-seat.result.id k.entry k.there slot c.args.structure c.args.placed.now.part c.args.placed.now.fact.form
+    let k = c.take_out-vacancy.ensures.vacancy in
+    let slot : HasSlot c.self.inside.roll c.take_out-vacancy.new.self c.take_out-vacancy.result.id None =
+    subst (λ (xs : List (Option Entry)). HasSlot c.self.inside.roll xs c.take_out-vacancy.result.id None) (sym c.take_out-vacancy.ensures.slots) (has-slot c.self.inside.roll c.take_out-vacancy.result.id k.entry None k.there) in
+    subst (λ (t : Facts). Contains (live_in c.take_out-vacancy.new.self) l ↔ (Contains t.live l × ¬ (IsOf c.args.structure c.args.placed.now l))) c.self.view_is
+    (dropped-rest c.self.inside.roll c.take_out-vacancy.new.self c.take_out-vacancy.ensures.once c.take_out-vacancy.result.id k.entry k.there slot c.args.structure c.args.placed.now.part c.args.placed.now.fact.form
     (at-rank c.args.structure c.args.placed.now.part c.args.placed.now.fact.form k.entry k.ranked) l)
 
 pub returns-clause-count : goal.returns-clause-count
 returns-clause-count g c =
     let old : length (live_in c.self.inside.roll) ≡ length c.args.self.now.live = ap (λ (t : Facts). length t.live) c.self.view_is in
-    omega (arith, live-count c.take_out-seat.new.self, live-count c.self.inside.roll, old, c.take_out-seat.ensures.count)
+    omega (arith, live-count c.take_out-vacancy.new.self, live-count c.self.inside.roll, old, c.take_out-vacancy.ensures.count)
 
 pub returns-clause-cost : goal.returns-clause-cost
 returns-clause-cost g c = λ r e.
-    let seat = c.take_out-seat.result in
-    let queued : seat.is_queued ≡ true → is_ungiven c.args.structure c.args.self.now.live c.args.placed.now ≡ true = λ q.
-    subst (λ (t : Facts). is_ungiven c.args.structure t.live c.args.placed.now ≡ true) c.self.view_is (queued-ungiven c.args.structure c.args.placed.now c.self.inside.roll seat c.take_out-seat.ensures.seat q) in
+    let vacancy = c.take_out-vacancy.result in
+    let queued : vacancy.is_queued ≡ true → is_ungiven c.args.structure c.args.self.now.live c.args.placed.now ≡ true = λ q.
+    subst (λ (t : Facts). is_ungiven c.args.structure t.live c.args.placed.now ≡ true) c.self.view_is (queued-ungiven c.args.structure c.args.placed.now c.self.inside.roll vacancy c.take_out-vacancy.ensures.vacancy q) in
     let few = few-queued-of c.self.inside.roll c.self.inside.schedule c.args.self.now.live c.self.invariant.table (ap (λ (t : Facts). t.live) c.self.view_is) in
     let part = in_queue _ _ _ _ _ few c.unqueue.ensures.cost r e in
     let less = cost_if _ _ r queued in
     omega (arith, part, less)
 
 pub returns-clause-once : goal.returns-clause-once
-returns-clause-once g c = subst (λ (t : Facts). NoneAlike t.live) c.self.view_is (table-once c.self.inside.roll c.take_out-seat.ensures.once)
+returns-clause-once g c = subst (λ (t : Facts). NoneAlike t.live) c.self.view_is (table-once c.self.inside.roll c.take_out-vacancy.ensures.once)

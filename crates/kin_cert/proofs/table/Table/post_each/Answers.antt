@@ -1,5 +1,4 @@
-use Rattle.std.proofs.Common.{◌≡◌, ◌∙◌, ◌+◌, ◌*◌, refl, ap, subst, arith, ℕ, length}
-use Rattle.std.proofs.lemmas.List.Sums.{count_by-le-length}
+use Rattle.std.proofs.Common.{◌∙◌, refl, subst, arith, ℕ, length}
 use Rattle.kin_cert.specs.Cost.{TakesAtMost}
 use Rattle.kin_cert.proofs.Costs.{one_more}
 use Rattle.kin_cert.proofs.Posting.{posted_more, posted_none}

@@ -7,7 +7,7 @@ use Rattle.kin_cert.specs.Facts.{Facts, LiveFact, IsAt}
 use Rattle.kin_fail.specs.Rank.{padded_rank}
 use Rattle.kin_cert.specs.Layout.{live_in, live_fact, IsFoundAt, IsNotFound}
 use Rattle.kin_cert.proofs.Slots.{live-there, live-from}
-use Rattle.kin_cert.proofs.Buckets.{some_none}
+use Rattle.kin_cert.proofs.Keys.{some_none}
 use Rattle.kin_cert.proofs.Tables.{at-rank, rank-of-live}
 use Rattle.kin_cert.proofs.table.Table.sign_of.Goals as goal
 

@@ -1,0 +1,47 @@
+-- What a fact is known by: its seat, which a plan gives by arithmetic, or else its bucket. No public clause cites this module.
+use Rattle.std.specs.Prelude.{◌≡◌, ℕ, ◌+◌, ◌-◌, ◌*◌, nat_lt, if◌then◌else◌, Bool, false, nat_eq, List, Option, Some, None, slice_get}
+use Rattle.kin_motion.specs.declared.form.Form.{Form}
+use Rattle.kin_motion.specs.declared.fact.Placed.{Placed}
+use Rattle.kin_fail.specs.declared.owned.Owned.{Owned}
+use Rattle.kin_cert.specs.declared.plan.Section.{Section}
+use Rattle.kin_cert.specs.declared.plan.Plan.{Plan}
+use Rattle.kin_cert.specs.declared.key.Key.{Key}
+use Rattle.kin_cert.specs.declared.key.Key.TheVariants.{Seat, Bucket}
+use Rattle.kin_cert.specs.Bucket.{bucket_number, bucket_of, is_bucket}
+
+-- in a section: a fact of a list sits by its number, and one of a tournament by its node
+abbrev pub seat_in : ℕ → Section → ℕ → ℕ → Option ℕ
+seat_in numbers s part number =
+    if nat_lt part s.lists
+    then (if nat_lt number numbers then Some (s.base + part * numbers + number) else None)
+    else (if nat_lt (part - s.lists) s.nodes then Some (s.base + s.lists * numbers + (part - s.lists)) else None)
+
+-- the same, where the structure has a section
+abbrev pub seat_at : ℕ → Option Section → ℕ → ℕ → Option ℕ
+seat_at numbers None part number = None
+seat_at numbers (Some s) part number = seat_in numbers s part number
+
+abbrev pub seat_of : Plan → ℕ → ℕ → Form → Option ℕ
+seat_of plan structure part form = seat_at plan.numbers (slice_get plan.sections.items structure) part (bucket_number form)
+
+-- the seat, or the bucket where there is none
+abbrev pub seat_or : Option ℕ → List ℕ → Key
+seat_or None bucket = Bucket bucket
+seat_or (Some seat) bucket = Seat seat
+
+abbrev pub key_of : Plan → ℕ → ℕ → Form → Key
+key_of plan structure part form = seat_or (seat_of plan structure part form) (bucket_of structure part form)
+
+abbrev pub owned_key : Plan → Owned → Key
+owned_key plan o = key_of plan o.structure o.part o.fact.form
+
+abbrev pub is_key : Key → Key → Bool
+is_key (Seat p) (Seat q) = nat_eq p q
+is_key (Seat p) (Bucket c) = false
+is_key (Bucket b) (Seat q) = false
+is_key (Bucket b) (Bucket c) = is_bucket b c
+
+-- the two facts of the structure have one part and one key
+pub record HaveOneKey (plan : Plan) (structure : ℕ) (old new : Placed) : Type 0 where
+  pub part : new.part ≡ old.part
+  pub key : key_of plan structure new.part new.fact.form ≡ key_of plan structure old.part old.fact.form

@@ -1,0 +1,51 @@
+//! What facts are known by.
+
+ghost use Rattle.std.specs.Prelude.{◌≡◌, ◌↔◌, IsTrue};
+ghost use Rattle.kin_cert.specs.Keys.{key_of, HaveOneKey};
+
+use crate::bucket::{Bucket, bucket, bucket_number};
+use crate::plan::Plan;
+use kin_motion::fact::Placed;
+use kin_motion::form::Form;
+
+/// What a fact is known by: its seat or, where it has none, its bucket. Most keys have one live fact at a time, and a
+/// repair usually puts another fact into it.
+#[derive(Clone, Copy)]
+pub(crate) enum Key {
+    Seat(usize),
+    Bucket(Bucket),
+}
+
+impl Key {
+    /// Whether it is the same one.
+    pub(crate) fn is(&self, other: &Key) -> bool
+        ensures { IsTrue result ↔ (self.now ≡ other.now) }
+    {
+        match (self, other) {
+            (Key::Seat(one), Key::Seat(two)) => *one == *two,
+            (Key::Bucket(one), Key::Bucket(two)) => *one == *two,
+            _ => false,
+        }
+    }
+}
+
+/// The key of a form of an owner.
+#[inline(always)]
+pub(crate) fn key_of(plan: &Plan, structure: u32, part: u32, form: &Form) -> Key
+    ensures { result ≡ key_of plan.now structure part form.now }
+{
+    match plan.seat_of(structure, part, form) {
+        Some(seat) => Key::Seat(seat),
+        None => Key::Bucket(bucket(structure, part, *form)),
+    }
+}
+
+/// Whether two facts of a structure are known by one key, and have one part.
+#[inline(always)]
+pub(crate) fn have_one_key(plan: &Plan, structure: u32, old: &Placed, new: &Placed) -> bool
+    ensures { IsTrue result → HaveOneKey plan.now structure old.now new.now }
+{
+    new.part == old.part
+        && (bucket_number(&new.fact.form) == bucket_number(&old.fact.form)
+            || plan.is_node(structure, old.part))
+}

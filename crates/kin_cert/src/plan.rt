@@ -1,0 +1,137 @@
+//! A plan of seats.
+
+ghost use Rattle.std.specs.Prelude.{◌≡◌, ◌+◌, ◌*◌, ℕ, Some, IsTrue, slice_get};
+ghost use Rattle.kin_motion.specs.declared.form.Form.{Form as Shape};
+ghost use Rattle.kin_cert.specs.Keys.{seat_in, seat_of, key_of};
+
+use crate::bucket::bucket_number;
+use kin_motion::form::Form;
+use kin_num::NoMemory;
+use std::alloc::Global;
+
+/// What a structure has of the seats: those of its lists from the base on, for each list as many as there are numbers,
+/// and after them one for each node of its tournament.
+#[derive(Clone, Copy)]
+pub(crate) struct Section {
+    base: u32,
+    lists: u32,
+    nodes: u32,
+}
+
+/// The seats of facts, each of which is a place in a vector.
+///
+/// The first parts of a structure are lists, of which each usually has one live fact of a first number. The parts after
+/// those are nodes of a tournament, of which each has one live fact at a time. Other facts have no seat.
+#[derive(Drop)]
+pub struct Plan {
+    /// Numbers from this one on have no seat in a list.
+    numbers: u32,
+    sections: Vec<Section>,
+    /// How many seats there are.
+    count: u32,
+}
+
+impl Plan {
+    /// A plan without structures, for lists of the numbers below `2^size`.
+    pub fn new(alloc: Global, size: u32) -> Plan {
+        Plan {
+            numbers: 1 << size.min(31),
+            sections: Vec::new(alloc),
+            count: 0,
+        }
+    }
+
+    /// Gives seats to the next structure, which has so many lists and nodes. It gets none if there would be `2^32` seats or
+    /// more.
+    pub fn add(&mut self, lists: u32, nodes: u32) -> Result<(), NoMemory> {
+        let base = self.count;
+        let mut section = Section {
+            base,
+            lists: 0,
+            nodes: 0,
+        };
+        if let Some(end) = end_of(base, lists, self.numbers, nodes) {
+            section.lists = lists;
+            section.nodes = nodes;
+            self.count = end;
+        }
+        self.sections.push(section).map_err(|_| NoMemory)
+    }
+
+    /// How many seats there are.
+    pub(crate) fn count(&self) -> usize {
+        self.count as usize
+    }
+
+    /// The seat of a form of an owner, if it has one.
+    #[inline(always)]
+    pub(crate) fn seat_of(&self, structure: u32, part: u32, form: &Form) -> Option<usize>
+        ensures { result ≡ seat_of self.now structure part form.now }
+    {
+        match self.section_of(structure) {
+            Some(section) => section.seat_in(self.numbers, part, bucket_number(form)),
+            None => None,
+        }
+    }
+
+    /// Whether a part of a structure is a node of a tournament, whose facts all have one seat.
+    #[inline(always)]
+    pub(crate) fn is_node(&self, structure: u32, part: u32) -> bool
+        ensures { IsTrue result → (f g : Shape) → key_of self.now structure part f ≡ key_of self.now structure part g }
+    {
+        match self.section_of(structure) {
+            Some(section) => section.has_node(part),
+            None => false,
+        }
+    }
+
+    // The seats of a structure, if it has any.
+    #[inline(always)]
+    fn section_of(&self, structure: u32) -> Option<Section>
+        ensures { result ≡ slice_get self.now.sections.items structure }
+    {
+        self.sections.get(structure as usize).copied()
+    }
+}
+
+impl Section {
+    // The seat of a fact in a part, which is known by a number.
+    #[inline(always)]
+    fn seat_in(&self, numbers: u32, part: u32, number: u32) -> Option<usize>
+        ensures { result ≡ seat_in numbers self.now part number }
+    {
+        if part < self.lists {
+            if number < numbers {
+                return Some(seat(self.base, part, numbers, number));
+            }
+            return None;
+        }
+        let node = part - self.lists;
+        if node < self.nodes {
+            return Some(seat(self.base, self.lists, numbers, node));
+        }
+        None
+    }
+
+    // Whether a part is a node.
+    #[inline(always)]
+    fn has_node(&self, part: u32) -> bool
+        ensures { IsTrue result → (numbers m n : ℕ) → (seat : ℕ) × (seat_in numbers self.now part m ≡ Some seat) × (seat_in numbers self.now part n ≡ Some seat) }
+    {
+        part >= self.lists && part - self.lists < self.nodes
+    }
+}
+
+// So many places after the rows, each of which has as many places as there are numbers.
+#[inline(always)]
+fn seat(base: u32, rows: u32, numbers: u32, place: u32) -> usize
+    ensures { result ≡ base + rows * numbers + place }
+{
+    base as usize + rows as usize * numbers as usize + place as usize
+}
+
+// How many seats there are after those of a structure, if that is below `2^32`.
+fn end_of(base: u32, lists: u32, numbers: u32, nodes: u32) -> Option<u32> {
+    base.checked_add(lists.checked_mul(numbers)?)?
+        .checked_add(nodes)
+}
