@@ -1,10 +1,12 @@
 -- From the state before a settle to that after it.
 use Rattle.std.proofs.Common.{◌≡◌, ◌⊎◌, inl, inr, refl, sym, ap, ◌∙◌, subst, arith, List, ◌++◌, ℕ, ◌+◌, ◌*◌, ◌^◌, ◌<◌, ◌≤◌, length, map, filter, Bool, true, false}
 use Rattle.std.specs.Prelude.{Some, Contains, slice_get, IsTrue}
-use Rattle.std.proofs.lemmas.Bool.{cases_eq}
+use Rattle.std.proofs.lemmas.Bool.{and_parts, cases_eq}
 use Rattle.std.proofs.lemmas.List.{length-map}
 use Rattle.std.proofs.lemmas.Nat.{mul-le}
+use Rattle.std.proofs.Math.Pow.{pow_mono}
 use Rattle.kin_algebra.proofs.Members.{contains_from_get}
+use Rattle.kin_algebra.proofs.Options.{none_or_some}
 use Rattle.kin_motion.specs.declared.fact.Placed.{Placed}
 use Rattle.kin_motion.specs.Agreements.{FitsSize}
 use Rattle.kin_motion.specs.ClosestPairs.{Near, distance_key}
@@ -12,10 +14,12 @@ use Rattle.kin_motion.specs.Deltas.{Change}
 use Rattle.kin_motion.specs.Forms.{names}
 use Rattle.kin_motion.specs.Kinetics.{ListsFailing, HasChanged}
 use Rattle.kin_motion.specs.Numbers.{is_in, IsIn}
-use Rattle.kin_motion.specs.Octants.{AreCandidates, ListsChanged}
+use Rattle.kin_motion.specs.Octants.{octants as eight_octants, Octant, is_in_octant, IsCandidate, IsCandidateAnswer, AreCandidates, ListsChanged}
 use Rattle.kin_motion.specs.Parts.{moved_by}
 use Rattle.kin_motion.specs.Scene.{Scene, IsReal}
+use Rattle.kin_motion.proofs.AgreementLaws.{kept-members}
 use Rattle.kin_motion.proofs.Members.{in_cases, in_from_contains}
+use Rattle.kin_motion.proofs.NearLaws.{octant_at}
 use Rattle.kin_list.specs.declared.mark.Mark.{Mark}
 use Rattle.kin_list.specs.declared.mark.Mark.TheVariants.{Rest, Enters, Leaves, Broken}
 use Rattle.kin_list.specs.Listing.{HasMarked, names_leaving, without}
@@ -30,7 +34,7 @@ use Rattle.kin_closest.specs.Closing.{Closing, facts_of, IsSettledClosing, IsRea
 use Rattle.kin_closest.specs.ClosingLaws.{closest_settled}
 use Rattle.kin_closest.specs.DistanceKey.{pair_names}
 use Rattle.kin_closest.specs.Sorting.{is_of_order, is_of_pair, taken_back}
-use Rattle.kin_closest.specs.Told.{AreTold}
+use Rattle.kin_closest.specs.Told.{AreLow, AreTold}
 use Rattle.kin_closest.proofs.Joining.{joined, facts_low}
 use Rattle.kin_closest.proofs.Readiness.{ready, names_live}
 use Rattle.kin_closest.proofs.Splitting.{orders_failing, pairs_covered}
@@ -61,6 +65,10 @@ none_leaving (Enters i) members live p h f = refl
 none_leaving (Leaves i) members live p h f = f i (λ l. absurd (let clash : true ≡ false = sym (h.same i ∙ l) ∙ not_in-without i members in cc))
 none_leaving Broken members live p h f = refl
 
+-- a candidate is live
+candidate_live : (s : Scene) (o : Octant) (p c : ℕ) → IsCandidate s o p c → IsIn c s.live
+candidate_live s o p c h = (and_parts (is_in c s.live) (is_in_octant s o p c) (sym (kept-members (is_in_octant s o p) s.live c) ∙ h.member)).0
+
 -- what a settle is called with
 pub record IsCalled (old : Closing) (s : Scene) (failed : List Placed) : Type 0 where
   pub known : AreJoined old.wedges old.pairs
@@ -87,6 +95,22 @@ module _ {old : Closing} {s : Scene} {failed : List Placed} (call : IsCalled old
   module _ {new : Wedging} (size : new.size ≡ old.wedges.size) (octants : IsSettledWedging new s) (changed : ListsChanged old.wedges.size (candidate_told old.wedges) (candidate_told new) new.changed) where
     pub within : (k i : ℕ) → slice_get new.changed k ≡ Some i → i < 2 ^ (new.size + 3)
     within k i e = subst (λ n. i < 2 ^ (n + 3)) (sym size) (changed.within i (in_from_contains new.changed i (contains_from_get new.changed k i e)))
+
+    pub few_numbers : new.size ≤ 12
+    few_numbers = let k = call.known.small in omega (arith, k, size)
+
+    pub candidates_low : AreLow new.size (candidate_told new)
+    candidates_low p w q low eight e = at (is_in p s.live) refl
+      where
+        o : (o : Octant) × (slice_get eight_octants w ≡ Some o)
+        o = octant_at w eight
+
+        at : (b : Bool) → is_in p s.live ≡ b → q < 2 ^ 12
+        at true live =
+            let here = subst (IsCandidateAnswer s o.0 p) e (octants.wedges.candidates.of_live p w o.0 live o.1) in
+            let below = fits q (candidate_live s o.0 p q here) in
+            let most : 2 ^ old.wedges.size ≤ 2 ^ 12 = pow_mono call.known.small in omega (arith, below, most)
+        at false absent = absurd (none_or_some (octants.wedges.candidates.of_others p w low eight (λ l. absurd (let clash : true ≡ false = sym l ∙ absent in cc))) e)
 
     -- all slots are told
     module _ {u : Tournament Distance Near} (told : AreTold (candidate_told new) new.changed (length new.changed) old.pairs u) where

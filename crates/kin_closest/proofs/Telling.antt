@@ -1,6 +1,6 @@
 -- Slots are told one after another, and in the end all hold their candidates.
 use Rattle.std.proofs.Common.{◌≡◌, ◌≢◌, ◌⊎◌, inl, inr, refl, sym, ap, ◌∙◌, arith, List, ℕ, ◌+◌, ◌*◌, ◌/◌, ◌%◌, ◌^◌, ◌<◌, ◌≤◌, length, set, Bool, true, false}
-use Rattle.std.specs.Prelude.{Option, Some, None, slice_get}
+use Rattle.std.specs.Prelude.{Option, Some, None, IfSome, slice_get}
 use Rattle.std.proofs.lemmas.Bool.{cases_eq}
 use Rattle.std.proofs.lemmas.List.{length-set, get_or-set_same, get_or-set_other}
 use Rattle.std.proofs.lemmas.Option.{same_Some, slice_get_within}
@@ -15,6 +15,11 @@ use Rattle.kin_tourney.specs.Tournament.{Tournament, mark_in, mark_count}
 use Rattle.kin_tourney.proofs.Marks.{mark_more, mark_again}
 use Rattle.kin_near.specs.BestPairs.{HoldCandidates}
 use Rattle.kin_closest.specs.Told.{AreTold}
+
+-- what is below n where there is something
+pub some_low : (n : ℕ) (o : Option ℕ) → ((q : ℕ) → o ≡ Some q → q < n) → IfSome o (λ q. q < n)
+some_low n None below = tt
+some_low n (Some q) below = below q refl
 
 -- the pair of a slot
 abbrev pub pair_of : (ℕ → ℕ → Option ℕ) → ℕ → Option Near

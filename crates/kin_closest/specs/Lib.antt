@@ -1,3 +1,4 @@
+pub mod Briefs
 pub mod DistanceKey
 pub mod Sorting
 pub mod Told

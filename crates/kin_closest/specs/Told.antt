@@ -1,8 +1,12 @@
 -- Slots of the tournament that get the pairs of their candidates.
-use Rattle.std.specs.Prelude.{◌≡◌, ◌≢◌, ℕ, ◌+◌, ◌/◌, ◌%◌, ◌<◌, ◌≤◌, true, List, length, Option, Some, slice_get}
+use Rattle.std.specs.Prelude.{◌≡◌, ◌≢◌, ℕ, ◌+◌, ◌/◌, ◌%◌, ◌^◌, ◌<◌, ◌≤◌, true, List, length, Option, Some, slice_get}
 use Rattle.kin_motion.specs.ClosestPairs.{Near}
 use Rattle.kin_motion.specs.ClosestFacts.{near_of}
 use Rattle.kin_tourney.specs.Tournament.{Tournament, mark_in, mark_count}
+
+-- each candidate of a number below 2^size is below 2^12
+abbrev pub AreLow : ℕ → (ℕ → ℕ → Option ℕ) → Type 0
+AreLow size candidate = (p w q : ℕ) → p < 2 ^ size → w < 8 → candidate p w ≡ Some q → q < 2 ^ 12
 
 -- the first n of these slots are marked and hold their candidates now, and the others hold what they held
 pub record AreTold {K : Type 0} (candidate : ℕ → ℕ → Option ℕ) (changed : List ℕ) (n : ℕ) (old new : Tournament K Near) : Type 0 where

@@ -1,18 +1,24 @@
 //! The pair of a point and its candidate.
 
-ghost use Rattle.std.specs.Prelude.{◌≡◌, ◌↔◌, IsTrue};
+ghost use Rattle.std.specs.Prelude.{◌≡◌, ◌<◌, ◌^◌, Some};
+ghost use Rattle.kin_motion.specs.declared.form.Form.TheVariants.{Dist};
 ghost use Rattle.kin_motion.specs.ClosestFacts.{near};
 ghost use Rattle.kin_motion.specs.ClosestPairs.{is_less_pair};
+ghost use Rattle.kin_closest.specs.Briefs.{near_fact};
 
+use crate::distance::DistanceBrief;
+use kin_num::Sign;
 use std::marker::Model;
 
-/// Two points in a slot, the lesser number first.
+/// Two points in a slot, the lesser number first, in 6 bytes.
 #[derive(Clone, Copy, Debug, PartialEq, Eq)]
 pub struct Pair {
-    i: u32,
-    j: u32,
-    slot: u32,
+    i: u16,
+    j: u16,
+    slot: u16,
 }
+
+const _: () = prove!(size_of::<Option<Pair>>() == 8);
 
 impl Model for Pair {
     ghost use Rattle.kin_motion.specs.ClosestPairs.{Near};
@@ -26,7 +32,10 @@ impl Model for Pair {
 
 impl Pair {
     /// The pair of an apex and its candidate.
-    pub fn new(slot: u32, apex: u32, candidate: u32) -> Pair
+    pub(crate) fn new(slot: u32, apex: u32, candidate: u32) -> Pair
+        requires slot { slot < 2 ^ 16 }
+        requires apex { apex < 2 ^ 16 }
+        requires candidate { candidate < 2 ^ 16 }
         ensures { result ≡ near slot apex candidate }
     {
         let (i, j) = if apex < candidate {
@@ -34,14 +43,32 @@ impl Pair {
         } else {
             (candidate, apex)
         };
-        Pair { i, j, slot }
+        Pair {
+            i: i as u16,
+            j: j as u16,
+            slot: slot as u16,
+        }
     }
 
     /// The two points.
     pub fn points(&self) -> (u32, u32)
         ensures { result ≡ (self.now.i, self.now.j) }
     {
-        (self.i, self.j)
+        (self.i as u32, self.j as u32)
+    }
+
+    /// The fact of this pair and another one where their form has this sign, in brief.
+    #[inline(always)]
+    pub(crate) fn against(&self, other: &Pair, sign: Sign) -> DistanceBrief
+        ensures { near_fact result ≡ Some (record { form = Dist self.now.i self.now.j other.now.i other.now.j; sign = sign }) }
+    {
+        DistanceBrief {
+            i: self.i,
+            j: self.j,
+            k: other.i,
+            l: other.j,
+            sign: Some(sign),
+        }
     }
 
     /// Whether it is less than another pair by the first number, then by the second, then by the slot.

@@ -1,6 +1,7 @@
 -- What nodes name.
 use Rattle.std.proofs.Common.{◌≡◌, ◌⊎◌, inl, inr, refl, sym, ap, ◌∙◌, subst, arith, List, ℕ, ◌+◌, ◌*◌, ◌-◌, ◌^◌, ◌<◌, ◌≤◌, length, Bool, true, false, cond, nat_lt}
-use Rattle.std.specs.Prelude.{Option, Some, None}
+use Rattle.std.specs.Prelude.{Option, Some, None, IfSome}
+use Rattle.std.proofs.Math.Pow.{pow_mono}
 use Rattle.std.proofs.lemmas.Bool.Decides.{nat_tests}
 use Rattle.std.proofs.lemmas.Option.{same_Some}
 use Rattle.kin_algebra.specs.declared.sign.Sign.{Sign}
@@ -69,3 +70,10 @@ match_under {Item} key sign t h v i some inside e = at (match_slot key sign (ent
     at (inr (x, f, g)) =
         let k = named_under t h (2 * v + 1) i (omega arith) ((entry_in_slot t.items (named_at t (2 * v + 1)) x f).0 ∙ ap Some g) in
         (k.0, is_under-right t.size v i some (low v inside) (low i k.0) k.1)
+
+-- and its slot fits two bytes
+pub match_low : {Item : Type 0} (key : Key Item) (sign : Form → Sign) (t : Standings Item) → IsTree t → (v : ℕ) → 0 < v → v < length t.items → (o : Option ℕ) → o ≡ (match_at key sign t v).0 → IfSome o (λ i. i < 2 ^ 15)
+match_low {Item} key sign t h v some inside None e = tt
+match_low {Item} key sign t h v some inside (Some i) e =
+    let low = (match_under key sign t h v i some inside (sym e)).0 in
+    let most : 2 ^ t.size ≤ 2 ^ 15 = pow_mono h.small in omega (arith, low, most, h.items_room)

@@ -1,4 +1,5 @@
 pub mod AfterWrite
+pub mod Briefs
 pub mod Doubts
 pub mod Entries
 pub mod Placements

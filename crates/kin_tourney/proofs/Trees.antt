@@ -1,7 +1,7 @@
 -- Trees of matches under writes.
-use Rattle.std.proofs.Common.{◌≡◌, ◌≢◌, ◌⊎◌, inl, inr, refl, sym, ap, ◌∙◌, subst, arith, List, ℕ, zero, suc, ◌+◌, ◌*◌, ◌/◌, ◌^◌, ◌<◌, ◌≤◌, length, Bool, true, set, get_or}
+use Rattle.std.proofs.Common.{◌≡◌, ◌≢◌, ◌⊎◌, inl, inr, refl, sym, ap, ◌∙◌, subst, arith, List, ℕ, zero, suc, ◌+◌, ◌*◌, ◌/◌, ◌^◌, ◌<◌, ◌≤◌, length, Bool, true, set}
 use Rattle.std.specs.Prelude.{Option, Some, None, IfSome}
-use Rattle.std.proofs.lemmas.List.{length-set, get_or_read}
+use Rattle.std.proofs.lemmas.List.{length-set}
 use Rattle.std.proofs.lemmas.Nat.{pow-add}
 use Rattle.std.proofs.Math.Pow.{pow_mono}
 use Rattle.std.proofs.lemmas.Bool.{cases_eq}
@@ -107,12 +107,9 @@ pub tree_cleared : {Item : Type 0} (t : Standings Item) → IsTree t → (node :
 tree_cleared {Item} t h node some inside halves marked room =
     tree_changed t h marked t.best t.facts (set t.doubts node Clear) room refl refl (length-set t.doubts node Clear) (λ v i e. (h.best_low v i e, h.best_under v i e)) (closed_cleared t.doubts node h.closed some (let r = h.doubts_room in omega arith) halves)
 
-pub named_low : {Item : Type 0} (t : Standings Item) → IsTree t → (v : ℕ) (o : Option ℕ) → v < length t.items → o ≡ get_or t.best v o → IfSome o (λ i. i < length t.items)
-named_low {Item} t h v o inside e = at o (get_or_read t.best v o (let r = h.best_room in omega arith) e None)
-  where
-    at : (o : Option ℕ) → o ≡ get_or t.best v None → IfSome o (λ i. i < length t.items)
-    at None e = tt
-    at (Some i) e = h.best_low v i (sym e)
+pub named_low : {Item : Type 0} (t : Standings Item) → IsTree t → (v : ℕ) (o : Option ℕ) → o ≡ best_in t.best v → IfSome o (λ i. i < length t.items)
+named_low {Item} t h v None e = tt
+named_low {Item} t h v (Some i) e = h.best_low v i (sym e)
 
 -- where the root is clear all is
 pub all_clear : (ds : List Doubt) → IsClosed ds → doubt_in ds 1 ≡ Clear → (v : ℕ) → 0 < v → doubt_in ds v ≡ Clear

@@ -1,5 +1,6 @@
 pub mod Names
 pub mod AlongLaws
+pub mod Briefs
 pub mod Tournament
 pub mod Standings
 pub mod Repairs

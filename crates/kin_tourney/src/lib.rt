@@ -15,6 +15,7 @@ pub use keyed::Keyed;
 pub use tourney::Tourney;
 
 pub mod along;
+mod best;
 pub mod descent;
 pub mod doubt;
 mod entry;

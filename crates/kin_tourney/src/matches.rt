@@ -15,7 +15,6 @@ use crate::descent::{first_doubt, next_doubt, pass_up};
 use crate::doubt::Doubt;
 use crate::entry::Entry;
 use crate::keyed::Keyed;
-use crate::report::{tell, untell};
 use crate::tree::Tree;
 use kin_motion::fact::{Delta, Fact};
 use kin_motion::signs::Signs;
@@ -24,14 +23,14 @@ use kin_num::memory::NoMemory;
 use kin_num::steps::Steps;
 use std::sync::ledger::Ledger;
 
-impl<I: Copy> Tree<I> {
+impl<K: Keyed> Tree<K> {
     /// Plays the match of two entries, the halves of a node, by the sign of their form where it is known, and reports
     /// its fact. The winner's slot is the result.
-    fn meet<K: Keyed<Item = I>, O: Signs, L: Ledger>(
+    fn meet<O: Signs, L: Ledger>(
         &mut self,
         node: usize,
-        left: Entry<I>,
-        right: Entry<I>,
+        left: Entry<K::Item>,
+        right: Entry<K::Item>,
         known: Option<Sign>,
         key: &K,
         now: &O,
@@ -55,7 +54,8 @@ impl<I: Copy> Tree<I> {
             Some(sign) => sign,
             None => now.sign(&form, steps),
         };
-        tell(&mut self.facts, node, Fact { form, sign }, out)?;
+        let brief = key.brief(sign, &left.item, &right.item);
+        self.facts.tell(node, brief, Fact { form, sign }, out)?;
         if key.left_wins(sign, &left.item, &right.item) {
             Ok(Some(left.slot))
         } else {
@@ -66,7 +66,7 @@ impl<I: Copy> Tree<I> {
     /// Plays the match of the two halves of a node, by the sign of their form where it is known, and reports its fact.
     /// The winner's slot is the result.
     #[inline(always)]
-    fn play<K: Keyed<Item = I>, O: Signs, L: Ledger>(
+    fn play<O: Signs, L: Ledger>(
         &mut self,
         node: usize,
         known: Option<Sign>,
@@ -91,13 +91,13 @@ impl<I: Copy> Tree<I> {
             Some(left) => match self.entry(2 * node + 1) {
                 Some(right) => self.meet(node, left, right, known, key, now, out, steps),
                 None => {
-                    untell(&mut self.facts, node, out)?;
+                    self.facts.untell(node, out)?;
                     Ok(Some(left.slot))
                 }
             },
             None => {
                 let right = self.entry(2 * node + 1);
-                untell(&mut self.facts, node, out)?;
+                self.facts.untell(node, out)?;
                 match right {
                     Some(right) => Ok(Some(right.slot)),
                     None => Ok(None),
@@ -109,7 +109,7 @@ impl<I: Copy> Tree<I> {
     /// Plays the match of a node again, by the sign of its form where it is known. Where its winner
     /// changes, the node above has to be played again too.
     #[inline(always)]
-    fn replay<K: Keyed<Item = I>, O: Signs, L: Ledger>(
+    fn replay<O: Signs, L: Ledger>(
         &mut self,
         node: usize,
         known: Option<Sign>,
@@ -129,8 +129,8 @@ impl<I: Copy> Tree<I> {
         ensures cost { OnOk result (steps.new ≤ steps.old + asked_for known) }
     {
         let best = self.play(node, known, key, now, out, steps)?;
-        if best != self.best[node] {
-            self.best[node] = best;
+        if best != self.best.get(node) {
+            self.best.set(node, best);
             self.doubts[node / 2] = Doubt::Here;
         }
         Ok(())
@@ -149,7 +149,7 @@ impl<I: Copy> Tree<I> {
         ensures failed { (s : Signum) → result ≡ Some s → (f : Told) × (fact_in self.now.facts node ≡ Some f) × ((O.scene now.now).sign f.form ≡ s) }
         ensures cost { steps.new ≤ steps.old + 1 }
     {
-        let Some(fact) = &self.facts[node] else {
+        let Some(fact) = self.facts.get(node) else {
             return None;
         };
         let sign = now.sign(&fact.form, steps);
@@ -158,7 +158,7 @@ impl<I: Copy> Tree<I> {
 
     /// Plays the match of a node in doubt again where it has to be: where the node is in doubt itself,
     /// or where all are asked for and its fact doesn't hold.
-    fn renew<K: Keyed<Item = I>, O: Signs, L: Ledger>(
+    fn renew<O: Signs, L: Ledger>(
         &mut self,
         node: usize,
         all: bool,
@@ -219,7 +219,7 @@ impl<I: Copy> Tree<I> {
 
     /// `repair`, where nodes are in doubt.
     #[inline(always)]
-    fn repair_doubts<K: Keyed<Item = I>, O: Signs, L: Ledger>(
+    fn repair_doubts<O: Signs, L: Ledger>(
         &mut self,
         all: bool,
         key: &K,
@@ -250,7 +250,7 @@ impl<I: Copy> Tree<I> {
 
     /// Plays the matches again that are in doubt themselves, and with `all` those in doubt whose facts
     /// don't hold, the halves of a node before the node. The doubts lead the way, and only nodes in doubt are visited.
-    pub fn repair<K: Keyed<Item = I>, O: Signs, L: Ledger>(
+    pub fn repair<O: Signs, L: Ledger>(
         &mut self,
         all: bool,
         key: &K,

@@ -26,7 +26,7 @@ use std::sync::ledger::Ledger;
 #[derive(Drop)]
 pub struct Tourney<K: Keyed> {
     key: K,
-    tree: Tree<K::Item>,
+    tree: Tree<K>,
     /// Whether no `settle` is under way and none has run out of memory.
     whole: bool,
 }

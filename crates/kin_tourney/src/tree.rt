@@ -8,9 +8,12 @@ ghost use Rattle.kin_tourney.specs.Standings.{Standings, IsTree, named_at, entry
 ghost use Rattle.kin_tourney.specs.Tournament.{mark_in};
 ghost use Rattle.kin_tourney.specs.Repairs.{IsSpread, IsMarkedUp, IsDoubted};
 
+use crate::best::BestSlots;
 use crate::doubt::{Doubt, doubt_failed, doubt_path, no_doubts};
 use crate::entry::Entry;
-use kin_motion::fact::{Fact, Placed};
+use crate::keyed::Keyed;
+use crate::report::Facts;
+use kin_motion::fact::Placed;
 use kin_num::memory::NoMemory;
 use std::alloc::Global;
 use std::marker::Model;
@@ -18,16 +21,16 @@ use std::marker::Model;
 /// A tree over `2^size` slots. Node 1 is the root, node v has the halves 2v and 2v + 1, and slot s
 /// is node `2^size + s`.
 #[derive(Drop)]
-pub struct Tree<I: Copy> {
+pub struct Tree<K: Keyed> {
     size: u32,
     /// What each slot holds.
-    items: Vec<Option<I>>,
+    items: Vec<Option<K::Item>>,
     /// Which slots are marked.
     pub(crate) marked: Vec<bool>,
     /// The slot of the best item of each inner node.
-    pub(crate) best: Vec<Option<u32>>,
+    pub(crate) best: BestSlots,
     /// The fact of each inner node.
-    pub(crate) facts: Vec<Option<Fact>>,
+    pub(crate) facts: Facts<K>,
     /// Which inner nodes have to be looked at. If one is in doubt, so are all above it. Node 0 always is,
     /// so that each way up ends there.
     pub(crate) doubts: Vec<Doubt>,
@@ -35,17 +38,17 @@ pub struct Tree<I: Copy> {
     pub(crate) latest: usize,
 }
 
-impl<I: Copy> Model for Tree<I> {
+impl<K: Keyed> Model for Tree<K> {
     ghost use Rattle.kin_tourney.specs.Standings.{Standings};
 
-    ghost Value = { Standings I };
+    ghost Value = { Standings K.Item };
 
-    ghost view = { λ t. record { size = t.size; items = t.items.items; marked = t.marked.items; best = t.best.items; facts = t.facts.items; doubts = t.doubts.items } };
+    ghost view = { λ t. record { size = t.size; items = t.items.items; marked = t.marked.items; best = t.best; facts = t.facts; doubts = t.doubts.items } };
 }
 
-impl<I: Copy> Tree<I> {
+impl<K: Keyed> Tree<K> {
     /// No slot holds an item, and nothing is in doubt.
-    pub fn new(alloc: Global, size: u32) -> Result<Tree<I>, NoMemory>
+    pub fn new(alloc: Global, size: u32) -> Result<Tree<K>, NoMemory>
         requires low { 1 ≤ size }
         requires high { size ≤ 15 }
         ensures { IfOk result (λ t. t ≡ record { size = size; items = replicate (2 ^ size) None; marked = replicate (2 ^ size) false; best = replicate (2 ^ size) None; facts = replicate (2 ^ size) None; doubts = slice_set (replicate (2 ^ size) Doubt.Clear) 0 Doubt.Here }) }
@@ -53,8 +56,8 @@ impl<I: Copy> Tree<I> {
         let slots = 1usize << size;
         let items = Vec::from_elem(alloc, None, slots)?;
         let marked = Vec::from_elem(alloc, false, slots)?;
-        let best = Vec::from_elem(alloc, None, slots)?;
-        let facts = Vec::from_elem(alloc, None, slots)?;
+        let best = BestSlots::new(alloc, slots)?;
+        let facts = Facts::new(alloc, slots)?;
         let doubts = no_doubts(alloc, slots)?;
         Ok(Tree {
             size,
@@ -82,14 +85,14 @@ impl<I: Copy> Tree<I> {
         ensures low { IfSome result (λ slot. slot < length self.now.items) }
     {
         if node < self.slots() {
-            self.best[node]
+            self.best.get(node)
         } else {
             Some((node - self.slots()) as u32)
         }
     }
 
     /// The best item of a node, where it has one.
-    pub fn entry(&self, node: usize) -> Option<Entry<I>>
+    pub fn entry(&self, node: usize) -> Option<Entry<K::Item>>
         requires tree { IsTree self.now }
         requires node { node < 2 * length self.now.items }
         ensures { result ≡ entry_at self.now node }
@@ -135,7 +138,7 @@ impl<I: Copy> Tree<I> {
         if node <= 1 {
             return false;
         }
-        match self.best[node] {
+        match self.best.get(node) {
             Some(best) => best == slot,
             None => false,
         }
@@ -184,7 +187,7 @@ impl<I: Copy> Tree<I> {
     }
 
     /// Marks a slot and changes what it holds.
-    pub fn put(&mut self, slot: u32, item: Option<I>)
+    pub fn put(&mut self, slot: u32, item: Option<K::Item>)
         requires tree { IsTree self.old }
         requires slot { slot < length self.old.items }
         ensures tree { IsTree self.new }

@@ -5,7 +5,7 @@ use Rattle.kin_motion.specs.Parts.{moved_by}
 use Rattle.kin_list.specs.Listing.{names_leaving}
 use Rattle.kin_tourney.specs.Tournament.{CoversAskable}
 use Rattle.kin_closest.specs.Closing.{Closing, facts_of, AreFewTests}
-use Rattle.kin_closest.proofs.Settling.{called, orders_told, within, pairs_ready, pairs_told, pairs_small, pairs_low, tests_few, settled_now, joined_now, changed_now}
+use Rattle.kin_closest.proofs.Settling.{called, orders_told, within, few_numbers, candidates_low, pairs_ready, pairs_told, pairs_small, pairs_low, tests_few, settled_now, joined_now, changed_now}
 use Rattle.kin_closest.proofs.closest.KinClosestKinetic.settle.Goals as goal
 
 pub settle-requires-clause-failing : goal.settle-requires-clause-failing
@@ -15,6 +15,12 @@ settle-requires-clause-failing g c =
 
 pub tell_all-requires-clause-within : goal.tell_all-requires-clause-within
 tell_all-requires-clause-within g c = within (called c.self.view_is c.self.invariant c.requires.real c.requires.ready c.requires.failing) c.settle.ensures.same c.in_ok-settle.ensures.settled c.in_ok-settle.ensures.changed
+
+pub tell_all-requires-clause-small : goal.tell_all-requires-clause-small
+tell_all-requires-clause-small g c = few_numbers (called c.self.view_is c.self.invariant c.requires.real c.requires.ready c.requires.failing) c.settle.ensures.same c.in_ok-settle.ensures.settled c.in_ok-settle.ensures.changed
+
+pub tell_all-requires-clause-low : goal.tell_all-requires-clause-low
+tell_all-requires-clause-low g c = candidates_low (called c.self.view_is c.self.invariant c.requires.real c.requires.ready c.requires.failing) c.settle.ensures.same c.in_ok-settle.ensures.settled c.in_ok-settle.ensures.changed
 
 pub settle_pairs-requires-clause-ready : goal.settle_pairs-requires-clause-ready
 settle_pairs-requires-clause-ready g c = pairs_ready (called c.self.view_is c.self.invariant c.requires.real c.requires.ready c.requires.failing) c.settle.ensures.same c.in_ok-settle.ensures.settled c.in_ok-settle.ensures.changed c.tell_all.ensures

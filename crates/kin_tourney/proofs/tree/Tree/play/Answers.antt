@@ -13,13 +13,13 @@ pub meet-requires-clause-known : goal.meet-requires-clause-known
 meet-requires-clause-known g c = λ s e. c.requires.known s e c.in-Some.left c.in-Some-entry.right (sym c.entry.ensures ∙ c.in-Some.is) (sym c.entry-in-Some.ensures ∙ c.in-Some-entry.is)
 
 pub returns-in_err-untell-in-None-entry-clause-same : goal.returns-in_err-untell-in-None-entry-clause-same
-returns-in_err-untell-in-None-entry-clause-same g c = ap (λ (t : Standings g.row.I.Denot). record t { facts = c.untell.new.facts.items }) c.self.view_is
+returns-in_err-untell-in-None-entry-clause-same g c = ap (λ (t : Standings g.row.K-Item.Denot). record t { facts = c.untell.new.self }) c.self.view_is
 
 pub returns-in_err-untell-in-None-clause-same : goal.returns-in_err-untell-in-None-clause-same
-returns-in_err-untell-in-None-clause-same g c = ap (λ (t : Standings g.row.I.Denot). record t { facts = c.untell-in-None.new.facts.items }) c.self.view_is
+returns-in_err-untell-in-None-clause-same g c = ap (λ (t : Standings g.row.K-Item.Denot). record t { facts = c.untell-in-None.new.self }) c.self.view_is
 
 pub returns-in_ok-untell-in-None-entry-clause-same : goal.returns-in_ok-untell-in-None-entry-clause-same
-returns-in_ok-untell-in-None-entry-clause-same g c = ap (λ (t : Standings g.row.I.Denot). record t { facts = c.untell.new.facts.items }) c.self.view_is
+returns-in_ok-untell-in-None-entry-clause-same g c = ap (λ (t : Standings g.row.K-Item.Denot). record t { facts = c.untell.new.self }) c.self.view_is
 
 pub returns-after-right-clause-same : goal.returns-after-right-clause-same
-returns-after-right-clause-same g c = ap (λ (t : Standings g.row.I.Denot). record t { facts = c.untell-in-None.new.facts.items }) c.self.view_is
+returns-after-right-clause-same g c = ap (λ (t : Standings g.row.K-Item.Denot). record t { facts = c.untell-in-None.new.self }) c.self.view_is

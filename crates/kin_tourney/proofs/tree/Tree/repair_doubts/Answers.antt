@@ -11,13 +11,13 @@ pub first_doubt-node-requires : goal.first_doubt-node-requires
 first_doubt-node-requires g c =
     let t = c.args.self.now in
     let tree = c.requires.doubtful.tree in
-    let same = c.deref.ensures.value ∙ ap (λ (t : Standings g.row.I.Denot). t.doubts) c.self.view_is in
+    let same = c.deref.ensures.value ∙ ap (λ (t : Standings g.row.K-Item.Denot). t.doubts) c.self.view_is in
     let many = some_inner t tree c.requires.some in
     record { tree = subst IsPerfect (sym same) (perfect t tree); some = subst (λ ds. 1 < length ds) (sym same) (omega (arith, many, tree.doubts_room)) }
 
 pub loop-node-init : goal.loop-node-init
 loop-node-init g c =
-    let same = c.deref.ensures.value ∙ ap (λ (t : Standings g.row.I.Denot). t.doubts) c.self.view_is in
+    let same = c.deref.ensures.value ∙ ap (λ (t : Standings g.row.K-Item.Denot). t.doubts) c.self.view_is in
     record {
       mending = mending_starts c.args.all (g.K.Keyed.key c.args.key.now) (g.O.Signs.scene c.args.now.now).sign c.args.self.now c.args.out.now c.requires.doubtful;
       place = subst (λ ds. 0 < c.first_doubt-node.result → IsLowest ds c.first_doubt-node.result) same c.first_doubt-node.ensures.lowest;
@@ -37,7 +37,7 @@ pub next_doubt-node-requires : goal.next_doubt-node-requires
 next_doubt-node-requires g c =
     let p = stepped _ _ _ _ _ _ _ _ _ _ _ (c.loop-node.invariant.place c.loop-node-test.true) c.loop-node.invariant.mending c.renew.ensures.tree c.in_ok-renew.ensures.renewed c.settle_node.ensures.tree c.settle_node.ensures.cleared in
     let q = climbed_on _ _ _ _ _ _ c.climb-node.new.self _ _ _ _ p c.climb-node.ensures.same c.climb-node.ensures.climbed in
-    let same = c.deref-in-loop-node.ensures.value ∙ ap (λ (t : Standings g.row.I.Denot). t.doubts) c.self-in-loop-node.view_is in
+    let same = c.deref-in-loop-node.ensures.value ∙ ap (λ (t : Standings g.row.K-Item.Denot). t.doubts) c.self-in-loop-node.view_is in
     record { tree = subst IsPerfect (sym same) (perfect c.climb-node.new.self q.mending.doubtful.tree); done = subst (λ ds. IsDone ds c.climb-node.result) (sym same) q.done }
 
 pub loop-node-smaller : goal.loop-node-smaller
@@ -50,7 +50,7 @@ pub loop-node-preserved : goal.loop-node-preserved
 loop-node-preserved g c =
     let p = stepped _ _ _ _ _ _ _ _ _ _ _ (c.loop-node.invariant.place c.loop-node-test.true) c.loop-node.invariant.mending c.renew.ensures.tree c.in_ok-renew.ensures.renewed c.settle_node.ensures.tree c.settle_node.ensures.cleared in
     let q = climbed_on _ _ _ _ _ _ c.climb-node.new.self _ _ _ _ p c.climb-node.ensures.same c.climb-node.ensures.climbed in
-    let same = c.deref-in-loop-node.ensures.value ∙ ap (λ (t : Standings g.row.I.Denot). t.doubts) c.self-in-loop-node.view_is in
+    let same = c.deref-in-loop-node.ensures.value ∙ ap (λ (t : Standings g.row.K-Item.Denot). t.doubts) c.self-in-loop-node.view_is in
     record {
       mending = q.mending;
       place = subst (λ ds. 0 < c.next_doubt-node.result → IsLowest ds c.next_doubt-node.result) same c.next_doubt-node.ensures.lowest;

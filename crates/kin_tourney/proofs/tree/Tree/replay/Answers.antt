@@ -1,14 +1,17 @@
-use Rattle.std.proofs.Common.{sym, ◌∙◌, subst, ap, arith, ◌/◌, ◌<◌, length, set, ℕ}
-use Rattle.std.specs.Prelude.{Option, None}
-use Rattle.std.proofs.lemmas.List.{get_or_read}
+use Rattle.std.proofs.Common.{sym, ◌∙◌, subst, ap, arith, ◌/◌, set, ℕ, List}
+use Rattle.std.specs.Prelude.{Option}
 use Rattle.kin_motion.specs.declared.fact.Fact.{Fact}
 use Rattle.kin_tourney.specs.declared.doubt.Doubt.TheVariants.{Here}
 use Rattle.kin_tourney.specs.Standings.{Standings, IsTree, best_in}
 use Rattle.kin_tourney.specs.Repairs.{IsReplayed}
-use Rattle.kin_tourney.proofs.Entries.{match_under}
+use Rattle.kin_tourney.proofs.Entries.{match_under, match_low}
 use Rattle.kin_tourney.proofs.Rechecks.{replayed_same, replayed_other, same_winner}
 use Rattle.kin_tourney.proofs.Trees.{tree_replayed, tree_retold}
 use Rattle.kin_tourney.proofs.tree.Tree.replay.Goals as goal
+
+pub set-requires-clause-low : goal.set-requires-clause-low
+set-requires-clause-low g c =
+    match_low (g.K.Keyed.key c.args.key.now) (g.O.Signs.scene c.args.now.now).sign c.args.self.now c.requires.tree c.args.node c.requires.root c.requires.inner c.in_ok-best.best (ap (λ (p : Option ℕ × Option Fact). p.0) c.in_ok-best.ensures.value)
 
 pub returns-then-ne-clause-tree : goal.returns-then-ne-clause-tree
 returns-then-ne-clause-tree g c =
@@ -18,8 +21,9 @@ returns-then-ne-clause-tree g c =
     let best = c.in_ok-best.best in
     let kept = tree_replayed c.args.self.now c.requires.tree c.args.node c.requires.root c.requires.inner c.requires.doubted best told.facts c.play.ensures.room
     (λ i e. match_under key sign c.args.self.now c.requires.tree c.args.node i c.requires.root c.requires.inner (ap (λ (p : Option ℕ × Option Fact). p.0) (sym c.in_ok-best.ensures.value) ∙ e)) in
-    let here = subst (λ (t : Standings g.row.I.Denot). IsTree (record t { best = set t.best c.args.node best; doubts = set t.doubts (c.args.node / 2) Here })) (sym c.play.ensures.same) kept in
-    subst (λ (t : Standings g.row.I.Denot). IsTree (record t { best = set t.best c.args.node best; doubts = set t.doubts (c.args.node / 2) Here })) (sym c.self.view_is) here
+    let here = subst (λ (t : Standings g.row.K-Item.Denot). IsTree (record t { best = set t.best c.args.node best; doubts = set t.doubts (c.args.node / 2) Here })) (sym c.play.ensures.same) kept in
+    subst (λ (b : List (Option ℕ)). IsTree {Item = g.row.K-Item.Denot} (record { size = c.self.inside.size; items = c.self.inside.items.items; marked = c.self.inside.marked.items; best = b; facts = c.self.inside.facts; doubts = set c.self.inside.doubts.items (c.args.node / 2) Here })) (sym c.set.ensures)
+    (subst (λ (t : Standings g.row.K-Item.Denot). IsTree (record t { best = set t.best c.args.node best; doubts = set t.doubts (c.args.node / 2) Here })) (sym c.self.view_is) here)
 
 pub returns-in_err-best-clause-tree : goal.returns-in_err-best-clause-tree
 returns-in_err-best-clause-tree g c = tree_retold c.args.self.now c.play.new.self c.requires.tree c.play.ensures.same c.play.ensures.room
@@ -33,8 +37,9 @@ returns-then-ne-clause-replayed g c =
     let sign = (g.O.Signs.scene c.args.now.now).sign in
     let best = c.in_ok-best.best in
     let told = c.in_ok-best.ensures in
-    subst (λ (t : Standings g.row.I.Denot). IsReplayed key sign c.args.node c.args.self.now (record t { best = set t.best c.args.node best; doubts = set t.doubts (c.args.node / 2) Here }) c.args.out.now c.play.new.out) (sym c.self.view_is)
-    (replayed_other key sign c.args.node c.args.self.now c.play.new.self c.args.out.now c.play.new.out best told.same told.value told.facts told.reported (omega (arith, c.requires.inner, c.requires.tree.best_room)))
+    subst (λ (b : List (Option ℕ)). IsReplayed {Item = g.row.K-Item.Denot} key sign c.args.node c.args.self.now (record { size = c.self.inside.size; items = c.self.inside.items.items; marked = c.self.inside.marked.items; best = b; facts = c.self.inside.facts; doubts = set c.self.inside.doubts.items (c.args.node / 2) Here }) c.args.out.now c.play.new.out) (sym c.set.ensures)
+    (subst (λ (t : Standings g.row.K-Item.Denot). IsReplayed key sign c.args.node c.args.self.now (record t { best = set t.best c.args.node best; doubts = set t.doubts (c.args.node / 2) Here }) c.args.out.now c.play.new.out) (sym c.self.view_is)
+    (replayed_other key sign c.args.node c.args.self.now c.play.new.self c.args.out.now c.play.new.out best told.same told.value told.facts told.reported (omega (arith, c.requires.inner, c.requires.tree.best_room))))
 
 pub returns-else-ne-clause-replayed : goal.returns-else-ne-clause-replayed
 returns-else-ne-clause-replayed g c =
@@ -42,7 +47,5 @@ returns-else-ne-clause-replayed g c =
     let sign = (g.O.Signs.scene c.args.now.now).sign in
     let best = c.in_ok-best.best in
     let told = c.in_ok-best.ensures in
-    let inner = subst (λ (t : Standings g.row.I.Denot). c.args.node < length t.best) (sym (c.self.view_is ∙ told.same)) (omega (arith, c.requires.inner, c.requires.tree.best_room)) in
-    let read = get_or_read c.self.inside.best.items c.args.node c.index.result.now inner c.index.ensures None in
-    let stood = same_winner best c.index.result.now c.ne.result c.if-ne.false c.ne.ensures ∙ read ∙ ap (λ (t : Standings g.row.I.Denot). best_in t.best c.args.node) c.self.view_is in
+    let stood = same_winner best c.get.result c.ne.result c.if-ne.false c.ne.ensures ∙ c.get.ensures ∙ ap (λ (t : Standings g.row.K-Item.Denot). best_in t.best c.args.node) c.self.view_is in
     replayed_same key sign c.args.node c.args.self.now c.play.new.self c.args.out.now c.play.new.out best told.same told.value told.facts told.reported stood
