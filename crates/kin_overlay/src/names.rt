@@ -6,6 +6,7 @@ ghost use Rattle.kin_overlay.specs.Overlays.{names_any};
 use kin_motion::form::Form;
 
 /// Whether a form names one of the numbers.
+#[inline(always)]
 pub fn names_any(form: &Form, numbers: &[u32]) -> bool
     ensures { result ≡ names_any form.now numbers.now }
 {

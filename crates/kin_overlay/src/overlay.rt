@@ -115,7 +115,7 @@ impl Overlay {
         ensures tests { IsOk result → steps.new + 5 * length out.old.born ≤ steps.old + 5 * length out.new.born }
     {
         let room = a.len().saturating_add(b.len());
-        let mut list = BreakpointList::with_room(alloc, room)?;
+        let mut list = BreakpointList::with_room(alloc, room.saturating_sub(2))?;
         let none = BreakpointList::new(alloc);
         let standing = Standing {
             list: &none,

@@ -178,5 +178,8 @@ pub fn renew(
     let middle = read_middle(chain, list, same, given)?;
     let old = &chain[middle.start..middle.end];
     diff_middle(alloc, middle.start, old, given, edits)?;
+    if edits.is_empty() {
+        return Ok(());
+    }
     put_in(chain, middle, given, spare)
 }
