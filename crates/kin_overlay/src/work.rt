@@ -5,7 +5,7 @@ ghost use Rattle.std.specs.Prelude.{◌≡◌, []};
 use crate::edit::ChainEdit;
 use crate::list::BreakpointList;
 use crate::merge::Drawing;
-use crate::notes::Notes;
+use crate::notes::Pad;
 use std::alloc::Global;
 use std::marker::Model;
 use std::mem::swap;
@@ -22,7 +22,7 @@ pub struct Work {
     /// A buffer for numbers.
     pub(crate) spare: Vec<u32>,
     /// The memory of notes that no merge needs now.
-    pub(crate) notes: Notes,
+    pub(crate) notes: Pad,
     /// The memory of a list of edits that no merge needs now.
     edits: Vec<ChainEdit>,
 }
@@ -40,7 +40,7 @@ impl Work {
             list: BreakpointList::new(alloc),
             points: Vec::new(alloc),
             spare: Vec::new(alloc),
-            notes: Notes::new(alloc),
+            notes: Pad::none(),
             edits: Vec::new(alloc),
         }
     }
