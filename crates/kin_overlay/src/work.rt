@@ -65,4 +65,13 @@ impl Work {
             swap(&mut self.edits, edits);
         }
     }
+
+    /// Takes the memory of a list of edits back where the list is empty.
+    pub fn reclaim(&mut self, edits: &mut Vec<ChainEdit>)
+        ensures { edits.new.items ≡ edits.old.items }
+    {
+        if edits.is_empty() {
+            self.take_back(edits);
+        }
+    }
 }
