@@ -20,11 +20,14 @@ again : (chain seen : List ℕ) (new old : Remembered) (given : List ℕ) (start
     → IsReadAgain chain (chain_read new) given start end
 again chain seen new old given start end is read once k = subst (λ (l : List ℕ). IsReadAgain l (chain_read new) given start end) is (k (is ∙ read) (subst IsOnce (sym is) once))
 
+pub read_again-requires : goal.read_again-requires
+read_again-requires c = record { room = c.requires.read.2.new_room }
+
 pub returns-clause-fit : goal.returns-clause-fit
 returns-clause-fit c =
     let chain = c.args.chain.now.items in
     let new = chain_read c.args.list.now in
-    let given = c.read_middle.new.given.items in
+    let given = c.read_again.new.given.items in
     let start = c.in_ok-middle.middle.start in
     let end = c.in_ok-middle.middle.end in
     let d = c.in_ok-diff_middle.ensures in
@@ -36,7 +39,7 @@ pub returns-clause-lead : goal.returns-clause-lead
 returns-clause-lead c =
     let chain = c.args.chain.now.items in
     let new = chain_read c.args.list.now in
-    let given = c.read_middle.new.given.items in
+    let given = c.read_again.new.given.items in
     let start = c.in_ok-middle.middle.start in
     let end = c.in_ok-middle.middle.end in
     let d = c.in_ok-diff_middle.ensures in
@@ -48,7 +51,7 @@ pub returns-clause-apart : goal.returns-clause-apart
 returns-clause-apart c =
     let chain = c.args.chain.now.items in
     let new = chain_read c.args.list.now in
-    let given = c.read_middle.new.given.items in
+    let given = c.read_again.new.given.items in
     let start = c.in_ok-middle.middle.start in
     let end = c.in_ok-middle.middle.end in
     let d = c.in_ok-diff_middle.ensures in
@@ -61,7 +64,7 @@ pub returns-then-is_empty-clause-read : goal.returns-then-is_empty-clause-read
 returns-then-is_empty-clause-read c =
     let chain = c.args.chain.now.items in
     let new = chain_read c.args.list.now in
-    let given = c.read_middle.new.given.items in
+    let given = c.read_again.new.given.items in
     let start = c.in_ok-middle.middle.start in
     let end = c.in_ok-middle.middle.end in
     let d = c.in_ok-diff_middle.ensures in

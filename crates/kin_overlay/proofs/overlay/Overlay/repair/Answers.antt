@@ -63,7 +63,7 @@ renew-requires g c =
     let new = merged-same _ _ _ _ _ _ _ c.deref.ensures.value c.deref-2.ensures.value refl c.in_ok-known.ensures.merged in
     record {
       once = kept.once;
-      read = (o.list, kept.read, alike_where o.list c.merge.new.self c.with_ends-same.result c.between-shared.result p.merged.left (threaded kept.whole.past.scene _ _ o.list _ p.a_some p.b_some p.merged p.merged.left) new.left (threaded s _ _ c.merge.new.self _ ready.a_some ready.b_some new new.left) c.between-shared.ensures.one c.with_ends-same.ensures.same c.with_ends-same.ensures.left c.with_ends-same.ensures.right);
+      read = (o.list, kept.read, alike_where o.list c.merge.new.self c.with_ends-same.result c.between-shared.result p.merged.left (threaded kept.whole.past.scene _ _ o.list _ p.a_some p.b_some p.merged p.merged.left) new.left (threaded s _ _ c.merge.new.self _ ready.a_some ready.b_some new new.left) c.between-shared.ensures.one c.with_ends-same.ensures.front c.with_ends-same.ensures.back c.with_ends-same.ensures.left c.with_ends-same.ensures.right);
     }
 
 pub merge-requires-clause-a_once : goal.merge-requires-clause-a_once
