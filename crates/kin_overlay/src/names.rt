@@ -1,4 +1,4 @@
-//! Numbers, and forms that name one of several.
+//! Numbers among others, and forms that name one of several.
 
 ghost use Rattle.std.specs.Prelude.{◌≡◌};
 ghost use Rattle.kin_motion.specs.Numbers.{is_in};

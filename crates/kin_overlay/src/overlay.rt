@@ -113,6 +113,7 @@ impl Overlay {
         ensures tests { IsOk result → steps.new + 5 * length out.old.born ≤ steps.old + 5 * length out.new.born }
     {
         let room = a.len().saturating_add(b.len());
+        // A chain has one breakpoint fewer than points.
         let mut list = BreakpointList::with_room(alloc, room.saturating_sub(2))?;
         let none = BreakpointList::new(alloc);
         let standing = Standing {
