@@ -23,8 +23,10 @@ pub struct Work {
     pub(crate) spare: Vec<u32>,
     /// The memory of notes that no merge needs now.
     pub(crate) notes: Pad,
-    /// The memory of a list of edits that no merge needs now.
+    /// The memory of two lists of edits that no merge needs now: while a node makes its own, those of a
+    /// half of it are in use.
     edits: Vec<ChainEdit>,
+    more_edits: Vec<ChainEdit>,
 }
 
 impl Model for Work {
@@ -42,6 +44,7 @@ impl Work {
             spare: Vec::new(alloc),
             notes: Pad::none(),
             edits: Vec::new(alloc),
+            more_edits: Vec::new(alloc),
         }
     }
 
@@ -49,20 +52,29 @@ impl Work {
     pub fn lend(&mut self, edits: &mut Vec<ChainEdit>)
         ensures { edits.new.items ≡ edits.old.items }
     {
-        if edits.capacity() == 0 && edits.is_empty() {
+        if edits.capacity() > 0 || !edits.is_empty() {
+            return;
+        }
+        if self.edits.capacity() > 0 {
             self.edits.clear();
             swap(&mut self.edits, edits);
+        } else {
+            self.more_edits.clear();
+            swap(&mut self.more_edits, edits);
         }
     }
 
-    /// Empties a list of edits. If it has more memory than the one here, the two are exchanged.
+    /// Empties a list of edits, and takes its memory if there is room for it.
     pub fn take_back(&mut self, edits: &mut Vec<ChainEdit>)
         ensures { edits.new.items ≡ [] }
     {
         edits.clear();
-        if self.edits.capacity() < edits.capacity() {
+        if self.edits.capacity() == 0 {
             self.edits.clear();
             swap(&mut self.edits, edits);
+        } else if self.more_edits.capacity() < edits.capacity() {
+            self.more_edits.clear();
+            swap(&mut self.more_edits, edits);
         }
     }
 
