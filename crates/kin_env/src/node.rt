@@ -259,6 +259,7 @@ pub(crate) fn mend<O: Signs, L: Ledger>(
     merge.repair(work, now, failed, out, steps)?;
     merge.swap_edits(edits);
     merge.trade_memory(work);
+    work.reclaim(edits);
     failed.clear();
     Ok(())
 }

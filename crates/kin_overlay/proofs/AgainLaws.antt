@@ -1,8 +1,8 @@
 -- A chain that is read again between what its list shares with the one before.
 use Rattle.std.proofs.Common.{◌≡◌, ◌≢◌, ◌⊎◌, inl, inr, refl, sym, ap, ap₂, ◌∙◌, subst, arith, List, [], ◌∷◌, ◌++◌, ℕ, zero, suc, ◌+◌, ◌-◌, ◌<◌, ◌≤◌, Bool, true, false, ◌||◌, nat_eq, length, take, drop, Option, Some, None, append_assoc}
-use Rattle.std.specs.Prelude.{slice_get, unwrap_or, IfSome}
+use Rattle.std.specs.Prelude.{slice_get}
 use Rattle.std.proofs.lemmas.Bool.{both_ways, false_from_ne_true}
-use Rattle.std.proofs.lemmas.List.{append-nil, length-append, take-append-drop, take_more}
+use Rattle.std.proofs.lemmas.List.{append-nil, length-append, length-drop, take-append-drop, take_more}
 use Rattle.std.proofs.lemmas.Option.{slice_get_within, get_or_from_slice_get}
 use Rattle.std.proofs.Math.Seq.{take-append_seam, drop-append_seam}
 use Rattle.std.proofs.Math.ListN.{drop_of_length-le}
@@ -13,7 +13,7 @@ use Rattle.kin_motion.proofs.Members.{in_head, in_tail, in_cases, in_right}
 use Rattle.kin_overlay.specs.declared.record.Record.{Record}
 use Rattle.kin_overlay.specs.declared.end.End.{End}
 use Rattle.kin_overlay.specs.declared.walk.Cell.{Cell as Step}
-use Rattle.kin_overlay.specs.Reading.{AreAlike, IsOpened, AreOpened, IsReadWhole, IsReadUntil, IsReadAgain}
+use Rattle.kin_overlay.specs.Reading.{AreAlike, IsOpened, AreOpened, IsReadWhole, IsReadUntil, IsReadAgain, AreSameEnds, right_of}
 use Rattle.kin_overlay.specs.declared.shared.Shared.{Shared}
 use Rattle.kin_overlay.specs.Remembered.{Remembered}
 use Rattle.kin_overlay.specs.Reports.{AreShared}
@@ -64,28 +64,22 @@ up-to xs (suc n) r l e =
 
 -- ---- the front
 -- there is one left end
-pub same-end : (m n : Remembered) (front back : ℕ) (k : AreAlike m n front back) (e : End) → n.left ≡ Some e → k.left ≡ e
-same-end m n front back k e q = let both : Some k.left ≡ Some e = sym k.new_left ∙ q in cc
+pub same-end : (m n : Remembered) (front back : ℕ) (k : AreAlike m n front back) (e : End) → n.left ≡ Some e → k.new_end ≡ e
+same-end m n front back k e q = let both : Some k.new_end ≡ Some e = sym k.new_left ∙ q in cc
 
 module _ (m n : Remembered) (front back : ℕ) (k : AreAlike m n front back) where
-  abbrev e : End
-  e = k.left
-
-  abbrev right : Sign
-  right = right_above (unwrap_or n.right e)
-
-  same-right : right_above (unwrap_or m.right e) ≡ right
-  same-right = ap (λ (o : Option End). right_above (unwrap_or o e)) k.right
-
-  whole : (l : Remembered) → l.left ≡ Some e → IsThreaded (first_cell e) l.records → right_above (unwrap_or l.right e) ≡ right → IsOpened l right [] 0 (first_cell e) []
-  whole l left t same = record { read = ap (λ (o : Option End). chain_from o l) left ∙ ap (λ (s : Sign). changes_of None (gifts (first_cell e) l.records s)) same; threaded = t }
+  whole : (l : Remembered) (e : End) → l.left ≡ Some e → IsThreaded (first_cell e) l.records → IsOpened l (right_of l e) [] 0 (first_cell e) []
+  whole l e left t = record { read = ap (λ (o : Option End). chain_from o l) left; threaded = t }
 
   -- reading begins at the left outer end
-  pub opened-whole : AreOpened m n right 0 0 (first_cell e) []
-  opened-whole = record { head = []; counted = refl; of_old = whole m k.old_left k.old_threaded same-right; of_new = whole n k.new_left k.new_threaded refl }
+  pub opened-whole : AreOpened m n (right_of m k.old_end) (right_of n k.new_end) 0 0 (first_cell k.new_end) []
+  opened-whole = record { head = []; counted = refl; cell = first_cell k.old_end; of_old = whole m k.old_end k.old_left k.old_threaded; of_new = whole n k.new_end k.new_left k.new_threaded }
 
   module _ (r : Record) (p start : ℕ) (old : List ℕ) (some : 0 < front) (there : slice_get n.records (front - 1) ≡ Some r) (upper : upper_before r ≡ p ∷ []) (is : old ≡ chain_read m) (once : IsOnce old)
       (others : (j y : ℕ) → j < start → slice_get old j ≡ Some y → p ≢ y) (at : (y : ℕ) → slice_get old start ≡ Some y → p ≡ y) where
+    abbrev e : End
+    e = k.new_end
+
     abbrev xs : List Record
     xs = take (front - 1) n.records
 
@@ -95,30 +89,33 @@ module _ (m n : Remembered) (front back : ℕ) (k : AreAlike m n front back) whe
     head : (front' : List ℕ) × (changes_of None (gifts_before (first_cell e) (xs ++ r ∷ [])) ≡ front' ++ p ∷ [])
     head = head-ends e n xs r (drop front n.records) p k.new_left (split n refl) k.new_threaded upper
 
-    opened : (l : Remembered) → l.left ≡ Some e → IsThreaded (first_cell e) l.records → right_above (unwrap_or l.right e) ≡ right → take front l.records ≡ take front n.records → IsOpened l right head.0 front (cell_by r) (p ∷ [])
-    opened l left t same q = record {
-      read = front-read e l xs r (drop front l.records) p left (split l q) t upper head.0 head.1 ∙ ap (λ (s : Sign). head.0 ++ (p ∷ changes_of (Some p) (gifts (cell_by r) (drop front l.records) s))) same;
+    opened : (l : Remembered) → l.left ≡ Some e → IsThreaded (first_cell e) l.records → take front l.records ≡ take front n.records → IsOpened l (right_of l e) head.0 front (cell_by r) (p ∷ [])
+    opened l left t q = record {
+      read = front-read e l xs r (drop front l.records) p left (split l q) t upper head.0 head.1;
       threaded = front-threaded e l xs r (drop front l.records) p left (split l q) t upper;
     }
 
     -- reading begins after a record at which a half is above
-    pub opened-at : AreOpened m n right start front (cell_by r) (p ∷ [])
+    pub opened-at : AreOpened m n (right_of m k.old_end) (right_of n k.new_end) start front (cell_by r) (p ∷ [])
     opened-at =
-        let of_old = opened m k.old_left k.old_threaded same-right k.in_front in
-        let rest = changes_of (Some p) (gifts (cell_by r) (drop front m.records) right) in
+        let one = k.left some in
+        let of_old = subst (λ (x : End). IsOpened m (right_of m x) head.0 front (cell_by r) (p ∷ [])) (sym one)
+        (opened m (k.old_left ∙ ap (λ (x : End). Some x) one) (subst (λ (x : End). IsThreaded (first_cell x) m.records) one k.old_threaded) k.in_front) in
+        let rest = changes_of (Some p) (gifts (cell_by r) (drop front m.records) (right_of m k.old_end)) in
         let read : old ≡ head.0 ++ (p ∷ rest) = is ∙ of_old.read in
         record {
           head = head.0;
           counted = sym (first-place old head.0 rest p start read others at (once-before head.0 rest p (subst IsOnce read once)));
+          cell = cell_by r;
           of_old = of_old;
-          of_new = opened n k.new_left k.new_threaded refl refl;
+          of_new = opened n k.new_left k.new_threaded refl;
         }
 
 -- ---- the end
-module _ (m n : Remembered) (front back : ℕ) (old : List ℕ) (k : AreAlike m n front back) (is : old ≡ chain_read m) (once : IsOnce old) (right : Sign) (start from : ℕ) (within : from ≤ front) (c d : Step) (g0 g1 g2 : List ℕ) (end : ℕ) (o : AreOpened m n right start from c g0)
+module _ (m n : Remembered) (front back : ℕ) (old : List ℕ) (k : AreAlike m n front back) (is : old ≡ chain_read m) (once : IsOnce old) (old_right right : Sign) (start from : ℕ) (within : from ≤ front) (c d : Step) (g0 g1 g2 : List ℕ) (end : ℕ) (o : AreOpened m n old_right right start from c g0)
     (part behind : List Record) (part_is : part ≡ drop from (take (length n.records - back) n.records)) (behind_is : behind ≡ drop (length n.records - back) n.records)
     (walked : g1 ≡ g0 ++ changes_of (last_item g0) (gifts_before c part)) (after : d ≡ cell_after c part) where
-  abbrev of_old : IsOpened m right o.head from c g0
+  abbrev of_old : IsOpened m old_right o.head from o.cell g0
   of_old = o.of_old
 
   abbrev of_new : IsOpened n right o.head from c g0
@@ -139,7 +136,7 @@ module _ (m n : Remembered) (front back : ℕ) (old : List ℕ) (k : AreAlike m 
 
   pub again-whole : (rt : End) → right_above rt ≡ right → IsReadWhole old behind d rt g1 g2 end → IsReadAgain old (chain_read n) g2 start end
   again-whole rt same w =
-      let rest = g0 ++ changes_of (last_item g0) (gifts c (drop from m.records) right) in
+      let rest = g0 ++ changes_of (last_item g0) (gifts o.cell (drop from m.records) old_right) in
       let read : old ≡ o.head ++ rest = is ∙ of_old.read in
       let long : length old ≡ start + length rest = ap length read ∙ length-append o.head rest ∙ ap (λ (i : ℕ). i + length rest) o.counted in
       let given : g0 ++ changes_of (last_item g0) (gifts c (drop from n.records) right) ≡ g2 =
@@ -153,21 +150,31 @@ module _ (m n : Remembered) (front back : ℕ) (old : List ℕ) (k : AreAlike m 
             ∙ ap₂ (λ (x y : List ℕ). x ++ (g2 ++ y)) (sym (stays rest read)) (sym (ap (λ (i : ℕ). drop i old) w.all ∙ drop_of_length-le old (omega arith)));
       }
 
-  pub again-until : IsReadUntil old behind d g1 g2 end → IsReadAgain old (chain_read n) g2 start end
-  again-until w =
+  -- where something is shared at the end
+  shared-end : (r : Record) (bs : List Record) → behind ≡ r ∷ bs → 0 < back
+  shared-end r bs e =
+      let long = ap length behind_is in
+      let some = ap length e in
+      let count = length-drop (length n.records - back) n.records in
+      omega (arith, long, some, count)
+
+  pub again-until : (0 < back → old_right ≡ right) → IsReadUntil old behind d g1 g2 end → IsReadAgain old (chain_read n) g2 start end
+  again-until same_end w =
       let r = w.first in
       let bs = w.others in
       let q = w.point in
-      let threaded : (l : Remembered) (xs : List Record) → IsThreaded c (drop from l.records) → drop from l.records ≡ xs ++ behind → IsThreaded c (xs ++ (r ∷ bs)) = λ l xs t e. subst (λ (ys : List Record). IsThreaded c (xs ++ ys)) w.is (subst (IsThreaded c) e t) in
-      let old-t = threaded m old-part of_old.threaded old-split in
-      let new-t = threaded n part of_new.threaded new-split in
+      let same = same_end (shared-end r bs w.is) in
+      let threaded : (x : Step) (l : Remembered) (xs : List Record) → IsThreaded x (drop from l.records) → drop from l.records ≡ xs ++ behind → IsThreaded x (xs ++ (r ∷ bs)) = λ x l xs t e. subst (λ (ys : List Record). IsThreaded x (xs ++ ys)) w.is (subst (IsThreaded x) e t) in
+      let old-t = threaded o.cell m old-part of_old.threaded old-split in
+      let new-t = threaded c n part of_new.threaded new-split in
       let tail = given-first (cell_by r) bs right q w.upper in
       let v = changes_of (Some q) tail.0 in
-      let old-until = g0 ++ changes_of (last_item g0) (gifts_before c (old-part ++ r ∷ []) ++ q ∷ []) in
-      let ends = until-ends c g0 old-part r bs right q old-t w.upper in
+      let old-until = g0 ++ changes_of (last_item g0) (gifts_before o.cell (old-part ++ r ∷ []) ++ q ∷ []) in
+      let ends = until-ends o.cell g0 old-part r bs right q old-t w.upper in
       let old-read : old ≡ o.head ++ (old-until ++ v) =
-      is ∙ of_old.read ∙ ap (λ (l : List Record). o.head ++ (g0 ++ changes_of (last_item g0) (gifts c l right))) (old-split ∙ ap (λ (ys : List Record). old-part ++ ys) w.is)
-      ∙ ap (λ (l : List ℕ). o.head ++ l) (end-read c g0 old-part r bs right q old-t w.upper tail.0 tail.1) in
+      is ∙ of_old.read ∙ ap (λ (s : Sign). o.head ++ (g0 ++ changes_of (last_item g0) (gifts o.cell (drop from m.records) s))) same
+      ∙ ap (λ (l : List Record). o.head ++ (g0 ++ changes_of (last_item g0) (gifts o.cell l right))) (old-split ∙ ap (λ (ys : List Record). old-part ++ ys) w.is)
+      ∙ ap (λ (l : List ℕ). o.head ++ l) (end-read o.cell g0 old-part r bs right q old-t w.upper tail.0 tail.1) in
       let until : g0 ++ changes_of (last_item g0) (gifts_before c (part ++ r ∷ []) ++ q ∷ []) ≡ g2 =
       ap (λ (l : List ℕ). g0 ++ changes_of (last_item g0) (l ++ q ∷ [])) (before-append c part (r ∷ []))
       ∙ ap (λ (l : List ℕ). g0 ++ changes_of (last_item g0) l) (append_assoc (gifts_before c part) (gifts_before (cell_after c part) (r ∷ [])) (q ∷ []))
@@ -191,23 +198,20 @@ module _ (m n : Remembered) (front back : ℕ) (old : List ℕ) (k : AreAlike m 
       }
 
 -- ---- what two lists share
--- two lists with the same ends are alike where they share records
-pub alike_where : (old new : Remembered) (o : Option Shared) (w : Shared) {e f : End} → old.left ≡ Some e → IsThreaded (first_cell e) old.records → new.left ≡ Some f → IsThreaded (first_cell f) new.records → AreShared w old.records new.records
-    → IfSome o (λ k. k ≡ w) → IfSome o (λ k. old.left ≡ new.left) → IfSome o (λ k. old.right ≡ new.right) → IfSome o (λ k. AreAlike old new k.front k.back)
-alike_where old new None w left t left' t' k is same-left same-right = tt
-alike_where old new (Some v) w {e} {f} left t left' t' k is same-left same-right =
-    let both : Some f ≡ Some e = sym left' ∙ sym same-left ∙ left in
-    let one : f ≡ e = cc in
-    subst (λ (x : Shared). AreAlike old new x.front x.back) (sym is)
-    (record {
-      left = e;
-      old_left = left;
-      new_left = sym same-left ∙ left;
-      right = same-right;
-      old_threaded = t;
-      new_threaded = subst (λ (x : End). IsThreaded (first_cell x) new.records) one t';
-      old_room = k.room;
-      new_room = k.other_room;
-      in_front = same-takes old.records new.records w.front (let r = k.room in omega (arith, r)) (let r = k.other_room in omega (arith, r)) k.front_is;
-      at_end = same-drops old.records new.records w.back (let r = k.room in omega (arith, r)) (let r = k.other_room in omega (arith, r)) k.back_is;
-    })
+-- two lists are alike where they share records, with the end beside them
+pub alike_where : (old new : Remembered) (v w : Shared) {e f : End} → old.left ≡ Some e → IsThreaded (first_cell e) old.records → new.left ≡ Some f → IsThreaded (first_cell f) new.records → AreShared w old.records new.records
+    → v.front ≤ w.front → v.back ≤ w.back → (0 < v.front → old.left ≡ new.left) → (0 < v.back → AreSameEnds old.right new.right) → AreAlike old new v.front v.back
+alike_where old new v w {e} {f} left t left' t' k front back same-left same-right = record {
+  old_end = e;
+  new_end = f;
+  old_left = left;
+  new_left = left';
+  left = λ some. let both : Some e ≡ Some f = sym left ∙ same-left some ∙ left' in cc;
+  right = same-right;
+  old_threaded = t;
+  new_threaded = t';
+  old_room = let r = k.room in omega (arith, r, front, back);
+  new_room = let r = k.other_room in omega (arith, r, front, back);
+  in_front = same-takes old.records new.records v.front (let r = k.room in omega (arith, r, front)) (let r = k.other_room in omega (arith, r, front)) (λ j l. k.front_is j (omega (arith, l, front)));
+  at_end = same-drops old.records new.records v.back (let r = k.room in omega (arith, r, back)) (let r = k.other_room in omega (arith, r, back)) (λ j l. k.back_is j (omega (arith, l, back)));
+}

@@ -1,5 +1,5 @@
 -- How a chain is read again where its list has changed.
-use Rattle.std.specs.Prelude.{◌≡◌, ℕ, ◌+◌, ◌-◌, ◌≤◌, false, List, [], ◌∷◌, ◌++◌, length, take, drop, Some}
+use Rattle.std.specs.Prelude.{◌≡◌, ℕ, ◌+◌, ◌-◌, ◌≤◌, false, List, [], ◌∷◌, ◌++◌, length, take, drop, Option, Some, ◌<◌, unwrap_or}
 use Rattle.kin_algebra.specs.declared.sign.Sign.{Sign}
 use Rattle.kin_motion.specs.Cells.{above_of, changes_of}
 use Rattle.kin_motion.specs.Numbers.{is_in}
@@ -9,29 +9,40 @@ use Rattle.kin_overlay.specs.declared.walk.Cell.{Cell as Step}
 use Rattle.kin_overlay.specs.Remembered.{Remembered}
 use Rattle.kin_overlay.specs.Walks.{above_by, right_above, last_item, first_cell, gifts_before, gifts, chain_read, cell_by, IsThreaded}
 
--- both lists have the same ends, the same first `front` records and the same last `back` ones; the records of each have the current points of its cells
+-- there is an end, and both are the same
+abbrev pub AreSameEnds : Option End → Option End → Type 0
+AreSameEnds one other = (e : End) × (one ≡ Some e) × (other ≡ Some e)
+
+-- both lists have the same first `front` records, and the same left end if there are any, and the same last `back` ones, and the same right end if there are any; the records of each have the current points of its cells
 pub record AreAlike (old new : Remembered) (front back : ℕ) : Type 0 where
-  pub left : End
-  pub old_left : old.left ≡ Some left
-  pub new_left : new.left ≡ Some left
-  pub right : old.right ≡ new.right
-  pub old_threaded : IsThreaded (first_cell left) old.records
-  pub new_threaded : IsThreaded (first_cell left) new.records
+  pub old_end : End
+  pub new_end : End
+  pub old_left : old.left ≡ Some old_end
+  pub new_left : new.left ≡ Some new_end
+  pub left : 0 < front → old_end ≡ new_end
+  pub right : 0 < back → AreSameEnds old.right new.right
+  pub old_threaded : IsThreaded (first_cell old_end) old.records
+  pub new_threaded : IsThreaded (first_cell new_end) new.records
   pub old_room : front + back ≤ length old.records
   pub new_room : front + back ≤ length new.records
   pub in_front : take front old.records ≡ take front new.records
   pub at_end : drop (length old.records - back) old.records ≡ drop (length new.records - back) new.records
+
+-- the sign at the right outer end of a list with this left end, which is the only one where there is no other
+abbrev pub right_of : Remembered → End → Sign
+right_of l left = right_above (unwrap_or l.right left)
 
 -- the chain read off m is `head`, then what is given already, then what the cells give from this one on, where the sign at the right outer end is `right`
 pub record IsOpened (m : Remembered) (right : Sign) (head : List ℕ) (from : ℕ) (c : Step) (given : List ℕ) : Type 0 where
   pub read : chain_read m ≡ head ++ (given ++ changes_of (last_item given) (gifts c (drop from m.records) right))
   pub threaded : IsThreaded c (drop from m.records)
 
--- both chains begin with the same `start` numbers, and go on from the same cell
-pub record AreOpened (old new : Remembered) (right : Sign) (start from : ℕ) (c : Step) (given : List ℕ) : Type 0 where
+-- both chains begin with the same `start` numbers, and go on from a cell of each
+pub record AreOpened (old new : Remembered) (old_right right : Sign) (start from : ℕ) (c : Step) (given : List ℕ) : Type 0 where
   pub head : List ℕ
   pub counted : length head ≡ start
-  pub of_old : IsOpened old right head from c given
+  pub cell : Step
+  pub of_old : IsOpened old old_right head from cell given
   pub of_new : IsOpened new right head from c given
 
 -- all that is left was given

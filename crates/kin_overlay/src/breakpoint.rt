@@ -1,6 +1,6 @@
 //! Breakpoints of chains.
 
-ghost use Rattle.std.specs.Prelude.{◌≡◌, ◌↔◌, IsTrue, option_map};
+ghost use Rattle.std.specs.Prelude.{◌≡◌, ◌↔◌, ◌||◌, nat_eq, IsTrue, option_map};
 ghost use Rattle.kin_motion.specs.declared.form.Form.TheVariants.{Turn};
 ghost use Rattle.kin_motion.specs.Merges.{breakpoints_of, slope_form};
 ghost use Rattle.kin_overlay.specs.Lists.{first_of};
@@ -38,6 +38,14 @@ impl Breakpoint {
         ensures { IsTrue result ↔ (self ≡ other) }
     {
         self.half == other.half && self.left == other.left && self.right == other.right
+    }
+
+    /// Whether this number is one of its points.
+    #[inline(always)]
+    pub fn names(self, no: u32) -> bool
+        ensures { result ≡ (nat_eq no self.left || nat_eq no self.right) }
+    {
+        no == self.left || no == self.right
     }
 
     /// The form that is positive where the point lies above the line through both.

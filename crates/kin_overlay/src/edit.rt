@@ -93,6 +93,9 @@ pub fn edit_list(
     ensures dropped { OnOk result (dropped.new.items ≡ dropped.old.items ++ dropped_by edits.now list.old.items) }
     ensures gone { OnOk result (gone.new.items ≡ gone.old.items ++ dropped_by edits.now list.old.items) }
 {
+    if edits.is_empty() {
+        return Ok(());
+    }
     let before = dropped.len();
     carry_out(edits, list, dropped, spare)?;
     gone.extend_from_slice(&dropped[before..])?;

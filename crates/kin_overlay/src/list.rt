@@ -2,6 +2,7 @@
 
 ghost use Rattle.std.specs.Prelude.{◌≡◌, ◌⊎◌, ◌+◌, ◌<◌, ◌≤◌, ◌↔◌, false, [], ◌∷◌, ◌++◌, Some, None, Contains, MatchOption, length, slice_get, IsTrue, OnOk, IfOk};
 ghost use Rattle.kin_motion.specs.Numbers.{is_in, IsOnce};
+ghost use Rattle.kin_overlay.specs.Reading.{AreSameEnds};
 ghost use Rattle.kin_overlay.specs.Remembered.{facts_of, left_points, end_facts};
 ghost use Rattle.kin_overlay.specs.Reports.{IsLeftBetween, IsBetween};
 
@@ -155,6 +156,23 @@ impl BreakpointList {
         ensures right { IsTrue result → self.now.right ≡ other.now.right }
     {
         are_same(self.left, other.left) && are_same(self.right, other.right)
+    }
+
+    /// True only if the left outer end is that of another list, with the same signs.
+    pub fn has_same_left(&self, other: &BreakpointList) -> bool
+        ensures { IsTrue result → self.now.left ≡ other.now.left }
+    {
+        are_same(self.left, other.left)
+    }
+
+    /// True only if there is a right outer end, and it is that of another list, with the same signs.
+    pub fn has_same_right(&self, other: &BreakpointList) -> bool
+        ensures { IsTrue result → AreSameEnds self.now.right other.now.right }
+    {
+        match (self.right, other.right) {
+            (Some(one), Some(other)) => one.is(other),
+            _ => false,
+        }
     }
 
     /// Whether the fact is remembered, which isn't at one of these records at both ends. The search

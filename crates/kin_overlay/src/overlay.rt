@@ -11,11 +11,11 @@ ghost use Rattle.kin_overlay.specs.Diffs.{KeepOrder, ArePutApart};
 ghost use Rattle.kin_overlay.specs.Fingers.{AreLive, AreLess};
 ghost use Rattle.kin_overlay.specs.Overlays.{told, told_chain, names_any, names_gone, ArePutsApart, IsUnedited, IsReady, IsAtRest, IsSettled, IsSameMerge, IsRepaired};
 
-use crate::edit::{ChainEdit, edit_list};
+use crate::edit::ChainEdit;
 use crate::half::Half;
 use crate::list::BreakpointList;
 use crate::names::names_any;
-use crate::notes::Notes;
+use crate::notes::Pad;
 use crate::reading::renew;
 use crate::report::tell_missing;
 use crate::shared::Shared;
@@ -51,10 +51,8 @@ pub struct Overlay {
     /// From the merged chain before the last `settle` to the present one, unless they were swapped.
     edits: Vec<ChainEdit>,
     /// Of the waiting edits.
-    notes: Notes,
+    notes: Pad,
     stage: Stage,
-    /// A buffer for numbers.
-    spare: Vec<u32>,
 }
 
 /// A given chain may grow by this many points before it allocates again.
@@ -76,9 +74,9 @@ impl Model for Overlay {
 
     ghost Value = { Merge };
 
-    ghost view = { λ o. record { part = o.part; a = o.a.items; b = o.b.items; facts = all_placed o.part (facts_of o.list); chain = o.chain.items; edits = o.edits.items; gone = o.notes.gone.items; put_a = o.notes.put_a.items; put_b = o.notes.put_b.items; drop_a = o.notes.drop_a.items; drop_b = o.notes.drop_b.items; stage = o.stage } };
+    ghost view = { λ o. record { part = o.part; a = o.a.items; b = o.b.items; facts = all_placed o.part (facts_of o.list); chain = o.chain.items; edits = o.edits.items; gone = o.notes.gone; put_a = o.notes.put_a; put_b = o.notes.put_b; drop_a = o.notes.drop_a; drop_b = o.notes.drop_b; stage = o.stage } };
 
-    ghost invariant = { λ o. UnlessBroken o.stage (IsSound o.part o.list o.chain.items o.notes.put_a.items o.notes.put_b.items o.notes.drop_a.items o.notes.drop_b.items o.notes.gone.items o.a.items o.b.items) };
+    ghost invariant = { λ o. UnlessBroken o.stage (IsSound o.part o.list o.chain.items o.notes.put_a o.notes.put_b o.notes.drop_a o.notes.drop_b o.notes.gone o.a.items o.b.items) };
 }
 
 impl Overlay {
@@ -115,7 +113,8 @@ impl Overlay {
         ensures tests { IsOk result → steps.new + 5 * length out.old.born ≤ steps.old + 5 * length out.new.born }
     {
         let room = a.len().saturating_add(b.len());
-        let mut list = BreakpointList::with_room(alloc, room)?;
+        // A chain has one breakpoint fewer than points.
+        let mut list = BreakpointList::with_room(alloc, room.saturating_sub(2))?;
         let none = BreakpointList::new(alloc);
         let standing = Standing {
             list: &none,
@@ -135,9 +134,8 @@ impl Overlay {
             list,
             chain,
             edits: Vec::new(alloc),
-            notes: Notes::new(alloc),
+            notes: Pad::none(),
             stage: Stage::Rest,
-            spare: Vec::new(alloc),
         })
     }
 
@@ -165,9 +163,7 @@ impl Overlay {
         ensures broken { OnErr result (self.new.stage ≡ Broken) }
     {
         self.stage = Stage::Broken;
-        let (chain, notes) = (&mut self.a, &mut self.notes);
-        let (put, dropped) = (&mut notes.put_a, &mut notes.drop_a);
-        edit_list(edits, chain, put, dropped, &mut notes.gone, &mut self.spare)?;
+        self.notes.edit_a(self.alloc, edits, &mut self.a)?;
         self.stage = Stage::Told;
         Ok(())
     }
@@ -180,9 +176,7 @@ impl Overlay {
         ensures broken { OnErr result (self.new.stage ≡ Broken) }
     {
         self.stage = Stage::Broken;
-        let (chain, notes) = (&mut self.b, &mut self.notes);
-        let (put, dropped) = (&mut notes.put_b, &mut notes.drop_b);
-        edit_list(edits, chain, put, dropped, &mut notes.gone, &mut self.spare)?;
+        self.notes.edit_b(self.alloc, edits, &mut self.b)?;
         self.stage = Stage::Told;
         Ok(())
     }
@@ -207,11 +201,11 @@ impl Overlay {
         let standing = Standing {
             list: &self.list,
             failed,
-            gone: &self.notes.gone,
+            gone: self.notes.gone(),
         };
         let puts = Puts {
-            a: &self.notes.put_a,
-            b: &self.notes.put_b,
+            a: self.notes.put_a(),
+            b: self.notes.put_b(),
         };
         let (made, drawing) = (&mut work.list, &mut work.drawing);
         let known = made.merge(&self.a, &self.b, puts, &standing, drawing, now, steps)?;
@@ -228,7 +222,7 @@ impl Overlay {
             chain,
             edits,
             &mut work.points,
-            &mut self.spare,
+            &mut work.spare,
         )?;
         self.list.copy(&work.list)?;
         self.notes.clear();
@@ -282,7 +276,6 @@ impl Overlay {
         if self.notes.are_blank() {
             work.notes.clear();
             swap(&mut self.notes, &mut work.notes);
-            swap(&mut self.spare, &mut work.spare);
         }
     }
 
@@ -290,7 +283,7 @@ impl Overlay {
     pub fn spares(&self, fact: &Placed) -> bool
         ensures { result ≡ names_gone self.now fact.now }
     {
-        names_any(&fact.fact.form, &self.notes.gone)
+        names_any(&fact.fact.form, self.notes.gone())
     }
 }
 

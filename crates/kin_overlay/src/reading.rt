@@ -1,12 +1,12 @@
 //! The merged chain is read again where its list has changed.
 
-ghost use Rattle.std.specs.Prelude.{◌≡◌, ◌⊎◌, ◌≤◌, ◌+◌, ◌++◌, ℕ, length, take, drop, Some, IfSome, OnOk, IfOk, unwrap_or};
+ghost use Rattle.std.specs.Prelude.{◌≡◌, ◌⊎◌, ◌≤◌, ◌+◌, ◌++◌, ℕ, length, take, drop, Some, OnOk, IfOk};
 ghost use Rattle.kin_motion.specs.Edits.{all_edited, AreFitting};
 ghost use Rattle.kin_motion.specs.Numbers.{IsOnce};
 ghost use Rattle.kin_overlay.specs.Diffs.{KeepOrder, ArePutApart};
-ghost use Rattle.kin_overlay.specs.Reading.{AreAlike, AreOpened, IsReadWhole, IsReadUntil, IsReadAgain};
+ghost use Rattle.kin_overlay.specs.Reading.{AreAlike, AreOpened, IsReadWhole, IsReadUntil, IsReadAgain, right_of};
 ghost use Rattle.kin_overlay.specs.Remembered.{Remembered as Meaning};
-ghost use Rattle.kin_overlay.specs.Walks.{right_above, chain_read};
+ghost use Rattle.kin_overlay.specs.Walks.{chain_read};
 
 use crate::diff::{count_before, diff_middle};
 use crate::edit::ChainEdit;
@@ -14,7 +14,7 @@ use crate::end::End;
 use crate::list::BreakpointList;
 use crate::record::Record;
 use crate::shared::Shared;
-use crate::walk::{Cell, give, merged_chain, walk};
+use crate::walk::{Cell, give, walk};
 use std::alloc::{AllocError, Global};
 
 /// What is read again of a chain: from `start` up to `end`.
@@ -45,7 +45,7 @@ fn open_at(
     requires left { list.now.left ≡ Some left }
     requires room { front ≤ length list.now.records }
     ensures within { IfOk result (λ o. o.from ≤ front) }
-    ensures opened { IfOk result (λ o. (m : Meaning) (back : ℕ) → AreAlike m list.now front back → old.now ≡ chain_read m → IsOnce old.now → AreOpened m list.now (right_above (unwrap_or list.now.right left)) o.start o.from o.cell given.new.items) }
+    ensures opened { IfOk result (λ o. (m : Meaning) (back : ℕ) → (k : AreAlike m list.now front back) → old.now ≡ chain_read m → IsOnce old.now → AreOpened m list.now (right_of m k.old_end) (right_of list.now left) o.start o.from o.cell given.new.items) }
 {
     given.clear();
     let whole = Opening {
@@ -117,27 +117,6 @@ pub fn read_again(
     })
 }
 
-/// Reads a chain again: whole where nothing is given as shared.
-fn read_middle(
-    old: &[u32],
-    list: &BreakpointList,
-    same: Option<Shared>,
-    given: &mut Vec<u32>,
-) -> Result<Middle, AllocError>
-    requires room { IfSome same (λ w. w.front + w.back ≤ length list.now.records) }
-    ensures { IfOk result (λ w. (m : Meaning) → IfSome same (λ k. AreAlike m list.now k.front k.back) → old.now ≡ chain_read m → IsOnce old.now → IsReadAgain old.now (chain_read list.now) given.new.items w.start w.end) }
-{
-    if let Some(shared) = same {
-        let middle = read_again(old, list, shared, given)?;
-        return Ok(middle);
-    }
-    merged_chain(list, given)?;
-    Ok(Middle {
-        start: 0,
-        end: old.len(),
-    })
-}
-
 /// Puts these numbers in place of the middle of a list. `spare` is a buffer, whose content is lost.
 fn put_in(
     list: &mut Vec<u32>,
@@ -157,26 +136,29 @@ fn put_in(
 }
 
 /// Makes a chain the one that is read off a list, and the edits that lead to it. `same` says what the
-/// list shares with the one off which the chain was read, where both have the same outer ends.
+/// list shares with the one off which the chain was read, with the outer end beside it.
 /// `given` and `spare` are buffers, whose content is lost.
 pub fn renew(
     alloc: Global,
     list: &BreakpointList,
-    same: Option<Shared>,
+    same: Shared,
     chain: &mut Vec<u32>,
     edits: &mut Vec<ChainEdit>,
     given: &mut Vec<u32>,
     spare: &mut Vec<u32>,
 ) -> Result<(), AllocError>
     requires once { IsOnce chain.old.items }
-    requires read { (m : Meaning) × (chain.old.items ≡ chain_read m) × IfSome same (λ k. AreAlike m list.now k.front k.back) }
+    requires read { (m : Meaning) × (chain.old.items ≡ chain_read m) × AreAlike m list.now same.front same.back }
     ensures read { OnOk result (chain.new.items ≡ chain_read list.now) }
     ensures lead { OnOk result (all_edited edits.new.items chain.old.items ≡ chain.new.items) }
     ensures fit { OnOk result (AreFitting edits.new.items chain.old.items) }
     ensures apart { OnOk result (KeepOrder chain.old.items chain.new.items → ArePutApart edits.new.items chain.old.items) }
 {
-    let middle = read_middle(chain, list, same, given)?;
+    let middle = read_again(chain, list, same, given)?;
     let old = &chain[middle.start..middle.end];
     diff_middle(alloc, middle.start, old, given, edits)?;
+    if edits.is_empty() {
+        return Ok(());
+    }
     put_in(chain, middle, given, spare)
 }

@@ -1,6 +1,8 @@
 //! What is remembered at a breakpoint.
 
-ghost use Rattle.std.specs.Prelude.{◌≡◌, ◌↔◌, IsTrue, option_to_list};
+ghost use Rattle.std.specs.Prelude.{◌≡◌, ◌↔◌, IsTrue, IsFalse, false, Contains, option_to_list};
+ghost use Rattle.kin_motion.specs.declared.fact.Fact.{Fact as Claim};
+ghost use Rattle.kin_motion.specs.Forms.{names};
 ghost use Rattle.kin_overlay.specs.Remembered.{turn_fact, slope_facts};
 
 use crate::breakpoint::Breakpoint;
@@ -37,6 +39,25 @@ impl Record {
             && self.across == other.across
             && self.turn == other.turn
             && are_same(self.next, other.next)
+    }
+
+    /// Whether the fact of the turn names this number.
+    #[inline(always)]
+    pub fn turn_names(&self, no: u32) -> bool
+        ensures { result ≡ names (turn_fact self.now).form no }
+    {
+        no == self.at.left || no == self.at.right || no == self.across
+    }
+
+    /// Whether the fact of the slope, if there is one, names this number.
+    #[inline(always)]
+    pub fn slope_names(&self, no: u32) -> bool
+        ensures { IsFalse result → (f : Claim) → Contains (slope_facts self.now) f → names f.form no ≡ false }
+    {
+        match self.next {
+            Some(next) => self.at.names(no) || next.at.names(no),
+            None => false,
+        }
     }
 
     /// The fact of the turn.

@@ -94,7 +94,7 @@ fn tell_end(
 }
 
 /// Reports the facts of one list that the other one doesn't have. It skips the records that both
-/// share.
+/// share, and the outer ends where both have the same.
 pub fn tell_missing(
     list: &BreakpointList,
     other: &BreakpointList,
@@ -107,6 +107,9 @@ pub fn tell_missing(
 {
     tell_turns(list, other, shared, part, told)?;
     tell_slopes(list, other, shared, part, told)?;
+    if list.has_same_ends(other) {
+        return Ok(());
+    }
     tell_end(list.left(), other, part, told)?;
     tell_end(list.right(), other, part, told)?;
     Ok(())

@@ -1,6 +1,7 @@
 //! The records that two lists of breakpoints share at their ends.
 
-ghost use Rattle.std.specs.Prelude.{◌≡◌, ℕ, ◌+◌, ◌-◌, ◌<◌, ◌≤◌, length, slice_get, IfSome};
+ghost use Rattle.std.specs.Prelude.{◌≡◌, ℕ, ◌+◌, ◌-◌, ◌<◌, ◌≤◌, length, slice_get};
+ghost use Rattle.kin_overlay.specs.Reading.{AreSameEnds};
 ghost use Rattle.kin_overlay.specs.Reports.{AreShared};
 
 use crate::list::BreakpointList;
@@ -20,16 +21,25 @@ impl Shared {
         Shared { front: 0, back: 0 }
     }
 
-    /// What two lists share, where their outer ends are the same.
-    pub fn with_ends(self, one: &BreakpointList, other: &BreakpointList) -> Option<Shared>
-        ensures same { IfSome result (λ w. w ≡ self) }
-        ensures left { IfSome result (λ w. one.now.left ≡ other.now.left) }
-        ensures right { IfSome result (λ w. one.now.right ≡ other.now.right) }
+    /// What two lists share with the outer end beside it: nothing at the front where their left ends
+    /// differ, and nothing at the end where their right ones do.
+    pub fn with_ends(self, one: &BreakpointList, other: &BreakpointList) -> Shared
+        ensures front { result.front ≤ self.front }
+        ensures back { result.back ≤ self.back }
+        ensures left { 0 < result.front → one.now.left ≡ other.now.left }
+        ensures right { 0 < result.back → AreSameEnds one.now.right other.now.right }
     {
-        if one.has_same_ends(other) {
-            Some(self)
-        } else {
-            None
+        Shared {
+            front: if one.has_same_left(other) {
+                self.front
+            } else {
+                0
+            },
+            back: if one.has_same_right(other) {
+                self.back
+            } else {
+                0
+            },
         }
     }
 

@@ -43,7 +43,7 @@ fn has_failed(failed: &[Placed], fact: Fact) -> bool
 
 /// Whether a fact names one of the numbers that have left.
 #[inline(always)]
-pub fn names_gone(fact: Fact, gone: &[u32]) -> bool
+fn names_gone(fact: Fact, gone: &[u32]) -> bool
     ensures { result ≡ names_any fact.form gone.now }
 {
     !gone.is_empty() && names_any(&fact.form, gone)

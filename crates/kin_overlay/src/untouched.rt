@@ -11,10 +11,11 @@ ghost use Rattle.kin_overlay.specs.Spans.{IsNextOf};
 
 use crate::half::Half;
 use crate::list::BreakpointList;
+use crate::names::is_one_of;
 use crate::record::Record;
 use crate::resort::goes_first;
 use crate::sketch::Puts;
-use crate::standing::{Standing, names_gone};
+use crate::standing::Standing;
 use kin_motion::fact::Placed;
 use kin_motion::form::Form;
 
@@ -49,13 +50,12 @@ fn names_some(noted: &Record, gone: &[u32]) -> bool
     ensures turn { IsFalse result → names_any (turn_fact noted.now).form gone.now ≡ false }
     ensures slope { IsFalse result → (f : Claim) → Contains (slope_facts noted.now) f → names_any f.form gone.now ≡ false }
 {
-    if names_gone(noted.turn_fact(), gone) {
-        return true;
+    for no in gone {
+        if noted.turn_names(*no) || noted.slope_names(*no) {
+            return true;
+        }
     }
-    match noted.slope_fact() {
-        Some(fact) => names_gone(fact, gone),
-        None => false,
-    }
+    false
 }
 
 /// Whether the right point of the breakpoint was put into its half.
@@ -64,8 +64,8 @@ fn is_put(noted: &Record, puts: Puts) -> bool
     ensures { result ≡ is_in noted.now.at.right (put_of noted.now.at.half puts.entry.a.now puts.entry.b.now) }
 {
     match noted.at.half {
-        Half::A => puts.a.contains(&noted.at.right),
-        Half::B => puts.b.contains(&noted.at.right),
+        Half::A => is_one_of(noted.at.right, puts.a),
+        Half::B => is_one_of(noted.at.right, puts.b),
     }
 }
 

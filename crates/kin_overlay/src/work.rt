@@ -5,7 +5,7 @@ ghost use Rattle.std.specs.Prelude.{◌≡◌, []};
 use crate::edit::ChainEdit;
 use crate::list::BreakpointList;
 use crate::merge::Drawing;
-use crate::notes::Notes;
+use crate::notes::Pad;
 use std::alloc::Global;
 use std::marker::Model;
 use std::mem::swap;
@@ -22,9 +22,11 @@ pub struct Work {
     /// A buffer for numbers.
     pub(crate) spare: Vec<u32>,
     /// The memory of notes that no merge needs now.
-    pub(crate) notes: Notes,
-    /// The memory of a list of edits that no merge needs now.
+    pub(crate) notes: Pad,
+    /// The memory of two lists of edits that no merge needs now: while a node makes its own, those of a
+    /// half of it are in use.
     edits: Vec<ChainEdit>,
+    more_edits: Vec<ChainEdit>,
 }
 
 impl Model for Work {
@@ -40,8 +42,9 @@ impl Work {
             list: BreakpointList::new(alloc),
             points: Vec::new(alloc),
             spare: Vec::new(alloc),
-            notes: Notes::new(alloc),
+            notes: Pad::none(),
             edits: Vec::new(alloc),
+            more_edits: Vec::new(alloc),
         }
     }
 
@@ -49,20 +52,38 @@ impl Work {
     pub fn lend(&mut self, edits: &mut Vec<ChainEdit>)
         ensures { edits.new.items ≡ edits.old.items }
     {
-        if edits.capacity() == 0 && edits.is_empty() {
+        if edits.capacity() > 0 || !edits.is_empty() {
+            return;
+        }
+        if self.edits.capacity() > 0 {
             self.edits.clear();
             swap(&mut self.edits, edits);
+        } else {
+            self.more_edits.clear();
+            swap(&mut self.more_edits, edits);
         }
     }
 
-    /// Empties a list of edits. If it has more memory than the one here, the two are exchanged.
+    /// Empties a list of edits, and takes its memory if there is room for it.
     pub fn take_back(&mut self, edits: &mut Vec<ChainEdit>)
         ensures { edits.new.items ≡ [] }
     {
         edits.clear();
-        if self.edits.capacity() < edits.capacity() {
+        if self.edits.capacity() == 0 {
             self.edits.clear();
             swap(&mut self.edits, edits);
+        } else if self.more_edits.capacity() < edits.capacity() {
+            self.more_edits.clear();
+            swap(&mut self.more_edits, edits);
+        }
+    }
+
+    /// Takes the memory of a list of edits back where the list is empty.
+    pub fn reclaim(&mut self, edits: &mut Vec<ChainEdit>)
+        ensures { edits.new.items ≡ edits.old.items }
+    {
+        if edits.is_empty() {
+            self.take_back(edits);
         }
     }
 }

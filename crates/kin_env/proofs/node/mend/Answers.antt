@@ -57,7 +57,7 @@ returns g c =
     record {
       of = mended t is k.same last c.requires.real k.rest k.unedited k.settled;
       settled = mended_now t is k.same last k.settled;
-      leads = mended_leads t is k.same last c.swap_edits-2.ensures.edits k.fit k.lead k.apart;
+      leads = mended_leads t is k.same last (c.reclaim.ensures ∙ c.swap_edits-2.ensures.edits) k.fit k.lead k.apart;
       failed = c.clear.ensures.items;
       changed = mended_facts t is k.same last k.delta;
       tests = λ keep_a keep_b. k.tests (apart t is keep_a keep_b);

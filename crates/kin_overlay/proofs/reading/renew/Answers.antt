@@ -1,7 +1,8 @@
-use Rattle.std.proofs.Common.{◌≡◌, refl, sym, ap, ◌∙◌, subst, List, ℕ, ◌-◌, ◌++◌, map, take, drop, Result}
+use Rattle.std.proofs.Common.{◌≡◌, refl, sym, ap, ◌∙◌, subst, List, ℕ, ◌-◌, ◌++◌, map, take, drop, Result, rules}
 use Rattle.std.specs.Prelude.{OnOk}
+use Rattle.std.proofs.lemmas.List.{nil_from_length}
 use Rattle.std.proofs.lemmas.Result.{IfOk-weaker}
-use Rattle.kin_motion.specs.Edits.{all_edited, AreFitting}
+use Rattle.kin_motion.specs.Edits.{Edit, all_edited, AreFitting}
 use Rattle.kin_motion.specs.Numbers.{IsOnce}
 use Rattle.kin_overlay.specs.Diffs.{KeepOrder, ArePutApart, IsDiff}
 use Rattle.kin_overlay.specs.Reading.{IsReadAgain}
@@ -19,11 +20,14 @@ again : (chain seen : List ℕ) (new old : Remembered) (given : List ℕ) (start
     → IsReadAgain chain (chain_read new) given start end
 again chain seen new old given start end is read once k = subst (λ (l : List ℕ). IsReadAgain l (chain_read new) given start end) is (k (is ∙ read) (subst IsOnce (sym is) once))
 
+pub read_again-requires : goal.read_again-requires
+read_again-requires c = record { room = c.requires.read.2.new_room }
+
 pub returns-clause-fit : goal.returns-clause-fit
 returns-clause-fit c =
     let chain = c.args.chain.now.items in
     let new = chain_read c.args.list.now in
-    let given = c.read_middle.new.given.items in
+    let given = c.read_again.new.given.items in
     let start = c.in_ok-middle.middle.start in
     let end = c.in_ok-middle.middle.end in
     let d = c.in_ok-diff_middle.ensures in
@@ -35,7 +39,7 @@ pub returns-clause-lead : goal.returns-clause-lead
 returns-clause-lead c =
     let chain = c.args.chain.now.items in
     let new = chain_read c.args.list.now in
-    let given = c.read_middle.new.given.items in
+    let given = c.read_again.new.given.items in
     let start = c.in_ok-middle.middle.start in
     let end = c.in_ok-middle.middle.end in
     let d = c.in_ok-diff_middle.ensures in
@@ -47,10 +51,24 @@ pub returns-clause-apart : goal.returns-clause-apart
 returns-clause-apart c =
     let chain = c.args.chain.now.items in
     let new = chain_read c.args.list.now in
-    let given = c.read_middle.new.given.items in
+    let given = c.read_again.new.given.items in
     let start = c.in_ok-middle.middle.start in
     let end = c.in_ok-middle.middle.end in
     let d = c.in_ok-diff_middle.ensures in
     let k = again chain c.deref.result.now c.args.list.now c.requires.read.0 given start end c.deref.ensures.value c.requires.read.1 c.requires.once (c.in_ok-middle.ensures c.requires.read.0 c.requires.read.2) in
     let done = renewed-lent start end chain new given c.deref-2.result.now c.deref-3.result.now d.0 c.diff_middle.new.edits.items k c.deref-2.ensures.value c.deref-3.ensures.value d.1 d.2 in
     by c.put_in.result c.put_in.ensures (λ put order. done.2 (subst (KeepOrder chain) (put ∙ ap (λ (l : List ℕ). take start chain ++ (l ++ drop end chain)) c.deref-4.ensures.value ∙ sym k.new_is) order))
+
+-- without edits the chain is the new one
+pub returns-then-is_empty-clause-read : goal.returns-then-is_empty-clause-read
+returns-then-is_empty-clause-read c =
+    let chain = c.args.chain.now.items in
+    let new = chain_read c.args.list.now in
+    let given = c.read_again.new.given.items in
+    let start = c.in_ok-middle.middle.start in
+    let end = c.in_ok-middle.middle.end in
+    let d = c.in_ok-diff_middle.ensures in
+    let k = again chain c.deref.result.now c.args.list.now c.requires.read.0 given start end c.deref.ensures.value c.requires.read.1 c.requires.once (c.in_ok-middle.ensures c.requires.read.0 c.requires.read.2) in
+    let done = renewed-lent start end chain new given c.deref-2.result.now c.deref-3.result.now d.0 c.diff_middle.new.edits.items k c.deref-2.ensures.value c.deref-3.ensures.value d.1 d.2 in
+    let none = nil_from_length c.diff_middle.new.edits.items (search rules) in
+    subst (λ (es : List Edit). all_edited es chain ≡ new) none done.0

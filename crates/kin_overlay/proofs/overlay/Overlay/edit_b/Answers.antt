@@ -1,8 +1,10 @@
-use Rattle.std.proofs.Common.{◌≢◌, sym, subst}
-use Rattle.kin_motion.specs.Edits.{all_edited}
+use Rattle.std.proofs.Common.{◌≢◌, sym, subst, List, ℕ, ◌++◌}
+use Rattle.kin_motion.specs.Edits.{all_edited, dropped_by, put_by}
 use Rattle.kin_overlay.specs.declared.stage.Stage.TheVariants.{Broken}
 use Rattle.kin_overlay.specs.Fingers.{AreLess}
+use Rattle.kin_overlay.specs.Notes.{Noted}
 use Rattle.kin_overlay.specs.Overlays.{Merge}
+use Rattle.kin_overlay.specs.Sound.{IsWhole}
 use Rattle.kin_overlay.proofs.PastLaws.{whole-edited-b}
 use Rattle.kin_overlay.proofs.SoundLaws.{sound}
 use Rattle.kin_overlay.proofs.overlay.Overlay.edit_b.Goals as goal
@@ -12,6 +14,9 @@ invariant_of-self-2 c =
     let o = c.self.inside in
     let usable = subst (λ (m : Merge). m.stage ≢ Broken) (sym c.self.view_is) c.requires.whole in
     let less = subst (λ (m : Merge). AreLess m.a (all_edited c.args.edits.now m.b)) (sym c.self.view_is) c.requires.less in
-    let told = c.in_ok-edit_list.ensures in
+    let told = c.in_ok-edit_b.ensures in
     let kept = sound o.stage _ usable c.self.invariant in
-    record { whole = rw (sym told.list, sym told.put, sym told.dropped, sym told.gone) at (whole-edited-b o.part o.list o.notes.put_a.items o.notes.put_b.items o.notes.drop_a.items o.notes.drop_b.items o.notes.gone.items o.a.items o.b.items c.args.edits.now kept.whole less); read = kept.read; once = kept.once }
+    let es = c.args.edits.now in
+    let whole = whole-edited-b o.part o.list o.notes.put_a o.notes.put_b o.notes.drop_a o.notes.drop_b o.notes.gone o.a.items o.b.items es kept.whole less in
+    let edited = subst (λ (l : List ℕ). IsWhole o.part o.list o.notes.put_a (o.notes.put_b ++ put_by es) o.notes.drop_a (o.notes.drop_b ++ dropped_by es o.b.items) (o.notes.gone ++ dropped_by es o.b.items) o.a.items l) (sym told.chain) whole in
+    record { whole = subst (λ (n : Noted). IsWhole o.part o.list n.put_a n.put_b n.drop_a n.drop_b n.gone o.a.items c.edit_b.new.chain.items) (sym told.noted) edited; read = kept.read; once = kept.once }

@@ -34,13 +34,13 @@ paid g c apart =
     let are = rw (sym c.self.view_is) at apart in
     let listed = rw (sym c.self.view_is) at c.requires.failing in
     c.in_ok-known.ensures.tests w.past
-    (known-past w.past _ _ o.notes.put_a.items o.notes.put_b.items o.notes.gone.items o.a.items o.b.items _ _ c.deref-2.ensures.value c.deref-3.ensures.value c.deref.ensures.value c.deref-4.ensures.value c.deref-5.ensures.value w.is_past
-    (subst (λ (l : List ℕ). AreApart o.notes.put_a.items l) (sym w.a_dropped) are.a) (subst (λ (l : List ℕ). AreApart o.notes.put_b.items l) (sym w.b_dropped) are.b))
+    (known-past w.past _ _ o.notes.put_a o.notes.put_b o.notes.gone o.a.items o.b.items _ _ c.put_a.ensures c.put_b.ensures c.gone.ensures c.deref.ensures.value c.deref-2.ensures.value w.is_past
+    (subst (λ (l : List ℕ). AreApart o.notes.put_a l) (sym w.a_dropped) are.a) (subst (λ (l : List ℕ). AreApart o.notes.put_b l) (sym w.b_dropped) are.b))
     (failed-fail (g.O.Signs.scene c.args.now.now) _ _ c.args.failed.now listed)
 
 -- the new merge
 merged : (g : given.Over) (c : In_ok-copy g) → IsMerged (g.O.Signs.scene c.args.now.now) c.self.inside.a.items c.self.inside.b.items c.copy.new.self
-merged g c = merged-same _ _ _ _ _ _ _ c.deref-4.ensures.value c.deref-5.ensures.value (sym c.in_ok-copy.ensures) c.in_ok-known.ensures.merged
+merged g c = merged-same _ _ _ _ _ _ _ c.deref.ensures.value c.deref-2.ensures.value (sym c.in_ok-copy.ensures) c.in_ok-known.ensures.merged
 
 -- it is settled
 done : (g : given.Over) (c : In_ok-copy g) → IsSettledMerge (g.O.Signs.scene c.args.now.now) c.self.inside.a.items c.self.inside.b.items c.renew.new.chain.items c.self.inside.part (all_placed c.self.inside.part (facts_of c.copy.new.self))
@@ -60,30 +60,30 @@ renew-requires g c =
     let ready = rw (sym c.self.view_is) at c.requires.ready in
     let kept = sound o.stage _ ready.whole c.self.invariant in
     let p = kept.whole.is_past in
-    let new = merged-same _ _ _ _ _ _ _ c.deref-4.ensures.value c.deref-5.ensures.value refl c.in_ok-known.ensures.merged in
+    let new = merged-same _ _ _ _ _ _ _ c.deref.ensures.value c.deref-2.ensures.value refl c.in_ok-known.ensures.merged in
     record {
       once = kept.once;
-      read = (o.list, kept.read, alike_where o.list c.merge.new.self c.with_ends-same.result c.between-shared.result p.merged.left (threaded kept.whole.past.scene _ _ o.list _ p.a_some p.b_some p.merged p.merged.left) new.left (threaded s _ _ c.merge.new.self _ ready.a_some ready.b_some new new.left) c.between-shared.ensures.one c.with_ends-same.ensures.same c.with_ends-same.ensures.left c.with_ends-same.ensures.right);
+      read = (o.list, kept.read, alike_where o.list c.merge.new.self c.with_ends-same.result c.between-shared.result p.merged.left (threaded kept.whole.past.scene _ _ o.list _ p.a_some p.b_some p.merged p.merged.left) new.left (threaded s _ _ c.merge.new.self _ ready.a_some ready.b_some new new.left) c.between-shared.ensures.one c.with_ends-same.ensures.front c.with_ends-same.ensures.back c.with_ends-same.ensures.left c.with_ends-same.ensures.right);
     }
 
 pub merge-requires-clause-a_once : goal.merge-requires-clause-a_once
 merge-requires-clause-a_once g c =
     let s = g.O.Signs.scene c.args.now.now in
     let chain = rw (sym c.self.view_is) at c.requires.ready.a_chain in
-    subst IsOnce (sym c.deref-4.ensures.value) (rising_once s (real_line_laws s c.requires.real) c.self.inside.a.items chain.rising)
+    subst IsOnce (sym c.deref.ensures.value) (rising_once s (real_line_laws s c.requires.real) c.self.inside.a.items chain.rising)
 
 pub merge-requires-clause-b_once : goal.merge-requires-clause-b_once
 merge-requires-clause-b_once g c =
     let s = g.O.Signs.scene c.args.now.now in
     let chain = rw (sym c.self.view_is) at c.requires.ready.b_chain in
-    subst IsOnce (sym c.deref-5.ensures.value) (rising_once s (real_line_laws s c.requires.real) c.self.inside.b.items chain.rising)
+    subst IsOnce (sym c.deref-2.ensures.value) (rising_once s (real_line_laws s c.requires.real) c.self.inside.b.items chain.rising)
 
 pub merge-requires-clause-standing : goal.merge-requires-clause-standing
 merge-requires-clause-standing g c = λ f there u.
     let s = g.O.Signs.scene c.args.now.now in
     let o = c.self.inside in
     let listed = rw (sym c.self.view_is) at c.requires.failing in
-    still-stand s o.part o.list c.args.failed.now o.notes.gone.items listed f there (subst (λ (l : List ℕ). IsUnfailed c.args.failed.now l f) c.deref.ensures.value u)
+    still-stand s o.part o.list c.args.failed.now o.notes.gone listed f there (subst (λ (l : List ℕ). IsUnfailed c.args.failed.now l f) c.gone.ensures u)
 
 pub invariant_of-self-2 : goal.invariant_of-self-2
 invariant_of-self-2 g c =
