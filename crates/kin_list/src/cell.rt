@@ -40,6 +40,7 @@ impl Cell {
     }
 
     /// The link that was reported, if there is one.
+    #[inline(always)]
     pub fn link(self) -> Option<Link>
         ensures { result ≡ link_in self }
     {
