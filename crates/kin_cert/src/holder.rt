@@ -1,4 +1,4 @@
-//! Who holds a key, and how a seat says it in four bytes.
+//! The holder of a key, and how a seat says it in four bytes.
 
 ghost use Rattle.std.specs.Prelude.{◌≡◌, true, Some, IfOk};
 ghost use Rattle.kin_cert.specs.declared.holder.Holder.{Holder as Kept};

@@ -164,7 +164,7 @@ impl Holders {
         }
     }
 
-    /// Takes a bucket that its only fact leaves out of the index, where this has far more buckets than there are facts.
+    /// Lets the bucket of a fact that goes out of the index, where this has far more buckets than there are facts.
     #[inline(always)]
     pub(crate) fn leave(&mut self, key: &Key, facts: usize)
         ensures { MayHaveLeft (holder_of self.old) key.now (holder_of self.new) }
@@ -208,10 +208,10 @@ fn set_seat(seats: &mut Vec<u32>, seat: usize, holder: Holder) -> Result<(), NoM
     ensures err { OnErr result (seats.new ≡ seats.old) }
 {
     let word = word_of(holder)?;
-    let Some(told) = seats.get_mut(seat) else {
+    let Some(place) = seats.get_mut(seat) else {
         return Err(NoMemory);
     };
-    *told = word;
+    *place = word;
     Ok(())
 }
 
@@ -221,10 +221,10 @@ fn share_seat(seats: &mut Vec<u32>, seat: usize, holder: Holder)
     ensures { HasSeated seats.old.items seat (record { id = holder.id; is_shared = true }) seats.new.items }
 {
     let _ = holder;
-    let Some(told) = seats.get_mut(seat) else {
+    let Some(word) = seats.get_mut(seat) else {
         unreachable!()
     };
-    *told = marked(*told);
+    *word = marked(*word);
 }
 
 // Gives a known bucket another holder.
