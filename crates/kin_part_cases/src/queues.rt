@@ -271,3 +271,24 @@ fn entries_come_at_their_moment(rt: HostRuntime) -> Result<(), Fail> {
     assert!(rt; gives(rt.alloc(), &entries, &batches)?);
     Ok(())
 }
+
+/// The ids below 16: the even ones at one moment, the odd ones at the next.
+fn in_turn(alloc: Global) -> Result<Vec<Entry>, NoMemory> {
+    let mut entries = Vec::new(alloc);
+    for id in 0..16 {
+        entries.push((id, moment(id % 2))).map_err(|_| NoMemory)?;
+    }
+    Ok(entries)
+}
+
+/// Eight entries at each of two moments.
+#[test]
+fn many_ties_come_at_their_moment(rt: HostRuntime) -> Result<(), Fail> {
+    let entries = in_turn(rt.alloc())?;
+    let batches = [
+        due(moment(0), &[0, 2, 4, 6, 8, 10, 12, 14]),
+        due(moment(1), &[1, 3, 5, 7, 9, 11, 13, 15]),
+    ];
+    assert!(rt; gives(rt.alloc(), &entries, &batches)?);
+    Ok(())
+}

@@ -8,11 +8,13 @@ use Rattle.std.proofs.lemmas.List.Elements.{All-append, All-from_get_or}
 use Rattle.std.proofs.lemmas.Bool.{cases_eq}
 use Rattle.kin_num.specs.declared.instant.Moment.{Moment}
 use Rattle.kin_num.specs.Canonical.{IsCanonical}
-use Rattle.kin_queue.specs.Heap.{IsHeap, IsRightBelow, IsPlaceOf, MayStandAbove}
-use Rattle.kin_queue.specs.Hole.{IsHollow, Stands, StandsOutside}
+use Rattle.kin_num.specs.Order.{IsEarlier}
+use Rattle.kin_queue.specs.Heap.{IsHeap, IsRightBelow, IsPlaceOf, MayStandAbove, IsWithFirst}
+use Rattle.kin_queue.specs.Hole.{IsHollow, FitsBelow, Stands, StandsOutside}
 use Rattle.kin_queue.proofs.Order.{AtInstant, canonical_at, above_trans}
 use Rattle.kin_queue.proofs.Entries.{look_up, look_up-missed}
 use Rattle.kin_queue.proofs.Contents.{heap_apart}
+use Rattle.kin_queue.proofs.Root.{least_first}
 
 -- one more entry at the end
 module _ (es : List (ℕ × Moment)) (x : ℕ × Moment) where
@@ -86,6 +88,20 @@ module _ (es : List (ℕ × Moment)) (x : ℕ × Moment) where
           (canonical_at es p d canonical_front (omega arith)) (canonical_at es place d canonical_front inside) (canonical_at es c d canonical_front lt)
           (ordered_front p place d b inside) (ordered_front place c d b' lt);
     }
+
+    -- where a least entry goes, nothing above the place is later than the last one
+    pub fits_below_least : (place : ℕ) → place < length es → IsWithFirst (es ++ x ∷ []) place → FitsBelow es place x
+    fits_below_least place inside tied = λ p d b.
+        let all = es ++ x ∷ [] in
+        let low : p < length es = omega arith in
+        let some : 0 < length (es ++ x ∷ []) = let l = longer in omega arith in
+        let up : MayStandAbove (get_or (es ++ x ∷ []) p d) (get_or (es ++ x ∷ []) 0 d) =
+        subst (λ (m : Moment). ¬ (IsEarlier m (get_or (es ++ x ∷ []) p d).1)) ((tied some).1 d) (heap.ordered p place d b (wide place inside)) in
+        let over : MayStandAbove (get_or (es ++ x ∷ []) p d) (get_or (es ++ x ∷ []) (length es) d) =
+        above_trans (get_or all p d) (get_or all 0 d) (get_or all (length es) d)
+        (canonical_at all p d heap.canonical (wide p low)) (canonical_at all 0 d heap.canonical some) (canonical_at all (length es) d heap.canonical at_end)
+        up (least_first all ps heap d (length es) at_end) in
+        subst (MayStandAbove (get_or es p d)) (last d) (subst (λ (k : ℕ × Moment). MayStandAbove k (get_or (es ++ x ∷ []) (length es) d)) (front p d low) over)
 
     -- what is left: the last entry, and what stands outside the place
     pub left_over : (place : ℕ) → place < length es → (e : ℕ × Moment) → ((e ≡ x) ⊎ StandsOutside es place e) ↔ StandsOutside (es ++ x ∷ []) place e

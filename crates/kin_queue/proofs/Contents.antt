@@ -97,5 +97,5 @@ len_entries (e ∷ es) a =
     omega arith
 
 -- how many entries the view of a heap has
-pub counted : (es : List (ℕ × Moment)) (ps : List ℕ) (a : Agenda) → agenda_of es ≡ a → IsHeap es ps → length es ≡ map.len a.moments
-counted es ps a e heap = sym (len_entries es (heap_apart es ps heap)) ∙ ap (λ (x : Agenda). map.len x.moments) e
+pub counted : (es : List (ℕ × Moment)) (ps : List ℕ) (next : ℕ) (a : Agenda) → agenda_of es next ≡ a → IsHeap es ps → length es ≡ map.len a.moments
+counted es ps next a e heap = sym (len_entries es (heap_apart es ps heap)) ∙ ap (λ (x : Agenda). map.len x.moments) e

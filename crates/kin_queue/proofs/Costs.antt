@@ -37,6 +37,13 @@ two_more factor i j old at new (r, e, b) low high h =
       ]
     ]
 
+-- a way down by itself
+pub no_side : (side bound old new : ℕ) → 0 < side → RisesWithin (side * side) bound old new → RisesWithin 1 bound old new
+no_side side bound old new some (r, e, b) =
+    let one : 1 * 1 ≤ side * side = mul-le 1 1 side side some some in
+    let less : 2 ^ r * 1 ≤ 2 ^ r * (side * side) = mul-le (2 ^ r) 1 (2 ^ r) (side * side) (omega arith) (omega arith) in
+    (r, e, omega arith)
+
 -- a way up that ends where it began, and the way down from there
 pub both_ways : (side bound old at new : ℕ) → 0 < side → RisesWithin 1 side old at → RisesWithin (side * side) bound at new → RisesWithin 1 bound old new
 both_ways side bound old at new some (r, e, b) (q, f, c) =

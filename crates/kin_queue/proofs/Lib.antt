@@ -8,8 +8,10 @@ pub mod Filling
 pub mod Contents
 pub mod Begin
 pub mod Opening
+pub mod Taking
 pub mod Steps
 pub mod Root
+pub mod Ties
 pub mod Costs
 pub mod Whole
 pub mod Known

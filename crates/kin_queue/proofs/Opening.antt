@@ -9,11 +9,11 @@ use Rattle.kin_queue.specs.declared.instants.Instants.{Instants}
 use Rattle.kin_queue.specs.declared.ticket.Ticket.{Ticket}
 use Rattle.kin_queue.specs.Tickets.{entry_of, entries_of, IsStamped, AreStamped}
 use Rattle.kin_queue.specs.Cells.{Extends}
-use Rattle.kin_queue.specs.Heap.{IsHeap, IsKeyed}
-use Rattle.kin_queue.specs.Hole.{IsHollow, IsOpen, Stands, StandsOutside}
+use Rattle.kin_queue.specs.Heap.{IsHeap, IsKeyed, IsWithFirst, IsLed}
+use Rattle.kin_queue.specs.Hole.{IsHollow, IsOpen, FitsBelow, Stands, StandsOutside}
 use Rattle.kin_queue.proofs.Entries.{look_up}
 use Rattle.kin_queue.proofs.Tickets.{entries_length, entries_append, entry_there}
-use Rattle.kin_queue.proofs.Begin.{hollow_in, hollow_out, heap_front, outside_last, left_over}
+use Rattle.kin_queue.proofs.Begin.{hollow_in, hollow_out, heap_front, fits_below_least, outside_last, left_over}
 
 -- more known places do no harm
 pub heap_within : (es : List (ℕ × Moment)) (ps qs : List ℕ) → IsHeap es ps → Extends ps qs → IsHeap es qs
@@ -26,8 +26,11 @@ heap_within es ps qs heap more = record {
   ordered = heap.ordered;
 }
 
-pub keyed_within : (ms : Instants) (ts : List Ticket) (ps qs : List ℕ) → IsKeyed ms ts ps → Extends ps qs → IsKeyed ms ts qs
+keyed_within : (ms : Instants) (ts : List Ticket) (ps qs : List ℕ) → IsKeyed ms ts ps → Extends ps qs → IsKeyed ms ts qs
 keyed_within ms ts ps qs keyed more = record { heap = heap_within (entries_of ms ts) ps qs keyed.heap more; stamped = keyed.stamped; few = keyed.few }
+
+pub led_within : (ms : Instants) (ts : List Ticket) (ps qs : List ℕ) (next : ℕ) → IsLed ms ts ps next → Extends ps qs → IsLed ms ts qs next
+led_within ms ts ps qs next led more = record { keyed = keyed_within ms ts ps qs led.keyed more; least = led.least }
 
 module _ (ms : Instants) (ts : List Ticket) (t : Ticket) where
   abbrev es : List (ℕ × Moment)
@@ -75,6 +78,9 @@ module _ (ms : Instants) (ts : List Ticket) (t : Ticket) where
       stamped_hand = subst (IsStamped ms) (get_or-append_seam ts t [] t) (keyed.stamped (length ts) t (let l = longer in omega arith));
       few = fewer;
     }
+
+    pub fits_below_tied : (place : ℕ) → place < length ts → IsWithFirst (entries_of ms (ts ++ t ∷ [])) place → FitsBelow (entries_of ms ts) place (entry_of ms t)
+    fits_below_tied place inside tied = fits_below_least es x ps heap place (entry_there ms ts place inside) (subst (λ (l : List (ℕ × Moment)). IsWithFirst l place) (entries_append ms ts t) tied)
 
     pub left_out : (place : ℕ) → place < length ts → (e : ℕ × Moment) → ((e ≡ entry_of ms t) ⊎ StandsOutside (entries_of ms ts) place e) ↔ StandsOutside (entries_of ms (ts ++ t ∷ [])) place e
     left_out place inside e = subst (λ (l : List (ℕ × Moment)). ((e ≡ entry_of ms t) ⊎ StandsOutside (entries_of ms ts) place e) ↔ StandsOutside l place e) (sym (entries_append ms ts t))

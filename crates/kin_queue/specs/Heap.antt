@@ -10,8 +10,9 @@ use Rattle.kin_queue.specs.declared.instants.Instants.{Instants}
 use Rattle.kin_queue.specs.declared.ticket.Ticket.{Ticket}
 use Rattle.kin_queue.specs.Tickets.{entries_of, AreStamped}
 
-abbrev pub agenda_of : List (ℕ × Moment) → Agenda
-agenda_of es = record { moments = from_entries es; next = slice_get es 0 }
+-- what a queue of these entries means, where the next one is at this place
+abbrev pub agenda_of : List (ℕ × Moment) → ℕ → Agenda
+agenda_of es next = record { moments = from_entries es; next = slice_get es next }
 
 -- the second place lies right below the first
 abbrev pub IsRightBelow : ℕ → ℕ → Type 0
@@ -30,8 +31,17 @@ pub record IsHeap (es : List (ℕ × Moment)) (ps : List ℕ) : Type 0 where
   pub placed : (i : ℕ) (d : ℕ × Moment) → i < length es → IsPlaceOf ps (slice_index_or es i d).0 i
   pub ordered : (p c : ℕ) (d : ℕ × Moment) → IsRightBelow p c → c < length es → MayStandAbove (slice_index_or es p d) (slice_index_or es c d)
 
+-- if there are entries, the one at this place is at the moment of the first one
+abbrev pub IsWithFirst : List (ℕ × Moment) → ℕ → Type 0
+IsWithFirst es place = 0 < length es → (place < length es) × ((d : ℕ × Moment) → (slice_index_or es place d).1 ≡ (slice_index_or es 0 d).1)
+
 -- a heap of tickets that have the keys of their moments, and whose places fit 32 bits
 pub record IsKeyed (s : Instants) (ts : List Ticket) (ps : List ℕ) : Type 0 where
   pub heap : IsHeap (entries_of s ts) ps
   pub stamped : AreStamped s ts
   pub few : length ts ≤ 2 ^ 32
+
+-- such a heap, and the place of the entry that comes next
+pub record IsLed (s : Instants) (ts : List Ticket) (ps : List ℕ) (next : ℕ) : Type 0 where
+  pub keyed : IsKeyed s ts ps
+  pub least : IsWithFirst (entries_of s ts) next

@@ -11,7 +11,7 @@ ghost use Rattle.kin_num.specs.Order.{IsEarlier};
 ghost use Rattle.kin_num.specs.declared.instant.Moment.{Moment as Time};
 ghost use Rattle.kin_queue.specs.Cost.{TakesSteps};
 ghost use Rattle.kin_queue.specs.Tickets.{moment_in, entry_of, entries_of, IsStamped, AreStamped};
-ghost use Rattle.kin_queue.specs.Heap.{IsKeyed};
+ghost use Rattle.kin_queue.specs.Heap.{IsKeyed, IsWithFirst};
 ghost use Rattle.kin_queue.specs.Hole.{IsOpen, FitsBelow, FitsAbove, Stands, StandsOutside, HasMoved, IsEarliestBelow, RisesWithin};
 
 use crate::instants::Instants;
@@ -85,6 +85,51 @@ pub fn take_out<L: Ledger>(
         return;
     }
     settle(entries, places, instants, place, &last, steps);
+}
+
+/// Takes out an entry at the moment of the first one. The last entry takes its place and sinks to where it fits: none
+/// above is later.
+#[inline(always)]
+pub fn take_least<L: Ledger>(
+    entries: &mut Vec<Ticket>,
+    places: &mut [u32],
+    instants: &Instants,
+    place: usize,
+    steps: &mut Steps<L>,
+)
+    requires heap { IsKeyed instants.now entries.old.items places.old }
+    requires place { place < length entries.old.items }
+    requires least { IsWithFirst (entries_of instants.now entries.old.items) place }
+    ensures heap { IsKeyed instants.now entries.new.items places.new }
+    ensures moments { (d : ℕ × Time) → from_entries {R = nat_cmp} (entries_of instants.now entries.new.items) ≡ remove (from_entries (entries_of instants.now entries.old.items)) (slice_index_or (entries_of instants.now entries.old.items) place d).0 }
+    ensures cost { TakesSteps (length entries.old.items) steps.old steps.new }
+{
+    let last = entries.take_last();
+    let end = entries.len();
+    if place == end {
+        return;
+    }
+    lower(entries, places, instants, place, &last, steps);
+}
+
+// Puts the entry where it fits, at a hole or below it.
+#[inline(never)]
+fn lower<L: Ledger>(
+    entries: &mut [Ticket],
+    places: &mut [u32],
+    instants: &Instants,
+    start: usize,
+    entry: &Ticket,
+    steps: &mut Steps<L>,
+)
+    requires open { IsOpen instants.now entries.old places.old start entry.now }
+    requires above { FitsBelow (entries_of instants.now entries.old) start (entry_of instants.now entry.now) }
+    ensures heap { IsKeyed instants.now entries.new places.new }
+    ensures stands { (e : ℕ × Time) → Stands (entries_of instants.now entries.new) e ↔ ((e ≡ entry_of instants.now entry.now) ⊎ StandsOutside (entries_of instants.now entries.old) start e) }
+    ensures cost { RisesWithin 1 (length entries.old * length entries.old) steps.old steps.new }
+{
+    let hole = sink(entries, places, instants, start, entry, steps);
+    put(entries, places, hole, *entry);
 }
 
 // Puts the entry where it fits, beginning at a hole.

@@ -14,3 +14,4 @@ mod heap;
 mod instants;
 pub mod queue;
 mod ticket;
+mod tie;

@@ -6,9 +6,10 @@ ghost use Rattle.kin_queue.specs.Agenda.{IsNext, without};
 ghost use Rattle.kin_queue.specs.Cost.{TakesSteps};
 
 use crate::due::Due;
-use crate::heap::{put_in, take_out};
+use crate::heap::{put_in, take_least, take_out};
 use crate::instants::{Instants, reach};
 use crate::ticket::Ticket;
+use crate::tie::next_tie;
 use kin_num::{Moment, NoMemory, Steps};
 use std::alloc::Global;
 use std::marker::Model;
@@ -26,6 +27,8 @@ pub struct Queue {
     places: Vec<u32>,
     /// The instant of each id. For an id that isn't there it means nothing. The phase is in the entry.
     instants: Instants,
+    /// The place of the entry that comes next, which is at the moment of the first one.
+    next: usize,
 }
 
 impl Model for Queue {
@@ -36,11 +39,11 @@ impl Model for Queue {
     ghost coded = { agenda_code };
 
     ghost use Rattle.kin_queue.specs.Tickets.{entries_of};
-    ghost use Rattle.kin_queue.specs.Heap.{agenda_of, IsKeyed};
+    ghost use Rattle.kin_queue.specs.Heap.{agenda_of, IsLed};
 
-    ghost view = { λ q. agenda_of (entries_of q.instants q.entries.items) };
+    ghost view = { λ q. agenda_of (entries_of q.instants q.entries.items) q.next };
 
-    ghost invariant = { λ q. IsKeyed q.instants q.entries.items q.places.items };
+    ghost invariant = { λ q. IsLed q.instants q.entries.items q.places.items q.next };
 }
 
 impl Queue {
@@ -53,6 +56,7 @@ impl Queue {
             entries: Vec::new(alloc),
             places: Vec::new(alloc),
             instants: Instants::new(alloc),
+            next: 0,
         }
     }
 
@@ -65,6 +69,7 @@ impl Queue {
             entries: Vec::with_capacity(alloc, count)?,
             places: Vec::with_capacity(alloc, count)?,
             instants: Instants::with_room(alloc, count)?,
+            next: 0,
         })
     }
 
@@ -106,6 +111,7 @@ impl Queue {
         reach(&mut self.places, id, 0)?;
         self.instants.note(id, &at.at)?;
         let entry = Ticket::new(short, &at);
+        self.next = 0;
         put_in(
             &mut self.entries,
             &mut self.places,
@@ -123,6 +129,7 @@ impl Queue {
         ensures cost { TakesSteps (len self.old.moments) steps.old steps.new }
     {
         let place = self.places[id] as usize;
+        self.next = 0;
         take_out(
             &mut self.entries,
             &mut self.places,
@@ -137,7 +144,7 @@ impl Queue {
         ensures value { result ≡ self.now.next }
         ensures least { IsNext self.now.moments self.now.next }
     {
-        let entry = self.entries.first()?;
+        let entry = self.entries.get(self.next)?;
         Some((entry.id as usize, entry.moment(&self.instants)))
     }
 
@@ -148,9 +155,9 @@ impl Queue {
         ensures rest { self.new.moments ≡ without self.old.moments result }
         ensures cost { TakesSteps (len self.old.moments) steps.old steps.new }
     {
-        let first = self.first()?;
-        self.take_first(steps);
-        Some(first)
+        let next = self.first()?;
+        self.take_next(steps);
+        Some(next)
     }
 
     /// Takes the next entry out if it is at this moment, and answers its id. `None` exactly where there is no next entry or
@@ -170,24 +177,26 @@ impl Queue {
         if !moment.is_of(first, &self.instants) {
             return None;
         }
-        let id = first.id as usize;
-        self.take_first(steps);
+        let id = self.entries[self.next].id as usize;
+        self.take_next(steps);
         Some(id)
     }
 
     // Takes out the next entry.
-    fn take_first<L: Ledger>(&mut self, steps: &mut Steps<L>)
+    fn take_next<L: Ledger>(&mut self, steps: &mut Steps<L>)
         requires { IsSome self.old.next }
         ensures rest { self.new.moments ≡ without self.old.moments self.old.next }
         ensures cost { TakesSteps (len self.old.moments) steps.old steps.new }
     {
-        let first = 0;
-        take_out(
+        let place = self.next;
+        let span = self.entries[place].span;
+        take_least(
             &mut self.entries,
             &mut self.places,
             &self.instants,
-            first,
+            place,
             steps,
         );
+        self.next = next_tie(&self.entries, place, span);
     }
 }

@@ -4,9 +4,8 @@ use Rattle.kin_queue.specs.declared.ticket.Ticket.{Ticket}
 use Rattle.kin_queue.specs.Tickets.{entry_of, entries_of}
 use Rattle.kin_queue.specs.Heap.{IsKeyed}
 use Rattle.kin_queue.specs.Hole.{Stands, StandsOutside}
-use Rattle.kin_queue.proofs.Tickets.{entry_there}
-use Rattle.kin_queue.proofs.Opening.{keyed_front, open_out, outside_end, left_out}
-use Rattle.kin_queue.proofs.Contents.{heap_apart, moments_removed}
+use Rattle.kin_queue.proofs.Opening.{keyed_front, open_out}
+use Rattle.kin_queue.proofs.Taking.{last_taken, other_taken}
 use Rattle.kin_queue.proofs.Costs.{none_taken, taken}
 use Rattle.kin_queue.proofs.Whole.{take_whole}
 use Rattle.kin_queue.proofs.heap.take_out.Goals as goal
@@ -17,36 +16,23 @@ returns-then-place-len-clause-heap g c =
 
 pub returns-then-place-len-clause-moments : goal.returns-then-place-len-clause-moments
 returns-then-place-len-clause-moments g c = λ d.
-    let ms = c.args.instants.now in
-    let ts = c.take_last-last.new.self.items in
-    let t = c.take_last-last.result in
-    let ps = c.args.places.now in
     let keyed : IsKeyed c.args.instants.now (c.take_last-last.new.self.items ++ c.take_last-last.result ∷ []) c.args.places.now = subst (λ (l : List Ticket). IsKeyed c.args.instants.now l c.args.places.now) c.take_last-last.ensures.items c.requires.heap in
-    let end : c.args.place ≡ length c.take_last-last.new.self.items = omega arith in
-    let inside : c.args.place < length (c.take_last-last.new.self.items ++ c.take_last-last.result ∷ []) = subst (λ (l : List Ticket). c.args.place < length l) c.take_last-last.ensures.items c.requires.place in
-    rw c.take_last-last.ensures.items (
-    moments_removed (entries_of ms (ts ++ t ∷ [])) (entries_of ms ts) c.args.place d (heap_apart (entries_of ms (ts ++ t ∷ [])) ps keyed.heap) (heap_apart (entries_of ms ts) ps (keyed_front ms ts t ps keyed).heap) (entry_there ms (ts ++ t ∷ []) c.args.place inside)
-    (rw end (λ e. ((outside_end ms ts t e).1, (outside_end ms ts t e).0))))
+    rw c.take_last-last.ensures.items (last_taken c.args.instants.now c.take_last-last.new.self.items c.take_last-last.result c.args.places.now keyed c.args.place (omega arith) d)
 
 pub settle-requires : goal.settle-requires
 settle-requires g c =
     let keyed : IsKeyed c.args.instants.now (c.take_last-last.new.self.items ++ c.take_last-last.result ∷ []) c.args.places.now = subst (λ (l : List Ticket). IsKeyed c.args.instants.now l c.args.places.now) c.take_last-last.ensures.items c.requires.heap in
+    let inside : c.args.place < length (c.take_last-last.new.self.items ++ c.take_last-last.result ∷ []) = subst (λ (l : List Ticket). c.args.place < length l) c.take_last-last.ensures.items c.requires.place in
     rw c.deref_mut.ensures.value (open_out c.args.instants.now c.take_last-last.new.self.items c.take_last-last.result c.args.places.now keyed c.args.place (omega arith))
 
 pub returns-clause-moments : goal.returns-clause-moments
 returns-clause-moments g c = λ d.
-    let ms = c.args.instants.now in
     let ts = c.take_last-last.new.self.items in
-    let t = c.take_last-last.result in
-    let ps = c.args.places.now in
     let us = c.settle.new.entries in
     let keyed : IsKeyed c.args.instants.now (c.take_last-last.new.self.items ++ c.take_last-last.result ∷ []) c.args.places.now = subst (λ (l : List Ticket). IsKeyed c.args.instants.now l c.args.places.now) c.take_last-last.ensures.items c.requires.heap in
-    let inside : c.args.place < length (c.take_last-last.new.self.items ++ c.take_last-last.result ∷ []) = subst (λ (l : List Ticket). c.args.place < length l) c.take_last-last.ensures.items c.requires.place in
-    let low : c.args.place < length c.take_last-last.new.self.items = omega arith in
     let stands : (e : ℕ × Moment) → Stands (entries_of c.args.instants.now c.settle.new.entries) e ↔ ((e ≡ entry_of c.args.instants.now c.take_last-last.result) ⊎ StandsOutside (entries_of c.args.instants.now c.take_last-last.new.self.items) c.args.place e) = rw c.deref_mut.ensures.value at c.settle.ensures.stands in
-    rw (take_whole c.take_last-last.new.self.len us (drop (length us) ts) (omega arith), c.take_last-last.ensures.items) (
-    moments_removed (entries_of ms (ts ++ t ∷ [])) (entries_of ms us) c.args.place d (heap_apart (entries_of ms (ts ++ t ∷ [])) ps keyed.heap) (heap_apart (entries_of ms us) c.settle.new.places c.settle.ensures.heap.heap) (entry_there ms (ts ++ t ∷ []) c.args.place inside)
-    (λ e. (λ s. (left_out ms ts t ps keyed c.args.place low e).0 ((stands e).0 s), λ s. (stands e).1 ((left_out ms ts t ps keyed c.args.place low e).1 s))))
+    rw (take_whole c.take_last-last.new.self.len us (drop (length us) ts) (omega arith), c.take_last-last.ensures.items)
+    (other_taken c.args.instants.now ts c.take_last-last.result c.args.places.now keyed c.args.place (omega arith) us c.settle.new.places c.settle.ensures.heap stands d)
 
 pub returns-then-place-len-clause-cost : goal.returns-then-place-len-clause-cost
 returns-then-place-len-clause-cost g c = none_taken _ _

@@ -5,4 +5,4 @@ use Rattle.kin_queue.proofs.Root.{heap_next}
 use Rattle.kin_queue.proofs.queue.Queue.first.Goals as goal
 
 pub returns-clause-least : goal.returns-clause-least
-returns-clause-least c = subst (λ (a : Agenda). IsNext a.moments a.next) c.self.view_is (heap_next (entries_of c.self.inside.instants c.self.inside.entries.items) c.self.inside.places.items c.self.invariant.heap)
+returns-clause-least c = subst (λ (a : Agenda). IsNext a.moments a.next) c.self.view_is (heap_next (entries_of c.self.inside.instants c.self.inside.entries.items) c.self.inside.places.items c.self.invariant.keyed.heap c.self.inside.next c.self.invariant.least)

@@ -9,9 +9,10 @@ use Rattle.kin_queue.specs.declared.ticket.Ticket.{Ticket}
 use Rattle.kin_queue.specs.Heap.{agenda_of}
 use Rattle.kin_queue.proofs.Contents.{counted}
 use Rattle.kin_queue.proofs.Tickets.{entries_length}
-use Rattle.kin_queue.proofs.Noting.{keyed_on, agenda_before, same_insert, moment_noted, stamped_on}
-use Rattle.kin_queue.proofs.Opening.{keyed_within}
+use Rattle.kin_queue.proofs.Noting.{led_on, agenda_before, same_insert, moment_noted, stamped_on}
+use Rattle.kin_queue.proofs.Opening.{led_within}
 use Rattle.kin_queue.proofs.Costs.{none_taken}
+use Rattle.kin_queue.proofs.Root.{with_itself}
 use Rattle.kin_queue.proofs.Whole.{take_whole}
 use Rattle.kin_queue.proofs.queue.Queue.insert.Goals as goal
 
@@ -22,25 +23,25 @@ pub invariant_of-self : goal.invariant_of-self
 invariant_of-self g c = rw c.reserve.ensures.items c.self.invariant
 
 pub returns-in_err-reserve-clause-err : goal.returns-in_err-reserve-clause-err
-returns-in_err-reserve-clause-err g c = on_err c.from_residual.result (ap (λ (ts : List Ticket). agenda_of (entries_of c.self.inside.instants ts)) c.reserve.ensures.items ∙ c.self.view_is)
+returns-in_err-reserve-clause-err g c = on_err c.from_residual.result (ap (λ (ts : List Ticket). agenda_of (entries_of c.self.inside.instants ts) c.self.inside.next) c.reserve.ensures.items ∙ c.self.view_is)
 
 pub returns-in_err-reserve-clause-cost : goal.returns-in_err-reserve-clause-cost
 returns-in_err-reserve-clause-cost g c = none_taken _ _
 
 pub invariant_of-self-in_err-reach : goal.invariant_of-self-in_err-reach
-invariant_of-self-in_err-reach g c = rw c.reserve.ensures.items (keyed_within c.self.inside.instants c.self.inside.entries.items c.self.inside.places.items c.reach.new.list.items c.self.invariant c.reach.ensures.kept)
+invariant_of-self-in_err-reach g c = rw c.reserve.ensures.items (led_within c.self.inside.instants c.self.inside.entries.items c.self.inside.places.items c.reach.new.list.items c.self.inside.next c.self.invariant c.reach.ensures.kept)
 
 pub returns-in_err-reach-clause-err : goal.returns-in_err-reach-clause-err
-returns-in_err-reach-clause-err g c = on_err c.from_residual-in_err-reach.result (ap (λ (ts : List Ticket). agenda_of (entries_of c.self.inside.instants ts)) c.reserve.ensures.items ∙ c.self.view_is)
+returns-in_err-reach-clause-err g c = on_err c.from_residual-in_err-reach.result (ap (λ (ts : List Ticket). agenda_of (entries_of c.self.inside.instants ts) c.self.inside.next) c.reserve.ensures.items ∙ c.self.view_is)
 
 pub returns-in_err-reach-clause-cost : goal.returns-in_err-reach-clause-cost
 returns-in_err-reach-clause-cost g c = none_taken _ _
 
 pub invariant_of-self-in_err-note : goal.invariant_of-self-in_err-note
-invariant_of-self-in_err-note g c = rw c.reserve.ensures.items (keyed_on c.self.inside.instants c.note.new.self c.args.id c.note.ensures.kept c.self.inside.entries.items c.self.inside.places.items c.reach.new.list.items c.self.invariant c.reach.ensures.kept c.args.self.now c.self.view_is c.requires.absent)
+invariant_of-self-in_err-note g c = rw c.reserve.ensures.items (led_on c.self.inside.instants c.note.new.self c.args.id c.note.ensures.kept c.self.inside.entries.items c.self.inside.places.items c.reach.new.list.items c.self.inside.next c.self.invariant c.reach.ensures.kept c.args.self.now c.self.view_is c.requires.absent)
 
 pub returns-in_err-note-clause-err : goal.returns-in_err-note-clause-err
-returns-in_err-note-clause-err g c = on_err c.from_residual-in_err-note.result (ap (λ (ts : List Ticket). agenda_of (entries_of c.note.new.self ts)) c.reserve.ensures.items ∙ agenda_before c.self.inside.instants c.note.new.self c.args.id c.note.ensures.kept c.self.inside.entries.items c.self.inside.places.items c.reach.new.list.items c.self.invariant c.reach.ensures.kept c.args.self.now c.self.view_is c.requires.absent)
+returns-in_err-note-clause-err g c = on_err c.from_residual-in_err-note.result (ap (λ (ts : List Ticket). agenda_of (entries_of c.note.new.self ts) c.self.inside.next) c.reserve.ensures.items ∙ agenda_before c.self.inside.instants c.note.new.self c.args.id c.note.ensures.kept c.self.inside.entries.items c.self.inside.places.items c.reach.new.list.items c.self.inside.next c.self.invariant c.reach.ensures.kept c.args.self.now c.self.view_is c.requires.absent)
 
 pub returns-in_err-note-clause-cost : goal.returns-in_err-note-clause-cost
 returns-in_err-note-clause-cost g c = none_taken _ _
@@ -48,18 +49,21 @@ returns-in_err-note-clause-cost g c = none_taken _ _
 pub invariant_of-self-2 : goal.invariant_of-self-2
 invariant_of-self-2 g c =
     let ps = c.put_in.new.places in
-    rw (take_whole c.reach.new.list.len ps (drop (length ps) c.reach.new.list.items) (omega arith)) c.put_in.ensures.heap
+    record {
+      keyed = rw (take_whole c.reach.new.list.len ps (drop (length ps) c.reach.new.list.items) (omega arith)) c.put_in.ensures.heap;
+      least = with_itself _;
+    }
 
 pub put_in-requires-clause-heap : goal.put_in-requires-clause-heap
 put_in-requires-clause-heap g c =
     rw (c.reserve.ensures.items, c.deref_mut.ensures.value)
-    (keyed_on c.self.inside.instants c.note.new.self c.args.id c.note.ensures.kept c.self.inside.entries.items c.self.inside.places.items c.reach.new.list.items c.self.invariant c.reach.ensures.kept c.args.self.now c.self.view_is c.requires.absent)
+    (led_on c.self.inside.instants c.note.new.self c.args.id c.note.ensures.kept c.self.inside.entries.items c.self.inside.places.items c.reach.new.list.items c.self.inside.next c.self.invariant c.reach.ensures.kept c.args.self.now c.self.view_is c.requires.absent).keyed
 
 pub put_in-requires-clause-absent : goal.put_in-requires-clause-absent
 put_in-requires-clause-absent g c =
     let id : c.new-entry.result.id ≡ c.args.id = c.new-entry.ensures.id ∙ (omega arith) in
     rw (c.reserve.ensures.items, id)
-    (ap (λ (a : Agenda). get a.moments c.args.id) (agenda_before c.self.inside.instants c.note.new.self c.args.id c.note.ensures.kept c.self.inside.entries.items c.self.inside.places.items c.reach.new.list.items c.self.invariant c.reach.ensures.kept c.args.self.now c.self.view_is c.requires.absent) ∙ c.requires.absent)
+    (ap (λ (a : Agenda). get a.moments c.args.id) (agenda_before c.self.inside.instants c.note.new.self c.args.id c.note.ensures.kept c.self.inside.entries.items c.self.inside.places.items c.reach.new.list.items c.self.inside.next c.self.invariant c.reach.ensures.kept c.args.self.now c.self.view_is c.requires.absent) ∙ c.requires.absent)
 
 pub returns-clause-ok : goal.returns-clause-ok
 returns-clause-ok g c =
@@ -68,12 +72,12 @@ returns-clause-ok g c =
     rw c.reserve.ensures.items at c.put_in.ensures.moments in
     put
     ∙ same_insert _ c.args.self.now.moments c.new-entry.result.id c.args.id (moment_in c.note.new.self c.new-entry.result) c.args.at
-    (ap (λ (a : Agenda). a.moments) (agenda_before c.self.inside.instants c.note.new.self c.args.id c.note.ensures.kept c.self.inside.entries.items c.self.inside.places.items c.reach.new.list.items c.self.invariant c.reach.ensures.kept c.args.self.now c.self.view_is c.requires.absent))
+    (ap (λ (a : Agenda). a.moments) (agenda_before c.self.inside.instants c.note.new.self c.args.id c.note.ensures.kept c.self.inside.entries.items c.self.inside.places.items c.reach.new.list.items c.self.inside.next c.self.invariant c.reach.ensures.kept c.args.self.now c.self.view_is c.requires.absent))
     id (moment_noted c.note.new.self c.args.id c.args.at c.in_ok-note.ensures.noted c.new-entry.result id c.new-entry.ensures.key)
 
 pub returns-clause-cost : goal.returns-clause-cost
 returns-clause-cost g c = subst (λ (n : ℕ). TakesSteps n c.args.steps.now c.put_in.new.steps)
-    (ap (λ (l : List Ticket). length l) c.reserve.ensures.items ∙ sym (entries_length c.self.inside.instants c.self.inside.entries.items) ∙ counted (entries_of c.self.inside.instants c.self.inside.entries.items) c.self.inside.places.items c.args.self.now c.self.view_is c.self.invariant.heap) c.put_in.ensures.cost
+    (ap (λ (l : List Ticket). length l) c.reserve.ensures.items ∙ sym (entries_length c.self.inside.instants c.self.inside.entries.items) ∙ counted (entries_of c.self.inside.instants c.self.inside.entries.items) c.self.inside.places.items c.self.inside.next c.args.self.now c.self.view_is c.self.invariant.keyed.heap) c.put_in.ensures.cost
 
 pub put_in-requires-clause-stamped : goal.put_in-requires-clause-stamped
 put_in-requires-clause-stamped g c =
