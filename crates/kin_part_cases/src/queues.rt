@@ -272,11 +272,19 @@ fn entries_come_at_their_moment(rt: HostRuntime) -> Result<(), Fail> {
     Ok(())
 }
 
+fn side_of(id: usize) -> usize
+    ensures { result < 16 }
+{
+    id % 2
+}
+
 /// The ids below 16: the even ones at one moment, the odd ones at the next.
 fn in_turn(alloc: Global) -> Result<Vec<Entry>, NoMemory> {
     let mut entries = Vec::new(alloc);
     for id in 0..16 {
-        entries.push((id, moment(id % 2))).map_err(|_| NoMemory)?;
+        entries
+            .push((id, moment(side_of(id))))
+            .map_err(|_| NoMemory)?;
     }
     Ok(entries)
 }
