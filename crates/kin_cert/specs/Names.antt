@@ -99,7 +99,7 @@ owned_in (Some e) = Some e.owned
 abbrev pub HaveSameFacts : List (Option Entry) → List (Option Entry) → Type 0
 HaveSameFacts old new = (id : ℕ) → owned_in (entry_at new id) ≡ owned_in (entry_at old id)
 
--- an entry of this id is as new, and this is its fact and what its vacancy was
+-- an entry of this id is as new; this is its fact, and this the vacancy that it leaves
 pub record IsFreed (old : List (Option Entry)) (id : ℕ) (owned : Owned) (vacancy : Vacancy) (new : List (Option Entry)) : Type 0 where
   pub entry : Entry
   pub there : entry_at old id ≡ Some entry

@@ -160,7 +160,7 @@ impl Table {
         self.replace(structure, dropped, born, motions, now, steps)
     }
 
-    // Whether the first one of the born facts may come to the key of a dropped one.
+    // Whether the first of these born facts has the key of a dropped one.
     fn fits_next(&self, structure: u32, dropped: &Placed, born: &[Placed]) -> bool {
         match born.first() {
             Some(next) => self.roll.have_one_key(structure, dropped, next),

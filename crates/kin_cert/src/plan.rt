@@ -32,7 +32,7 @@ pub struct Plan {
 }
 
 impl Plan {
-    /// A plan without structures, for lists of the numbers below `2^size`.
+    /// A plan without structures, for lists of the numbers below `2^size`, or below `2^31` where that is less.
     pub fn new(alloc: Global, size: u32) -> Plan {
         Plan {
             numbers: 1 << size.min(31),

@@ -5,7 +5,7 @@ use Rattle.kin_motion.specs.declared.fact.Fact.{Fact}
 use Rattle.kin_motion.specs.declared.form.Form.TheVariants.{Dist}
 use Rattle.kin_closest.specs.declared.distance.DistanceBrief.{DistanceBrief}
 
--- the distances that a brief fact compares, where it has a sign
+-- the fact of two distances that is written here, if it has a sign
 abbrev pub near_at : DistanceBrief → Option Sign → Option Fact
 near_at b None = None
 near_at b (Some s) = Some (record { form = Dist b.i b.j b.k b.l; sign = s })

@@ -101,7 +101,7 @@ impl Notes {
     }
 }
 
-/// Notes behind one pointer, or none where nothing was noted yet: of merges that share the memory for
+/// Notes in a box, or none where nothing was noted yet: of merges that share the memory for
 /// their notes all but one have none.
 #[derive(Drop)]
 pub struct Pad {

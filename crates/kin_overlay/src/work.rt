@@ -64,7 +64,7 @@ impl Work {
         }
     }
 
-    /// Empties a list of edits, and takes its memory if there is room for it.
+    /// Empties a list of edits and takes its memory, if a place is free or has less. Then the list gets what was there.
     pub fn take_back(&mut self, edits: &mut Vec<ChainEdit>)
         ensures { edits.new.items ≡ [] }
     {

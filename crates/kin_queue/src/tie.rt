@@ -27,7 +27,7 @@ pub fn next_tie(entries: &[Ticket], place: usize, span: u64) -> usize
     lowest_tie(entries, place.saturating_sub(1) / 2)
 }
 
-// The place to which such entries lead down from a place, or else from the first one.
+// Such an entry below a place, or else below the first one: from one to the next, as long as there is one right below.
 #[inline(never)]
 fn lowest_tie(entries: &[Ticket], start: usize) -> usize
     requires some { 0 < length entries.now }

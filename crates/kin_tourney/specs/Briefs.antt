@@ -9,7 +9,7 @@ use Rattle.kin_tourney.specs.declared.along.AlongBrief.{AlongBrief}
 abbrev pub slot_of : ℕ → Option ℕ
 slot_of n = cond (nat_eq n 65535) None (Some n)
 
--- the line that a brief fact compares, where it has a sign
+-- the fact of a line that is written here, if it has a sign
 abbrev pub along_at : AlongBrief → Option Sign → Option Fact
 along_at b None = None
 along_at b (Some s) = Some (record { form = Line b.dx b.dy (pos 0) b.i b.j; sign = s })

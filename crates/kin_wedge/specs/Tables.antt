@@ -1,7 +1,7 @@
 -- The candidates of the slots, as slots that point at each other.
 use Rattle.std.specs.Prelude.{◌≡◌, ℕ, ◌*◌, ◌/◌, ◌%◌, ◌≤◌, ◌^◌, List, length, map, Option, Some, None, slice_get}
 
--- slot 8p + w points at slot 8q + w, where q is the candidate of p in octant w
+-- the number whose slot is pointed at: slot 8p + w points at slot 8q + w, where q is the candidate of p in octant w
 abbrev pub number_of : Option ℕ → Option ℕ
 number_of None = None
 number_of (Some target) = Some (target / 8)

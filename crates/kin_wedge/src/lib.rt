@@ -4,10 +4,10 @@
 //! Algorithms 31 (1999).
 //!
 //! `Wedges` is `Kinetic`. It keeps eight kinetic lists, the candidate of each point in each octant, and
-//! for each point and octant the thread of the points that it is the candidate of. A `settle` looks only at those slots
-//! that an exchange, or the number that enters or leaves, can have touched: a lost candidate is looked
-//! up by a scan that begins after the apex, and every other one is compared with what is offered to its
-//! slot. No clause says so. The sign tests of a `settle` are those of its eight lists.
+//! for each point and octant the points whose candidate there it is. A `settle` looks only at those
+//! slots that an exchange, or the number that enters or leaves, can have touched: a lost candidate is
+//! looked up by a scan that begins after the apex, and every other one is compared with what is offered
+//! to its slot. No clause says so. The sign tests of a `settle` are those of its eight lists.
 #![tactic(auto)]
 
 pub use wedges::Wedges;

@@ -269,7 +269,7 @@ fn lists_of(keep: &Keep) -> u32 {
     }
 }
 
-// How many nodes its tournament has, in the parts after those. Nodes are numbered from 1 on.
+// How many numbers the nodes of its tournament have. Node v is the v-th part after those of the lists; none is node 0.
 fn nodes_of(keep: &Keep, size: u32) -> u32
     requires { size ≤ 12 }
 {
