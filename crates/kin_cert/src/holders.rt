@@ -1,12 +1,12 @@
 //! The holders of keys: by seat, or in an index of buckets.
 
-ghost use Rattle.std.specs.Prelude.{◌≡◌, ℕ, List, true, Some, OnOk, OnErr, slice_index_or};
+ghost use Rattle.std.specs.Prelude.{◌≡◌, ◌∷◌, ℕ, List, [], true, Some, OnOk, OnErr, slice_index_or};
 ghost use Rattle.indexmap.specs.IndexMap.{get as look_up};
 ghost use Rattle.kin_cert.specs.Bucket.{is_bucket};
 ghost use Rattle.kin_cert.specs.Keys.{key_of};
 ghost use Rattle.kin_cert.specs.Holders.{holder_in, holder_of, HasHolder, HasSeated, HasPut, MayHaveLeft, AreSame, StandsAt};
 
-use crate::bucket::{Bucket, bucket};
+use crate::bucket::{Bucket, bucket_number};
 use crate::guesses::{Guesses, Spot};
 use crate::holder::{Holder, holder_in, marked, word_of};
 use crate::key::Key;
@@ -72,10 +72,21 @@ impl Holders {
         ensures value { result ≡ holder_of self.old (key_of plan.now structure part form.now) }
         ensures same { AreSame (holder_of self.old) (holder_of self.new) }
     {
-        match plan.seat_of(structure, part, form) {
+        let number = bucket_number(form);
+        match plan.seat_at(structure, part, number) {
             Some(seat) => seated(&self.seats, seat),
-            None => self.find_bucket(&bucket(structure, part, *form)),
+            None => self.find_unseated(structure, part, number),
         }
+    }
+
+    // The holder of the bucket of a fact without a seat. Out of line, so that the others make no bucket.
+    #[inline(never)]
+    fn find_unseated(&mut self, structure: u32, part: u32, number: u32) -> Option<Holder>
+        ensures value { result ≡ look_up is_bucket self.old.index (structure ∷ part ∷ number ∷ []) }
+        ensures index { self.new.index ≡ self.old.index }
+        ensures seats { self.new.seats ≡ self.old.seats }
+    {
+        self.find_bucket(&[structure, part, number])
     }
 
     /// The holder of a key, if it has one. It may be noted where it was found.
@@ -90,7 +101,6 @@ impl Holders {
     }
 
     // The holder of a bucket.
-    #[inline(never)]
     fn find_bucket(&mut self, bucket: &Bucket) -> Option<Holder>
         ensures value { result ≡ look_up is_bucket self.old.index bucket.now }
         ensures index { self.new.index ≡ self.old.index }

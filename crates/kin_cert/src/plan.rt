@@ -2,7 +2,7 @@
 
 ghost use Rattle.std.specs.Prelude.{◌≡◌, ◌+◌, ◌*◌, ℕ, Some, IsTrue, slice_get};
 ghost use Rattle.kin_motion.specs.declared.form.Form.{Form as Shape};
-ghost use Rattle.kin_cert.specs.Keys.{seat_in, seat_of, key_of};
+ghost use Rattle.kin_cert.specs.Keys.{seat_in, seat_at, seat_of, key_of};
 
 use crate::bucket::bucket_number;
 use kin_motion::form::Form;
@@ -68,10 +68,16 @@ impl Plan {
     pub(crate) fn seat_of(&self, structure: u32, part: u32, form: &Form) -> Option<usize>
         ensures { result ≡ seat_of self.now structure part form.now }
     {
-        match self.section_of(structure) {
-            Some(section) => section.seat_in(self.numbers, part, bucket_number(form)),
-            None => None,
-        }
+        self.seat_at(structure, part, bucket_number(form))
+    }
+
+    /// The seat of a fact that is known by a number in its part, if it has one.
+    #[inline(always)]
+    pub(crate) fn seat_at(&self, structure: u32, part: u32, number: u32) -> Option<usize>
+        ensures { result ≡ seat_at self.now.numbers (slice_get self.now.sections.items structure) part number }
+    {
+        let section = self.section_of(structure)?;
+        section.seat_in(self.numbers, part, number)
     }
 
     /// Whether a part of a structure is a node of a tournament, whose facts all have one seat.
