@@ -1,5 +1,6 @@
 -- What a fact is known by: its seat, which a plan gives by arithmetic, or else its bucket. No public clause cites this module.
-use Rattle.std.specs.Prelude.{◌≡◌, ℕ, ◌+◌, ◌-◌, ◌*◌, nat_lt, if◌then◌else◌, Bool, false, nat_eq, List, Option, Some, None, slice_get}
+use Rattle.std.specs.Prelude.{◌≡◌, ℕ, ◌+◌, ◌-◌, ◌*◌, ◌^◌, ◌%◌, nat_lt, if◌then◌else◌, Bool, false, nat_eq, List, Option, Some, None, slice_get}
+use Rattle.std.specs.Int.{w32, leading_zeros}
 use Rattle.kin_motion.specs.declared.form.Form.{Form}
 use Rattle.kin_motion.specs.declared.fact.Placed.{Placed}
 use Rattle.kin_fail.specs.declared.owned.Owned.{Owned}
@@ -9,12 +10,24 @@ use Rattle.kin_cert.specs.declared.key.Key.{Key}
 use Rattle.kin_cert.specs.declared.key.Key.TheVariants.{Seat, Bucket}
 use Rattle.kin_cert.specs.Bucket.{bucket_number, bucket_of, is_bucket}
 
--- in a section: a fact of a list sits by its number, and one of a tournament by its node
+-- twice the level of node v, and one more in the second tree; node v has the parts 2v and 2v + 1, and nodes of one level have equally many leading zeros
+abbrev pub row_of : ℕ → ℕ
+row_of part = 2 * (30 - leading_zeros w32 part) + part % 2
+
+-- in a section: a fact of a merge sits by its row and its first number, those of slopes, which count from the greatest one down, after those of turns
+abbrev pub merge_seat : ℕ → Section → ℕ → ℕ → Option ℕ
+merge_seat numbers s part number =
+    if nat_lt (row_of part) s.rows
+    then (if nat_lt number numbers then Some (s.base + 2 * row_of part * numbers + number)
+    else (if nat_lt (2 ^ 32 - 1 - number) numbers then Some (s.base + (2 * row_of part + 1) * numbers + (2 ^ 32 - 1 - number)) else None))
+    else None
+
+-- a fact of a list sits by its number, one of a tournament by its node, and any other as one of a merge
 abbrev pub seat_in : ℕ → Section → ℕ → ℕ → Option ℕ
 seat_in numbers s part number =
     if nat_lt part s.lists
     then (if nat_lt number numbers then Some (s.base + part * numbers + number) else None)
-    else (if nat_lt (part - s.lists) s.nodes then Some (s.base + s.lists * numbers + (part - s.lists)) else None)
+    else (if nat_lt (part - s.lists) s.nodes then Some (s.base + s.lists * numbers + (part - s.lists)) else merge_seat numbers s part number)
 
 -- the same, where the structure has a section
 abbrev pub seat_at : ℕ → Option Section → ℕ → ℕ → Option ℕ

@@ -1,27 +1,32 @@
 //! A plan of seats.
 
-ghost use Rattle.std.specs.Prelude.{◌≡◌, ◌+◌, ◌*◌, ℕ, Some, IsTrue, slice_get};
+ghost use Rattle.std.specs.Prelude.{◌≡◌, ◌+◌, ◌*◌, ◌<◌, ℕ, Some, IsTrue, slice_get};
 ghost use Rattle.kin_motion.specs.declared.form.Form.{Form as Shape};
-ghost use Rattle.kin_cert.specs.Keys.{seat_in, seat_at, seat_of, key_of};
+ghost use Rattle.kin_cert.specs.Keys.{row_of, merge_seat, seat_in, seat_at, seat_of, key_of};
 
 use crate::bucket::bucket_number;
 use kin_motion::form::Form;
 use kin_num::NoMemory;
 use std::alloc::Global;
 
-/// What a structure has of the seats: those of its lists from the base on, for each list as many as there are numbers,
-/// and after them one for each node of its tournament.
+/// What a structure has of the seats, from the base on: for each list as many as there are numbers, and after them one
+/// for each node of its tournament; or for each row of its merges twice as many as there are numbers.
 #[derive(Clone, Copy)]
 pub(crate) struct Section {
     base: u32,
     lists: u32,
     nodes: u32,
+    rows: u32,
 }
 
 /// The seats of facts, each of which is a place in a vector.
 ///
 /// The first parts of a structure are lists, of which each usually has one live fact of a first number. The parts after
-/// those are nodes of a tournament, of which each has one live fact at a time. Other facts have no seat.
+/// those are nodes of a tournament, of which each has one live fact at a time.
+///
+/// Or the parts are merges, those of node v of two trees the parts 2v and 2v + 1. The nodes of one level of a tree have no
+/// number in common, so they share a row of seats: one for each number as the first of a turn, and one for each as the
+/// first of a slope. Other facts have no seat.
 #[derive(Drop)]
 pub struct Plan {
     /// Numbers from this one on have no seat in a list.
@@ -44,18 +49,34 @@ impl Plan {
     /// Gives seats to the next structure, which has so many lists and nodes. It gets none if there would be `2^32` seats or
     /// more.
     pub fn add(&mut self, lists: u32, nodes: u32) -> Result<(), NoMemory> {
-        let base = self.count;
-        let mut section = Section {
-            base,
-            lists: 0,
-            nodes: 0,
-        };
-        if let Some(end) = end_of(base, lists, self.numbers, nodes) {
+        let mut section = self.no_section();
+        if let Some(end) = end_of(self.count, lists, self.numbers, nodes) {
             section.lists = lists;
             section.nodes = nodes;
             self.count = end;
         }
         self.sections.push(section).map_err(|_| NoMemory)
+    }
+
+    /// Gives seats to the next structure, which has merges in so many rows: each tree has one for each level. It gets none
+    /// if there would be `2^32` seats or more.
+    pub fn add_merges(&mut self, rows: u32) -> Result<(), NoMemory> {
+        let mut section = self.no_section();
+        if let Some(end) = end_of(self.count, rows.saturating_mul(2), self.numbers, 0) {
+            section.rows = rows;
+            self.count = end;
+        }
+        self.sections.push(section).map_err(|_| NoMemory)
+    }
+
+    // A section without seats.
+    fn no_section(&self) -> Section {
+        Section {
+            base: self.count,
+            lists: 0,
+            nodes: 0,
+            rows: 0,
+        }
     }
 
     /// How many seats there are.
@@ -116,6 +137,26 @@ impl Section {
         if node < self.nodes {
             return Some(seat(self.base, self.lists, numbers, node));
         }
+        self.merge_seat(numbers, part, number)
+    }
+
+    // The seat of a fact of a merge, which is known by a number. Out of line, so that the seats of lists and nodes are
+    // found in few instructions.
+    #[inline(never)]
+    fn merge_seat(&self, numbers: u32, part: u32, number: u32) -> Option<usize>
+        ensures { result ≡ merge_seat numbers self.now part number }
+    {
+        let row = row_of(part);
+        if row >= self.rows {
+            return None;
+        }
+        if number < numbers {
+            return Some(seat(self.base, 2 * row, numbers, number));
+        }
+        let first = u32::MAX - number;
+        if first < numbers {
+            return Some(seat(self.base, 2 * row + 1, numbers, first));
+        }
         None
     }
 
@@ -126,6 +167,14 @@ impl Section {
     {
         part >= self.lists && part - self.lists < self.nodes
     }
+}
+
+// The row of the merges of a part.
+fn row_of(part: u32) -> u32
+    ensures value { result ≡ row_of part }
+    ensures small { result < 64 }
+{
+    2 * 30_u32.saturating_sub(part.leading_zeros()) + part % 2
 }
 
 // So many places after the rows, each of which has as many places as there are numbers.

@@ -254,7 +254,10 @@ fn plan_of(alloc: Global, size: u32, keeps: &[Keep]) -> Result<Plan, NoMemory>
 {
     let mut plan = Plan::new(alloc, size);
     for keep in keeps {
-        plan.add(lists_of(keep), nodes_of(keep, size))?;
+        match keep {
+            Keep::Hull => plan.add_merges(2 * size)?,
+            _ => plan.add(lists_of(keep), nodes_of(keep, size))?,
+        }
     }
     Ok(plan)
 }
