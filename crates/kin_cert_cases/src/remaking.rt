@@ -172,8 +172,8 @@ fn meeting(alloc: Global) -> Result<Motions, NoMemory> {
 }
 
 /// No plan, a plan in which no fact has a seat, one in which each first number has one, one in which only the number 0
-/// has one, and one in which all facts have the same.
-fn plans() -> [Seats; 5] {
+/// has one, one in which all facts have the same, and one in which they are facts of merges.
+fn plans() -> [Seats; 6] {
     [
         Seats::None,
         Seats::Planned {
@@ -196,6 +196,7 @@ fn plans() -> [Seats; 5] {
             lists: 0,
             nodes: 1,
         },
+        Seats::Merges { size: 2, rows: 4 },
     ]
 }
 

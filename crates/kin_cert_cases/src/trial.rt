@@ -111,6 +111,8 @@ pub enum Seats {
     None,
     /// It has seats in so many lists of the numbers below `2^size`, and in so many nodes.
     Planned { size: u32, lists: u32, nodes: u32 },
+    /// It has seats in so many rows of merges of the numbers below `2^size`.
+    Merges { size: u32, rows: u32 },
 }
 
 // A table without facts, with these seats.
@@ -122,6 +124,11 @@ fn table_with(alloc: Global, seats: Seats) -> Result<Table, NoMemory>
         Seats::Planned { size, lists, nodes } => {
             let mut plan = Plan::new(alloc, size);
             plan.add(lists, nodes)?;
+            Table::with_room(alloc, 4, plan)
+        }
+        Seats::Merges { size, rows } => {
+            let mut plan = Plan::new(alloc, size);
+            plan.add_merges(rows)?;
             Table::with_room(alloc, 4, plan)
         }
     }
