@@ -123,7 +123,8 @@ left() {
 }
 
 # Begins with the proof of a crate, or with that of the program and its build. All waits for the crate whose way up is the
-# longest, so it goes first, in up to four jobs. The others get one each, since more jobs take more time of the processors in all.
+# longest, so it goes first, in up to four jobs. The one with the next longest way is often waited for together with it, so it
+# gets two, and goes second. The others get one each, since more jobs take more time of the processors in all.
 start() {
     local name=$1 command=lib crates it jobs=4 later=0
     [ "$name" != kin_cmd ] || command=run
@@ -137,7 +138,7 @@ start() {
     [ ! -d "$root/crates/$name/out/incremental" ] ||
         mv -- "$root/crates/$name/out/incremental" "$crates/$name/out" || return
     for it in "${!pid[@]}"; do
-        [ "$(left "$it")" -lt "${way[$name]}" ] || { jobs=1 && later=10; }
+        [ "$(left "$it")" -lt "${way[$name]}" ] || { jobs=$((jobs > 1 ? jobs / 2 : 1)) && later=$((later < 10 ? later + 5 : 10)); }
     done
     (cd "$crates/$name" && exec nice -n $later rt $command --jobs "$(least $jobs "$processors")" </dev/null >"$work/$name.log" 2>&1) &
     pid[$name]=$! since[$name]=$(date +%s)

@@ -17,7 +17,7 @@ use kin_motion::kinetic::Kinetic;
 use kin_motion::signs::Signs;
 use kin_num::Steps;
 use kin_overlay::diff::diff;
-use kin_overlay::edit::edit_list;
+use kin_overlay::edit::{Chain, edit_list};
 use kin_overlay::{Half, Overlay};
 use std::alloc::Global;
 use std::marker::Model;
@@ -69,7 +69,7 @@ impl Driver<Overlay> {
         } = self;
         let mut edits = Vec::new(alloc);
         diff(alloc, old, new, &mut edits)?;
-        let mut chain = Vec::from_slice(alloc, old)?;
+        let mut chain = Chain::from_slice(alloc, old)?;
         let mut spare = Vec::new(alloc);
         let (put, dropped) = (&mut edited.put, &mut edited.dropped);
         edit_list(&edits, &mut chain, put, dropped, gone, &mut spare)?;

@@ -1,6 +1,7 @@
 //! Points, moments and chains as tests write them.
 
 ghost use Rattle.std.specs.Prelude.{◌≡◌, ◌≤◌, ◌^◌, unsigned_abs, length, IfSome, IfOk};
+ghost use Rattle.kin_motion.specs.Course.{motion_limit};
 
 use crate::fault::Fault;
 use crate::moments::{after, at, at_fraction, at_the_root_of_two};
@@ -10,12 +11,12 @@ use std::alloc::Global;
 
 /// A number in the range of motions.
 fn number(text: &str) -> Option<i32>
-    ensures { IfSome result (λ n. unsigned_abs n ≤ 4096) }
+    ensures { IfSome result (λ n. unsigned_abs n ≤ motion_limit) }
 {
     let Ok(number) = text.parse::<i32>() else {
         return None;
     };
-    if number.unsigned_abs() > 4096 {
+    if number.unsigned_abs() > Motion::LIMIT {
         return None;
     }
     Some(number)

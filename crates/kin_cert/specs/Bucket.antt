@@ -1,14 +1,14 @@
 -- The buckets of facts.
-use Rattle.std.specs.Prelude.{ℕ, ◌-◌, ◌^◌, Bool, nat_eq, List, [], ◌∷◌}
+use Rattle.std.specs.Prelude.{ℕ, ◌+◌, ◌^◌, ◌%◌, Bool, nat_eq, List, [], ◌∷◌}
 use lib.Pointwise.{pointwise}
 use Rattle.kin_motion.specs.declared.form.Form.{Form}
 use Rattle.kin_motion.specs.declared.form.Form.TheVariants.{Line, Turn, Slope, Dist}
 
--- the first number that a form names, from the greatest one down for a slope, and 0 for a comparison of distances
+-- the first number that a form names, from 2 ^ 30 on for a turn and from 2 ^ 31 on for a slope, and 0 for a comparison of distances
 abbrev pub bucket_number : Form → ℕ
 bucket_number (Line dx dy off i j) = i
-bucket_number (Turn i j k) = i
-bucket_number (Slope i j k l) = 2 ^ 32 - 1 - i
+bucket_number (Turn i j k) = (i + 2 ^ 30) % 2 ^ 32
+bucket_number (Slope i j k l) = (i + 2 ^ 31) % 2 ^ 32
 bucket_number (Dist i j k l) = 0
 
 -- structure, part and that number

@@ -1,5 +1,5 @@
 -- What a fact is known by: its seat, which a plan gives by arithmetic, or else its bucket. No public clause cites this module.
-use Rattle.std.specs.Prelude.{◌≡◌, ℕ, ◌+◌, ◌-◌, ◌*◌, ◌^◌, ◌%◌, nat_lt, if◌then◌else◌, Bool, false, nat_eq, List, Option, Some, None, slice_get}
+use Rattle.std.specs.Prelude.{◌≡◌, ℕ, ◌+◌, ◌-◌, ◌*◌, ◌/◌, ◌^◌, ◌%◌, nat_lt, if◌then◌else◌, Bool, false, nat_eq, List, Option, Some, None, slice_get}
 use Rattle.std.specs.Int.{w32, leading_zeros}
 use Rattle.kin_motion.specs.declared.form.Form.{Form}
 use Rattle.kin_motion.specs.declared.fact.Placed.{Placed}
@@ -14,12 +14,11 @@ use Rattle.kin_cert.specs.Bucket.{bucket_number, bucket_of, is_bucket}
 abbrev pub row_of : ℕ → ℕ
 row_of part = 2 * (30 - leading_zeros w32 part) + part % 2
 
--- in a section: a fact of a merge sits by its row and its first number, those of slopes, which count from the greatest one down, after those of turns
+-- in a section: a fact of a merge sits by its row and its first number, in one part of the row for lines, one for turns and one for slopes
 abbrev pub merge_seat : ℕ → Section → ℕ → ℕ → Option ℕ
 merge_seat numbers s part number =
     if nat_lt (row_of part) s.rows
-    then (if nat_lt number numbers then Some (s.base + 2 * row_of part * numbers + number)
-    else (if nat_lt (2 ^ 32 - 1 - number) numbers then Some (s.base + (2 * row_of part + 1) * numbers + (2 ^ 32 - 1 - number)) else None))
+    then (if nat_lt (number % 2 ^ 30) numbers then Some (s.base + (3 * row_of part + number / 2 ^ 30) * numbers + number % 2 ^ 30) else None)
     else None
 
 -- a fact of a list sits by its number, one of a tournament by its node, and any other as one of a merge

@@ -16,16 +16,16 @@ pub fn bucket(structure: u32, part: u32, form: Form) -> Bucket
 }
 
 /// The number that distinguishes a form from others of its part: the first one that it names, and 0
-/// for a comparison of distances, since a match of a tournament has one. Slopes count from the
-/// greatest number down, since a breakpoint of a merge has a turn and a slope.
+/// for a comparison of distances, since a match of a tournament has one. Turns count from `2^30` on
+/// and slopes from `2^31` on, since a line, a turn and a slope of a merge may have one first number.
 #[inline(always)]
 pub fn bucket_number(form: &Form) -> u32
     ensures { result ≡ bucket_number form.now }
 {
     match *form {
         Form::Line { i, .. } => i,
-        Form::Turn { i, .. } => i,
-        Form::Slope { i, .. } => u32::MAX - i,
+        Form::Turn { i, .. } => i.wrapping_add(1 << 30),
+        Form::Slope { i, .. } => i.wrapping_add(1 << 31),
         Form::Dist { .. } => 0,
     }
 }

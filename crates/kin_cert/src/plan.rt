@@ -10,7 +10,7 @@ use kin_num::NoMemory;
 use std::alloc::Global;
 
 /// What a structure has of the seats, from the base on: for each list as many as there are numbers, and after them one
-/// for each node of its tournament; or for each row of its merges twice as many as there are numbers.
+/// for each node of its tournament; or for each row of its merges three times as many as there are numbers.
 #[derive(Clone, Copy)]
 pub(crate) struct Section {
     base: u32,
@@ -25,8 +25,8 @@ pub(crate) struct Section {
 /// those are nodes of a tournament, of which each has one live fact at a time.
 ///
 /// Or the parts are merges, those of node v of two trees the parts 2v and 2v + 1. The nodes of one level of a tree have no
-/// number in common, so they share a row of seats: one for each number as the first of a turn, and one for each as the
-/// first of a slope. Other facts have no seat.
+/// number in common, so they share a row of seats: one for each number as the first of a line, of a turn and of a slope.
+/// Other facts have no seat.
 #[derive(Drop)]
 pub struct Plan {
     /// Numbers from this one on have no seat in a list.
@@ -62,7 +62,7 @@ impl Plan {
     /// if there would be `2^32` seats or more.
     pub fn add_merges(&mut self, rows: u32) -> Result<(), NoMemory> {
         let mut section = self.no_section();
-        if let Some(end) = end_of(self.count, rows.saturating_mul(2), self.numbers, 0) {
+        if let Some(end) = end_of(self.count, rows.saturating_mul(3), self.numbers, 0) {
             section.rows = rows;
             self.count = end;
         }
@@ -140,9 +140,9 @@ impl Section {
         self.merge_seat(numbers, part, number)
     }
 
-    // The seat of a fact of a merge, which is known by a number. Out of line, so that the seats of lists and nodes are
-    // found in few instructions.
-    #[inline(never)]
+    // The seat of a fact of a merge. Its number says of which kind the form is, in steps of `2^30`, and which number it
+    // names first.
+    #[inline(always)]
     fn merge_seat(&self, numbers: u32, part: u32, number: u32) -> Option<usize>
         ensures { result ≡ merge_seat numbers self.now part number }
     {
@@ -150,12 +150,10 @@ impl Section {
         if row >= self.rows {
             return None;
         }
-        if number < numbers {
-            return Some(seat(self.base, 2 * row, numbers, number));
-        }
-        let first = u32::MAX - number;
+        let kind = number / (1 << 30);
+        let first = number % (1 << 30);
         if first < numbers {
-            return Some(seat(self.base, 2 * row + 1, numbers, first));
+            return Some(seat(self.base, 3 * row + kind, numbers, first));
         }
         None
     }

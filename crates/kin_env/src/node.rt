@@ -18,6 +18,7 @@ use kin_overlay::edit::ChainEdit;
 use kin_overlay::half::Half;
 use kin_overlay::overlay::Overlay;
 use kin_overlay::work::Work;
+use smallvec::SmallVec;
 use std::alloc::Global;
 use std::sync::ledger::Ledger;
 
@@ -27,7 +28,7 @@ pub struct Node {
     /// The merge of both halves, where neither is empty.
     pub merge: Held,
     /// Where there is no merge, the chain that is passed on.
-    pub passed: Vec<u32>,
+    pub passed: SmallVec<u32, 4>,
     /// How the chain has changed, until the node above has taken it in.
     pub edits: Vec<ChainEdit>,
     /// The facts of the merge that have failed, until the node is visited.
@@ -44,7 +45,7 @@ impl Node {
     {
         Node {
             merge: Held::none(),
-            passed: Vec::new(alloc),
+            passed: SmallVec::new(alloc),
             edits: Vec::new(alloc),
             failed: Vec::new(alloc),
         }
@@ -57,7 +58,7 @@ impl Node {
     {
         match self.merge.get() {
             Some(merge) => merge.chain(),
-            None => &self.passed,
+            None => self.passed.as_slice(),
         }
     }
 
@@ -73,6 +74,7 @@ impl Node {
     }
 
     /// Hands another chain on, where there is no merge. `work` is memory for it.
+    #[inline(always)]
     pub fn hand_on(&mut self, work: &mut Work, alloc: Global, chain: &[u32]) -> Result<(), NoMemory>
         requires none { self.old.merge ≡ None }
         ensures merge { self.new.merge ≡ None }
@@ -81,7 +83,7 @@ impl Node {
         ensures failed { self.new.failed.items ≡ self.old.failed.items }
     {
         work.lend(&mut self.edits);
-        diff(alloc, &self.passed, chain, &mut self.edits)?;
+        diff(alloc, self.passed.as_slice(), chain, &mut self.edits)?;
         self.passed.clear();
         self.passed.extend_from_slice(chain)?;
         Ok(())
@@ -123,8 +125,9 @@ impl Node {
         ensures failed { OnOk result (self.new.failed.items ≡ self.old.failed.items) }
     {
         work.lend(&mut self.edits);
-        diff(alloc, &self.passed, merge.chain(), &mut self.edits)?;
-        self.passed = Vec::new(alloc);
+        let passed = self.passed.as_slice();
+        diff(alloc, passed, merge.chain(), &mut self.edits)?;
+        self.passed = SmallVec::new(alloc);
         self.merge.set(alloc, merge)
     }
 
@@ -168,6 +171,7 @@ impl Node {
     }
 
     /// Passes a chain on from now on, where only one half holds points, or neither does.
+    #[inline(always)]
     fn keep_one(
         &mut self,
         work: &mut Work,

@@ -3,6 +3,7 @@
 #![tactic(auto)]
 
 ghost use Rattle.std.specs.Prelude.{◌≤◌, unsigned_abs, OnOk};
+ghost use Rattle.kin_motion.specs.Course.{motion_limit};
 ghost use Rattle.kin_example.specs.Watched.{IsWatched, CanGoOn, HasGoneOn};
 
 use kin_print::{put_bytes, put_list, put_moment, put_pair};
@@ -87,7 +88,7 @@ fn leave<L: Ledger>(world: &mut World, no: u32, steps: &mut Steps<L>) -> Done
 
 /// A vehicle that is there gets the velocity `(u, v)`, if it can have it now.
 fn turn<L: Ledger>(world: &mut World, no: u32, u: i32, v: i32, steps: &mut Steps<L>) -> Done
-    requires slow { (unsigned_abs u ≤ 4096) × (unsigned_abs v ≤ 4096) }
+    requires slow { (unsigned_abs u ≤ motion_limit) × (unsigned_abs v ≤ motion_limit) }
     requires watched { IsWatched world.old }
     ensures { OnOk result (IsWatched world.new) }
 {

@@ -49,7 +49,7 @@ module _ (t : Setting) (now : Moment) (real : IsReal (t.scene now)) (fits : Fits
     }
 
   -- where each live fact has a first failure or none, so have all of them
-  next_block : ((c : Certificate) → IsLiveFact t.size t.keeps (t.scene now) c → (later : Option Moment) × IsFirstFailure t.scene now c.placed.fact later)
+  pub next_block : ((c : Certificate) → IsLiveFact t.size t.keeps (t.scene now) c → (later : Option Moment) × IsFirstFailure t.scene now c.placed.fact later)
       → NothingFails t now ⊎ ((b : Block) × IsNextBlock t now b)
   unfolding NoneEverFails
   next_block first = at (least_failure t.scene now live (λ c there. first c ((listed.each c).0 there)))
@@ -75,20 +75,20 @@ earlier_or_not m n a b = at (total m n a b)
 -- ---- the journal
 module _ (t : Setting) (last : Moment) (last_canonical : IsCanonical last.at) where
   -- the moment is not after the last one
-  abbrev IsInTime : Moment → Type 0
+  abbrev pub IsInTime : Moment → Type 0
   IsInTime now = IsCanonical now.at × ¬ (IsEarlier last now)
 
-  nothing_left : (now : Moment) → IsInTime now → NothingFails t now → IsJournal t now last []
+  pub nothing_left : (now : Moment) → IsInTime now → NothingFails t now → IsJournal t now last []
   nothing_left now in_time nothing = (λ c is x u. nothing c is x u.canonical u.from, λ c is. nothing c is last last_canonical in_time.1)
 
-  block_after : (now : Moment) → IsInTime now → (b : Block) → IsNextBlock t now b → IsEarlier last b.moment → IsJournal t now last []
+  pub block_after : (now : Moment) → IsInTime now → (b : Block) → IsNextBlock t now b → IsEarlier last b.moment → IsJournal t now last []
   block_after now in_time b next after = (
     λ c is x u. next.hold_before c is x (record { canonical = u.canonical; from = u.from; until = through x last b.moment u.canonical last_canonical next.canonical u.until after }),
     λ c is. next.hold_before c is last (record { canonical = last_canonical; from = in_time.1; until = after }),
   )
 
   module _ (next : (now : Moment) → IsCanonical now.at → NothingFails t now ⊎ ((b : Block) × IsNextBlock t now b)) where
-    journal_within : (n : ℕ) (now : Moment) → moments_left now < n → IsInTime now → (bs : List Block) × IsJournal t now last bs
+    pub journal_within : (n : ℕ) (now : Moment) → moments_left now < n → IsInTime now → (bs : List Block) × IsJournal t now last bs
     journal_within zero now few in_time = absurd (omega arith)
     journal_within (suc n) now few in_time = by_next (next now in_time.0) (journal_within n)
       where

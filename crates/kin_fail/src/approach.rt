@@ -1,6 +1,7 @@
 //! When two points come within a distance of each other.
 
-ghost use Rattle.std.specs.Prelude.{◌≡◌, ◌≤◌, ◌*◌, ◌^◌, ◌-ℤ◌, ◌*ℤ◌, pos, unsigned_abs, IfSome, IfNone};
+ghost use Rattle.std.specs.Prelude.{◌≡◌, ◌≤◌, ◌*◌, ◌^◌, ◌-ℤ◌, ◌*ℤ◌, ◌≤ℤ◌, pos, unsigned_abs, IfSome, IfNone};
+ghost use Rattle.kin_motion.specs.Sizes.{step_limit, product_limit, sum_limit};
 ghost use Rattle.kin_fail.specs.Approach.{clearance, IsFirstWithin, StayApart};
 
 use crate::first_fail::first_fail;
@@ -18,19 +19,22 @@ const APART: Fact = Fact {
 
 /// The square of a distance.
 fn square(distance: u32) -> i64
-    requires { distance ≤ 2 ^ 13 }
+    requires { distance ≤ step_limit }
     ensures value { result ≡ pos (distance * distance) }
-    ensures size { unsigned_abs result ≤ 2 ^ 26 }
+    ensures size { unsigned_abs result ≤ product_limit }
+    ensures low { pos 0 ≤ℤ result }
 {
     i64::from(distance * distance)
 }
 
 /// `a*t^2 + 2*b*t + c - square`.
 fn lowered(a: i64, b: i64, c: i64, square: i64) -> Poly
-    requires a_small { unsigned_abs a ≤ 2 ^ 27 }
-    requires b_small { unsigned_abs b ≤ 2 ^ 27 }
-    requires c_small { unsigned_abs c ≤ 2 ^ 27 }
-    requires square_small { unsigned_abs square ≤ 2 ^ 26 }
+    requires a_small { unsigned_abs a ≤ sum_limit }
+    requires b_small { unsigned_abs b ≤ sum_limit }
+    requires c_small { unsigned_abs c ≤ sum_limit }
+    requires c_low { pos 0 ≤ℤ c }
+    requires square_small { unsigned_abs square ≤ product_limit }
+    requires square_low { pos 0 ≤ℤ square }
     ensures { result ≡ record { a = a; b = pos 2 *ℤ b; c = c -ℤ square } }
 {
     Poly::new(a, 2 * b, c - square)
@@ -38,7 +42,7 @@ fn lowered(a: i64, b: i64, c: i64, square: i64) -> Poly
 
 /// The squared distance of two points, less that of `distance`.
 fn clearance(one: &Motion, other: &Motion, distance: u32) -> Poly
-    requires { distance ≤ 2 ^ 13 }
+    requires { distance ≤ step_limit }
     ensures { result ≡ clearance distance one.now other.now }
 {
     let x = way(one.x(), other.x());
@@ -54,7 +58,7 @@ fn clearance(one: &Motion, other: &Motion, distance: u32) -> Poly
 }
 
 /// The first moment from now on at which two points are no farther apart than `distance`, which is
-/// at most 8192. `None` exactly where there is none.
+/// at most 16384. `None` exactly where there is none.
 pub fn first_within<L: Ledger>(
     one: &Motion,
     other: &Motion,
@@ -62,7 +66,7 @@ pub fn first_within<L: Ledger>(
     now: &Moment,
     steps: &mut Steps<L>,
 ) -> Option<Moment>
-    requires { distance ≤ 2 ^ 13 }
+    requires { distance ≤ step_limit }
     ensures some { IfSome result (IsFirstWithin distance one.now other.now now.now) }
     ensures none { IfNone result (StayApart distance one.now other.now now.now) }
 {

@@ -25,13 +25,15 @@ fn reflected(fact: Fact) -> Fact
         Form::Turn { .. } | Form::Slope { .. } => true,
         Form::Dist { .. } => false,
     };
-    if changes_sides {
-        return Fact {
-            form: fact.form,
-            sign: fact.sign.opposite(),
-        };
+    let sign = if changes_sides {
+        fact.sign.opposite()
+    } else {
+        fact.sign
+    };
+    Fact {
+        form: fact.form,
+        sign,
     }
-    fact
 }
 
 impl Side {

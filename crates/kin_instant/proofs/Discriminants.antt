@@ -15,13 +15,13 @@ discriminant_size a b c k l m s h i j e =
     last : (x y : ℤ) (p q s : ℕ) → unsigned_abs x ≤ p → unsigned_abs y ≤ q → pos s ≡ x -ℤ y → s ≤ p + q
     last x y p q s h i e = omega (arith, ints, e)
 
-pub size : (a b c : ℤ) (s : ℕ) → IsSmall (quadratic a b c) → pos s ≡ discriminant a b c → s ≤ 2 ^ 59
-size a b c s h e = omega (arith, discriminant_size a b c (2 ^ 28) (2 ^ 29) (2 ^ 28) s h.a_small h.b_small h.c_small e)
+pub size : (a b c : ℤ) (s : ℕ) → IsSmall (quadratic a b c) → pos s ≡ discriminant a b c → s < 2 ^ 63
+size a b c s h e = omega (arith, discriminant_size a b c (2 ^ 29) (2 ^ 31) (2 ^ 29) s h.a_small h.b_small h.c_small e)
 
-pub root_size : (r s : ℕ) → r * r ≤ s → s ≤ 2 ^ 59 → r < 2 ^ 30
-root_size r s h k = lt_of_not-le (λ l. not-le_of_lt (below s k) (over (2 ^ 30 * 2 ^ 30) (r * r) s (mul-le-mul l l) h))
+pub root_size : (r s : ℕ) → r * r ≤ s → s < 2 ^ 63 → r < 2 ^ 32
+root_size r s h k = lt_of_not-le (λ l. not-le_of_lt (below s k) (over (2 ^ 32 * 2 ^ 32) (r * r) s (mul-le-mul l l) h))
   where
-    below : (s : ℕ) → s ≤ 2 ^ 59 → s < 2 ^ 30 * 2 ^ 30
+    below : (s : ℕ) → s < 2 ^ 63 → s < 2 ^ 32 * 2 ^ 32
     below s k = omega arith
 
     over : (x y z : ℕ) → x ≤ y → y ≤ z → x ≤ z

@@ -37,5 +37,5 @@ canonical a b c a' b' c' g upper h a_positive small real irrational greatest e f
     let n = as_natural g h in
     record {
       form = irreducible_after a b c a' b' c' (unsigned_abs g) (size-some g h) a_positive real irrational (e ∙ ap (λ (z : ℤ). a' *ℤ z) n) (f ∙ ap (λ (z : ℤ). b' *ℤ z) n) (l ∙ ap (λ (z : ℤ). c' *ℤ z) n) (primitive a b c a' b' c' g h greatest e f l);
-      small = record { a_small = not_more a a' g (2 ^ 28) h e small.a_small; b_small = not_more b b' g (2 ^ 29) h f small.b_small; c_small = not_more c c' g (2 ^ 28) h l small.c_small };
+      small = record { a_small = not_more a a' g (2 ^ 29) h e small.a_small; b_small = not_more b b' g (2 ^ 31) h f small.b_small; c_small = not_more c c' g (2 ^ 29) h l small.c_small };
     }

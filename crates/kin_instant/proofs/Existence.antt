@@ -16,11 +16,11 @@ use Rattle.kin_num.specs.Roots.{IsWholeRoot}
 use Rattle.kin_num.proofs.Divisors.{gcd_of}
 use Rattle.kin_instant.specs.declared.roots.Roots.{Roots}
 use Rattle.kin_instant.specs.declared.roots.Roots.TheVariants.{Nowhere, One, Two, All}
-use Rattle.kin_instant.specs.Roots.{quadratic, IsFraction, AreRootsOf}
-use Rattle.kin_instant.proofs.Widths.{doubled-size, upper-size, lower-size}
-use Rattle.kin_instant.proofs.Lowest.{quotient_of, not_more, lowest_of, crossed}
+use Rattle.kin_instant.specs.Roots.{quadratic, IsFraction, AreRootsOf, IsSmallInLowestTerms}
+use Rattle.kin_instant.proofs.Lowest.{quotient_of, lowest_of, crossed}
+use Rattle.kin_instant.proofs.RationalRoots.{line_small, upper_small, lower_small}
 use Rattle.kin_instant.proofs.Divided.{canonical}
-use Rattle.kin_instant.proofs.Discriminants.{size, root_size, irrational}
+use Rattle.kin_instant.proofs.Discriminants.{irrational}
 use Rattle.kin_instant.proofs.RootsOf.{negated_zeros, count_negated, rising_line, falling_line, zero_everywhere, zero_nowhere, negative_discriminant, double_root, two_fractions, two_surds}
 
 -- the roots that a polynomial has
@@ -28,36 +28,26 @@ abbrev pub HasRoots : Quadratic → Type 0
 HasRoots p = (answer : Roots) × AreRootsOf p answer
 
 -- ---- fractions
-pub ratio_exists : (n d : ℤ) → unsigned_abs n < 2 ^ 31 → unsigned_abs d < 2 ^ 31 → pos 0 <ℤ d → (r : Shape) × IsFraction n d r × IsCanonical r
-ratio_exists n d n_small d_small h =
+pub ratio_exists : (n d : ℤ) → pos 0 <ℤ d → IsSmallInLowestTerms n d → (r : Shape) × IsFraction n d r × IsCanonical r
+ratio_exists n d h small =
     let g = gcd_of (unsigned_abs n) (unsigned_abs d) in
     let some : 0 < g.0 = pos_of_dvd_of_pos g.1.1 (size-some d h) in
     let m = quotient_of n g.0 some g.1.0 in
-    let e = quotient_of d g.0 some g.1.1 in (
-      Ratio m.0 e.0,
-      crossed n d m.0 e.0 (pos g.0) m.1 e.1,
-      record {
-        form = lowest_of n d m.0 e.0 g.0 some g.1 h m.1 e.1;
-        small = record {
-          n_small = below _ _ _ (not_more n m.0 g.0 some m.1) n_small;
-          d_small = below _ _ _ (not_more d e.0 g.0 some e.1) d_small;
-        };
-      },
-    )
-  where
-    below : (x y m : ℕ) → x ≤ y → y < m → x < m
-    below x y m h k = omega (arith, h, k)
+    let e = quotient_of d g.0 some g.1.1 in
+    let same = crossed n d m.0 e.0 (pos g.0) m.1 e.1 in
+    let form = lowest_of n d m.0 e.0 g.0 some g.1 h m.1 e.1 in
+    (Ratio m.0 e.0, same, record { form = form; small = small m.0 e.0 form same })
 
 -- ---- lines
 negative_size : (z : ℤ) (m : ℕ) → unsigned_abs z ≤ m → unsigned_abs (neg_ℤ z) ≤ m
 negative_size z m h = omega (arith, ints, h)
 
-module _ (b c : ℤ) (b_small : unsigned_abs b ≤ 2 ^ 29) (c_small : unsigned_abs c ≤ 2 ^ 28) where
+module _ (b c : ℤ) (b_small : unsigned_abs b ≤ 2 ^ 31) (c_small : unsigned_abs c ≤ 2 ^ 31) where
   rising : pos 0 <ℤ b → HasRoots (quadratic (pos 0) b c)
-  rising h = let r = ratio_exists (neg_ℤ c) b (omega (arith, negative_size c (2 ^ 28) c_small)) (omega (arith, b_small)) h in (One r.0, rising_line b c h r.0 r.1 r.2)
+  rising h = let r = ratio_exists (neg_ℤ c) b h (line_small (neg_ℤ c) b h (negative_size c (2 ^ 31) c_small) b_small) in (One r.0, rising_line b c h r.0 r.1 r.2)
 
   falling : b <ℤ pos 0 → HasRoots (quadratic (pos 0) b c)
-  falling h = let r = ratio_exists c (neg_ℤ b) (omega (arith, c_small)) (omega (arith, negative_size b (2 ^ 29) b_small)) (negative-some b h) in (One r.0, falling_line b c h r.0 r.1 r.2)
+  falling h = let up = negative-some b h in let r = ratio_exists c (neg_ℤ b) up (line_small c (neg_ℤ b) up c_small (negative_size b (2 ^ 31) b_small)) in (One r.0, falling_line b c h r.0 r.1 r.2)
 
   level : b ≡ pos 0 → HasRoots (quadratic (pos 0) b c)
   level e = by_constant c refl
@@ -80,20 +70,17 @@ module _ (a b c : ℤ) (up : pos 0 <ℤ a) (small : IsSmall (quadratic a b c)) w
   doubled : pos 0 <ℤ (pos 2 *ℤ a)
   doubled = omega (arith, ints)
 
-  doubled_small : unsigned_abs (pos 2 *ℤ a) < 2 ^ 31
-  doubled_small = doubled-size a small.a_small
-
   -- the discriminant is the square of r
-  rational : (r : ℕ) → r < 2 ^ 30 → pos r *ℤ pos r ≡ discriminant a b c → HasRoots (quadratic a b c)
-  rational r h e = by_root r refl
+  rational : (r : ℕ) → pos r *ℤ pos r ≡ discriminant a b c → HasRoots (quadratic a b c)
+  rational r e = by_root r refl
     where
       by_root : (n : ℕ) → r ≡ n → HasRoots (quadratic a b c)
       by_root zero z =
-          let s = ratio_exists (pos r -ℤ b) (pos 2 *ℤ a) (upper-size (pos r) b h small.b_small) doubled_small doubled in
+          let s = ratio_exists (pos r -ℤ b) (pos 2 *ℤ a) doubled (upper_small a b c (pos r) up small e) in
           (One s.0, double_root a b c (pos r) up e (ap pos z) s.0 s.1 s.2)
       by_root (suc n) z =
-          let l = ratio_exists (neg_ℤ (pos r) -ℤ b) (pos 2 *ℤ a) (lower-size (pos r) b h small.b_small) doubled_small doubled in
-          let s = ratio_exists (pos r -ℤ b) (pos 2 *ℤ a) (upper-size (pos r) b h small.b_small) doubled_small doubled in
+          let l = ratio_exists (neg_ℤ (pos r) -ℤ b) (pos 2 *ℤ a) doubled (lower_small a b c (pos r) up small e) in
+          let s = ratio_exists (pos r -ℤ b) (pos 2 *ℤ a) doubled (upper_small a b c (pos r) up small e) in
           (Two l.0 s.0, two_fractions a b c (pos r) up e (pos-some r (omega (arith, z))) l.0 s.0 l.1 s.1 l.2 s.2)
 
   -- it is positive, and no square
@@ -119,7 +106,7 @@ module _ (a b c : ℤ) (up : pos 0 <ℤ a) (small : IsSmall (quadratic a b c)) w
       whole_root s = let q = square_below (suc s) (omega arith) in (q.0, record { at_most = omega (arith, q.1); greatest = omega (arith, q.2) })
 
       by_root : (s : ℕ) → pos s ≡ discriminant a b c → (q : (r : ℕ) × IsWholeRoot s r) → (q.0 * q.0 ≡ s) ⊎ (q.0 * q.0 < s) → HasRoots (quadratic a b c)
-      by_root s e q (inl f) = rational q.0 (root_size q.0 s q.1.at_most (size a b c s small e)) (ap pos f ∙ e)
+      by_root s e q (inl f) = rational q.0 (ap pos f ∙ e)
       by_root s e q (inr l) = surds (subst (λ (z : ℤ). pos 0 <ℤ z) e (pos-some s (omega (arith, l)))) (irrational q.0 s (discriminant a b c) q.1 (λ f. absurd (omega (arith, l, f))) e)
 
       by_discriminant : (d : ℤ) → discriminant a b c ≡ d → HasRoots (quadratic a b c)
@@ -140,12 +127,12 @@ turned_roots : (p : Quadratic) → HasRoots (negated p) → HasRoots p
 turned_roots p h = (h.0, turned_answer p h.0 h.1)
 
 turned_small : (p : Quadratic) → IsSmall p → IsSmall (negated p)
-turned_small p s = record { a_small = negative_size p.a (2 ^ 28) s.a_small; b_small = negative_size p.b (2 ^ 29) s.b_small; c_small = negative_size p.c (2 ^ 28) s.c_small }
+turned_small p s = record { a_small = negative_size p.a (2 ^ 29) s.a_small; b_small = negative_size p.b (2 ^ 31) s.b_small; c_small = negative_size p.c (2 ^ 29) s.c_small }
 
 pub roots_exist : (p : Quadratic) → IsSmall p → HasRoots p
 roots_exist p small = by_lead p.a refl
   where
     by_lead : (x : ℤ) → p.a ≡ x → HasRoots p
-    by_lead (pos zero) e = subst (λ (x : ℤ). HasRoots (quadratic x p.b p.c)) (sym e) (line_roots p.b p.c small.b_small small.c_small)
+    by_lead (pos zero) e = subst (λ (x : ℤ). HasRoots (quadratic x p.b p.c)) (sym e) (line_roots p.b p.c small.b_small (omega (arith, small.c_small)))
     by_lead (pos (suc n)) e = quadratic_roots p.a p.b p.c (subst (λ (z : ℤ). pos 0 <ℤ z) (sym e) (omega (arith, ints))) small
     by_lead (negsuc n) e = turned_roots p (quadratic_roots (neg_ℤ p.a) (neg_ℤ p.b) (neg_ℤ p.c) (subst (λ (z : ℤ). pos 0 <ℤ neg_ℤ z) (sym e) (omega (arith, ints))) (turned_small p small))

@@ -1,6 +1,7 @@
 pub mod Widths
 pub mod Values
 pub mod Lowest
+pub mod RationalRoots
 pub mod Zeros
 pub mod RootsOf
 pub mod Places

@@ -1,5 +1,5 @@
 -- Division by a greatest common divisor.
-use Rattle.std.proofs.Common.{◌≡◌, ℕ, zero, suc, ◌*◌, ◌/◌, ◌%◌, ◌<◌, ◌≤◌, ℤ, pos, negsuc, ◌+ℤ◌, ◌-ℤ◌, ◌*ℤ◌, unsigned_abs, sym, refl, ap, ◌∙◌, subst, arith, [], ◌∷◌}
+use Rattle.std.proofs.Common.{◌≡◌, ℕ, zero, suc, ◌*◌, ◌/◌, ◌%◌, ◌<◌, ℤ, pos, negsuc, ◌+ℤ◌, ◌-ℤ◌, ◌*ℤ◌, unsigned_abs, sym, refl, ap, ◌∙◌, subst, arith, [], ◌∷◌}
 use Rattle.std.specs.Prelude.{◌<ℤ◌}
 use Rattle.std.specs.Int.{IsGcd, ◌∣◌}
 use Rattle.std.proofs.lemmas.Int.{ints, unsigned_abs-mul}
@@ -59,12 +59,6 @@ quotient_of x g h d = multiple_of x (pos g) d (unsigned_abs x / g) (whole (unsig
 -- ---- the fraction n/d and what is left of it
 pub abs_of : (x q : ℤ) (g : ℕ) → x ≡ q *ℤ pos g → unsigned_abs x ≡ unsigned_abs q * g
 abs_of x q g e = ap unsigned_abs e ∙ unsigned_abs-mul q (pos g)
-
-pub not_more : (x q : ℤ) (g : ℕ) → 0 < g → x ≡ q *ℤ pos g → unsigned_abs q ≤ unsigned_abs x
-not_more x q g h e = at_least (unsigned_abs q) g (unsigned_abs x) h (abs_of x q g e)
-  where
-    at_least : (q g x : ℕ) → 0 < g → x ≡ q * g → q ≤ x
-    at_least q g x h e = grind (arith, e)
 
 pub lowest_of : (n d m e : ℤ) (g : ℕ) → 0 < g → IsGcd (unsigned_abs n) (unsigned_abs d) g → pos 0 <ℤ d → n ≡ m *ℤ pos g → d ≡ e *ℤ pos g → IsLowest m e
 lowest_of n d m e g some common h p q = record {

@@ -17,15 +17,18 @@ use Rattle.kin_num.proofs.Near.{line_sign}
 use Rattle.kin_num.proofs.RootZeros.{divisor-positive}
 use Rattle.kin_num.proofs.FractionOrder.{line_at_fraction, line_at_root}
 use Rattle.kin_num.proofs.RootSigns.{pair_sign-positive}
-use Rattle.kin_instant.specs.Keys.{IsSpanOf, numerator_of, IsCutOff}
+use Rattle.kin_instant.specs.Keys.{IsSpanOf, half_numerator_of, IsCutOff}
 
 abbrev unit : ℤ
 unit = pos (2 ^ 32)
 
-two_at_least : (s m : ℕ) → 0 < s → 0 < m → 2 ≤ s * (2 * m)
-two_at_least zero m h k = absurd (omega arith)
-two_at_least (suc s) zero h k = absurd (omega arith)
-two_at_least (suc s) (suc m) h k = omega arith
+abbrev half : ℤ
+half = pos (2 ^ 31)
+
+one_at_least : (s m : ℕ) → 0 < s → 0 < m → 1 ≤ s * m
+one_at_least zero m h k = absurd (omega arith)
+one_at_least (suc s) zero h k = absurd (omega arith)
+one_at_least (suc s) (suc m) h k = omega arith
 
 -- ---- at a fraction
 -- before 0 or at 0
@@ -102,8 +105,8 @@ module _ (d r : ℕ) (some : 0 < d) (root : IsWholeRoot (d * 2 ^ 64) r) where
   lowered_not_minus (pos (suc n)) h e = code (sym (norm_plus (suc n) (omega (arith, ints))) ∙ e)
   lowered_not_minus (negsuc n) h e = absurd (omega (arith, ints))
 
-  -- a number less than the numerator, or not
-  module _ (b : ℤ) (m l s : ℕ) (positive : 0 < m) (from : s * (2 * m) ≤ l) (below : l < (s + 1) * (2 * m)) where
+  -- a number less than the numerator, or not, by half of both
+  module _ (b : ℤ) (m l s : ℕ) (positive : 0 < m) (from : s * m ≤ l) (below : l < (s + 1) * m) where
     abbrev distance : ℕ → ℤ
     distance k = unit *ℤ neg_ℤ b -ℤ pos (k * (2 * m))
 
@@ -111,36 +114,42 @@ module _ (d r : ℕ) (some : 0 < d) (root : IsWholeRoot (d * 2 ^ 64) r) where
     cut_below x n (inl e) h = omega (arith, ints, e)
     cut_below x n (inr e) h = let f = e.1 in omega (arith, ints)
 
-    cut_from : (x : ℤ) → IsCutOff l x → 0 < s → pos 0 ≤ℤ (x -ℤ pos (s * (2 * m)))
-    cut_from x (inl e) h = whole x (s * (2 * m)) e from
+    cut_from : (x : ℤ) → IsCutOff l x → 0 < s → pos 0 ≤ℤ (x -ℤ pos (s * m))
+    cut_from x (inl e) h = whole x (s * m) e from
       where
         whole : (x : ℤ) (n : ℕ) → pos l ≡ x → n ≤ l → pos 0 ≤ℤ (x -ℤ pos n)
         whole x n e h = omega (arith, ints, e)
-    cut_from x (inr e) h = absurd (let z = two_at_least s m h positive in let f = e.0 in omega arith)
+    cut_from x (inr e) h = absurd (let z = one_at_least s m h positive in let f = e.0 in omega arith)
 
-    upper_end : IsCutOff l (numerator_of b r true) → (distance (s + 1) +ℤ pos r) <ℤ pos 0
-    upper_end c = let h = cut_below (numerator_of b r true) ((s + 1) * (2 * m)) c below in shuffle (unit *ℤ neg_ℤ b) ((s + 1) * (2 * m)) h
+    at_half : (k : ℕ) → distance k ≡ unit *ℤ neg_ℤ b -ℤ pos (2 * (k * m))
+    at_half k = ap (λ (n : ℕ). unit *ℤ neg_ℤ b -ℤ pos n) (twice k m)
       where
-        shuffle : (y : ℤ) (n : ℕ) → ((y +ℤ pos r) -ℤ pos n) <ℤ pos 0 → ((y -ℤ pos n) +ℤ pos r) <ℤ pos 0
-        shuffle y n h = omega (arith, ints)
+        twice : (k m : ℕ) → k * (2 * m) ≡ 2 * (k * m)
+        twice k m = omega arith
 
-    upper_start : IsCutOff l (numerator_of b r true) → 0 < s → pos 0 ≤ℤ (distance s +ℤ pos r)
-    upper_start c h = shuffle (unit *ℤ neg_ℤ b) (s * (2 * m)) (cut_from (numerator_of b r true) c h)
+    upper_end : IsCutOff l (half_numerator_of b r true) → (distance (s + 1) +ℤ pos r) <ℤ pos 0
+    upper_end c = rw (at_half (s + 1)) (whole (neg_ℤ b) ((s + 1) * m) (cut_below (half_numerator_of b r true) ((s + 1) * m) c below))
       where
-        shuffle : (y : ℤ) (n : ℕ) → pos 0 ≤ℤ ((y +ℤ pos r) -ℤ pos n) → pos 0 ≤ℤ ((y -ℤ pos n) +ℤ pos r)
-        shuffle y n h = omega (arith, ints)
+        whole : (y : ℤ) (n : ℕ) → ((half *ℤ y +ℤ pos (r / 2)) -ℤ pos n) <ℤ pos 0 → ((unit *ℤ y -ℤ pos (2 * n)) +ℤ pos r) <ℤ pos 0
+        whole y n h = omega (arith, ints)
 
-    lower_end : IsCutOff l (numerator_of b r false) → distance (s + 1) <ℤ pos (r + 1)
-    lower_end c = shuffle (unit *ℤ neg_ℤ b) ((s + 1) * (2 * m)) (cut_below (numerator_of b r false) ((s + 1) * (2 * m)) c below)
+    upper_start : IsCutOff l (half_numerator_of b r true) → 0 < s → pos 0 ≤ℤ (distance s +ℤ pos r)
+    upper_start c h = rw (at_half s) (whole (neg_ℤ b) (s * m) (cut_from (half_numerator_of b r true) c h))
       where
-        shuffle : (y : ℤ) (n : ℕ) → ((y -ℤ pos (r + 1)) -ℤ pos n) <ℤ pos 0 → (y -ℤ pos n) <ℤ pos (r + 1)
-        shuffle y n h = omega (arith, ints)
+        whole : (y : ℤ) (n : ℕ) → pos 0 ≤ℤ ((half *ℤ y +ℤ pos (r / 2)) -ℤ pos n) → pos 0 ≤ℤ ((unit *ℤ y -ℤ pos (2 * n)) +ℤ pos r)
+        whole y n h = omega (arith, ints)
 
-    lower_start : IsCutOff l (numerator_of b r false) → 0 < s → pos (r + 1) ≤ℤ distance s
-    lower_start c h = shuffle (unit *ℤ neg_ℤ b) (s * (2 * m)) (cut_from (numerator_of b r false) c h)
+    lower_end : IsCutOff l (half_numerator_of b r false) → distance (s + 1) <ℤ pos (r + 1)
+    lower_end c = rw (at_half (s + 1)) (whole (neg_ℤ b) ((s + 1) * m) (cut_below (half_numerator_of b r false) ((s + 1) * m) c below))
       where
-        shuffle : (y : ℤ) (n : ℕ) → pos 0 ≤ℤ ((y -ℤ pos (r + 1)) -ℤ pos n) → pos (r + 1) ≤ℤ (y -ℤ pos n)
-        shuffle y n h = omega (arith, ints)
+        whole : (y : ℤ) (n : ℕ) → ((half *ℤ y -ℤ pos (r / 2 + 1)) -ℤ pos n) <ℤ pos 0 → (unit *ℤ y -ℤ pos (2 * n)) <ℤ pos (r + 1)
+        whole y n h = omega (arith, ints)
+
+    lower_start : IsCutOff l (half_numerator_of b r false) → 0 < s → pos (r + 1) ≤ℤ distance s
+    lower_start c h = rw (at_half s) (whole (neg_ℤ b) (s * m) (cut_from (half_numerator_of b r false) c h))
+      where
+        whole : (y : ℤ) (n : ℕ) → pos 0 ≤ℤ ((half *ℤ y -ℤ pos (r / 2 + 1)) -ℤ pos n) → pos (r + 1) ≤ℤ (unit *ℤ y -ℤ pos (2 * n))
+        whole y n h = omega (arith, ints)
 
 -- the line 2^32*t - k at a root, by its whole part and the norm
 module _ (m d : ℕ) (b c : ℤ) (i : IsIrreducible (pos m) b c) (is : pos d ≡ discriminant (pos m) b c) where
@@ -170,7 +179,7 @@ module _ (m d : ℕ) (b c : ℤ) (i : IsIrreducible (pos m) b c) (is : pos d ≡
       at : pos 0 <ℤ pos m → 0 < m
       at h = omega (arith, ints)
 
-  pub span_of_root : (upper : Bool) (r l s : ℕ) → IsWholeRoot (d * 2 ^ 64) r → IsCutOff l (numerator_of b r upper) → s * (2 * m) ≤ l → l < (s + 1) * (2 * m) → IsSpanOf s (Root (pos m) b c upper)
+  pub span_of_root : (upper : Bool) (r l s : ℕ) → IsWholeRoot (d * 2 ^ 64) r → IsCutOff l (half_numerator_of b r upper) → s * m ≤ l → l < (s + 1) * m → IsSpanOf s (Root (pos m) b c upper)
   span_of_root true r l s root cut from below = record {
     before_end = at_upper r root (s + 1) ∙ raised_minus d r some root (unit *ℤ neg_ℤ b -ℤ pos ((s + 1) * (2 * m))) (upper_end d r some root b m l s above from below cut);
     from_start = λ h e. raised_not_minus d r some root (unit *ℤ neg_ℤ b -ℤ pos (s * (2 * m))) (upper_start d r some root b m l s above from below cut h) (sym (at_upper r root s) ∙ e);
@@ -192,13 +201,14 @@ span_of_ratio n d u v h k e f =
     positive : (d : ℤ) (v : ℕ) → pos 0 <ℤ d → v ≡ unsigned_abs d → 0 < v
     positive d v h e = omega (arith, ints, e)
 
-pub span_at_root : (a b c : ℤ) (m d r l : ℕ) (upper : Bool) → IsIrreducible a b c → m ≡ unsigned_abs a → pos d ≡ discriminant a b c → IsWholeRoot (d * 2 ^ 64) r → IsCutOff l (numerator_of b r upper) → IsSpanOf (l / (2 * m)) (Root a b c upper)
+pub span_at_root : (a b c : ℤ) (m d r l : ℕ) (upper : Bool) → IsIrreducible a b c → m ≡ unsigned_abs a → pos d ≡ discriminant a b c → IsWholeRoot (d * 2 ^ 64) r
+    → IsCutOff l (half_numerator_of b r upper) → IsSpanOf (l / m) (Root a b c upper)
 span_at_root a b c m d r l upper i e f root cut =
     let same : pos m ≡ a = whole a m i.positive e in
     let j : IsIrreducible (pos m) b c = subst (λ (x : ℤ). IsIrreducible x b c) (sym same) i in
     let some : 0 < m = positive m j.positive in
-    subst (λ (x : ℤ). IsSpanOf (l / (2 * m)) (Root x b c upper)) same
-    (span_of_root m d b c j (f ∙ ap (λ (x : ℤ). discriminant x b c) (sym same)) upper r l (l / (2 * m)) root cut (from l (2 * m)) (below l (2 * m) (omega arith)))
+    subst (λ (x : ℤ). IsSpanOf (l / m) (Root x b c upper)) same
+    (span_of_root m d b c j (f ∙ ap (λ (x : ℤ). discriminant x b c) (sym same)) upper r l (l / m) root cut (from l m) (below l m some))
   where
     positive : (m : ℕ) → pos 0 <ℤ pos m → 0 < m
     positive m h = omega (arith, ints)

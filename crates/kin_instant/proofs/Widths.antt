@@ -114,18 +114,8 @@ doubled-fits x x' e h = rw e (small_fits (pos 2 *ℤ x) (twice x h))
 pub doubled-value : (x x' : ℤ) → x' ≡ x → unsigned_abs x ≤ 2 ^ 32 → to_z w64 (of_z w64 (pos 2 *ℤ x')) ≡ pos 2 *ℤ x
 doubled-value x x' e h = to_z-of_z w64 (pos 2 *ℤ x') (doubled-fits x x' e h) ∙ ap (λ (u : ℤ). pos 2 *ℤ u) e
 
-pub opposite-value : (x : ℤ) → unsigned_abs x ≤ 2 ^ 29 → to_z w64 (of_z w64 (pos 0 -ℤ to_z w64 (of_z w64 x))) ≡ neg_ℤ x
+pub opposite-value : (x : ℤ) → unsigned_abs x ≤ 2 ^ 31 → to_z w64 (of_z w64 (pos 0 -ℤ to_z w64 (of_z w64 x))) ≡ neg_ℤ x
 opposite-value x h = omega (arith, ints)
-
--- ---- the numbers that rational roots of a quadratic are made of
-pub doubled-size : (a : ℤ) → unsigned_abs a ≤ 2 ^ 28 → unsigned_abs (pos 2 *ℤ a) < 2 ^ 31
-doubled-size a h = omega (arith, ints)
-
-pub upper-size : (root b : ℤ) → unsigned_abs root < 2 ^ 30 → unsigned_abs b ≤ 2 ^ 29 → unsigned_abs (root -ℤ b) < 2 ^ 31
-upper-size root b h k = omega (arith, ints)
-
-pub lower-size : (root b : ℤ) → unsigned_abs root < 2 ^ 30 → unsigned_abs b ≤ 2 ^ 29 → unsigned_abs (neg_ℤ root -ℤ b) < 2 ^ 31
-lower-size root b h k = omega (arith, ints)
 
 -- ---- wide numbers
 pub below_width : (g m : ℕ) → g ≤ m → m < 2 ^ 63 → g < 2 ^ 63
@@ -148,5 +138,6 @@ level_out b b' e h k = omega (arith, ints, e)
 pub size-read : (a q b p a' q' b' p' z : ℤ) → a' ≡ a → q' ≡ q → b' ≡ b → p' ≡ p → unsigned_abs z ≤ unsigned_abs a' * unsigned_abs q' + unsigned_abs b' * unsigned_abs p' → unsigned_abs z ≤ unsigned_abs a * unsigned_abs q + unsigned_abs b * unsigned_abs p
 size-read a q b p a' q' b' p' z e f g h l = rw (← e, ← f, ← g, ← h) l
 
-pub size-remainder : (a q b p z z' : ℤ) → z' ≡ z → unsigned_abs z ≤ unsigned_abs a * unsigned_abs q + unsigned_abs b * unsigned_abs p → unsigned_abs a ≤ 2 ^ 29 → unsigned_abs q ≤ 2 ^ 29 → unsigned_abs b ≤ 2 ^ 31 → unsigned_abs p ≤ 2 ^ 28 → unsigned_abs z' ≤ 2 ^ 61
+pub size-remainder : (a q b p z z' : ℤ) → z' ≡ z → unsigned_abs z ≤ unsigned_abs a * unsigned_abs q + unsigned_abs b * unsigned_abs p
+    → unsigned_abs a ≤ 2 ^ 29 → unsigned_abs q ≤ 2 ^ 31 → unsigned_abs b ≤ 2 ^ 31 → unsigned_abs p ≤ 2 ^ 29 → unsigned_abs z' ≤ 2 ^ 61
 size-remainder a q b p z z' e l h i j k = subst (λ (x : ℤ). unsigned_abs x ≤ 2 ^ 61) (sym e) (omega (arith, mul-le-mul h i, mul-le-mul j k))

@@ -1,5 +1,5 @@
 -- The key of a moment: a whole number that grows with the time, and what else of the moment is known.
-use Rattle.std.specs.Prelude.{◌≡◌, ◌≢◌, ◌⊎◌, ℕ, ◌+◌, ◌<◌, ◌≤◌, ◌^◌, Bool, true, false, ℤ, pos, ◌+ℤ◌, ◌-ℤ◌, ◌*ℤ◌, ◌<ℤ◌}
+use Rattle.std.specs.Prelude.{◌≡◌, ◌≢◌, ◌⊎◌, ℕ, ◌+◌, ◌/◌, ◌<◌, ◌≤◌, ◌^◌, Bool, true, false, ℤ, pos, ◌+ℤ◌, ◌-ℤ◌, ◌*ℤ◌, ◌<ℤ◌}
 use lib.IntN.{neg_ℤ}
 use Rattle.kin_algebra.specs.declared.sign.Sign.TheVariants.{Minus}
 use Rattle.kin_num.specs.declared.instant.Shape.{Shape}
@@ -26,10 +26,10 @@ pub record IsKeyOf (k : Key) (m : Moment) : Type 0 where
 
 -- ---- inside the crate: no public clause cites what follows
 
--- 2^32 times -b, and r more, or more than r less
-abbrev pub numerator_of : ℤ → ℕ → Bool → ℤ
-numerator_of b r true = pos (2 ^ 32) *ℤ neg_ℤ b +ℤ pos r
-numerator_of b r false = pos (2 ^ 32) *ℤ neg_ℤ b -ℤ pos (r + 1)
+-- half of 2^32 times -b and r more, or more than r less, down to a whole number
+abbrev pub half_numerator_of : ℤ → ℕ → Bool → ℤ
+half_numerator_of b r true = pos (2 ^ 31) *ℤ neg_ℤ b +ℤ pos (r / 2)
+half_numerator_of b r false = pos (2 ^ 31) *ℤ neg_ℤ b -ℤ pos (r / 2 + 1)
 
 -- a whole number, or 0 for a negative one
 abbrev pub IsCutOff : ℕ → ℤ → Type 0

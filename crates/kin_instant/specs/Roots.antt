@@ -7,7 +7,7 @@ use Rattle.kin_num.specs.declared.instant.Shape.{Shape}
 use Rattle.kin_num.specs.declared.instant.Shape.TheVariants.{Ratio, Root}
 use Rattle.kin_num.specs.Quadratic.{Quadratic}
 pub use Rattle.kin_num.specs.Quadratic.{quadratic}
-use Rattle.kin_num.specs.Canonical.{IsCanonical, IsCanonicalForm, discriminant}
+use Rattle.kin_num.specs.Canonical.{IsCanonical, IsCanonicalForm, IsLowest, IsSmallRatio, discriminant}
 use Rattle.kin_num.specs.Instants.{sign_at_instant}
 use Rattle.kin_num.specs.Order.{IsLess}
 use Rattle.kin_instant.specs.declared.roots.Roots.{Roots}
@@ -70,3 +70,9 @@ pub record AreRootsOf (p : Quadratic) (answer : Roots) : Type 0 where
   pub exact : (w : Shape) → IsCanonicalForm w → (sign_at_instant p w ≡ Zero) ↔ HasRoot answer w
   pub rising : IsRising answer
   pub number : count_of answer ≡ root_count p
+
+-- ---- inside the crate: no public clause cites what follows
+
+-- in lowest terms n/d is within the bounds of an instant
+abbrev pub IsSmallInLowestTerms : ℤ → ℤ → Type 0
+IsSmallInLowestTerms n d = (m e : ℤ) → IsLowest m e → IsFraction n d (Ratio m e) → IsSmallRatio m e

@@ -8,7 +8,7 @@ ghost use Rattle.kin_instant.specs.Roots.{quadratic};
 ghost use Rattle.kin_instant.specs.Sides.{IsRootOn};
 
 use crate::product::discriminant_of;
-use crate::ratio::{exact_quotient, ratio};
+use crate::ratio::{exact_quotient, reduced};
 use kin_num::divisor::gcd;
 use kin_num::instant::{Instant, Shape};
 use kin_num::poly::Poly;
@@ -24,18 +24,19 @@ pub(crate) fn negative(p: &Poly) -> Poly
 
 /// One of the two rational roots of a quadratic, or its double one, where `root` is the square root of the discriminant.
 #[inline(always)]
-fn rational_root(a: i64, b: i64, root: i64, upper: bool) -> Instant
-    requires a_positive { pos 0 <ℤ a }
-    requires a_small { unsigned_abs a ≤ 2 ^ 28 }
-    requires b_small { unsigned_abs b ≤ 2 ^ 29 }
-    requires root_small { unsigned_abs root < 2 ^ 30 }
+fn rational_root(p: &Poly, root: i64, upper: bool) -> Instant
+    requires a_positive { pos 0 <ℤ p.now.a }
+    requires root_small { unsigned_abs root < 2 ^ 32 }
     requires root_positive { pos 0 ≤ℤ root }
-    ensures { (c : ℤ) → root *ℤ root ≡ discriminant a b c → IsRootOn (quadratic a b c) upper (Some result) }
+    requires square { root *ℤ root ≡ discriminant p.now.a p.now.b p.now.c }
+    ensures { IsRootOn p.now upper (Some result) }
 {
+    p.recall_small();
+    let (a, b) = (p.a(), p.b());
     if upper {
-        ratio(root - b, 2 * a)
+        reduced(root - b, 2 * a)
     } else {
-        ratio(-root - b, 2 * a)
+        reduced(-root - b, 2 * a)
     }
 }
 
@@ -130,7 +131,7 @@ pub(crate) fn root_on(p: &Poly, upper: bool) -> Option<Instant>
         return None;
     }
     match exact_root(discriminant.unsigned_abs()) {
-        Some(root) => Some(rational_root(a, b, root as i64, upper)),
+        Some(root) => Some(rational_root(p, root as i64, upper)),
         None => Some(irrational_root(a, b, c, upper)),
     }
 }

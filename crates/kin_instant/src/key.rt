@@ -11,7 +11,7 @@ ghost use Rattle.kin_num.specs.declared.instant.Shape.TheVariants.{Ratio, Root};
 ghost use Rattle.kin_num.specs.declared.instant.Moment.{Moment as Time};
 ghost use Rattle.kin_num.specs.Canonical.{IsCanonical, IsIrreducible};
 ghost use Rattle.kin_num.specs.Order.{IsEarlier};
-ghost use Rattle.kin_instant.specs.Keys.{IsSpanOf, IsKeyOf, numerator_of, IsCutOff};
+ghost use Rattle.kin_instant.specs.Keys.{IsSpanOf, IsKeyOf, half_numerator_of, IsCutOff};
 
 use crate::order::phase_order;
 use crate::root_sign::radicand;
@@ -21,6 +21,9 @@ use std::cmp::Ordering;
 
 /// The spans of a unit of time.
 const FINENESS: u64 = 4_294_967_296;
+
+/// Half of these.
+const HALF: u64 = 2_147_483_648;
 
 /// The greatest denominator of fractions that lie at least a span apart.
 const COARSEST: i64 = 65_536;
@@ -85,19 +88,19 @@ fn span_of_ratio(n: i64, d: i64) -> u64
     n.unsigned_abs() * FINENESS / d.unsigned_abs()
 }
 
-/// `2^32` times twice `a` times a root of `a*t^2 + b*t + c`, down to a whole number, and 0 where it is less. `root` is
-/// `2^32` times the square root of the discriminant, down to a whole number.
+/// `2^32` times `a` times a root of `a*t^2 + b*t + c`, down to a whole number, and 0 where it is less. `root` is `2^32`
+/// times the square root of the discriminant, down to a whole number. It and `2^32` times `b`, which is even, are halved
+/// before they are added, since the whole sum doesn't fit 64 bits.
 fn numerator(b: i64, root: u64, upper: bool) -> u64
-    requires b_small { unsigned_abs b ≤ 2 ^ 29 }
-    requires root_small { root < 7 * 2 ^ 61 }
-    ensures { IsCutOff result (numerator_of b root upper) }
+    requires b_small { unsigned_abs b ≤ 2 ^ 31 }
+    ensures { IsCutOff result (half_numerator_of b root upper) }
 {
-    let other = b.unsigned_abs() * FINENESS;
+    let (other, half) = (b.unsigned_abs() * HALF, root / 2);
     match (upper, b > 0) {
-        (true, true) => root.saturating_sub(other),
-        (true, false) => other + root,
+        (true, true) => half.saturating_sub(other),
+        (true, false) => other + half,
         (false, true) => 0,
-        (false, false) => other.saturating_sub(root + 1),
+        (false, false) => other.saturating_sub(half + 1),
     }
 }
 
@@ -105,11 +108,11 @@ fn numerator(b: i64, root: u64, upper: bool) -> u64
 #[inline(always)]
 fn span_of_root(a: i64, b: i64, c: i64, upper: bool) -> u64
     requires irreducible { IsIrreducible a b c }
-    requires a_small { unsigned_abs a ≤ 2 ^ 28 }
-    requires b_small { unsigned_abs b ≤ 2 ^ 29 }
-    requires c_small { unsigned_abs c ≤ 2 ^ 28 }
+    requires a_small { unsigned_abs a ≤ 2 ^ 29 }
+    requires b_small { unsigned_abs b ≤ 2 ^ 31 }
+    requires c_small { unsigned_abs c ≤ 2 ^ 29 }
     ensures { IsSpanOf result (Root a b c upper) }
 {
     let root = fine_root(radicand(a, b, c));
-    numerator(b, root, upper) / (2 * a.unsigned_abs())
+    numerator(b, root, upper) / a.unsigned_abs()
 }

@@ -16,7 +16,7 @@ ghost use Rattle.kin_instant.specs.Laws.{IsNext};
 
 use crate::curve::{negative, root_on};
 use crate::order::compare;
-use crate::ratio::ratio;
+use crate::ratio::reduced;
 use crate::roots::Roots;
 use crate::sign::slope_sign;
 use crate::solve::roots;
@@ -179,5 +179,5 @@ fn root_of_line(p: &Poly) -> Instant
     p.recall_small();
     let (b, c) = (p.b(), p.c());
     let (n, d) = if b > 0 { (-c, b) } else { (c, -b) };
-    ratio(n, d)
+    reduced(n, d)
 }

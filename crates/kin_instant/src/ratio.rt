@@ -3,7 +3,7 @@
 ghost use Rattle.std.specs.Prelude.{◌≡◌, ◌≤◌, ◌<◌, ◌^◌, ◌*ℤ◌, ◌<ℤ◌, pos, unsigned_abs};
 ghost use Rattle.std.specs.Int.{◌∣◌};
 ghost use Rattle.kin_num.specs.Canonical.{IsCanonical, IsLowest};
-ghost use Rattle.kin_instant.specs.Roots.{IsFraction};
+ghost use Rattle.kin_instant.specs.Roots.{IsFraction, IsSmallInLowestTerms};
 
 use kin_num::divisor::gcd;
 use kin_num::instant::{Instant, Shape};
@@ -25,14 +25,27 @@ fn lowest(n: i64, d: i64) -> (i64, i64)
     requires d_positive { pos 0 <ℤ d }
     ensures lowest { IsLowest result.0 result.1 }
     ensures same { result.0 *ℤ d ≡ n *ℤ result.1 }
-    ensures n_less { unsigned_abs result.0 ≤ unsigned_abs n }
-    ensures d_less { unsigned_abs result.1 ≤ unsigned_abs d }
 {
     let divisor = gcd(n.unsigned_abs(), d.unsigned_abs()) as i64;
     (exact_quotient(n, divisor), exact_quotient(d, divisor))
 }
 
-/// The instant `n / d`, for `|n| < 2^31` and `1 <= d < 2^31`. In line, since each line that comes to 0 has one.
+/// The instant `n / d`, where its lowest terms are within the bounds of an instant. In line, since each line that comes to
+/// 0 has one.
+#[inline(always)]
+pub(crate) fn reduced(n: i64, d: i64) -> Instant
+    requires n_fits { unsigned_abs n < 2 ^ 63 }
+    requires d_fits { unsigned_abs d < 2 ^ 63 }
+    requires d_positive { pos 0 <ℤ d }
+    requires small { IsSmallInLowestTerms n d }
+    ensures value { IsFraction n d result }
+    ensures canonical { IsCanonical result }
+{
+    let (n, d) = lowest(n, d);
+    Instant::of(Shape::Ratio { n, d })
+}
+
+/// The instant `n / d`, for `|n| < 2^31` and `1 <= d < 2^31`.
 #[inline(always)]
 pub fn ratio(n: i64, d: i64) -> Instant
     requires n_small { unsigned_abs n < 2 ^ 31 }
@@ -41,6 +54,5 @@ pub fn ratio(n: i64, d: i64) -> Instant
     ensures value { IsFraction n d result }
     ensures canonical { IsCanonical result }
 {
-    let (n, d) = lowest(n, d);
-    Instant::of(Shape::Ratio { n, d })
+    reduced(n, d)
 }

@@ -9,21 +9,21 @@ ghost use Rattle.kin_instant.specs.Roots.{HasRoot, AreCanonical, IsRising, count
 
 use crate::curve::{negative, root_on};
 use crate::order::compare;
-use crate::ratio::ratio;
+use crate::ratio::reduced;
 use crate::roots::Roots;
 use kin_num::poly::Poly;
 use std::cmp::Ordering;
 
 /// The root of `b*t + c`.
 fn line_roots(b: i64, c: i64) -> Roots
-    requires b_small { unsigned_abs b ≤ 2 ^ 29 }
-    requires c_small { unsigned_abs c ≤ 2 ^ 28 }
+    requires b_small { unsigned_abs b ≤ 2 ^ 31 }
+    requires c_small { unsigned_abs c ≤ 2 ^ 29 }
     ensures { AreRootsOf (quadratic (pos 0) b c) result }
 {
     if b > 0 {
-        Roots::One(ratio(-c, b))
+        Roots::One(reduced(-c, b))
     } else if b < 0 {
-        Roots::One(ratio(c, -b))
+        Roots::One(reduced(c, -b))
     } else if c == 0 {
         Roots::All
     } else {

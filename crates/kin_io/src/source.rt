@@ -61,10 +61,10 @@ impl From<Failed> for Untaken {
     }
 }
 
-/// The most bytes of one read, so that a long input costs few calls of the system.
-const BLOCK: usize = 65536;
+/// The most bytes of one read: a long input costs few calls of the system, and a short one touches little memory.
+const BLOCK: usize = 8192;
 
-/// This many zeros. It is a function of its own, since a goal that names a list of 65536 zeros would compute it.
+/// This many zeros. It is a function of its own, since a goal that names a list of 8192 zeros would compute it.
 fn zeros(alloc: Global, count: usize) -> Result<Vec<u8>, AllocError>
     ensures { IfOk result (λ block. vec_len block ≡ count) }
 {

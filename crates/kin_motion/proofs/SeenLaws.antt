@@ -15,7 +15,7 @@ use Rattle.kin_num.specs.Quadratic.{Quadratic}
 use Rattle.kin_num.specs.Canonical.{IsCanonical}
 use Rattle.kin_num.specs.Instants.{Number, number_of, sign_at_number, sign_at_instant, derivative, sign_at_phase, sign_at, later_by}
 use Rattle.kin_num.proofs.Near.{HasHeight, HasSize}
-use Rattle.kin_num.proofs.Sizes.{small_is_wide, wide_size}
+use Rattle.kin_num.proofs.Sizes.{small_size}
 use Rattle.kin_num.proofs.Seat.{seat_later}
 
 -- as high as the coefficients of a polynomial and of its derivative
@@ -60,7 +60,7 @@ unfolding sign_at sign_at_instant
 seen_at m ps c = at m.phase refl
   where
     size : HasSize (number_of m.at) (2 ^ 33)
-    size = wide_size m.at c.form (small_is_wide m.at c.small)
+    size = small_size m.at c.form c.small
 
     h : ℕ
     h = heights ps

@@ -18,6 +18,7 @@ pub struct Mirror<'a, O: Signs> {
 impl<O: Signs> Signs for Mirror<'_, O> {
     ghost scene = { λ s. reflected (O.scene s.inner.now) };
 
+    #[inline(always)]
     fn sign<L: Ledger>(&self, form: &Form, steps: &mut Steps<L>) -> Sign {
         match *form {
             Form::Line { dx, dy, off, i, j } => self.inner.sign(

@@ -1,12 +1,12 @@
 //! The polynomial that a form names.
 
 ghost use Rattle.std.specs.Prelude.{◌≡◌, ◌≤◌, ◌^◌, ◌+ℤ◌, ◌-ℤ◌, ◌*ℤ◌, unsigned_abs, Some};
-ghost use Rattle.kin_motion.specs.Course.{live_of, motion_of, IsSlow};
+ghost use Rattle.kin_motion.specs.Course.{live_of, motion_limit, motion_of, IsSlow};
 ghost use Rattle.kin_motion.specs.declared.form.Form.TheVariants.{Line, Turn, Slope, Dist};
 ghost use Rattle.kin_motion.specs.Forms.{IsAskable, polynomial_of, product, minus, difference, along, square_of_step, x_step, y_step};
 ghost use Rattle.kin_num.specs.Quadratic.{quadratic_sum};
 ghost use Rattle.kin_motion.specs.Numbers.{IsIn};
-ghost use Rattle.kin_motion.specs.Sizes.{IsShort, IsWithin};
+ghost use Rattle.kin_motion.specs.Sizes.{IsShort, IsWithin, IsLengthWithin, step_limit, product_limit, sum_limit};
 
 use crate::form::Form;
 use crate::motion::{Motion, Motions};
@@ -39,10 +39,10 @@ struct Step {
 
 /// How far it is from one coordinate to another.
 pub fn way(from: i32, to: i32) -> i64
-    requires from_small { unsigned_abs from ≤ 4096 }
-    requires to_small { unsigned_abs to ≤ 4096 }
+    requires from_small { unsigned_abs from ≤ motion_limit }
+    requires to_small { unsigned_abs to ≤ motion_limit }
     ensures value { result ≡ to -ℤ from }
-    ensures size { unsigned_abs result ≤ 2 ^ 13 }
+    ensures size { unsigned_abs result ≤ step_limit }
 {
     i64::from(to) - i64::from(from)
 }
@@ -71,22 +71,22 @@ fn step_between(motions: &Motions, i: u32, j: u32) -> Step
 
 /// A product of two coordinates of steps.
 pub fn times(x: i64, y: i64) -> i64
-    requires x_small { unsigned_abs x ≤ 2 ^ 13 }
-    requires y_small { unsigned_abs y ≤ 2 ^ 13 }
+    requires x_small { unsigned_abs x ≤ step_limit }
+    requires y_small { unsigned_abs y ≤ step_limit }
     ensures value { result ≡ x *ℤ y }
-    ensures size { unsigned_abs result ≤ 2 ^ 26 }
+    ensures size { unsigned_abs result ≤ product_limit }
 {
     x * y
 }
 
 /// A sum of two products of coordinates.
 pub fn combined(a: i64, x: i64, b: i64, y: i64) -> i64
-    requires a_small { unsigned_abs a ≤ 2 ^ 13 }
-    requires x_small { unsigned_abs x ≤ 2 ^ 13 }
-    requires b_small { unsigned_abs b ≤ 2 ^ 13 }
-    requires y_small { unsigned_abs y ≤ 2 ^ 13 }
+    requires a_small { unsigned_abs a ≤ step_limit }
+    requires x_small { unsigned_abs x ≤ step_limit }
+    requires b_small { unsigned_abs b ≤ step_limit }
+    requires y_small { unsigned_abs y ≤ step_limit }
     ensures value { result ≡ a *ℤ x +ℤ b *ℤ y }
-    ensures size { unsigned_abs result ≤ 2 ^ 27 }
+    ensures size { unsigned_abs result ≤ sum_limit }
 {
     times(a, x) + times(b, y)
 }
@@ -95,7 +95,7 @@ fn product(p: Linear, q: Linear) -> Poly
     requires p_short { IsShort p }
     requires q_short { IsShort q }
     ensures value { result ≡ product p q }
-    ensures size { IsWithin (2 ^ 26) result }
+    ensures size { IsWithin product_limit result }
 {
     Poly::new(
         times(p.slope, q.slope),
@@ -106,18 +106,28 @@ fn product(p: Linear, q: Linear) -> Poly
 
 /// A sum of two products.
 fn sum(p: Poly, q: Poly) -> Poly
-    requires p_small { IsWithin (2 ^ 26) p }
-    requires q_small { IsWithin (2 ^ 26) q }
+    requires p_small { IsWithin product_limit p }
+    requires q_small { IsWithin product_limit q }
     ensures value { result ≡ quadratic_sum p q }
-    ensures size { IsWithin (2 ^ 27) result }
+    ensures size { IsWithin sum_limit result }
 {
     Poly::new(p.a() + q.a(), p.b() + q.b(), p.c() + q.c())
 }
 
-/// A difference of two products, or of two sums of products.
+/// A difference of two products.
 fn difference(p: Poly, q: Poly) -> Poly
-    requires p_small { IsWithin (2 ^ 27) p }
-    requires q_small { IsWithin (2 ^ 27) q }
+    requires p_small { IsWithin product_limit p }
+    requires q_small { IsWithin product_limit q }
+    ensures { result ≡ difference p q }
+{
+    Poly::new(p.a() - q.a(), p.b() - q.b(), p.c() - q.c())
+}
+
+/// A difference of two squared lengths. As their outer coefficients aren't negative, no outer coefficient of the
+/// difference is greater in size than the greater of the two that it comes from.
+fn difference_of_lengths(p: Poly, q: Poly) -> Poly
+    requires p_small { IsLengthWithin sum_limit p }
+    requires q_small { IsLengthWithin sum_limit q }
     ensures { result ≡ difference p q }
 {
     Poly::new(p.a() - q.a(), p.b() - q.b(), p.c() - q.c())
@@ -128,7 +138,7 @@ fn square(step: Step) -> Poly
     requires x_short { IsShort step.x }
     requires y_short { IsShort step.y }
     ensures value { result ≡ quadratic_sum (product step.x step.x) (product step.y step.y) }
-    ensures size { IsWithin (2 ^ 27) result }
+    ensures size { IsLengthWithin sum_limit result }
 {
     sum(product(step.x, step.x), product(step.y, step.y))
 }
@@ -177,7 +187,7 @@ fn of_dist(motions: &Motions, i: u32, j: u32, k: u32, l: u32) -> Poly
     ensures { result ≡ polynomial_of motions.now (Dist i j k l) }
 {
     let (first, second) = (step_between(motions, i, j), step_between(motions, k, l));
-    difference(square(second), square(first))
+    difference_of_lengths(square(second), square(first))
 }
 
 /// The polynomial of a line. It is made in line, so that its degree, at most one, is known at the call.

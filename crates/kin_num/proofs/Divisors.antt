@@ -93,17 +93,18 @@ same_primitive a b c a' b' c' h h' alone alone' e f =
     let one : a ≡ a' = same_size a a' h h' (dvd_antisymm up down) in
     (one, cancel_factor a' b b' h' (e ∙ ap (λ x. x *ℤ b') one), cancel_factor a' c c' h' (f ∙ ap (λ x. x *ℤ c') one))
 
+-- where x*e = m*y, and m and e have no common divisor, e divides y
+pub divides_across : (x y m e : ℤ) → IsGcd (unsigned_abs m) (unsigned_abs e) 1 → x *ℤ e ≡ m *ℤ y → unsigned_abs e ∣ unsigned_abs y
+divides_across x y m e lowest same =
+    subst (λ z. unsigned_abs e ∣ z) (mul-one (unsigned_abs y))
+    (divides_scaled (unsigned_abs y) (unsigned_abs m) (unsigned_abs e) 1 (unsigned_abs e) lowest
+    (divides_product (unsigned_abs e) (unsigned_abs y) (unsigned_abs x) (unsigned_abs m) (sizes e x y m (integers.times_comm e x ∙ same ∙ integers.times_comm m y)))
+    (divides_product (unsigned_abs e) (unsigned_abs y) (unsigned_abs y) (unsigned_abs e) (omega arith)))
+
 -- two fractions in lowest terms that are equal are one
 pub same_lowest : (n d n' d' : ℤ) → IsLowest n d → IsLowest n' d' → n *ℤ d' ≡ n' *ℤ d → (n ≡ n') × (d ≡ d')
 same_lowest n d n' d' i i' e =
-    let down = divides_denominator n d n' d' i'.lowest e in
-    let up = divides_denominator n' d' n d i.lowest (sym e) in
+    let down = divides_across n d n' d' i'.lowest e in
+    let up = divides_across n' d' n d i.lowest (sym e) in
     let one : d ≡ d' = same_size d d' i.positive i'.positive (dvd_antisymm up down) in
     (cancel_factor d' n n' i'.positive (integers.times_comm d' n ∙ e ∙ ap (λ x. n' *ℤ x) one ∙ integers.times_comm n' d'), one)
-  where
-    divides_denominator : (n d n' d' : ℤ) → IsGcd (unsigned_abs n') (unsigned_abs d') 1 → n *ℤ d' ≡ n' *ℤ d → unsigned_abs d' ∣ unsigned_abs d
-    divides_denominator n d n' d' lowest e =
-        subst (λ x. unsigned_abs d' ∣ x) (mul-one (unsigned_abs d))
-        (divides_scaled (unsigned_abs d) (unsigned_abs n') (unsigned_abs d') 1 (unsigned_abs d') lowest
-        (divides_product (unsigned_abs d') (unsigned_abs d) (unsigned_abs n) (unsigned_abs n') (sizes d' n d n' (integers.times_comm d' n ∙ e ∙ integers.times_comm n' d)))
-        (divides_product (unsigned_abs d') (unsigned_abs d) (unsigned_abs d) (unsigned_abs d') (omega arith)))

@@ -18,7 +18,7 @@ use Rattle.kin_num.specs.Grains.{count_below, is_no_plus, is_grain_left, grains_
 use Rattle.kin_num.proofs.Values.{canonical-sound}
 use Rattle.kin_num.proofs.RootZeros.{divisor-positive}
 use Rattle.kin_num.proofs.Near.{HasSize, line_sign, start, end}
-use Rattle.kin_num.proofs.Sizes.{small_is_wide, wide_size}
+use Rattle.kin_num.proofs.Sizes.{small_size}
 use Rattle.kin_num.proofs.LowerFractions.{not_less_itself, less_asym, lower_numerator}
 use Rattle.kin_num.proofs.InstantOrder.{level_same}
 use Rattle.kin_num.proofs.Counts.{count_less}
@@ -104,13 +104,13 @@ module _ (v w : Shape) (cv : IsCanonical v) (cw : IsCanonical w) where
 
   fewer_grains : IsLess v w → grains_left w < grains_left v
   unfolding grains_left
-  fewer_grains l = at (apart v w cv.form cw.form (small_is_wide v cv.small) (small_is_wide w cw.small) (λ e. not_less_itself w (subst (λ z. IsLess z w) e l)))
+  fewer_grains l = at (apart v w cv cw (λ e. not_less_itself w (subst (λ z. IsLess z w) e l)))
     where
       by : IsLessByGrain v w → count_below (is_grain_left w) (2 ^ 235) < count_below (is_grain_left v) (2 ^ 235)
       by g =
           let p = placed g.n (2 ^ 200) (2 ^ 33) (2 ^ 234) range_holds
-          (from_first v cv.form (2 ^ 33) (2 ^ 200) (wide_size v cv.form (small_is_wide v cv.small)) some_grain g.n g.separates.first)
-          (to_last w cw.form (2 ^ 33) (2 ^ 200) (wide_size w cw.form (small_is_wide w cw.small)) some_grain g.n g.separates.second) in
+          (from_first v cv.form (2 ^ 33) (2 ^ 200) (small_size v cv.form cv.small) some_grain g.n g.separates.first)
+          (to_last w cw.form (2 ^ 33) (2 ^ 200) (small_size w cw.form cw.small) some_grain g.n g.separates.second) in
           count_less (is_grain_left w) (is_grain_left v) (still_left l) p.0
           (ap (λ k. is_no_plus (sign_at_instant (line k (pos (2 ^ 200))) w)) p.2 ∙ ap is_no_plus g.separates.second)
           (ap (λ k. is_no_plus (sign_at_instant (line k (pos (2 ^ 200))) v)) p.2 ∙ test_no_plus _ g.separates.first)

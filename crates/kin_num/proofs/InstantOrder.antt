@@ -6,11 +6,11 @@ use Rattle.kin_algebra.specs.declared.sign.Sign.TheVariants.{Minus, Zero, Plus}
 use Rattle.kin_num.specs.declared.instant.Shape.{Shape}
 use Rattle.kin_num.specs.declared.instant.Shape.TheVariants.{Ratio, Root}
 use Rattle.kin_num.specs.Quadratic.{quadratic}
-use Rattle.kin_num.specs.Canonical.{IsCanonicalForm, IsIrreducible, IsLowest, IsWideShape}
+use Rattle.kin_num.specs.Canonical.{IsCanonical, IsCanonicalForm, IsIrreducible, IsLowest}
 use Rattle.kin_num.specs.Instants.{number_of, sign_at_instant, derivative, line}
 use Rattle.kin_num.specs.Order.{IsLess, AreLevel}
 use Rattle.kin_num.proofs.Near.{HasSize, IsFine, grain, grain-fine}
-use Rattle.kin_num.proofs.Sizes.{HasShapeHeight, size_of, height_of, own_size, own_height, height_some, wide_size, wide_height, wide_some, wide_fine}
+use Rattle.kin_num.proofs.Sizes.{HasShapeHeight, size_of, height_of, own_size, own_height, height_some, small_size, small_height, small_some, small_fine}
 use Rattle.kin_num.proofs.RootOrder as Roots
 use Rattle.kin_num.proofs.RootOrder.{SeparatedAt, Compared, root_order}
 use Rattle.kin_num.proofs.FractionOrder as Fractions
@@ -22,9 +22,9 @@ pub compared : (v w : Shape) → IsCanonicalForm v → IsCanonicalForm w → (m 
 compared v (Ratio n d) fv fw m t h size some fine height = fraction_order n d fw v fv m t h size some fine height
 compared v (Root a b c upper) fv fw m t h size some fine height = root_order a b c fw v fv m t h size some fine height.own height.slope upper
 
--- under the wide bounds 2^200 is a denominator that serves
-pub wide_compared : (v w : Shape) → IsCanonicalForm v → IsCanonicalForm w → IsWideShape v → IsWideShape w → Compared (2 ^ 200) v w
-wide_compared v w fv fw bv bw = compared v w fv fw (2 ^ 33) (2 ^ 200) (2 ^ 31) (wide_size v fv bv) wide_some wide_fine (wide_height w bw)
+-- within the bounds 2^200 is a denominator that serves
+pub small_compared : (v w : Shape) → IsCanonical v → IsCanonical w → Compared (2 ^ 200) v w
+small_compared v w cv cw = compared v w cv.form cw.form (2 ^ 33) (2 ^ 200) (2 ^ 31) (small_size v cv.form cv.small) small_some small_fine (small_height w cw.small)
 
 -- ---- at any denominator
 pub less_at : {t : ℕ} {v w : Shape} → SeparatedAt t v w → IsLess v w

@@ -10,7 +10,7 @@ use Rattle.kin_num.specs.declared.instant.Shape.{Shape}
 use Rattle.kin_num.specs.declared.instant.Phase.{Phase}
 use Rattle.kin_num.specs.declared.instant.Phase.TheVariants.{At, After}
 use Rattle.kin_num.specs.declared.instant.Moment.{Moment}
-use Rattle.kin_num.specs.Canonical.{IsCanonicalForm, IsWideShape}
+use Rattle.kin_num.specs.Canonical.{IsCanonical, IsCanonicalForm}
 use Rattle.kin_num.specs.Instants.{number_of, sign_at_instant, seat_of, line}
 use Rattle.kin_num.specs.Laws.{IsRadicand, PairSignsAreOrdered, SignsAddAndMultiply, SignsAreOrdered, InstantsAreOrdered, MomentsAreOrdered, IsLessByGrain, InstantsLieApart}
 use Rattle.kin_num.proofs.Values.{radical_of, canonical-sound}
@@ -19,8 +19,8 @@ use Rattle.kin_num.proofs.Near.{Bracket, bracket, line_sign}
 use Rattle.kin_num.proofs.RootZeros.{divisor-positive}
 use Rattle.kin_num.proofs.RootOrder.{SeparatedAt, Compared}
 use Rattle.kin_num.proofs.LowerFractions.{not_less_itself, less_trans, less_asym, least_separates}
-use Rattle.kin_num.proofs.Sizes.{wide_size}
-use Rattle.kin_num.proofs.InstantOrder.{total, level_same, same_level, wide_compared}
+use Rattle.kin_num.proofs.Sizes.{small_size}
+use Rattle.kin_num.proofs.InstantOrder.{total, level_same, same_level, small_compared}
 use Rattle.kin_num.proofs.MomentOrder.{not_earlier_itself, earlier_trans, earlier_total}
 use Rattle.kin_num.proofs.SignLaws.{sign_at-neg}
 use Rattle.kin_num.proofs.InstantLaws.{sign_at-sum-form}
@@ -55,10 +55,10 @@ same_radicand : (w : Shape) (f : Phase) → (number_of w).radicand ≡ (seat_of 
 same_radicand w At = refl
 same_radicand w After = refl
 
-pub signs : (m : Moment) → IsCanonicalForm m.at → IsWideShape m.at → SignsAreOrdered m
-signs m form wide = record {
-  at_seat = λ p k. seat p (omega (arith, k.a_most)) k.b_most (omega (arith, k.c_most)) m form wide;
-  ordered = subst PairSignsAreOrdered (same_radicand m.at m.phase) (sound_pairs (number_of m.at).radicand (canonical-sound m.at form));
+pub signs : (m : Moment) → IsCanonical m.at → SignsAreOrdered m
+signs m c = record {
+  at_seat = λ p k. seat p k m c;
+  ordered = subst PairSignsAreOrdered (same_radicand m.at m.phase) (sound_pairs (number_of m.at).radicand (canonical-sound m.at c.form));
 }
 
 pub sums_and_products : (m : Moment) → IsCanonicalForm m.at → SignsAddAndMultiply m
@@ -89,22 +89,22 @@ moments = record {
 pub some_grain : 0 < 2 ^ 200
 some_grain = omega arith
 
-by_grain : (v w : Shape) → IsCanonicalForm v → IsCanonicalForm w → IsWideShape v → SeparatedAt (2 ^ 200) v w → IsLessByGrain v w
+by_grain : (v w : Shape) → IsCanonical v → IsCanonical w → SeparatedAt (2 ^ 200) v w → IsLessByGrain v w
 unfolding sign_at_instant
-by_grain v w fv fw bv s =
-    let b : Bracket (number_of v) (pos (2 ^ 200)) = bracket (number_of v) (2 ^ 33) (2 ^ 200) (wide_size v fv bv) some_grain in
-    let signed = line_sign (number_of v) (canonical-sound v fv) (divisor-positive v fv) in
+by_grain v w cv cw s =
+    let b : Bracket (number_of v) (pos (2 ^ 200)) = bracket (number_of v) (2 ^ 33) (2 ^ 200) (small_size v cv.form cv.small) some_grain in
+    let signed = line_sign (number_of v) (canonical-sound v cv.form) (divisor-positive v cv.form) in
     let after : sign_at_instant (line (b.k -ℤ pos 1) (pos (2 ^ 200))) v ≡ Plus = signed (b.k -ℤ pos 1) (pos (2 ^ 200)) ∙ b.after in
     record {
       n = b.k;
-      separates = least_separates v w fv fw s.0 b.k (pos (2 ^ 200)) after (λ p. b.not_after (sym (signed b.k (pos (2 ^ 200))) ∙ p)) s.1;
+      separates = least_separates v w cv.form cw.form s.0 b.k (pos (2 ^ 200)) after (λ p. b.not_after (sym (signed b.k (pos (2 ^ 200))) ∙ p)) s.1;
       least = after;
     }
 
 pub apart : InstantsLieApart
-apart v w fv fw bv bw different = at (wide_compared v w fv fw bv bw)
+apart v w cv cw different = at (small_compared v w cv cw)
   where
     at : Compared (2 ^ 200) v w → IsLessByGrain v w ⊎ IsLessByGrain w v
-    at (inl s) = inl (by_grain v w fv fw bv s)
-    at (inr (inl s)) = inr (by_grain w v fw fv bw s)
+    at (inl s) = inl (by_grain v w cv cw s)
+    at (inr (inl s)) = inr (by_grain w v cw cv s)
     at (inr (inr e)) = absurd (different e)

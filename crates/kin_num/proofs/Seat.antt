@@ -1,5 +1,5 @@
 -- The sign of a polynomial at a moment of either phase is its sign at one number, the moment's seat.
-use Rattle.std.proofs.Common.{◌≡◌, ◌≢◌, ℕ, [], ◌∷◌, refl, sym, ap, ap₂, ◌∙◌, subst, ◌≤◌, ◌<◌, ◌^◌, arith, unsigned_abs}
+use Rattle.std.proofs.Common.{◌≡◌, ◌≢◌, ℕ, [], ◌∷◌, refl, sym, ap, ap₂, ◌∙◌, subst, ◌<◌, ◌^◌, arith}
 use Rattle.std.specs.Prelude.{ℤ, pos, ◌-ℤ◌, ◌*ℤ◌}
 use Rattle.std.proofs.lemmas.Int.{ints}
 use Rattle.kin_algebra.specs.declared.sign.Sign.{Sign}
@@ -14,16 +14,16 @@ use Rattle.kin_algebra.proofs.Pairs.{Pair, pair, pair_plus, pair_times, Sound, s
 use Rattle.kin_num.specs.declared.instant.Phase.{Phase}
 use Rattle.kin_num.specs.declared.instant.Phase.TheVariants.{At, After}
 use Rattle.kin_num.specs.declared.instant.Moment.{Moment}
-use Rattle.kin_num.specs.Quadratic.{Quadratic}
-use Rattle.kin_num.specs.Canonical.{IsCanonicalForm, IsWideShape}
+use Rattle.kin_num.specs.Quadratic.{Quadratic, IsSmall}
+use Rattle.kin_num.specs.Canonical.{IsCanonical}
 use Rattle.kin_num.specs.Instants.{Number, number_of, sign_at_number, sign_at_instant, derivative, sign_at_phase, sign_at, later_by, seat_of}
 use Rattle.kin_num.proofs.Values.{value, negated, value-negated}
 use Rattle.kin_num.proofs.SignLaws.{derivative-negated}
 use Rattle.kin_num.proofs.Nearness.{value_in, slope_in, value_after, after, after_slope, after_second}
 use Rattle.kin_num.proofs.NumberRing.{flat, conjugate, ring_over, flat_some, positive_apart}
-use Rattle.kin_num.proofs.Near.{size_double, HasHeight, HasSize, IsFine, value-in, conjugate-in, point_size, Q_positive}
+use Rattle.kin_num.proofs.Near.{HasHeight, HasSize, IsFine, value-in, conjugate-in, point_size, Q_positive}
 use Rattle.kin_num.proofs.Kept.{t_some, bounds, conjugate_size, fine_here, flat_positive, height-negated}
-use Rattle.kin_num.proofs.Sizes.{wide_size, wide_some, wide_fine}
+use Rattle.kin_num.proofs.Sizes.{HaveHeight, quadratic-height, small_size, small_some, small_fine}
 
 module _ (x : Number) (m t h : ℕ) (size : HasSize x m) (some : 0 < h) (fine : IsFine h m t) where
   abbrev d : ℤ
@@ -139,19 +139,16 @@ module _ (x : Number) (m t h : ℕ) (size : HasSize x m) (some : 0 < h) (fine : 
       at Zero Plus e f = sym (seat_slope p slope_height e Plus (λ z. code z) f)
       at Zero Zero e f = sym (seat_second p e f)
 
-own_height : (p : Quadratic) → unsigned_abs p.a ≤ 2 ^ 30 → unsigned_abs p.b ≤ 2 ^ 31 → unsigned_abs p.c ≤ 2 ^ 31 → HasHeight p (2 ^ 31)
-own_height p a b c = record { a_most = omega (arith, a); b_most = b; c_most = c }
-
-slope_height : (p : Quadratic) → unsigned_abs p.a ≤ 2 ^ 30 → unsigned_abs p.b ≤ 2 ^ 31 → HasHeight (derivative p) (2 ^ 31)
-slope_height p a b = record { a_most = omega arith; b_most = omega (arith, size_double p.a, a); c_most = b }
+heights : (p : Quadratic) → IsSmall p → HaveHeight p.a p.b p.c (2 ^ 31)
+heights p k = quadratic-height p.a p.b p.c (2 ^ 31) (omega (arith, k.a_small)) k.b_small (omega (arith, k.c_small))
 
 -- at every moment, of either phase, the sign is that of the value at the seat
-pub seat : (p : Quadratic) → unsigned_abs p.a ≤ 2 ^ 30 → unsigned_abs p.b ≤ 2 ^ 31 → unsigned_abs p.c ≤ 2 ^ 31 → (m : Moment) → IsCanonicalForm m.at → IsWideShape m.at → sign_at p m ≡ sign_at_number p (seat_of m.at m.phase)
+pub seat : (p : Quadratic) → IsSmall p → (m : Moment) → IsCanonical m.at → sign_at p m ≡ sign_at_number p (seat_of m.at m.phase)
 unfolding sign_at sign_at_instant
-seat p a b c m form wide = at m.phase refl
+seat p k m c = at m.phase refl
   where
     at : (f : Phase) → m.phase ≡ f → sign_at_phase p m.at m.phase ≡ sign_at_number p (seat_of m.at m.phase)
     at At e = subst (λ f. sign_at_phase p m.at f ≡ sign_at_number p (seat_of m.at f)) (sym e) refl
     at After e =
         subst (λ f. sign_at_phase p m.at f ≡ sign_at_number p (seat_of m.at f)) (sym e)
-        (seat_later (number_of m.at) (2 ^ 33) (2 ^ 200) (2 ^ 31) (wide_size m.at form wide) wide_some wide_fine p (own_height p a b c) (slope_height p a b))
+        (seat_later (number_of m.at) (2 ^ 33) (2 ^ 200) (2 ^ 31) (small_size m.at c.form c.small) small_some small_fine p (heights p k).own (heights p k).slope)

@@ -6,7 +6,7 @@ use lib.IntN.{neg_ℤ}
 use Rattle.kin_num.specs.declared.instant.Shape.{Shape}
 use Rattle.kin_num.specs.declared.instant.Shape.TheVariants.{Ratio, Root}
 use Rattle.kin_num.specs.Quadratic.{Quadratic, quadratic}
-use Rattle.kin_num.specs.Canonical.{IsCanonicalForm, IsSmallShape, IsWideShape, discriminant}
+use Rattle.kin_num.specs.Canonical.{IsCanonicalForm, IsSmallShape, discriminant}
 use Rattle.kin_num.specs.Instants.{number_of, line, derivative}
 use Rattle.kin_num.proofs.Values.{canonical-sound}
 use Rattle.kin_num.proofs.Near.{size_negative, size_double, HasHeight, HasSize, IsFine}
@@ -82,14 +82,10 @@ size_of w = unsigned_abs (number_of w).whole + unsigned_abs (number_of w).root *
 pub own_size : (w : Shape) → IsCanonicalForm w → HasSize (number_of w) (size_of w)
 own_size w form = size_by w form (unsigned_abs (number_of w).radicand) (size_of w) (below_square (number_of w).radicand) (omega arith) (omega arith)
 
--- ---- under the wide bounds
-pub small_is_wide : (w : Shape) → IsSmallShape w → IsWideShape w
-small_is_wide (Ratio n d) s = record { n_most = omega (arith, s.n_small); d_most = omega (arith, s.d_small) }
-small_is_wide (Root a b c upper) s = record { a_most = omega (arith, s.a_small); b_most = omega (arith, s.b_small); c_most = omega (arith, s.c_small) }
-
-pub wide_height : (w : Shape) → IsWideShape w → HasShapeHeight w (2 ^ 31)
-wide_height (Ratio n d) k = line-height n d (2 ^ 31) k.n_most k.d_most
-wide_height (Root a b c upper) k = quadratic-height a b c (2 ^ 31) (omega (arith, k.a_most)) k.b_most (omega (arith, k.c_most))
+-- ---- within the bounds
+pub small_height : (w : Shape) → IsSmallShape w → HasShapeHeight w (2 ^ 31)
+small_height (Ratio n d) k = line-height n d (2 ^ 31) k.n_small k.d_small
+small_height (Root a b c upper) k = quadratic-height a b c (2 ^ 31) (omega (arith, k.a_small)) k.b_small (omega (arith, k.c_small))
 
 square_below : (z : ℤ) (k : ℕ) → unsigned_abs z ≤ k → (z *ℤ z) ≤ℤ pos (k * k)
 square_below (pos n) k h = omega (arith, ints, mul-le-mul h h)
@@ -119,14 +115,14 @@ root_point b h = omega (arith, size_negative b, h)
 double_most : (a : ℤ) → unsigned_abs a ≤ 2 ^ 29 → unsigned_abs (pos 2 *ℤ a) ≤ 2 ^ 33
 double_most a h = omega (arith, size_double a, h)
 
-pub wide_size : (w : Shape) → IsCanonicalForm w → IsWideShape w → HasSize (number_of w) (2 ^ 33)
-wide_size (Ratio n d) form k = size_by (Ratio n d) form 0 (2 ^ 33) (omega (arith, ints)) (omega (arith, k.n_most)) (omega (arith, k.d_most))
-wide_size (Root a b c true) form k = size_by (Root a b c true) form (2 ^ 32) (2 ^ 33) (discriminant_most a b c k.a_most k.b_most k.c_most) (root_point b k.b_most) (double_most a k.a_most)
-wide_size (Root a b c false) form k = size_by (Root a b c false) form (2 ^ 32) (2 ^ 33) (discriminant_most a b c k.a_most k.b_most k.c_most) (root_point b k.b_most) (double_most a k.a_most)
+pub small_size : (w : Shape) → IsCanonicalForm w → IsSmallShape w → HasSize (number_of w) (2 ^ 33)
+small_size (Ratio n d) form k = size_by (Ratio n d) form 0 (2 ^ 33) (omega (arith, ints)) (omega (arith, k.n_small)) (omega (arith, k.d_small))
+small_size (Root a b c true) form k = size_by (Root a b c true) form (2 ^ 32) (2 ^ 33) (discriminant_most a b c k.a_small k.b_small k.c_small) (root_point b k.b_small) (double_most a k.a_small)
+small_size (Root a b c false) form k = size_by (Root a b c false) form (2 ^ 32) (2 ^ 33) (discriminant_most a b c k.a_small k.b_small k.c_small) (root_point b k.b_small) (double_most a k.a_small)
 
--- 2^200 is fine enough for the wide bounds
-pub wide_some : 0 < 2 ^ 31
-wide_some = omega arith
+-- 2^200 is fine enough for the bounds
+pub small_some : 0 < 2 ^ 31
+small_some = omega arith
 
-pub wide_fine : IsFine (2 ^ 31) (2 ^ 33) (2 ^ 200)
-wide_fine = omega arith
+pub small_fine : IsFine (2 ^ 31) (2 ^ 33) (2 ^ 200)
+small_fine = omega arith

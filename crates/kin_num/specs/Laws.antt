@@ -5,8 +5,8 @@ use Rattle.kin_algebra.specs.declared.sign.Sign.TheVariants.{Plus}
 use Rattle.kin_algebra.specs.Signs.{sign_of, opposite_of, product_of, pair_sign_of, SumMayBe}
 use Rattle.kin_num.specs.declared.instant.Shape.{Shape}
 use Rattle.kin_num.specs.declared.instant.Moment.{Moment}
-use Rattle.kin_num.specs.Quadratic.{Quadratic, quadratic_sum, negated, linear, linear_product}
-use Rattle.kin_num.specs.Canonical.{IsCanonicalForm, IsWideQuadratic, IsWideShape}
+use Rattle.kin_num.specs.Quadratic.{Quadratic, IsSmall, quadratic_sum, negated, linear, linear_product}
+use Rattle.kin_num.specs.Canonical.{IsCanonical, IsCanonicalForm}
 use Rattle.kin_num.specs.Instants.{sign_at_number, sign_at_instant, sign_at, seat_of, line}
 use Rattle.kin_num.specs.Order.{Separates, IsLess, AreLevel, IsEarlier}
 
@@ -22,9 +22,9 @@ pub record PairSignsAreOrdered (d : ℤ) : Type 0 where
   pub sum : (u v x y : ℤ) → SumMayBe (pair_sign_of u v d) (pair_sign_of x y d) (pair_sign_of (u +ℤ x) (v +ℤ y) d)
   pub product : (u v x y : ℤ) → pair_sign_of (u *ℤ x +ℤ v *ℤ y *ℤ d) (u *ℤ y +ℤ v *ℤ x) d ≡ product_of (pair_sign_of u v d) (pair_sign_of x y d)
 
--- at one moment, of either phase, the signs of all polynomials are those of their values at one number, in an ordered ring
+-- at one moment, of either phase, the signs of all polynomials within the bounds are those of their values at one number, in an ordered ring
 pub record SignsAreOrdered (m : Moment) : Type 0 where
-  pub at_seat : (p : Quadratic) → IsWideQuadratic p.a p.b p.c → sign_at p m ≡ sign_at_number p (seat_of m.at m.phase)
+  pub at_seat : (p : Quadratic) → IsSmall p → sign_at p m ≡ sign_at_number p (seat_of m.at m.phase)
   pub ordered : PairSignsAreOrdered (seat_of m.at m.phase).radicand
 
 -- signs at one moment go with negatives, sums and products as those of numbers do
@@ -56,5 +56,4 @@ pub record IsLessByGrain (v w : Shape) : Type 0 where
 
 -- two different canonical instants lie so far apart that a fraction of the denominator 2^200 separates them
 abbrev pub InstantsLieApart : Type 0
-InstantsLieApart =
-    (v w : Shape) → IsCanonicalForm v → IsCanonicalForm w → IsWideShape v → IsWideShape w → v ≢ w → IsLessByGrain v w ⊎ IsLessByGrain w v
+InstantsLieApart = (v w : Shape) → IsCanonical v → IsCanonical w → v ≢ w → IsLessByGrain v w ⊎ IsLessByGrain w v

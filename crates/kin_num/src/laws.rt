@@ -1,12 +1,12 @@
 //! The laws of signs and of the order.
 //!
 //! Each function does nothing: its contract is the law. The laws of the order, and of sums and products of signs, hold
-//! for canonical forms of any size. `signs_are_ordered` and `instants_lie_apart` ask for the wide bounds, which are
-//! greater than those of the types, and `moments_run_out` for the bounds of the types.
+//! for canonical forms of any size. `signs_are_ordered`, `instants_lie_apart` and `moments_run_out` ask for the bounds of
+//! [`Poly`](crate::poly::Poly) and [`Instant`](crate::instant::Instant).
 
 ghost use Rattle.std.specs.Prelude.{ℤ};
 ghost use Rattle.kin_num.specs.declared.instant.Moment.{Moment as Time};
-ghost use Rattle.kin_num.specs.Canonical.{IsCanonicalForm, IsWideShape};
+ghost use Rattle.kin_num.specs.Canonical.{IsCanonical, IsCanonicalForm};
 ghost use Rattle.kin_num.specs.Grains.{MomentsRunOut};
 ghost use Rattle.kin_num.specs.Laws.{IsRadicand, PairSignsAreOrdered, SignsAddAndMultiply, SignsAreOrdered, InstantsAreOrdered, MomentsAreOrdered, InstantsLieApart};
 
@@ -22,7 +22,7 @@ pub fn signs_add_and_multiply()
 
 /// The signs at one moment are those of values in one ordered ring, which has products of any degree.
 pub fn signs_are_ordered()
-    ensures { (m : Time) → IsCanonicalForm m.at → IsWideShape m.at → SignsAreOrdered m }
+    ensures { (m : Time) → IsCanonical m.at → SignsAreOrdered m }
 {}
 
 /// The order of instants is total, and only equal canonical forms are level.

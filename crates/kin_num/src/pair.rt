@@ -25,7 +25,7 @@ fn difference(a: i128, b: i128) -> i128
 
 /// The square of `u` less that of `v*sqrt(d)`.
 fn norm(u: i128, v: i128, d: i128) -> i128
-    requires u_small { unsigned_abs u ≤ 2 ^ 62 }
+    requires u_small { unsigned_abs u < 2 ^ 63 }
     requires v_small { unsigned_abs v ≤ 2 ^ 31 }
     requires d_small { unsigned_abs d < 2 ^ 63 }
     ensures { result ≡ norm_of u v d }
@@ -35,7 +35,7 @@ fn norm(u: i128, v: i128, d: i128) -> i128
 
 /// The sign of `u + v*sqrt(d)`. No root is taken: where `u` and `v` have opposite signs, `u*u` is compared with `v*v*d`.
 pub fn pair_sign(u: i64, v: i64, d: u64) -> Sign
-    requires u_small { unsigned_abs u ≤ 2 ^ 62 }
+    requires u_small { unsigned_abs u < 2 ^ 63 }
     requires v_small { unsigned_abs v ≤ 2 ^ 31 }
     requires d_small { d < 2 ^ 63 }
     ensures { result ≡ pair_sign_of u v (pos d) }

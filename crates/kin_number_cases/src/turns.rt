@@ -11,7 +11,7 @@ const ROOT_TWO: [i64; 4] = [1, 0, -2, 1];
 /// What comes of a turn from the speed `u` to `new_u`, of a point that starts at `(x, 7)` and moves along x alone: the
 /// new constant part of x.
 fn turn(x: i16, u: i8, new_u: i8, at: [i64; 4], phase: Phase) -> Option<Result<i32, TurnError>> {
-    let motion = Motion::new(i32::from(x % 4097), 7, i32::from(u), 0);
+    let motion = Motion::new(i32::from(x % 8193), 7, i32::from(u), 0);
     let now = Moment {
         at: instant(at)?,
         phase,
@@ -41,7 +41,7 @@ fn a_place_between_whole_numbers_is_refused(rt: HostRuntime) {
     for (x, u, new_u, at, phase) in [
         (0, 4, 5, [0, 11, 4, 0], Phase::At),
         (0, 2, 4, [0, 1, 2, 0], Phase::After),
-        (4096, 1, 0, [0, 1, 2, 0], Phase::At),
+        (8192, 1, 0, [0, 1, 2, 0], Phase::At),
     ] {
         assert_eq!(rt;
             turn(x, u, new_u, at, phase),
@@ -65,10 +65,10 @@ fn at_an_irrational_instant_only_the_same_speed_is_taken(rt: HostRuntime) {
 #[test]
 fn a_start_far_away_is_refused(rt: HostRuntime) {
     for (x, u, new_u, at, turned) in [
-        (4096, 1, 0, [0, 1, 1, 0], Err(TurnError::OutOfBounds)),
-        (4095, 1, 0, [0, 1, 1, 0], Ok(4096)),
-        (-4096, 0, 1, [0, 1, 1, 0], Err(TurnError::OutOfBounds)),
-        (-4096, -1, 0, [0, 0, 1, 0], Ok(-4096)),
+        (8192, 1, 0, [0, 1, 1, 0], Err(TurnError::OutOfBounds)),
+        (8191, 1, 0, [0, 1, 1, 0], Ok(8192)),
+        (-8192, 0, 1, [0, 1, 1, 0], Err(TurnError::OutOfBounds)),
+        (-8192, -1, 0, [0, 0, 1, 0], Ok(-8192)),
     ] {
         assert_eq!(rt;
             turn(x, u, new_u, at, Phase::At),

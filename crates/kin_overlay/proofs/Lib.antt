@@ -33,6 +33,7 @@ pub mod SeatLaws
 pub mod TraceLaws
 pub mod FollowLaws
 pub mod RetainLaws
+pub mod InTurnLaws
 pub mod KeptLaws
 pub mod SeatedLaws
 pub mod AskedLaws
@@ -43,5 +44,6 @@ pub mod CountLaws
 pub mod PaidLaws
 pub mod MadeLaws
 pub mod PassLaws
+pub mod LinkedLaws
 pub mod AlongLaws
 pub mod SpanLaws

@@ -76,13 +76,6 @@ linked-back (x ∷ xs) (suc n) all = linked-back xs n (λ k l. linked-behind x x
 pub linked-none : (rs : List Record) (n : ℕ) → length rs ≤ n → (k : ℕ) → n ≤ k → IsLinkedAt rs k
 linked-none rs n l k m r at = absurd (let i = slice_get_within rs k r at in omega (arith, l, m, i))
 
-pub linked-before : (rs : List Record) (n p : ℕ) → n ≡ p + 1 → IsLinkedAt rs p → ((k : ℕ) → n ≤ k → IsLinkedAt rs k) → (k : ℕ) → p ≤ k → IsLinkedAt rs k
-linked-before rs n p is this behind k l = at (k - p) refl
-  where
-    at : (m : ℕ) → m ≡ k - p → IsLinkedAt rs k
-    at zero q = let same : p ≡ k = omega (arith, q, l) in subst (IsLinkedAt rs) same this
-    at (suc m) q = behind k (omega (arith, q, is))
-
 closed-all : (rs : List Record) → ((k : ℕ) → IsLinkedAt rs k) → IsClosed rs
 closed-all [] all = tt
 closed-all (x ∷ []) all = all 0 x refl

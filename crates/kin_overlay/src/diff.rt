@@ -117,6 +117,7 @@ pub fn diff(
 }
 
 /// The same for the middle of a list that doesn't change up to `start`: places are those of that list.
+#[inline(always)]
 pub fn diff_middle(
     alloc: Global,
     start: usize,

@@ -19,6 +19,7 @@ use kin_num::steps::Steps;
 use std::sync::ledger::Ledger;
 
 /// The sign by x of an outer end. It isn't asked where it is remembered and unfailed.
+#[inline(always)]
 fn end_sign<O: Signs, L: Ledger>(
     a: u32,
     b: u32,
@@ -61,6 +62,7 @@ fn end_height<O: Signs, L: Ledger>(
 }
 
 /// An outer end with these points.
+#[inline(always)]
 pub fn end_of<O: Signs, L: Ledger>(
     a: u32,
     b: u32,

@@ -103,11 +103,15 @@ impl BreakpointList {
         &self.records
     }
 
-    /// Puts these breakpoints at the end of the list.
+    /// Puts these breakpoints at the end of the list. Often there are none.
+    #[inline(always)]
     pub fn take(&mut self, noted: &[Record]) -> Result<(), NoMemory>
         requires new { IsOnce (left_points (self.old.records ++ noted.now)) }
         ensures taken { OnOk result (self.new ≡ record self.old { records = self.old.records ++ noted.now }) }
     {
+        if noted.is_empty() {
+            return Ok(());
+        }
         self.records.extend_from_slice(noted)?;
         Ok(())
     }

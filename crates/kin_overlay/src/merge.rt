@@ -1,10 +1,11 @@
 //! The list of breakpoints is made: a sketch is drawn, put in order and filled in.
 
-ghost use Rattle.std.specs.Prelude.{◌≡◌, ◌+◌, ◌*◌, ◌<◌, ◌≤◌, length, Contains, OnOk, IfOk};
+ghost use Rattle.std.specs.Prelude.{◌≡◌, ℕ, ◌+◌, ◌*◌, ◌<◌, ◌≤◌, length, Contains, OnOk, IfOk};
 ghost use Rattle.kin_motion.specs.declared.fact.Placed.{Placed as Put};
 ghost use Rattle.kin_motion.specs.Numbers.{IsOnce};
 ghost use Rattle.kin_motion.specs.Scene.{IsReal, Holds};
 ghost use Rattle.kin_overlay.specs.Fingers.{IsMerged, AreLive, AreLess};
+ghost use Rattle.kin_overlay.specs.Passing.{IsLinkedAt};
 ghost use Rattle.kin_overlay.specs.Remembered.{facts_of};
 ghost use Rattle.kin_overlay.specs.Repairing.{Past, IsKnownPast, IsPaid};
 ghost use Rattle.kin_overlay.specs.Reports.{AreShared};
@@ -63,6 +64,7 @@ impl BreakpointList {
         requires b_once { IsOnce b.now }
         requires less { AreLess a.now b.now }
         requires standing { StandIn (O.scene now.now) standing.now }
+        requires linked { (k : ℕ) → IsLinkedAt standing.now.list.now.records k }
         ensures merged { OnOk result (IsMerged (O.scene now.now) a.now b.now self.new) }
         ensures few { OnOk result (steps.new ≤ steps.old + 5 * length (facts_of self.new)) }
 

@@ -4,7 +4,7 @@ ghost use Rattle.std.specs.Prelude.{◌≡◌, [], ◌++◌, IsTrue, OnOk};
 ghost use Rattle.kin_motion.specs.Edits.{all_edited, dropped_by, put_by, AreFitting};
 ghost use Rattle.kin_overlay.specs.Notes.{AreBlank};
 
-use crate::edit::{ChainEdit, edit_list};
+use crate::edit::{Chain, ChainEdit, edit_list};
 use std::alloc::{AllocError, Global};
 use std::marker::Model;
 
@@ -73,7 +73,7 @@ impl Notes {
     }
 
     /// Carries edits out on the chain of A, and notes them.
-    fn edit_a(&mut self, edits: &[ChainEdit], chain: &mut Vec<u32>) -> Result<(), AllocError>
+    fn edit_a(&mut self, edits: &[ChainEdit], chain: &mut Chain) -> Result<(), AllocError>
         requires fit { AreFitting edits.now chain.old.items }
         ensures chain { OnOk result (chain.new.items ≡ all_edited edits.now chain.old.items) }
         ensures gone { OnOk result (self.new.gone.items ≡ self.old.gone.items ++ dropped_by edits.now chain.old.items) }
@@ -87,7 +87,7 @@ impl Notes {
     }
 
     /// The same of B.
-    fn edit_b(&mut self, edits: &[ChainEdit], chain: &mut Vec<u32>) -> Result<(), AllocError>
+    fn edit_b(&mut self, edits: &[ChainEdit], chain: &mut Chain) -> Result<(), AllocError>
         requires fit { AreFitting edits.now chain.old.items }
         ensures chain { OnOk result (chain.new.items ≡ all_edited edits.now chain.old.items) }
         ensures gone { OnOk result (self.new.gone.items ≡ self.old.gone.items ++ dropped_by edits.now chain.old.items) }
@@ -185,17 +185,20 @@ impl Pad {
         Ok(())
     }
 
-    /// Carries edits out on the chain of A, and notes them.
+    /// Carries edits out on the chain of A, and notes them. None take no place.
     pub fn edit_a(
         &mut self,
         alloc: Global,
         edits: &[ChainEdit],
-        chain: &mut Vec<u32>,
+        chain: &mut Chain,
     ) -> Result<(), AllocError>
         requires fit { AreFitting edits.now chain.old.items }
         ensures chain { OnOk result (chain.new.items ≡ all_edited edits.now chain.old.items) }
         ensures noted { OnOk result (self.new ≡ record self.old { gone = self.old.gone ++ dropped_by edits.now chain.old.items; put_a = self.old.put_a ++ put_by edits.now; drop_a = self.old.drop_a ++ dropped_by edits.now chain.old.items }) }
     {
+        if edits.is_empty() {
+            return Ok(());
+        }
         self.open(alloc)?;
         match &mut self.notes {
             Some(notes) => notes.edit_a(edits, chain),
@@ -208,12 +211,15 @@ impl Pad {
         &mut self,
         alloc: Global,
         edits: &[ChainEdit],
-        chain: &mut Vec<u32>,
+        chain: &mut Chain,
     ) -> Result<(), AllocError>
         requires fit { AreFitting edits.now chain.old.items }
         ensures chain { OnOk result (chain.new.items ≡ all_edited edits.now chain.old.items) }
         ensures noted { OnOk result (self.new ≡ record self.old { gone = self.old.gone ++ dropped_by edits.now chain.old.items; put_b = self.old.put_b ++ put_by edits.now; drop_b = self.old.drop_b ++ dropped_by edits.now chain.old.items }) }
     {
+        if edits.is_empty() {
+            return Ok(());
+        }
         self.open(alloc)?;
         match &mut self.notes {
             Some(notes) => notes.edit_b(edits, chain),

@@ -9,9 +9,10 @@ ghost use Rattle.kin_overlay.specs.declared.half.Half.TheVariants.{A, B};
 ghost use Rattle.kin_overlay.specs.declared.stage.Stage.TheVariants.{Broken};
 ghost use Rattle.kin_overlay.specs.Diffs.{KeepOrder, ArePutApart};
 ghost use Rattle.kin_overlay.specs.Fingers.{AreLive, AreLess};
+ghost use Rattle.kin_overlay.specs.Walks.{chain_read};
 ghost use Rattle.kin_overlay.specs.Overlays.{told, told_chain, names_any, names_gone, ArePutsApart, IsUnedited, IsReady, IsAtRest, IsSettled, IsSameMerge, IsRepaired};
 
-use crate::edit::ChainEdit;
+use crate::edit::{Chain, ChainEdit};
 use crate::half::Half;
 use crate::list::BreakpointList;
 use crate::names::names_any;
@@ -42,12 +43,12 @@ pub struct Overlay {
     /// The part of its facts.
     part: u32,
     /// The given chains.
-    a: Vec<u32>,
-    b: Vec<u32>,
+    a: Chain,
+    b: Chain,
     /// The breakpoints with what is remembered, as they were settled last.
     list: BreakpointList,
     /// The merged chain.
-    chain: Vec<u32>,
+    chain: Chain,
     /// From the merged chain before the last `settle` to the present one, unless they were swapped.
     edits: Vec<ChainEdit>,
     /// Of the waiting edits.
@@ -55,16 +56,23 @@ pub struct Overlay {
     stage: Stage,
 }
 
-/// A given chain may grow by this many points before it allocates again.
-const ROOM: usize = 4;
-
-/// A copy of a chain, with some room.
-fn copied(alloc: Global, chain: &[u32]) -> Result<Vec<u32>, NoMemory>
+/// A copy of a chain.
+fn copied(alloc: Global, chain: &[u32]) -> Result<Chain, NoMemory>
     ensures { IfOk result (λ v. v.items ≡ chain.now) }
 {
-    let mut copy = Vec::with_capacity(alloc, chain.len() + ROOM)?;
-    copy.extend_from_slice(chain)?;
-    Ok(copy)
+    Ok(Chain::from_slice(alloc, chain)?)
+}
+
+/// The chain that is read off a list. `points` is a buffer, whose content is lost.
+fn read_chain(
+    alloc: Global,
+    list: &BreakpointList,
+    points: &mut Vec<u32>,
+) -> Result<Chain, NoMemory>
+    ensures { IfOk result (λ v. v.items ≡ chain_read list.now) }
+{
+    merged_chain(list, points)?;
+    copied(alloc, points)
 }
 
 impl Model for Overlay {
@@ -113,8 +121,9 @@ impl Overlay {
         ensures tests { IsOk result → steps.new + 5 * length out.old.born ≤ steps.old + 5 * length out.new.born }
     {
         let room = a.len().saturating_add(b.len());
-        // A chain has one breakpoint fewer than points.
-        let mut list = BreakpointList::with_room(alloc, room.saturating_sub(2))?;
+        // A chain has one breakpoint fewer than points. Where there is one more may come.
+        let count = room.saturating_sub(2);
+        let mut list = BreakpointList::with_room(alloc, count.saturating_mul(2))?;
         let none = BreakpointList::new(alloc);
         let standing = Standing {
             list: &none,
@@ -124,8 +133,7 @@ impl Overlay {
         let puts = Puts { a: &[], b: &[] };
         list.merge(a, b, puts, &standing, &mut work.drawing, now, steps)?;
         tell_missing(&list, &none, Shared::none(), part, &mut out.born)?;
-        let mut chain = Vec::with_capacity(alloc, room)?;
-        merged_chain(&list, &mut chain)?;
+        let chain = read_chain(alloc, &list, &mut work.points)?;
         Ok(Overlay {
             alloc,
             part,
@@ -208,7 +216,15 @@ impl Overlay {
             b: self.notes.put_b(),
         };
         let (made, drawing) = (&mut work.list, &mut work.drawing);
-        let known = made.merge(&self.a, &self.b, puts, &standing, drawing, now, steps)?;
+        let known = made.merge(
+            self.a.as_slice(),
+            self.b.as_slice(),
+            puts,
+            &standing,
+            drawing,
+            now,
+            steps,
+        )?;
         let shared = Shared::between(&self.list, &work.list, known);
         let (old, new) = (&self.list, &work.list);
         tell_missing(old, new, shared, self.part, &mut out.dropped)?;
@@ -247,7 +263,7 @@ impl Overlay {
         requires rest { IsAtRest self.now }
         ensures { result.now ≡ self.now.chain }
     {
-        &self.chain
+        self.chain.as_slice()
     }
 
     /// The edits that lead from the chain before the last `settle` to the present one. After

@@ -3,14 +3,14 @@
 
 ghost use Rattle.std.specs.Prelude.{◌≡◌, ℕ, ◌-◌, ◌+◌, ◌<◌, ◌≤◌, List, [], ◌∷◌, length, get_or, slice_get, take, drop, Some, IfSome, IsTrue};
 ghost use Rattle.kin_overlay.specs.declared.record.Record.{Record as Noted};
-ghost use Rattle.kin_overlay.specs.Passing.{IsEndOf, IsLinkedAt, IsUntouched, AreUntouched};
+ghost use Rattle.kin_overlay.specs.Passing.{IsEndOf, IsUntouched, AreUntouched};
 ghost use Rattle.kin_overlay.specs.Spans.{IsTaken};
 
 use crate::half::Half;
 use crate::record::Record;
 use crate::sketch::Puts;
 use crate::standing::Standing;
-use crate::untouched::{is_linked, is_untouched};
+use crate::untouched::is_untouched;
 
 /// What is left of two chains where the record at a place comes next.
 #[derive(Clone, Copy, Debug)]
@@ -64,14 +64,10 @@ fn pass_next<'a>(
 ) -> Option<(&'a [u32], &'a [u32])>
     requires { place < length standing.now.list.now.records }
     ensures passed { IfSome result (λ left. (r : Noted) × (slice_get standing.now.list.now.records place ≡ Some r) × IsUntouched standing.now puts.entry.a.now puts.entry.b.now r × IsTaken r.at.half r a.now b.now left.0.now left.1.now) }
-    ensures linked { IfSome result (λ left. IsLinkedAt standing.now.list.now.records place) }
 {
     let noted = standing.list.at(place);
     let left = take_next(noted, a, b)?;
     if !is_untouched(noted, puts, standing) {
-        return None;
-    }
-    if !is_linked(standing.list, place) {
         return None;
     }
     Some(left)
@@ -81,7 +77,6 @@ fn pass_next<'a>(
 pub fn pass_front<'a>(a: &'a [u32], b: &'a [u32], puts: Puts, standing: &Standing) -> Remainder<'a>
     ensures within { result.place ≤ length standing.now.list.now.records }
     ensures untouched { AreUntouched standing.now puts.entry.a.now puts.entry.b.now (take result.place standing.now.list.now.records) a.now b.now result.a.now result.b.now }
-    ensures linked { (k : ℕ) → k < result.place → IsLinkedAt standing.now.list.now.records k }
 {
     let (mut first, mut second) = (a, b);
     let mut place = 0;
@@ -161,14 +156,10 @@ fn pass_last(
     ensures a_within { IfSome result (λ from. from.0 < length left.entry.a.now) }
     ensures b_within { IfSome result (λ from. from.1 < length left.entry.b.now) }
     ensures passed { IfSome result (λ from. (r : Noted) × (slice_get standing.now.list.now.records place ≡ Some r) × IsUntouched standing.now puts.entry.a.now puts.entry.b.now r × IsTaken r.at.half r (drop from.0 left.entry.a.now) (drop from.1 left.entry.b.now) (drop a_from left.entry.a.now) (drop b_from left.entry.b.now)) }
-    ensures linked { IfSome result (λ from. IsLinkedAt standing.now.list.now.records place) }
 {
     let noted = standing.list.at(place);
     let from = take_last(noted, left.a, left.b, a_from, b_from)?;
     if !is_untouched(noted, puts, standing) {
-        return None;
-    }
-    if !is_linked(standing.list, place) {
         return None;
     }
     Some(from)
@@ -184,7 +175,6 @@ pub fn pass_back<'a>(front: Remainder<'a>, puts: Puts, standing: &Standing) -> R
     ensures a_end { IsEndOf result.a.now front.entry.a.now }
     ensures b_end { IsEndOf result.b.now front.entry.b.now }
     ensures untouched { (x y : ℕ) × AreUntouched standing.now puts.entry.a.now puts.entry.b.now (drop result.place standing.now.list.now.records) result.a.now result.b.now (x ∷ []) (y ∷ []) }
-    ensures linked { (k : ℕ) → result.place ≤ k → IsLinkedAt standing.now.list.now.records k }
 {
     let (mut a_from, mut b_from) = (front.a.len() - 1, front.b.len() - 1);
     let mut place = standing.list.len();

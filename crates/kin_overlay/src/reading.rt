@@ -9,7 +9,7 @@ ghost use Rattle.kin_overlay.specs.Remembered.{Remembered as Meaning};
 ghost use Rattle.kin_overlay.specs.Walks.{chain_read};
 
 use crate::diff::{count_before, diff_middle};
-use crate::edit::ChainEdit;
+use crate::edit::{Chain, ChainEdit, apply_all};
 use crate::end::End;
 use crate::list::BreakpointList;
 use crate::record::Record;
@@ -117,24 +117,6 @@ pub fn read_again(
     })
 }
 
-/// Puts these numbers in place of the middle of a list. `spare` is a buffer, whose content is lost.
-fn put_in(
-    list: &mut Vec<u32>,
-    middle: Middle,
-    put: &[u32],
-    spare: &mut Vec<u32>,
-) -> Result<(), AllocError>
-    requires ordered { middle.start ≤ middle.end }
-    requires within { middle.end ≤ length list.old.items }
-    ensures { OnOk result (list.new.items ≡ take middle.start list.old.items ++ (put.now ++ drop middle.end list.old.items)) }
-{
-    spare.clear();
-    spare.extend_from_slice(&list[middle.end..])?;
-    list.truncate(middle.start);
-    list.extend_from_slice(put)?;
-    list.extend_from_slice(spare)
-}
-
 /// Makes a chain the one that is read off a list, and the edits that lead to it. `same` says what the
 /// list shares with the one off which the chain was read, with the outer end beside it.
 /// `given` and `spare` are buffers, whose content is lost.
@@ -142,7 +124,7 @@ pub fn renew(
     alloc: Global,
     list: &BreakpointList,
     same: Shared,
-    chain: &mut Vec<u32>,
+    chain: &mut Chain,
     edits: &mut Vec<ChainEdit>,
     given: &mut Vec<u32>,
     spare: &mut Vec<u32>,
@@ -154,11 +136,11 @@ pub fn renew(
     ensures fit { OnOk result (AreFitting edits.new.items chain.old.items) }
     ensures apart { OnOk result (KeepOrder chain.old.items chain.new.items → ArePutApart edits.new.items chain.old.items) }
 {
-    let middle = read_again(chain, list, same, given)?;
-    let old = &chain[middle.start..middle.end];
+    let middle = read_again(chain.as_slice(), list, same, given)?;
+    let old = &chain.as_slice()[middle.start..middle.end];
     diff_middle(alloc, middle.start, old, given, edits)?;
     if edits.is_empty() {
         return Ok(());
     }
-    put_in(chain, middle, given, spare)
+    apply_all(edits, chain, spare)
 }

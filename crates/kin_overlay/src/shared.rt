@@ -23,6 +23,7 @@ impl Shared {
 
     /// What two lists share with the outer end beside it: nothing at the front where their left ends
     /// differ, and nothing at the end where their right ones do.
+    #[inline(always)]
     pub fn with_ends(self, one: &BreakpointList, other: &BreakpointList) -> Shared
         ensures front { result.front ≤ self.front }
         ensures back { result.back ≤ self.back }
@@ -45,6 +46,7 @@ impl Shared {
 
     /// Records that both lists share at their ends: those that are known to be shared, and more. No clause
     /// says that they share no more than these: this only saves work.
+    #[inline(always)]
     pub fn between(one: &BreakpointList, other: &BreakpointList, known: Shared) -> Shared
         requires { AreShared known one.now.records other.now.records }
         ensures one { AreShared result one.now.records other.now.records }

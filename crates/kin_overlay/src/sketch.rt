@@ -116,8 +116,28 @@ fn draw<'a>(draft: Draft, chain: &'a [u32], out: &mut Vec<Draft>) -> Result<&'a 
     Ok(chain.split_at(1).1)
 }
 
-/// Draws the first breakpoints of a chain, as long as their left points were put.
+/// Draws the first breakpoints of a chain, as long as their left points were put. Mostly none was put.
+#[inline(always)]
 fn draw_put<'a>(
+    half: Half,
+    chain: &'a [u32],
+    put: &[u32],
+    out: &mut Vec<Draft>,
+) -> Result<&'a [u32], NoMemory>
+    requires some { 0 < length chain.now }
+    ensures drawn { IfOk result (λ left. (w : Kept) → IsDrawn w (half_of half) chain.now left.now out.old.items out.new.items) }
+    ensures some { IfOk result (λ left. 0 < length left.now) }
+    ensures rest { IfOk result (λ left. left.now ≡ after_put put.now chain.now) }
+    ensures pushed { OnOk result (out.new.items ≡ out.old.items ++ put_blanks half put.now chain.now) }
+{
+    if put.is_empty() {
+        return Ok(chain);
+    }
+    draw_each_put(half, chain, put, out)
+}
+
+/// The same where some may have been put.
+fn draw_each_put<'a>(
     half: Half,
     chain: &'a [u32],
     put: &[u32],
@@ -151,6 +171,7 @@ fn draw_all(half: Half, chain: &[u32], out: &mut Vec<Draft>) -> Result<(), NoMem
 
 /// Draws the breakpoint with the left point of this record, if it comes next, and then those whose
 /// left points were put.
+#[inline(always)]
 fn draw_from<'a>(
     noted: &Record,
     chain: &'a [u32],
@@ -178,6 +199,7 @@ fn draw_from<'a>(
 }
 
 /// Draws what belongs to the place of a record.
+#[inline(always)]
 fn draw_at<'a>(
     noted: &Record,
     first: &'a [u32],
@@ -204,6 +226,7 @@ fn draw_at<'a>(
 }
 
 /// Draws what belongs to the places of the records up to this one.
+#[inline(always)]
 fn draw_up_to<'a>(
     end: usize,
     from: Remainder<'a>,
@@ -263,7 +286,6 @@ fn begin<'a>(
     ensures a_end { IfOk result (λ left. IsEndOf left.a.now a.now) }
     ensures b_end { IfOk result (λ left. IsEndOf left.b.now b.now) }
     ensures passed { IfOk result (λ left. (first second : List ℕ) × IsPassed (take left.place standing.now.list.now.records) a.now b.now first second) }
-    ensures linked { IfOk result (λ left. (k : ℕ) → k < left.place → IsLinkedAt standing.now.list.now.records k) }
     ensures drawn { IfOk result (λ left. IsDrawnBefore standing.now puts.entry.a.now puts.entry.b.now a.now b.now (drop left.place standing.now.list.now.records) left.a.now left.b.now (drafts (take left.place standing.now.list.now.records) ++ out.new.items)) }
 {
     out.clear();
@@ -281,7 +303,8 @@ fn begin<'a>(
 
 /// Draws the breakpoints of both chains. Each whose turn is known is drawn where the point of the turn
 /// is current, and what is still known of a record whose breakpoint is still there is kept. The records
-/// at both ends that can be drawn as they are aren't written: the answer counts them.
+/// at both ends that can be drawn as they are aren't written: the answer counts them. Each record of the
+/// old list is followed as it remembers, since it is the list of a merge.
 pub fn sketch(
     a: &[u32],
     b: &[u32],
@@ -293,6 +316,7 @@ pub fn sketch(
     requires b_some { 0 < length b.now }
     requires a_once { IsOnce a.now }
     requires b_once { IsOnce b.now }
+    requires linked { (k : ℕ) → IsLinkedAt standing.now.list.now.records k }
     ensures clean { IfOk result (λ w. AreClean w standing.now.list.now.records a.now b.now) }
     ensures interleaved { IfOk result (λ w. IsInterleaving a.now b.now (spots (whole_sketch w standing.now.list.now.records out.new.items))) }
     ensures fit { IfOk result (λ w. (s : Scene) → StandIn s standing.now → AreLive s.live a.now → AreLive s.live b.now → AreFit s (whole_sketch w standing.now.list.now.records out.new.items)) }

@@ -63,6 +63,7 @@ impl Standing<'_> {
     }
 
     /// The sign by x of an outer end, where it is remembered with these points and unfailed.
+    #[inline(always)]
     pub fn x_sign(&self, a: u32, b: u32) -> Option<Sign>
         ensures known { IfSome result (λ sign. (s : Scene) → StandIn s self.now → sign ≡ x_sign s a b) }
         ensures unknown { IsNone result → (f : Claim) → f.form ≡ Line (pos 1) (pos 0) (pos 0) a b → IsUnknown self.now f }

@@ -5,15 +5,12 @@ ghost use Rattle.kin_motion.specs.declared.fact.Fact.{Fact as Claim};
 ghost use Rattle.kin_motion.specs.declared.fact.Placed.{Placed as Put};
 ghost use Rattle.kin_motion.specs.Numbers.{is_in};
 ghost use Rattle.kin_overlay.specs.Overlays.{names_any};
-ghost use Rattle.kin_overlay.specs.Passing.{begins_with, put_of, IsUntouched, IsLinkedAt};
+ghost use Rattle.kin_overlay.specs.Passing.{begins_with, put_of, IsUntouched};
 ghost use Rattle.kin_overlay.specs.Remembered.{turn_fact, slope_facts};
-ghost use Rattle.kin_overlay.specs.Spans.{IsNextOf};
 
 use crate::half::Half;
-use crate::list::BreakpointList;
 use crate::names::is_one_of;
 use crate::record::Record;
-use crate::resort::goes_first;
 use crate::sketch::Puts;
 use crate::standing::Standing;
 use kin_motion::fact::Placed;
@@ -82,32 +79,4 @@ pub fn is_untouched(noted: &Record, puts: Puts, standing: &Standing) -> bool
         return false;
     }
     !is_put(noted, puts)
-}
-
-/// Whether a record is followed by this one as it remembers.
-#[inline(always)]
-fn is_next_of(noted: &Record, behind: &Record) -> bool
-    ensures { IsTrue result → IsNextOf noted.now.next noted.now behind.now }
-{
-    match noted.next {
-        Some(next) => {
-            next.at.is(behind.at)
-                && !noted.at.half.is(behind.at.half)
-                && goes_first(next.slope, noted.at.half, behind.at.half)
-        }
-        None => noted.at.half.is(behind.at.half),
-    }
-}
-
-/// Whether the record at a place is followed by the next as it remembers, or is the last and remembers
-/// none.
-#[inline(always)]
-pub fn is_linked(list: &BreakpointList, place: usize) -> bool
-    requires { place < length list.now.records }
-    ensures { IsTrue result → IsLinkedAt list.now.records place }
-{
-    if place == list.len() - 1 {
-        return list.at(place).next.is_none();
-    }
-    is_next_of(list.at(place), list.at(place + 1))
 }

@@ -163,6 +163,7 @@ impl Cell {
 
     /// Puts the points that are above in the cell at the end of the chain, where its right end has this
     /// sign.
+    #[inline(always)]
     pub fn give_until(&self, right: Sign, chain: &mut Vec<u32>) -> Result<(), AllocError>
         ensures { OnOk result (chain.new.items ≡ chain.old.items ++ changes_of (last_item chain.old.items) (last_gifts self.now right)) }
     {
@@ -193,6 +194,7 @@ impl Cell {
     }
 
     /// The same by what is above at each end and along the cell.
+    #[inline(always)]
     fn give_each(&self, chain: &mut Vec<u32>) -> Result<(), AllocError>
         ensures { OnOk result (chain.new.items ≡ chain.old.items ++ changes_of (last_item chain.old.items) (given_by (seen_cell self.now))) }
     {
@@ -222,6 +224,7 @@ impl Cell {
 
 /// Puts what the cells before these breakpoints give at the end of the chain. The result is the cell
 /// after them.
+#[inline(always)]
 pub fn walk(records: &[Record], start: Cell, chain: &mut Vec<u32>) -> Result<Cell, AllocError>
     ensures given { OnOk result (chain.new.items ≡ chain.old.items ++ changes_of (last_item chain.old.items) (gifts_before start records.now)) }
     ensures after { IfOk result (λ c. c ≡ cell_after start records.now) }

@@ -49,6 +49,7 @@ impl Work {
     }
 
     /// Gives an empty list of edits the memory of one that was given back, if it has none of its own.
+    #[inline(always)]
     pub fn lend(&mut self, edits: &mut Vec<ChainEdit>)
         ensures { edits.new.items ≡ edits.old.items }
     {
@@ -65,9 +66,13 @@ impl Work {
     }
 
     /// Empties a list of edits and takes its memory, if a place is free or has less. Then the list gets what was there.
+    #[inline(always)]
     pub fn take_back(&mut self, edits: &mut Vec<ChainEdit>)
         ensures { edits.new.items ≡ [] }
     {
+        if edits.is_empty() && edits.capacity() == 0 {
+            return;
+        }
         edits.clear();
         if self.edits.capacity() == 0 {
             self.edits.clear();

@@ -1,7 +1,9 @@
-//! Tests of the parts that structures and the table of facts are made of: motions, reports, slots that point, linked
-//! lists, a sorted list, a tournament and the event queue.
+//! Tests of the parts that structures and the table of facts are made of: motions, reports, slots that point, planned
+//! legs, linked lists, three lists with a tree, a sorted list, a tournament and the event queue.
 #![tactic(auto)]
 
+#[cfg(test)]
+mod legs;
 #[cfg(test)]
 mod links;
 #[cfg(test)]
@@ -14,6 +16,10 @@ mod pointers;
 mod queues;
 #[cfg(test)]
 mod races;
+#[cfg(test)]
+mod random_ranks;
+#[cfg(test)]
+mod ranks;
 #[cfg(test)]
 mod reports;
 #[cfg(test)]

@@ -36,12 +36,17 @@ fn at(instant: Instant) -> Moment {
     }
 }
 
-/// The greater root of `t^2 - 2`.
-fn root_two() -> Instant {
-    match roots(&Poly::new(1, 0, -2)) {
+/// The greater root, where there are two, or else 0.
+fn greater_root(poly: &Poly) -> Instant {
+    match roots(poly) {
         Roots::Two(_, greater) => greater,
         _ => ratio(0, 1),
     }
+}
+
+/// The greater root of `t^2 - 2`.
+fn root_two() -> Instant {
+    greater_root(&Poly::new(1, 0, -2))
 }
 
 /// Puts entries in. An id that is there already is passed over.
@@ -182,6 +187,27 @@ fn close_moments_come_in_order(rt: HostRuntime) -> Result<(), Fail> {
         early: &[below, root, above],
         gone: None,
         late: &[],
+    };
+    assert!(rt; runs(rt.alloc(), &course)?);
+    Ok(())
+}
+
+/// The greatest whole instant, `2^31`, and others near it, among them the greatest root.
+#[test]
+fn the_last_moments_come_in_order(rt: HostRuntime) -> Result<(), Fail> {
+    let whole = (1, at(greater_root(&Poly::new(1, -2_147_483_648, 0))));
+    let below = (2, at(greater_root(&Poly::new(1, -2_147_483_648, 1))));
+    let above = (3, at(greater_root(&Poly::new(1, -2_147_483_648, -1))));
+    let asked = (4, at(ratio(2_147_483_647, 1)));
+    let last = (
+        5,
+        at(greater_root(&Poly::new(1, -2_147_483_648, -536_870_912))),
+    );
+    let course = Course {
+        entries: &[whole, last, below, above, asked],
+        early: &[asked, below, whole],
+        gone: None,
+        late: &[above, last],
     };
     assert!(rt; runs(rt.alloc(), &course)?);
     Ok(())

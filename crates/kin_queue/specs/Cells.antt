@@ -1,4 +1,4 @@
--- Instants by id: a cell has a fraction, or says that the instant is a root, which is listed beside. No public clause cites this module.
+-- Instants by id: a cell has a fraction, or says that the instant is a root or a larger fraction, which is listed beside. No public clause cites this module.
 use Rattle.std.specs.Prelude.{◌≡◌, ◌≢◌, ℕ, ◌<◌, List, length, slice_index_or, nat_eq, cond, pos}
 use Rattle.kin_num.specs.declared.instant.Shape.{Shape}
 use Rattle.kin_num.specs.declared.instant.Shape.TheVariants.{Ratio}
@@ -13,7 +13,7 @@ no_cell = record { n = pos 0; d = 1 }
 abbrev pub no_root : Shape
 no_root = Ratio (pos 0) (pos 1)
 
--- the fraction of a cell, or the root
+-- the fraction of a cell, or what is listed beside
 abbrev pub instant_at : Cell → Shape → Shape
 instant_at c root = cond (nat_eq c.d 0) root (Ratio c.n (pos c.d))
 

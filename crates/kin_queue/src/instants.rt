@@ -7,20 +7,23 @@ ghost use Rattle.kin_queue.specs.Cells.{instant_in, IsHeld, IsHeldAt, AreKept, E
 use kin_num::{Instant, NoMemory, Shape};
 use std::alloc::Global;
 
-/// The fraction `n/d`, or no fraction where `d` is 0. A canonical fraction fits.
+/// A list that has to grow becomes at least so much longer.
+const MORE: usize = 64;
+
+/// The fraction `n/d`, or no fraction where `d` is 0. A canonical fraction fits, unless its numerator is `2^31`.
 #[derive(Clone, Copy)]
 pub struct Cell {
     pub n: i32,
     pub d: u32,
 }
 
-/// An instant for each of some ids. A fraction takes 8 bytes; the roots are in a list of their own, which grows only when
-/// an id gets one.
+/// An instant for each of some ids. A fraction takes 8 bytes; the roots, and the fractions that fit no cell, are in a list of
+/// their own, which grows only when an id gets one.
 #[derive(Drop)]
 pub struct Instants {
-    /// The fraction of each id, or none for an id that has a root.
+    /// The fraction of each id, or none for an id whose instant is in the other list.
     pub cells: Vec<Cell>,
-    /// The root of each id. For an id that has a fraction it means nothing.
+    /// The instant of each id that has no fraction in its cell. For another id it means nothing.
     pub roots: Vec<Instant>,
 }
 
@@ -67,16 +70,19 @@ impl Instants {
         let Shape::Ratio { n, d } = at.shape() else {
             return self.note_root(id, at);
         };
+        let Ok(n) = i32::try_from(n) else {
+            return self.note_root(id, at);
+        };
         reach(&mut self.cells, id, Cell { n: 0, d: 1 })?;
         self.cells[id] = Cell {
-            n: n as i32,
+            n,
             d: d.unsigned_abs() as u32,
         };
         Ok(())
     }
 
-    // The same of a root.
-    #[inline(never)]
+    // The same of an instant that fits no cell.
+    #[inline(always)]
     fn note_root(&mut self, id: usize, at: &Instant) -> Result<(), NoMemory>
         ensures noted { OnOk result (IsHeldAt self.new id at.now) }
         ensures kept { AreKept self.old id self.new }
@@ -89,8 +95,8 @@ impl Instants {
     }
 }
 
-/// Makes a list reach an id. If it has to grow, it becomes at least twice as long. In line, since it mostly reaches the id
-/// already.
+/// Makes a list reach an id. If it has to grow, it does so by some ids at once, and the list sees to it that it isn't copied
+/// often. In line, since it mostly reaches the id already.
 #[inline(always)]
 pub fn reach<T: Copy>(list: &mut Vec<T>, id: usize, blank: T) -> Result<(), NoMemory>
     ensures reached { OnOk result (id < length list.new.items) }
@@ -102,6 +108,6 @@ pub fn reach<T: Copy>(list: &mut Vec<T>, id: usize, blank: T) -> Result<(), NoMe
     let Some(least) = id.checked_add(1) else {
         return Err(NoMemory);
     };
-    list.resize(least.max(list.len().saturating_mul(2)), blank)?;
+    list.resize(least.max(list.len().saturating_add(MORE)), blank)?;
     Ok(())
 }

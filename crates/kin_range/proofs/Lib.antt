@@ -1,3 +1,3 @@
 pub mod Settling
-pub mod Bounds
+pub mod Spans
 pub mod Rising

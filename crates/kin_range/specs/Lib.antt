@@ -1,4 +1,4 @@
-pub mod Borders
+pub mod Sides
 pub mod Ranging
 pub mod RangingLaws
 pub mod FrugalLaws

@@ -10,8 +10,9 @@
 
 pub use range::KinRange;
 
-mod border;
 mod both;
 mod kept;
 mod pick;
 pub mod range;
+mod side;
+mod span;

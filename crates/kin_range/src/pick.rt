@@ -1,57 +1,44 @@
-//! The points in a rectangle.
+//! The members at the places between four sides.
 
-ghost use Rattle.std.specs.Prelude.{◌≡◌, ◌<◌, ℕ, filter, Contains, IfOk};
-ghost use Rattle.kin_motion.specs.Boxes.{points_in, is_inside, IsRectInRange};
-ghost use Rattle.kin_motion.specs.Course.{live_of};
-ghost use Rattle.kin_motion.specs.Numbers.{IsIn, Lists};
+ghost use Rattle.std.specs.Prelude.{◌≡◌, ◌⊎◌, ◌≤◌, ◌&&◌, ℕ, Bool, true, length, filter, Contains, IfOk};
+ghost use Rattle.kin_motion.specs.Numbers.{is_in};
+ghost use Rattle.kin_range.specs.Sides.{IsSpanOf};
 
-use crate::border::is_inside;
-use kin_motion::{Motions, Rect};
-use kin_num::steps::Steps;
-use kin_num::{Moment, NoMemory};
+use crate::span::Span;
+use kin_list::KinList;
+use kin_num::NoMemory;
 use std::alloc::Global;
-use std::sync::ledger::{Blank, Ledger};
 
-/// Those of these numbers that are inside, in their order.
-fn pick<L: Ledger>(
-    alloc: Global,
-    numbers: &[u32],
-    motions: &Motions,
-    now: &Moment,
-    rect: &Rect,
-    steps: &mut Steps<L>,
-) -> Result<Vec<u32>, NoMemory>
-    requires live { (i : ℕ) → Contains numbers.now i → IsIn i (live_of motions.now) }
-    requires rect { IsRectInRange rect.now }
-    ensures { IfOk result (λ picked. picked.items ≡ filter (is_inside motions.now now.now rect.now) numbers.now) }
+/// Those of these numbers whose places in a list are in a span.
+fn pick(alloc: Global, numbers: &[u32], list: &KinList, span: Span) -> Result<Vec<u32>, NoMemory>
+    requires members { (i : ℕ) → Contains numbers.now i → is_in i list.now.items ≡ true }
+    ensures { (test : ℕ → Bool) → IsSpanOf test list.now.items span → IfOk result (λ picked. picked.items ≡ filter test numbers.now) }
 {
     let mut picked = Vec::new(alloc);
     for no in numbers {
-        if is_inside(motions, now, rect, *no, steps) {
+        if span.has(list.place_of_member(*no)) {
             picked.push(*no).map_err(|_| NoMemory)?;
         }
     }
     Ok(picked)
 }
 
-/// Those of the live numbers that are inside, rising. The steps that this counts are in no contract.
-pub(crate) fn pick_rising<L: Ledger>(
+/// The members of two lists that are in a span of each. It goes over the shorter span alone.
+pub(crate) fn pick_shorter(
     alloc: Global,
-    numbers: &[u32],
-    motions: &Motions,
-    now: &Moment,
-    rect: &Rect,
-    blank: Blank,
+    by_x: &KinList,
+    x: Span,
+    by_y: &KinList,
+    y: Span,
 ) -> Result<Vec<u32>, NoMemory>
-    requires name { blank.name ≡ L.name }
-    requires parts { blank.parts ≡ L.parts }
-    requires some { 0 < L.parts }
-    requires live { Lists numbers.now (live_of motions.now) }
-    requires rect { IsRectInRange rect.now }
-    ensures { IfOk result (λ picked. picked.items ≡ points_in motions.now now.now rect.now) }
+    requires alike { (i : ℕ) → is_in i by_y.now.items ≡ is_in i by_x.now.items }
+    requires x_span { (x.from ≤ x.to) × (x.to ≤ length by_x.now.items) }
+    requires y_span { (y.from ≤ y.to) × (y.to ≤ length by_y.now.items) }
+    ensures { (test check : ℕ → Bool) → IsSpanOf test by_x.now.items x → IsSpanOf check by_y.now.items y → IfOk result (λ picked. (picked.items ≡ filter (λ i. test i && check i) by_x.now.items) ⊎ (picked.items ≡ filter (λ i. test i && check i) by_y.now.items)) }
 {
-    let mut steps = Steps::<L>::open(blank);
-    let mut picked = pick(alloc, numbers, motions, now, rect, &mut steps)?;
-    picked.sort_unstable();
-    Ok(picked)
+    if x.len() <= y.len() {
+        pick(alloc, &by_x.items()[x.from..x.to], by_y, y)
+    } else {
+        pick(alloc, &by_y.items()[y.from..y.to], by_x, x)
+    }
 }

@@ -10,7 +10,8 @@ ghost use Rattle.kin_list.specs.Listing.{names_leaving};
 ghost use Rattle.kin_range.specs.Ranging.{facts_of, members_of, vacant_range, IsRangingAtRest, IsReadyRanging, IsSettledRanging, AreFewTests};
 
 use crate::both::settle_both;
-use crate::pick::pick_rising;
+use crate::pick::pick_shorter;
+use crate::span::spans_in;
 use kin_list::KinList;
 use kin_motion::fact::{Delta, Placed};
 use kin_motion::kinetic::Kinetic;
@@ -91,16 +92,22 @@ impl KinRange {
     }
 
     /// The points on or within the border of a rectangle at the moment now, phase included, by rising number. The range
-    /// is settled there, and each bound is in -2^24..2^24. There are none where `x1 > x2` or `y1 > y2`. It is meant to
-    /// look at each point once and to ask at most four signs of it; no clause says so, and no step is counted.
-    /// `NoMemory` changes nothing.
+    /// is settled there, and each bound is in -2^24..2^24. There are none where `x1 > x2` or `y1 > y2`.
+    ///
+    /// Halving finds the places of the border in both orders: of n points it asks at most `4*k` signs, where
+    /// `2^k <= 2*n + 2`. Then it looks up the points between two sides, those left and right or those below and above,
+    /// whichever are fewer, and sorts the points inside. No clause says so, and no step is counted. `NoMemory` changes
+    /// nothing.
     pub fn inside(&self, motions: &Motions, now: &Moment, rect: &Rect) -> Result<Vec<u32>, NoMemory>
         requires settled { IsSettledRanging self.now (scene_at motions.now now.now) }
         requires rect { IsRectInRange rect.now }
         ensures { IfOk result (λ numbers. numbers.items ≡ points_in motions.now now.now rect.now) }
     {
-        let numbers = self.by_x.items();
-        pick_rising::<Brand>(self.alloc, numbers, motions, now, rect, Blank::new(1))
+        let (by_x, by_y) = (self.by_x.items(), self.by_y.items());
+        let (x, y) = spans_in::<Brand>(by_x, by_y, motions, now, rect, Blank::new(1));
+        let mut picked = pick_shorter(self.alloc, &self.by_x, x, &self.by_y, y)?;
+        picked.sort_unstable();
+        Ok(picked)
     }
 }
 

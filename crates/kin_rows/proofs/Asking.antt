@@ -35,13 +35,13 @@ use Rattle.kin_rows.specs.Settings.{at, fact}
 use Rattle.kin_rows.proofs.AskingLaws.{AreMostHalvings, AreMostMarks, all_changed, none_changed, no_halvings, no_marks, orders_ask, extreme_asks}
 
 -- ---- the scenes are real
-canonical : (n : ℕ) → n % 1 ≡ 0 → n < 2 ^ 31 → IsCanonical (at (pos n)).at
+canonical : (n : ℕ) → n % 1 ≡ 0 → n ≤ 2 ^ 31 → IsCanonical (at (pos n)).at
 canonical n whole low = record {
   form = record { positive = omega (arith, ints); lowest = IsGcd-from_mod n 1 1 (subst (λ m. IsGcd 1 m 1) (sym whole) (IsGcd-from_zero 1 0 refl)) };
   small = record { n_small = low; d_small = omega arith };
 }
 
-real : (ms : List (Option Course)) (n : ℕ) → n % 1 ≡ 0 → n < 2 ^ 31 → IsReal (scene_at ms (at (pos n)))
+real : (ms : List (Option Course)) (n : ℕ) → n % 1 ≡ 0 → n ≤ 2 ^ 31 → IsReal (scene_at ms (at (pos n)))
 real ms n whole low = record { motions = ms; moment = at (pos n); canonical = canonical n whole low; live = refl; sign = λ f. refl }
 
 abbrev three_at : ℕ → Scene

@@ -1,6 +1,7 @@
 //! Commands that change the points: the refusals first, then the world's call.
 
 ghost use Rattle.std.specs.Prelude.{◌≡◌, ◌≢◌, ◌≤◌, ◌<◌, ◌^◌, Bool, OnOk, IfErr, unsigned_abs};
+ghost use Rattle.kin_motion.specs.Course.{motion_limit};
 ghost use Rattle.kin_script.specs.Changes.{enters, leaves, restarts, turns};
 ghost use Rattle.kin_script.specs.Deeds.{changes};
 ghost use Rattle.kin_status.specs.declared.stop.Halt.TheVariants.{Broken as BrokenOff};
@@ -83,8 +84,8 @@ pub fn turn<L: Ledger>(
     steps: &mut Steps<L>,
 ) -> Result<(), Halt>
     requires whole { IsWhole world.old }
-    requires u_small { unsigned_abs u ≤ 4096 }
-    requires v_small { unsigned_abs v ≤ 4096 }
+    requires u_small { unsigned_abs u ≤ motion_limit }
+    requires v_small { unsigned_abs v ≤ motion_limit }
     ensures performs { (journal : Bool) (p : Printer) → Performs (state_of journal world.old) (changes no (turns u v)) result p p (state_of journal world.new) }
     ensures refused { OnRefused result (world.new ≡ world.old) }
     ensures whole { OnOk result (IsWhole world.new) }

@@ -130,7 +130,7 @@ pub const CHANGES: [(&str, &str, Status); 6] = [
     ),
     // Its place at time 0 would be too far out.
     (
-        "size 1\ninsert 0 4096 0 1 0\nat 1\nturn 0 0 0\n",
+        "size 1\ninsert 0 8192 0 1 0\nat 1\nturn 0 0 0\n",
         "refused 4 OutOfBounds\n",
         Status::Command(4, Refusal::OutOfBounds),
     ),

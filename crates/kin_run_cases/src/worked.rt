@@ -29,7 +29,7 @@ pub const MEETINGS_BY_NEXT_WHOLE: &str =
     "! 5 0/0 line(1,0) 0 1 + 0\nnow 5\n! 5+ 0/0 line(1,0) 0 1 0 -\nnow 5+\n! 15 0/0 line(1,0) 0 2 + 0\nnow 15\n! 15+ 0/0 line(1,0) 0 2 0 -\nnow 15+\n2\n";
 
 /// Scripts with their texts and statuses.
-pub const WORKED: [(&str, &str, Status); 28] = [
+pub const WORKED: [(&str, &str, Status); 31] = [
     (CROSSING, "0 1\n0 1\n1 0\n", Status::Done),
     // The same with the journal.
     (
@@ -101,13 +101,30 @@ pub const WORKED: [(&str, &str, Status); 28] = [
         "refused 5 Past\n",
         Status::Command(5, Refusal::Past),
     ),
+    // Two at the bounds of an asked quadratic.
+    (
+        "size 1\nat root 268435455 268435457 -536870911 hi\nat root 268435456 268435456 -536870911 hi\nat root 268435455 268435457 -536870911 hi\n",
+        "refused 4 Past\n",
+        Status::Command(4, Refusal::Past),
+    ),
+    // The greater root is 2^31, which is later than any fraction that a line can ask for.
+    (
+        "size 1\nat root 1 -2147483648 0 hi\nat 2147483647\n",
+        "refused 3 Past\n",
+        Status::Command(3, Refusal::Past),
+    ),
     (
         "size 01\r\n\tkeep order 1 -0 # east\r\n\r\ninsert 0 4096 -4096 -0 007\r\norder 0",
         "0\n",
         Status::Done,
     ),
     (
-        "size 01\r\n\tkeep order 1 -0 # east\r\n\r\ninsert 0 4097 -4096 -0 007\r\norder 0",
+        "size 01\r\n\tkeep order 1 -0 # east\r\n\r\ninsert 0 8192 -8192 -0 007\r\norder 0",
+        "0\n",
+        Status::Done,
+    ),
+    (
+        "size 01\r\n\tkeep order 1 -0 # east\r\n\r\ninsert 0 8193 -4096 -0 007\r\norder 0",
         "bad 4\n",
         Status::Script(4),
     ),

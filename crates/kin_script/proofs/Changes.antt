@@ -5,7 +5,7 @@ use Rattle.std.proofs.lemmas.Option.{same_Some}
 use Rattle.kin_num.specs.declared.instant.Moment.{Moment}
 use Rattle.kin_num.specs.declared.instant.Phase.TheVariants.{At, After}
 use Rattle.kin_num.specs.Canonical.{IsCanonical}
-use Rattle.kin_motion.specs.Course.{Course}
+use Rattle.kin_motion.specs.Course.{Course, motion_limit}
 use Rattle.kin_motion.specs.Turning.{IsNotWhole, IsOutOfBounds}
 use Rattle.kin_motion.proofs.TurningLaws.{one_turn}
 use Rattle.kin_script.specs.declared.refusal.Refusal.{Refusal}
@@ -27,8 +27,8 @@ number_range size ws n e = below n.0 (natural_at_range 0 (2 ^ size - 1) ws n e).
 velocity_range : (ws : List Word) → Each (λ w. IsSlowVelocity w.0.0 w.0.1) (velocity_at ws)
 unfolding velocity_at
 velocity_range ws =
-    each_then _ _ _ _ (integer_at_range 4096 ws) (λ u hu.
-    each_then _ _ _ _ (integer_at_range 4096 u.1) (λ v hv.
+    each_then _ _ _ _ (integer_at_range motion_limit ws) (λ u hu.
+    each_then _ _ _ _ (integer_at_range motion_limit u.1) (λ v hv.
     each_one _ _ (record { u_small = hu; v_small = hv })))
 
 pub insert_range : (size : ℕ) (ws : List Word) → Each (IsCommandInRange size) (insert_of size ws)

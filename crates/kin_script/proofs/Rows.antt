@@ -16,17 +16,17 @@ use Rattle.kin_script.specs.Grammar.{IsScript, IsFirstOutside, commands_of, behi
 -- carriage returns, a tab, a comment, a line without words, leading zeros and -0; no line feed at the end
 abbrev Spelling : Type 0
 Spelling = IsScript
-    (codes "size 01\r\n\tkeep order 1 -0 # east\r\n\r\ninsert 0 4096 -4096 -0 007\r\norder 0")
+    (codes "size 01\r\n\tkeep order 1 -0 # east\r\n\r\ninsert 0 8192 -8192 -0 007\r\norder 0")
     (record {
       size = 1;
       keeps = keep.Order (pos 1) (pos 0) ∷ [];
       journal = false;
-      lines = (4, Insert 0 (record { x = pos 4096; y = neg_ℤ (pos 4096); u = pos 0; v = pos 7 })) ∷ (5, Order 0) ∷ [];
+      lines = (4, Insert 0 (record { x = pos 8192; y = neg_ℤ (pos 8192); u = pos 0; v = pos 7 })) ∷ (5, Order 0) ∷ [];
     })
 
 -- the same with a coordinate one too far out
 abbrev TooFar : Type 0
-TooFar = IsFirstOutside (codes "size 01\r\n\tkeep order 1 -0 # east\r\n\r\ninsert 0 4097 -4096 -0 007\r\norder 0") 4
+TooFar = IsFirstOutside (codes "size 01\r\n\tkeep order 1 -0 # east\r\n\r\ninsert 0 8193 -8192 -0 007\r\norder 0") 4
 
 -- a fraction is one word, in lowest terms or not
 abbrev Fraction : Type 0
@@ -38,7 +38,7 @@ Root = IsScript (codes "size 1\nat root 2 -0 -4 hi\n") (record { size = 1; keeps
 -- a point leaves, one starts anew and one turns
 abbrev Changed : Type 0
 Changed = IsScript
-    (codes "size 2\nremove 3\nreplace 0 1 -2 3 -4\nturn 1 -4096 007\n")
+    (codes "size 2\nremove 3\nreplace 0 1 -2 3 -4\nturn 1 -8192 007\n")
     (record {
       size = 2;
       keeps = [];
@@ -46,7 +46,7 @@ Changed = IsScript
       lines =
           (2, Remove 3)
           ∷ (3, Replace 0 (record { x = pos 1; y = neg_ℤ (pos 2); u = pos 3; v = neg_ℤ (pos 4) }))
-          ∷ (4, Turn 1 (neg_ℤ (pos 4096)) (pos 7))
+          ∷ (4, Turn 1 (neg_ℤ (pos 8192)) (pos 7))
           ∷ [];
     })
 

@@ -28,9 +28,9 @@ use Rattle.kin_script.proofs.WordRanges.{IsRatio, ratio_range, natural_at_range,
 quadratic_range : (ws : List Word) → Each (λ q. IsRootInRange q.0.0 q.0.1 q.0.2) (quadratic_at ws)
 unfolding quadratic_at
 quadratic_range ws =
-    each_then _ _ _ _ (integer_at_range 268435456 ws) (λ a ha.
-    each_then _ _ _ _ (integer_at_range 536870912 a.1) (λ b hb.
-    each_then _ _ _ _ (integer_at_range 268435456 b.1) (λ c hc.
+    each_then _ _ _ _ (integer_at_range 536870912 ws) (λ a ha.
+    each_then _ _ _ _ (integer_at_range 2147483648 a.1) (λ b hb.
+    each_then _ _ _ _ (integer_at_range 536870912 b.1) (λ c hc.
     each_unless _ (unsigned_abs a.0 == 0) _ (λ e. each_one _ ((a.0, b.0, c.0), c.1) (record {
       a_small = omega (arith, ha);
       a_not_zero = some (unsigned_abs a.0) e;

@@ -1,5 +1,5 @@
 -- Canonical instants, and moments, with the same printed text are the same.
-use Rattle.std.proofs.Common.{◌≡◌, inl, inr, ℕ, ◌<◌, ◌≤◌, ◌^◌, ◌==◌, Bool, true, false, cond, ℤ, pos, unsigned_abs, List, [], ◌∷◌, ◌++◌, refl, sym, ap, ap₂, ◌∙◌, arith}
+use Rattle.std.proofs.Common.{◌≡◌, inl, inr, ℕ, ◌≤◌, ◌^◌, ◌==◌, Bool, true, false, cond, ℤ, pos, unsigned_abs, List, [], ◌∷◌, ◌++◌, refl, sym, ap, ap₂, ◌∙◌, arith}
 use Rattle.std.specs.Prelude.{codes, ◌<ℤ◌}
 use Rattle.std.specs.Fmt.{signed_decimal}
 use Rattle.std.proofs.lemmas.Bool.Decides.{nat_tests}
@@ -47,7 +47,7 @@ behind_fraction true d p = behind_phase p
 behind_fraction false d p = not_of_number 47 (inr (inl refl))
 
 -- what stands behind the numerator tells the denominator and the phase
-tails : (t u : Bool) (d e : ℤ) (p q : Phase) → unsigned_abs d < 2 ^ 31 → unsigned_abs e < 2 ^ 31 → divisor_text t d ++ phase_text p ≡ divisor_text u e ++ phase_text q → (t ≡ u) × (t ≡ false → d ≡ e) × (p ≡ q)
+tails : (t u : Bool) (d e : ℤ) (p q : Phase) → unsigned_abs d ≤ 2 ^ 31 → unsigned_abs e ≤ 2 ^ 31 → divisor_text t d ++ phase_text p ≡ divisor_text u e ++ phase_text q → (t ≡ u) × (t ≡ false → d ≡ e) × (p ≡ q)
 tails true true d e p q h k x = (refl, λ f. absurd cc, same_phase p q x)
 tails true false d e At q h k x = absurd cc
 tails true false d e After q h k x = absurd (apart 43 47 _ _ (λ f. omega arith) x)
@@ -90,7 +90,7 @@ sides false true p q x = absurd (apart 108 104 _ _ (λ f. omega arith) x)
 comma : (us : List ℕ) → IsBehind (44 ∷ us)
 comma us = not_of_number 44 (inl (omega arith))
 
-coefficient : (y z : ℤ) (us vs : List ℕ) → unsigned_abs y < 2 ^ 31 → unsigned_abs z < 2 ^ 31 → signed_decimal y ++ 44 ∷ us ≡ signed_decimal z ++ 44 ∷ vs → (y ≡ z) × (us ≡ vs)
+coefficient : (y z : ℤ) (us vs : List ℕ) → unsigned_abs y ≤ 2 ^ 31 → unsigned_abs z ≤ 2 ^ 31 → signed_decimal y ++ 44 ∷ us ≡ signed_decimal z ++ 44 ∷ vs → (y ≡ z) × (us ≡ vs)
 coefficient y z us vs h k x =
     let c = cut_numbers y z (44 ∷ us) (44 ∷ vs) h k (comma us) (comma vs) x in
     let e : 44 ∷ us ≡ 44 ∷ vs = c.1 in
@@ -102,7 +102,7 @@ roots a b c u x y z v p q h k e =
     let f = sym (root_moment a b c u p) ∙ e ∙ root_moment x y z v q in
     let g : signed_decimal a ++ 44 ∷ (signed_decimal b ++ 44 ∷ (signed_decimal c ++ 44 ∷ (side_text u ++ 41 ∷ phase_text p))) ≡ signed_decimal x ++ 44 ∷ (signed_decimal y ++ 44 ∷ (signed_decimal z ++ 44 ∷ (side_text v ++ 41 ∷ phase_text q))) = cc in
     let first = coefficient a x _ _ (near a h.small.a_small) (near x k.small.a_small) g in
-    let second = coefficient b y _ _ (far b h.small.b_small) (far y k.small.b_small) first.1 in
+    let second = coefficient b y _ _ h.small.b_small k.small.b_small first.1 in
     let third = coefficient c z _ _ (near c h.small.c_small) (near z k.small.c_small) second.1 in
     let last = sides u v p q third.1 in
     let i : a ≡ x = first.0 in
@@ -112,11 +112,8 @@ roots a b c u x y z v p q h k e =
     let same : Root a b c u ≡ Root x y z v = cc in
     (same, last.1)
   where
-    near : (z : ℤ) → unsigned_abs z ≤ 2 ^ 28 → unsigned_abs z < 2 ^ 31
+    near : (z : ℤ) → unsigned_abs z ≤ 2 ^ 29 → unsigned_abs z ≤ 2 ^ 31
     near z h = omega arith
-
-    far : (z : ℤ) → unsigned_abs z ≤ 2 ^ 29 → unsigned_abs z < 2 ^ 31
-    far z h = omega arith
 
 -- ---- a fraction is no root
 letter : (us : List ℕ) → IsBehind (114 ∷ us)

@@ -4,7 +4,7 @@ use Rattle.std.specs.Prelude.{position, ◌==◌}
 use Rattle.std.proofs.lemmas.Int.{ints}
 use Rattle.std.proofs.lemmas.Bool.Decides.{nat_tests}
 use lib.IntN.{neg_ℤ}
-use Rattle.kin_motion.specs.Course.{IsSlow}
+use Rattle.kin_motion.specs.Course.{IsSlow, motion_limit}
 use Rattle.kin_script.specs.Questions.{IsDirection}
 use Rattle.kin_script.specs.Lines.{Word}
 use Rattle.kin_script.specs.Numbers.{up_to, at_least, starts_with_minus, numeral_of, natural_of, integer_of, ratio_limit, ratio_at_slash, ratio_of}
@@ -73,10 +73,10 @@ some n e = grind (arith, nat_tests)
 pub motion_range : (ws : List Word) → Each (λ r. IsSlow r.0) (motion_at ws)
 unfolding motion_at
 motion_range ws =
-    each_then _ _ _ _ (integer_at_range 4096 ws) (λ x hx.
-    each_then _ _ _ _ (integer_at_range 4096 x.1) (λ y hy.
-    each_then _ _ _ _ (integer_at_range 4096 y.1) (λ u hu.
-    each_then _ _ _ _ (integer_at_range 4096 u.1) (λ v hv.
+    each_then _ _ _ _ (integer_at_range motion_limit ws) (λ x hx.
+    each_then _ _ _ _ (integer_at_range motion_limit x.1) (λ y hy.
+    each_then _ _ _ _ (integer_at_range motion_limit y.1) (λ u hu.
+    each_then _ _ _ _ (integer_at_range motion_limit u.1) (λ v hv.
     each_one _ _ (record { x_small = hx; y_small = hy; u_small = hu; v_small = hv })))))
 
 pub direction_range : (ws : List Word) → Each (λ d. IsDirection d.0 d.1) (direction_at ws)

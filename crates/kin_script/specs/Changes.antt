@@ -1,7 +1,7 @@
 -- The table of what changes the points: how a line is written, in which ranges its numbers are, why it is refused, and which motion the point has then.
 use Rattle.std.specs.Prelude.{◌≡◌, ◌⊎◌, ℕ, ◌≤◌, ℤ, unsigned_abs, List, Option, Some, None, is_some, IsTrue, IsFalse}
 use Rattle.kin_num.specs.declared.instant.Moment.{Moment}
-use Rattle.kin_motion.specs.Course.{Course, IsSlow}
+use Rattle.kin_motion.specs.Course.{Course, IsSlow, motion_limit}
 use Rattle.kin_motion.specs.Turning.{TurnsTo, IsNotWhole, IsOutOfBounds}
 use Rattle.kin_script.specs.declared.command.Command.{Command}
 use Rattle.kin_script.specs.declared.command.Command.TheVariants.{Insert, Remove, Replace, Turn}
@@ -51,8 +51,8 @@ turn_of size ws = do
 
 -- a velocity that a motion may have
 pub record IsSlowVelocity (u v : ℤ) : Type 0 where
-  pub u_small : unsigned_abs u ≤ 4096
-  pub v_small : unsigned_abs v ≤ 4096
+  pub u_small : unsigned_abs u ≤ motion_limit
+  pub v_small : unsigned_abs v ≤ motion_limit
 
 abbrev pub IsChangeInRange : PointChange → Type 0
 IsChangeInRange (enters motion) = IsSlow motion

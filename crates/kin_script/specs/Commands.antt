@@ -14,9 +14,9 @@ use Rattle.kin_script.specs.Words.{natural_at, integer_at, side_at, last}
 -- the coefficients A B C, with A not 0, and the words after them
 unfoldable pub quadratic_at : List Word → Option ((ℤ × ℤ × ℤ) × List Word)
 quadratic_at ws = do
-  a ← integer_at 268435456 ws
-  b ← integer_at 536870912 a.1
-  c ← integer_at 268435456 b.1
+  a ← integer_at 536870912 ws
+  b ← integer_at 2147483648 a.1
+  c ← integer_at 536870912 b.1
   if unsigned_abs a.0 == 0 then None else Some ((a.0, b.0, c.0), c.1)
 
 -- at root A B C lo, at root A B C hi

@@ -20,10 +20,10 @@ pub record IsRatioInRange (n d : ℤ) : Type 0 where
 
 -- the quadratic of a root as a script writes it, with a common divisor or not
 pub record IsRootInRange (a b c : ℤ) : Type 0 where
-  pub a_small : unsigned_abs a ≤ 2 ^ 28
+  pub a_small : unsigned_abs a ≤ 2 ^ 29
   pub a_not_zero : 0 < unsigned_abs a
-  pub b_small : unsigned_abs b ≤ 2 ^ 29
-  pub c_small : unsigned_abs c ≤ 2 ^ 28
+  pub b_small : unsigned_abs b ≤ 2 ^ 31
+  pub c_small : unsigned_abs c ≤ 2 ^ 29
 
 -- the numbers of a command, where the points have numbers below 2^size
 abbrev pub IsCommandInRange : ℕ → Command → Type 0

@@ -1,7 +1,7 @@
 -- What is read from the front of the words of a line.
 use Rattle.std.specs.Prelude.{ℕ, ◌+◌, ◌-◌, ◌^◌, ℤ, unsigned_abs, Bool, true, false, ◌==◌, List, [], ◌∷◌, Option, Some, None, codes, if◌then◌else◌}
 use Rattle.std.specs.Str.{bytes_eq}
-use Rattle.kin_motion.specs.Course.{Course}
+use Rattle.kin_motion.specs.Course.{Course, motion_limit}
 use Rattle.kin_script.specs.Lines.{Word, is_nil}
 use Rattle.kin_script.specs.Numbers.{◌>>=◌, natural_of, integer_of}
 
@@ -25,17 +25,17 @@ number_at size ws = natural_at 0 (2 ^ size - 1) ws
 -- four numbers as a motion, and the words after them
 unfoldable pub motion_at : List Word → Option (Course × List Word)
 motion_at ws = do
-  x ← integer_at 4096 ws
-  y ← integer_at 4096 x.1
-  u ← integer_at 4096 y.1
-  v ← integer_at 4096 u.1
+  x ← integer_at motion_limit ws
+  y ← integer_at motion_limit x.1
+  u ← integer_at motion_limit y.1
+  v ← integer_at motion_limit u.1
   Some (record { x = x.0; y = y.0; u = u.0; v = v.0 }, v.1)
 
 -- two numbers as a velocity, and the words after them
 unfoldable pub velocity_at : List Word → Option ((ℤ × ℤ) × List Word)
 velocity_at ws = do
-  u ← integer_at 4096 ws
-  v ← integer_at 4096 u.1
+  u ← integer_at motion_limit ws
+  v ← integer_at motion_limit u.1
   Some ((u.0, v.0), v.1)
 
 -- lo or hi, and the words after it: whether the greater root is meant

@@ -1,7 +1,6 @@
 //! What a line says: one function for each kind of line.
 
 ghost use Rattle.std.specs.Prelude.{◌≡◌, ◌≤◌, IfSome, option_map};
-ghost use Rattle.kin_script.specs.declared.command.Command.TheVariants.{AtRoot};
 ghost use Rattle.kin_script.specs.Changes.{insert_of, remove_of, replace_of, turn_of};
 ghost use Rattle.kin_script.specs.Commands.{quadratic_at, root_of, at_of, command_of, size_of, journal_of, header_line_of};
 ghost use Rattle.kin_script.specs.Questions.{keep_of, order_question_of, extreme_question_of, box_question_of, question_of};
@@ -67,12 +66,12 @@ fn turn(size: u32, words: &mut Words<'_>) -> Option<Command>
 
 /// Three coefficients, of which the first is not 0.
 #[tactic(auto, unfolding(crate::specs::Commands::quadratic_at))]
-fn quadratic(words: &mut Words<'_>) -> Option<(i32, i32, i32)>
+fn quadratic(words: &mut Words<'_>) -> Option<(i64, i64, i64)>
     ensures { option_map (λ q. (q, words.new)) result ≡ quadratic_at words.old }
 {
-    let a = words.integer(1 << 28)?;
-    let b = words.integer(1 << 29)?;
-    let c = words.integer(1 << 28)?;
+    let a = words.long_integer(1 << 29)?;
+    let b = words.long_integer(1 << 31)?;
+    let c = words.long_integer(1 << 29)?;
     if a == 0 {
         return None;
     }
@@ -86,19 +85,7 @@ fn root(words: &mut Words<'_>) -> Option<Command>
 {
     let (a, b, c) = quadratic(words)?;
     let upper = words.side()?;
-    words.last(at_root(a, b, c, upper))
-}
-
-/// The numbers of a root in the width of a command.
-fn at_root(a: i32, b: i32, c: i32, upper: bool) -> Command
-    ensures { result ≡ AtRoot a b c upper }
-{
-    Command::AtRoot {
-        a: i64::from(a),
-        b: i64::from(b),
-        c: i64::from(c),
-        upper,
-    }
+    words.last(Command::AtRoot { a, b, c, upper })
 }
 
 /// What follows the word `at`: a fraction, or a root.

@@ -1,6 +1,6 @@
 //! Numbers, digit by digit.
 
-ghost use Rattle.std.specs.Prelude.{◌≡◌, ◌≤◌, ◌<◌, ◌^◌, IfSome, unsigned_abs};
+ghost use Rattle.std.specs.Prelude.{◌≡◌, ◌≤◌, IfSome, unsigned_abs};
 ghost use Rattle.kin_script.specs.Numbers.{natural_of, integer_of, ratio_of, up_to, numeral_of};
 
 use crate::words::place;
@@ -47,14 +47,13 @@ pub fn natural(word: &[u8], low: u32, high: u32) -> Option<u32>
 
 /// A number at most `far` from 0.
 #[tactic(auto, unfolding(crate::specs::Numbers::integer_of))]
-pub fn integer(word: &[u8], far: u32) -> Option<i32>
-    requires { far < 2 ^ 31 }
+pub fn integer(word: &[u8], far: u32) -> Option<i64>
     ensures value { result ≡ integer_of far word.now }
     ensures range { IfSome result (λ z. unsigned_abs z ≤ far) }
 {
     match word {
-        [b'-', rest @ ..] => Some(-(numeral(rest, far)? as i32)),
-        _ => Some(numeral(word, far)? as i32),
+        [b'-', rest @ ..] => Some(-i64::from(numeral(rest, far)?)),
+        _ => Some(i64::from(numeral(word, far)?)),
     }
 }
 

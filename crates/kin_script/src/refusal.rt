@@ -19,7 +19,7 @@ pub enum Refusal {
     /// No motion with whole numbers and the asked velocity is at the point's place, or the moment
     /// is just after an instant.
     NotWhole,
-    /// There is one, but one of its numbers isn't in -4096..4096.
+    /// There is one, but one of its numbers isn't in -8192..8192.
     OutOfBounds,
 }
 

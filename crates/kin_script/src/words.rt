@@ -92,6 +92,15 @@ impl<'a> Words<'a> {
         ensures value { option_map (λ z. (z, self.new)) result ≡ integer_at far self.old }
         ensures range { IfSome result (λ z. unsigned_abs z ≤ far) }
     {
+        Some(self.long_integer(far)? as i32)
+    }
+
+    /// The same, where the number may take more than 32 bits.
+    #[tactic(auto, unfolding(crate::specs::Words::integer_at))]
+    pub fn long_integer(&mut self, far: u32) -> Option<i64>
+        ensures value { option_map (λ z. (z, self.new)) result ≡ integer_at far self.old }
+        ensures range { IfSome result (λ z. unsigned_abs z ≤ far) }
+    {
         number::integer(self.next()?, far)
     }
 
@@ -116,10 +125,10 @@ impl<'a> Words<'a> {
         ensures value { option_map (λ m. (m, self.new)) result ≡ motion_at self.old }
         ensures range { IfSome result IsSlow }
     {
-        let x = self.integer(4096)?;
-        let y = self.integer(4096)?;
-        let u = self.integer(4096)?;
-        let v = self.integer(4096)?;
+        let x = self.integer(Motion::LIMIT)?;
+        let y = self.integer(Motion::LIMIT)?;
+        let u = self.integer(Motion::LIMIT)?;
+        let v = self.integer(Motion::LIMIT)?;
         Some(Motion::new(x, y, u, v))
     }
 
@@ -128,8 +137,8 @@ impl<'a> Words<'a> {
     pub fn velocity(&mut self) -> Option<(i32, i32)>
         ensures { option_map (λ w. (w, self.new)) result ≡ velocity_at self.old }
     {
-        let u = self.integer(4096)?;
-        let v = self.integer(4096)?;
+        let u = self.integer(Motion::LIMIT)?;
+        let v = self.integer(Motion::LIMIT)?;
         Some((u, v))
     }
 }

@@ -1,6 +1,6 @@
 -- Every change, every deed, every input and every generated script has its outcome.
 use Rattle.std.proofs.Common.{rules, ◌≡◌, ◌⊎◌, inl, inr, ◌≤◌, true, false, ℤ, ℕ, Bool, List, [], ◌∷◌, unsigned_abs, Option, Some, None, refl, sym, ap, ◌∙◌, subst, arith, is_some, length-set, slice_set, ◌^◌, ◌++◌, Result, Ok, Err, All, zero, suc, ◌+◌}
-use Rattle.kin_status.proofs.Vocabulary.{cases_lt, same_Some, IsCanonical, Quadratic, Moment, Shape, After, At, AreSlow, Course, IsSlow, motion_of, Block, PointChange, ChangesTo, IsChangeInRange, IsRefusedChange, enters, leaves, restarts, turns, Deed, asks, changes, goes_on, goes_to}
+use Rattle.kin_status.proofs.Vocabulary.{cases_lt, same_Some, IsCanonical, Quadratic, Moment, Shape, After, At, AreSlow, Course, IsSlow, motion_limit, motion_of, Block, PointChange, ChangesTo, IsChangeInRange, IsRefusedChange, enters, leaves, restarts, turns, Deed, asks, changes, goes_on, goes_to}
 use Rattle.kin_status.proofs.Vocabulary.{IsDeedInRange, IsNamedRoot, IsRefused, State, just_at, Step, Refusal, Absent, NoRoot, NotKept, NotWhole, OutOfBounds, Past, Taken, has_line, Passes, length-replicate, start_canonical, none_live, deed_of, IsGenerated, IsLeastSize, insertions, one_of_each, questions}
 use Rattle.kin_status.proofs.Vocabulary.{script_of, IsCommandInRange, IsWithin, start, Ending, Text, bad_line, refused_line, Script, deed_in_range, small_keep, DemoTextsExist, demo_line, start_of, IsAnswer, IsTextOf, TextsExist, PassesInTurn, Status}
 use Rattle.kin_num.specs.declared.instant.Phase.{Phase}
@@ -40,7 +40,7 @@ slow_some : (c : Course) → IsSlow c → IsSlowIfSome (Some c)
 slow_some c slow d e = subst IsSlow (same_Some c d e) slow
 
 -- ---- a motion with a slow velocity is slow or not
-slow_or_not : (c : Course) → unsigned_abs c.u ≤ 4096 → unsigned_abs c.v ≤ 4096 → IsSlow c ⊎ ¬ (IsSlow c)
+slow_or_not : (c : Course) → unsigned_abs c.u ≤ motion_limit → unsigned_abs c.v ≤ motion_limit → IsSlow c ⊎ ¬ (IsSlow c)
 slow_or_not c u v = search (rules, arith, cases_lt)
 
 -- ---- turns
@@ -59,7 +59,7 @@ module _ (m : Moment) (canonical : IsCanonical m.at) (u v : ℤ) (old : Course) 
   })
   by_size at new goes (inr far) = inl (OutOfBounds, inr (old, refl, inr (refl, (at, (new, goes, far)))))
 
-  turn_decided : unsigned_abs u ≤ 4096 → unsigned_abs v ≤ 4096 → IsDecided m (Some old) (turns u v)
+  turn_decided : unsigned_abs u ≤ motion_limit → unsigned_abs v ≤ motion_limit → IsDecided m (Some old) (turns u v)
   turn_decided u_small v_small = by_phase m.phase refl
     where
       by_phase : (p : Phase) → m.phase ≡ p → IsDecided m (Some old) (turns u v)

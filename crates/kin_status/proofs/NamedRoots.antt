@@ -9,6 +9,7 @@ use Rattle.kin_num.proofs.SignLaws.{sign_at-neg}
 use Rattle.kin_instant.proofs.RootsOf.{fraction_zeros, discriminant-negated}
 use Rattle.kin_instant.proofs.Zeros.{instant-negative}
 use Rattle.kin_instant.proofs.Existence.{ratio_exists, roots_exist}
+use Rattle.kin_instant.proofs.RationalRoots.{line_small}
 
 -- two named roots are one
 pub one_named_root : (upper : Bool) (p : Quadratic) (v w : Shape) → IsNamedRoot upper p v → IsNamedRoot upper p w → v ≡ w
@@ -73,7 +74,8 @@ counted a b c d some = (λ e. absurd cc, λ e. absurd cc)
 
 pub root_asked : (upper : Bool) (p : Quadratic) → IsAskedFor upper p → HasNoRoot p ⊎ ((w : Shape) × IsNamedRoot upper p w)
 root_asked upper p (inl (n, d, range, is, word)) =
-    let r = ratio_exists n d range.n_small range.d_small (omega (arith, ints, range.d_low)) in
+    let positive : pos 0 <ℤ d = omega (arith, ints, range.d_low) in
+    let r = ratio_exists n d positive (line_small n d positive (omega (arith, range.n_small)) (omega (arith, range.d_small))) in
     inr (r.0, rw (is, word) (ratio_in_range n d r.0 range r.1 r.2))
 root_asked upper p (inr range) = let r = roots_exist p (record { a_small = range.a_small; b_small = range.b_small; c_small = range.c_small }) in by_roots r.0 r.1
   where

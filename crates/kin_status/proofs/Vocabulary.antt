@@ -24,7 +24,7 @@ pub use Rattle.kin_num.proofs.Values.{start_canonical}
 pub use Rattle.kin_instant.specs.Roots.{AreRootsOf, HasRoot, IsFraction, count_by_signs}
 pub use Rattle.kin_instant.specs.declared.roots.Roots.{Roots}
 pub use Rattle.kin_instant.specs.declared.roots.Roots.TheVariants.{All, Nowhere, One, Two}
-pub use Rattle.kin_motion.specs.Course.{AreSlow, Course, IsSlow, is_live, motion_of}
+pub use Rattle.kin_motion.specs.Course.{AreSlow, Course, IsSlow, is_live, motion_limit, motion_of}
 pub use Rattle.kin_motion.specs.Journal.{Block, Failure, IsJournal, IsNextBlock, NothingFails, Setting}
 pub use Rattle.kin_motion.specs.Turning.{just_at}
 pub use Rattle.kin_motion.proofs.JournalLaws.{block_is_listed, journal_is_one, next_block_is_one}

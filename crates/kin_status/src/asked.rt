@@ -35,9 +35,9 @@ fn named(lesser: Instant, greater: Instant, upper: bool) -> Instant
 /// it. `None` exactly where there is no real root.
 pub fn named_root(a: i64, b: i64, c: i64, upper: bool) -> Option<Instant>
     requires a_not_zero { 0 < unsigned_abs a }
-    requires a_small { unsigned_abs a ≤ 2 ^ 28 }
-    requires b_small { unsigned_abs b ≤ 2 ^ 29 }
-    requires c_small { unsigned_abs c ≤ 2 ^ 28 }
+    requires a_small { unsigned_abs a ≤ 2 ^ 29 }
+    requires b_small { unsigned_abs b ≤ 2 ^ 31 }
+    requires c_small { unsigned_abs c ≤ 2 ^ 29 }
     ensures { MatchOption result (discriminant a b c <ℤ pos 0) (IsNamedRoot upper (record { a = a; b = b; c = c })) }
 {
     match roots(&Poly::new(a, b, c)) {

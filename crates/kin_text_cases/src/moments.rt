@@ -38,12 +38,14 @@ fn are_printed(rt: &impl Abort, alloc: Global, rows: &[Row]) -> Result<(), NoMem
 #[test]
 fn fractions_and_roots_read_as_written(rt: HostRuntime) -> Result<(), Fail> {
     let (_, greater) = both_roots(&Poly::new(1, 0, -2));
-    let (lesser, _) = both_roots(&Poly::new(268435456, -536870912, 1));
-    let rows: [Row; 4] = [
+    let (lesser, _) = both_roots(&Poly::new(536870912, -2147483648, 1));
+    let (_, last) = both_roots(&Poly::new(1, -2147483648, 0));
+    let rows: [Row; 5] = [
         (ratio(5, 1), Phase::At, b"5"),
         (ratio(7, 3), Phase::At, b"7/3"),
         (greater, Phase::At, b"r(1,0,-2,hi)"),
-        (lesser, Phase::At, b"r(268435456,-536870912,1,lo)"),
+        (lesser, Phase::At, b"r(536870912,-2147483648,1,lo)"),
+        (last, Phase::At, b"2147483648"),
     ];
     are_printed(&rt, rt.alloc(), &rows)?;
     Ok(())

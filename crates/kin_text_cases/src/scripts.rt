@@ -31,8 +31,8 @@ fn says(rt: &impl Abort, alloc: Global, bytes: &[u8], told: &Told<'_>) -> Result
 
 #[test]
 fn spelling_is_free_within_a_line(rt: HostRuntime) -> Result<(), Fail> {
-    let bytes = b"size 01\r\n\tkeep order 1 -0 # east\r\n\r\ninsert 0 4096 -4096 -0 007\r\norder 0";
-    let m = Motion::new(4096, -4096, 0, 7);
+    let bytes = b"size 01\r\n\tkeep order 1 -0 # east\r\n\r\ninsert 0 8192 -8192 -0 007\r\norder 0";
+    let m = Motion::new(8192, -8192, 0, 7);
     let told = Told {
         size: 1,
         keeps: &[Keep::Order { dx: 1, dy: 0 }],
@@ -101,10 +101,10 @@ fn a_journal_is_put_on(rt: HostRuntime) -> Result<(), Fail> {
 
 #[test]
 fn points_leave_start_anew_and_turn(rt: HostRuntime) -> Result<(), Fail> {
-    let bytes = b"size 3\ninsert 7 1 2 3 4\nremove 007\n\treplace 0 4096 -4096 -0 5 # again\n\
-        turn 5 -4096 4096\nturn 6 0 -0\n";
-    let (first, second) = (Motion::new(1, 2, 3, 4), Motion::new(4096, -4096, 0, 5));
-    let (u, v) = (-4096, 4096);
+    let bytes = b"size 3\ninsert 7 1 2 3 4\nremove 007\n\treplace 0 8192 -8192 -0 5 # again\n\
+        turn 5 -8192 8192\nturn 6 0 -0\n";
+    let (first, second) = (Motion::new(1, 2, 3, 4), Motion::new(8192, -8192, 0, 5));
+    let (u, v) = (-8192, 8192);
     let told = Told {
         size: 3,
         keeps: &[],

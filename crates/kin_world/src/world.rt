@@ -5,7 +5,7 @@ ghost use Rattle.kin_algebra.specs.declared.sign.Sign.{Sign as Signum};
 ghost use Rattle.kin_num.specs.Grains.{moments_left};
 ghost use Rattle.kin_num.specs.Order.{IsEarlier};
 ghost use Rattle.kin_motion.specs.declared.keep.Keep.TheVariants as keep;
-ghost use Rattle.kin_motion.specs.Course.{Course, is_live, live_of, motion_of};
+ghost use Rattle.kin_motion.specs.Course.{Course, is_live, live_of, motion_limit, motion_of};
 ghost use Rattle.kin_motion.specs.FactCounts.{most_live};
 ghost use Rattle.kin_motion.specs.Journal.{Block as Listed, NothingFails};
 ghost use Rattle.kin_motion.specs.Turning.{IsNotWhole, IsOutOfBounds};
@@ -160,16 +160,16 @@ impl World {
     }
 
     /// The motion with the velocity `(u, v)` by which a live number is at the same place now. Each of
-    /// the two is in -4096..4096. Takes no memory.
+    /// the two is in -8192..8192. Takes no memory.
     ///
     /// `NotWhole` comes exactly where the moment is just after an instant or a coordinate of the new
     /// place at time 0 isn't whole; `OutOfBounds` exactly where the moment is an instant, both are
-    /// whole and one is outside -4096..4096.
+    /// whole and one is outside -8192..8192.
     pub fn turned(&self, no: u32, u: i32, v: i32) -> Result<Motion, TurnError>
         requires whole { IsTrue self.now.whole }
         requires live { IsTrue (is_live self.now.motions no) }
-        requires u { unsigned_abs u ≤ 4096 }
-        requires v { unsigned_abs v ≤ 4096 }
+        requires u { unsigned_abs u ≤ motion_limit }
+        requires v { unsigned_abs v ≤ motion_limit }
         ensures turns { IfOk result (CanTurn no u v self.now) }
         ensures not_whole { (had : Course) → motion_of self.now.motions no ≡ Some had → (result ≡ Err Broken) ↔ IsNotWhole self.now.moment u v had }
         ensures outside { (had : Course) → motion_of self.now.motions no ≡ Some had → (result ≡ Err Outside) ↔ IsOutOfBounds self.now.moment u v had }

@@ -1,6 +1,7 @@
 //! Calls that change what lives.
 
 use crate::script::motion;
+use kin_motion::Motion;
 use kin_num::{NoMemory, Steps};
 use kin_turn::turned::TurnError;
 use kin_world::World;
@@ -64,7 +65,7 @@ pub fn turns<L: Ledger>(
     if !world.is_whole() || world.motion(no).is_none() {
         return Ok(false);
     }
-    if u.unsigned_abs() > 4096 || v.unsigned_abs() > 4096 {
+    if u.unsigned_abs() > Motion::LIMIT || v.unsigned_abs() > Motion::LIMIT {
         return Ok(false);
     }
     let Ok(motion) = world.turned(no, u, v) else {

@@ -77,7 +77,7 @@ pub const PART: (Sign, Sign) = (Sign::Zero, Sign::Minus);
 /// A motion whose numbers are in range.
 pub fn motion(m: [i32; 4]) -> Option<Motion> {
     let [x, y, u, v] = m;
-    let small = |n: i32| n.unsigned_abs() <= 4096;
+    let small = |n: i32| n.unsigned_abs() <= Motion::LIMIT;
     if small(x) && small(y) && small(u) && small(v) {
         Some(Motion::new(x, y, u, v))
     } else {

@@ -40,7 +40,7 @@ const AROUND_A_MEETING: Script = (
         Call::Facts(1, 7),
         Call::Moves((9, Phase::At)),
         // From 13 back to the time 0 it is too far.
-        Call::Turns(1, (4096, 0), Some(TurnError::OutOfBounds)),
+        Call::Turns(1, (8192, 0), Some(TurnError::OutOfBounds)),
         Call::Facts(1, 7),
         Call::Turns(1, (0, -3), None),
         Call::Facts(1, 8),

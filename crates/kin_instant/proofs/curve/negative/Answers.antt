@@ -5,7 +5,7 @@ use Rattle.kin_instant.specs.Roots.{quadratic}
 use Rattle.kin_instant.proofs.Widths.{opposite-value}
 use Rattle.kin_instant.proofs.curve.negative.Goals as goal
 
-opposite : (x' x : ℤ) → x' ≡ x → unsigned_abs x' ≤ 2 ^ 29 → to_z w64 (of_z w64 (pos 0 -ℤ to_z w64 (of_z w64 x'))) ≡ neg_ℤ x
+opposite : (x' x : ℤ) → x' ≡ x → unsigned_abs x' ≤ 2 ^ 31 → to_z w64 (of_z w64 (pos 0 -ℤ to_z w64 (of_z w64 x'))) ≡ neg_ℤ x
 opposite x' x e h = opposite-value x' h ∙ ap neg_ℤ e
 
 same : (p : Quadratic) (a b c : ℤ) → a ≡ p.a → b ≡ p.b → c ≡ p.c → quadratic a b c ≡ p

@@ -40,10 +40,10 @@ read_positive x' x f e h = subst (λ (z : ℤ). pos 0 <ℤ z) (sym (clean w64 x'
 not_negative : (d d' : ℤ) (s : ℕ) → d' ≡ d → pos 0 ≤ℤ d' → s ≡ unsigned_abs d' → pos s ≡ d
 not_negative d d' s e h f = omega (arith, ints, e, f)
 
-root_read : (r : ℕ) → r < 2 ^ 30 → to_z w64 r ≡ pos r
+root_read : (r : ℕ) → r < 2 ^ 32 → to_z w64 r ≡ pos r
 root_read r h = to_z_pos w64 r (omega arith)
 
-exact_size : (r s : ℕ) → r * r ≡ s → s ≤ 2 ^ 59 → r < 2 ^ 30
+exact_size : (r s : ℕ) → r * r ≡ s → s < 2 ^ 63 → r < 2 ^ 32
 exact_size r s e h = root_size r s (subst (λ (x : ℕ). r * r ≤ x) e (same (r * r))) h
   where
     same : (x : ℕ) → x ≤ x
@@ -61,13 +61,13 @@ same_polynomial p a b c u o e f g h =
     subst (λ (x : ℤ). IsRootOn (quadratic x p.b p.c) u o) e (subst (λ (y : ℤ). IsRootOn (quadratic a y p.c) u o) f (subst (λ (z : ℤ). IsRootOn (quadratic a b z) u o) g h))
 
 pub discriminant_of-discriminant-requires-clause-a_small : goal.discriminant_of-discriminant-requires-clause-a_small
-discriminant_of-discriminant-requires-clause-a_small c = read_within w64 c.a-a.result (2 ^ 29) (omega (arith, c.a-a.ensures.small)) (omega arith)
+discriminant_of-discriminant-requires-clause-a_small c = read_within w64 c.a-a.result (2 ^ 29) c.a-a.ensures.small (omega arith)
 
 pub discriminant_of-discriminant-requires-clause-b_small : goal.discriminant_of-discriminant-requires-clause-b_small
-discriminant_of-discriminant-requires-clause-b_small c = read_within w64 c.b-b.result (2 ^ 31) (omega (arith, c.b-b.ensures.small)) (omega arith)
+discriminant_of-discriminant-requires-clause-b_small c = read_within w64 c.b-b.result (2 ^ 31) c.b-b.ensures.small (omega arith)
 
 pub discriminant_of-discriminant-requires-clause-c_small : goal.discriminant_of-discriminant-requires-clause-c_small
-discriminant_of-discriminant-requires-clause-c_small c = read_within w64 c.c-c.result (2 ^ 29) (omega (arith, c.c-c.ensures.small)) (omega arith)
+discriminant_of-discriminant-requires-clause-c_small c = read_within w64 c.c-c.result (2 ^ 29) c.c-c.ensures.small (omega arith)
 
 pub returns-then-discriminant-lt0 : goal.returns-then-discriminant-lt0
 returns-then-discriminant-lt0 c =
@@ -79,7 +79,7 @@ returns-then-discriminant-lt0 c =
       same = refl;
     }
 
-small_root : (c : In-Some) → c.in-Some.root < 2 ^ 30
+small_root : (c : In-Some) → c.in-Some.root < 2 ^ 32
 small_root c =
     let p = c.args.p.now in
     let r = read c.args.p.now _ _ _ _ c.a-a.type_inv c.b-b.type_inv c.c-c.type_inv c.discriminant_of-discriminant.type_inv c.a-a.ensures.value c.b-b.ensures.value c.c-c.ensures.value c.discriminant_of-discriminant.ensures in
@@ -89,17 +89,8 @@ small_root c =
 pub overflow_cast-root : goal.overflow_cast-root
 overflow_cast-root c = let l = small_root c in omega arith
 
-pub rational_root-requires-clause-a_positive : goal.rational_root-requires-clause-a_positive
-rational_root-requires-clause-a_positive c = read_positive c.a-a.result c.args.p.now.a c.a-a.type_inv c.a-a.ensures.value c.requires.a_positive
-
-pub rational_root-requires-clause-a_small : goal.rational_root-requires-clause-a_small
-rational_root-requires-clause-a_small c = read_within w64 c.a-a.result (2 ^ 28) c.a-a.ensures.small (omega arith)
-
-pub rational_root-requires-clause-b_small : goal.rational_root-requires-clause-b_small
-rational_root-requires-clause-b_small c = read_within w64 c.b-b.result (2 ^ 29) c.b-b.ensures.small (omega arith)
-
 pub rational_root-requires-clause-root_small : goal.rational_root-requires-clause-root_small
-rational_root-requires-clause-root_small c = let l = small_root c in subst (λ (z : ℤ). unsigned_abs z < 2 ^ 30) (sym (root_read c.in-Some.root l)) l
+rational_root-requires-clause-root_small c = let l = small_root c in subst (λ (z : ℤ). unsigned_abs z < 2 ^ 32) (sym (root_read c.in-Some.root l)) l
 
 pub rational_root-requires-clause-root_positive : goal.rational_root-requires-clause-root_positive
 rational_root-requires-clause-root_positive c = subst (λ (z : ℤ). pos 0 ≤ℤ z) (sym (root_read c.in-Some.root (small_root c))) (omega (arith, ints))
@@ -109,9 +100,9 @@ irrational_root-requires-clause-a_positive c = read_positive c.a-a.result c.args
 
 pub irrational_root-requires-clause-small : goal.irrational_root-requires-clause-small
 irrational_root-requires-clause-small c = record {
-  a_small = read_within w64 c.a-a.result (2 ^ 28) c.a-a.ensures.small (omega arith);
-  b_small = read_within w64 c.b-b.result (2 ^ 29) c.b-b.ensures.small (omega arith);
-  c_small = read_within w64 c.c-c.result (2 ^ 28) c.c-c.ensures.small (omega arith);
+  a_small = read_within w64 c.a-a.result (2 ^ 29) c.a-a.ensures.small (omega arith);
+  b_small = read_within w64 c.b-b.result (2 ^ 31) c.b-b.ensures.small (omega arith);
+  c_small = read_within w64 c.c-c.result (2 ^ 29) c.c-c.ensures.small (omega arith);
 }
 
 pub irrational_root-requires-clause-real : goal.irrational_root-requires-clause-real
@@ -128,14 +119,12 @@ irrational_root-requires-clause-irrational c = λ n e.
     let s = not_negative (discriminant p.a p.b p.c) _ c.unsigned_abs.result r.d_is (not_less_out _ _ c.if-discriminant-lt0.false) c.unsigned_abs.ensures.value in
     c.in-None.ensures.none n (no_square n c.unsigned_abs.result (discriminant p.a p.b p.c) s (e ∙ same_discriminant p.a p.b p.c _ _ _ r.a_is r.b_is r.c_is))
 
-pub returns-in-Some : goal.returns-in-Some
-returns-in-Some c =
+pub rational_root-requires-clause-square : goal.rational_root-requires-clause-square
+rational_root-requires-clause-square c =
     let p = c.args.p.now in
     let r = read c.args.p.now _ _ _ _ c.a-a.type_inv c.b-b.type_inv c.c-c.type_inv c.discriminant_of-discriminant.type_inv c.a-a.ensures.value c.b-b.ensures.value c.c-c.ensures.value c.discriminant_of-discriminant.ensures in
     let s = not_negative (discriminant p.a p.b p.c) _ c.unsigned_abs.result r.d_is (not_less_out _ _ c.if-discriminant-lt0.false) c.unsigned_abs.ensures.value in
-    let l = exact_size c.in-Some.root c.unsigned_abs.result c.in-Some.ensures.some (size p.a p.b p.c c.unsigned_abs.result c.recall_small.ensures s) in
-    same_polynomial p _ _ p.c c.args.upper _ r.a_is r.b_is refl
-    (c.rational_root.ensures p.c (ap (λ (z : ℤ). z *ℤ z) (root_read c.in-Some.root l) ∙ ap pos c.in-Some.ensures.some ∙ s ∙ sym (same_discriminant p.a p.b p.c _ _ p.c r.a_is r.b_is refl)))
+    ap (λ (z : ℤ). z *ℤ z) (root_read c.in-Some.root (small_root c)) ∙ ap pos c.in-Some.ensures.some ∙ s
 
 pub returns-in-None : goal.returns-in-None
 returns-in-None c =

@@ -17,10 +17,10 @@ root_is y a b c upper e h =
     ∙ ap (λ (x : ℤ). Root a x (to_z w64 (of_z w64 c)) upper) (clean-abs w64 b (far b k.small.b_small))
     ∙ ap (λ (x : ℤ). Root a b x upper) (clean-abs w64 c (near c k.small.c_small)) ∙ e
   where
-    near : (z : ℤ) → unsigned_abs z ≤ 2 ^ 28 → unsigned_abs z < 2 ^ 63
+    near : (z : ℤ) → unsigned_abs z ≤ 2 ^ 29 → unsigned_abs z < 2 ^ 63
     near z h = omega arith
 
-    far : (z : ℤ) → unsigned_abs z ≤ 2 ^ 29 → unsigned_abs z < 2 ^ 63
+    far : (z : ℤ) → unsigned_abs z ≤ 2 ^ 31 → unsigned_abs z < 2 ^ 63
     far z h = omega arith
 
 to_root : (x y r : Shape) (o : Ordering) → r ≡ y → MatchOrdering o (IsLess x r) (x ≡ r) (IsLess r x) → MatchOrdering o (IsLess x y) (x ≡ y) (IsLess y x)
@@ -29,7 +29,7 @@ to_root x y r o e h = subst (λ (z : Shape). MatchOrdering o (IsLess x z) (x ≡
 of_root : (x y r : Shape) (o o' : Ordering) → r ≡ x → MatchOrdering o (IsLess y r) (y ≡ r) (IsLess r y) → o' ≡ ordering_reverse o → MatchOrdering o' (IsLess x y) (x ≡ y) (IsLess y x)
 of_root x y r o o' e h f = subst (λ (z : Ordering). MatchOrdering z (IsLess x y) (x ≡ y) (IsLess y x)) (sym f) (reversed y x o (to_root y x r o e h))
 
-small : (z : ℤ) → unsigned_abs z < 2 ^ 31 → unsigned_abs z < 2 ^ 63
+small : (z : ℤ) → unsigned_abs z ≤ 2 ^ 31 → unsigned_abs z < 2 ^ 63
 small z h = omega arith
 
 of_fractions : (x y : Shape) (n d m e : ℤ) (o : Ordering) → Ratio n d ≡ x → Ratio m e ≡ y → IsCanonical x → IsCanonical y

@@ -1,4 +1,4 @@
-use Rattle.std.proofs.Common.{◌≡◌, ℕ, ◌<◌, ◌≤◌, ◌^◌, ℤ, pos, ◌*ℤ◌, unsigned_abs, w64, to_z, of_z, ap, sym, ◌∙◌, subst}
+use Rattle.std.proofs.Common.{◌≡◌, ℕ, ◌<◌, ◌^◌, ℤ, pos, ◌*ℤ◌, unsigned_abs, w64, to_z, of_z, ap, sym, ◌∙◌, subst}
 use Rattle.std.specs.Prelude.{◌<ℤ◌}
 use Rattle.std.specs.Int.{IsGcd, ◌∣◌}
 use Rattle.std.proofs.lemmas.Int.{to_z_pos, fits_signed_from_abs}
@@ -7,7 +7,7 @@ use Rattle.std.proofs.Math.Nat.{pos_of_dvd_of_pos}
 use Rattle.kin_algebra.proofs.Magnitudes.{size-some}
 use Rattle.kin_num.specs.Canonical.{IsLowest}
 use Rattle.kin_instant.proofs.Widths.{clean, positive_out, below_width}
-use Rattle.kin_instant.proofs.Lowest.{lowest_of, crossed, not_more}
+use Rattle.kin_instant.proofs.Lowest.{lowest_of, crossed}
 use Rattle.kin_instant.proofs.ratio.lowest.Goals as goal
 
 -- the greatest common divisor g of |n| and |d|, as the code has it
@@ -70,6 +70,4 @@ returns c =
     record {
       lowest = subst (λ (x : ℤ). IsLowest x (to_z w64 (of_z w64 e))) (sym cm) (subst (λ (y : ℤ). IsLowest m y) (sym ce) (lowest_of c.args.n c.args.d m e c.gcd-divisor.result k.some k.common c.requires.d_positive p q));
       same = ap (λ (x : ℤ). x *ℤ c.args.d) cm ∙ crossed c.args.n c.args.d m e (pos c.gcd-divisor.result) p q ∙ ap (λ (y : ℤ). c.args.n *ℤ y) (sym ce);
-      n_less = subst (λ (x : ℤ). unsigned_abs x ≤ unsigned_abs c.args.n) (sym cm) (not_more c.args.n m c.gcd-divisor.result k.some p);
-      d_less = subst (λ (y : ℤ). unsigned_abs y ≤ unsigned_abs c.args.d) (sym ce) (not_more c.args.d e c.gcd-divisor.result k.some q);
     }

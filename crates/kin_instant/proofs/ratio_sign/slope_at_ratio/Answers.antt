@@ -6,7 +6,7 @@ use Rattle.kin_instant.proofs.Widths.{clean, same_sums}
 use Rattle.kin_instant.proofs.Values.{sign_at_ratio-slope}
 use Rattle.kin_instant.proofs.ratio_sign.slope_at_ratio.Goals as goal
 
-doubled : (a' a : ℤ) → a' ≡ a → unsigned_abs a' ≤ 2 ^ 28 → to_z w64 (of_z w64 (pos 2 *ℤ to_z w64 (of_z w64 a'))) ≡ pos 2 *ℤ a
+doubled : (a' a : ℤ) → a' ≡ a → unsigned_abs a' ≤ 2 ^ 29 → to_z w64 (of_z w64 (pos 2 *ℤ to_z w64 (of_z w64 a'))) ≡ pos 2 *ℤ a
 doubled a' a e h = omega (arith, ints)
 
 pub returns : goal.returns

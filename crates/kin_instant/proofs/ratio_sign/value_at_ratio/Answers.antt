@@ -10,10 +10,10 @@ use Rattle.kin_instant.proofs.ratio_sign.value_at_ratio.Goals as goal
 pub returns-then-a-eq0 : goal.returns-then-a-eq0
 returns-then-a-eq0 c = c.of.ensures ∙ ap sign_of (grind (arith, to_z-of_z)) ∙ sym (sign_at_ratio-line c.args.p.now c.args.n c.args.d c.requires.d_positive (grind (arith, to_z-of_z)))
 
-size : (c' c d : ℤ) → c' ≡ c → unsigned_abs c' ≤ 2 ^ 28 → unsigned_abs d ≤ 2 ^ 31 → unsigned_abs (c *ℤ d) ≤ 2 ^ 59
-size c' c d e h k = size-product c d (2 ^ 28) (2 ^ 31) (subst (λ (z : ℤ). unsigned_abs z ≤ 2 ^ 28) e h) k
+size : (c' c d : ℤ) → c' ≡ c → unsigned_abs c' ≤ 2 ^ 29 → unsigned_abs d ≤ 2 ^ 31 → unsigned_abs (c *ℤ d) ≤ 2 ^ 60
+size c' c d e h k = size-product c d (2 ^ 29) (2 ^ 31) (subst (λ (z : ℤ). unsigned_abs z ≤ 2 ^ 29) e h) k
 
-narrow : (z : ℤ) → unsigned_abs z ≤ 2 ^ 59 → unsigned_abs z < 2 ^ 63
+narrow : (z : ℤ) → unsigned_abs z ≤ 2 ^ 60 → unsigned_abs z < 2 ^ 63
 narrow z h = omega arith
 
 pub overflow_mul-c : goal.overflow_mul-c
@@ -23,7 +23,8 @@ overflow_mul-c c =
 pub wide_sum_of_products-requires-clause-a_small : goal.wide_sum_of_products-requires-clause-a_small
 wide_sum_of_products-requires-clause-a_small c = grind (arith, to_z-of_z)
 
-last : (c' c d : ℤ) → to_z w64 (of_z w64 c') ≡ c → to_z w64 (of_z w64 d) ≡ d → unsigned_abs (c *ℤ d) ≤ 2 ^ 59 → unsigned_abs (to_z w64 (of_z w64 (to_z w64 (of_z w64 c') *ℤ to_z w64 (of_z w64 d)))) < 2 ^ 63
+last : (c' c d : ℤ) → to_z w64 (of_z w64 c') ≡ c → to_z w64 (of_z w64 d) ≡ d → unsigned_abs (c *ℤ d) ≤ 2 ^ 60
+    → unsigned_abs (to_z w64 (of_z w64 (to_z w64 (of_z w64 c') *ℤ to_z w64 (of_z w64 d)))) < 2 ^ 63
 last c' c d e f h = rw (product-value w64 c d c' d e f (narrow (c *ℤ d) h)) (narrow (c *ℤ d) h)
 
 pub wide_sum_of_products-requires-clause-c_small : goal.wide_sum_of_products-requires-clause-c_small

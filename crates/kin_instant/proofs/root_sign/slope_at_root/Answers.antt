@@ -18,7 +18,7 @@ pair_sign-requires-else-upper-clause-v_small c = omega (arith, ints, c.a-else-up
 one_times : (z : ℤ) → z ≡ pos 1 *ℤ z
 one_times z = omega (arith, ints)
 
-turned : (z' z : ℤ) → z' ≡ z → unsigned_abs z' ≤ 2 ^ 28 → to_z w64 (of_z w64 (pos 0 -ℤ to_z w64 (of_z w64 z'))) ≡ negsuc 0 *ℤ z
+turned : (z' z : ℤ) → z' ≡ z → unsigned_abs z' ≤ 2 ^ 29 → to_z w64 (of_z w64 (pos 0 -ℤ to_z w64 (of_z w64 z'))) ≡ negsuc 0 *ℤ z
 turned z' z e h = omega (arith, ints)
 
 whole : (p : Quadratic) (a b c u v d : ℤ) (upper side : Bool) → upper ≡ side → pos 0 <ℤ a → pos 0 <ℤ discriminant a b c → u ≡ remainder_slope_of p a b → v ≡ (number_of (Root a b c side)).root *ℤ p.a → d ≡ discriminant a b c
@@ -46,7 +46,7 @@ pub radicand-requires-clause-real : goal.radicand-requires-clause-real
 radicand-requires-clause-real c = read_real c.args.a c.args.b c.args.c (clean w64 c.args.a c.ranges.a.sfits) (clean w64 c.args.b c.ranges.b.sfits) (clean w64 c.args.c c.ranges.c.sfits) c.requires.real
 
 pub pair_sign-requires-clause-u_small : goal.pair_sign-requires-clause-u_small
-pair_sign-requires-clause-u_small c = read_within w64 c.remainder_slope-slope.result (2 ^ 62) (omega (arith, c.remainder_slope-slope.ensures.size)) (omega arith)
+pair_sign-requires-clause-u_small c = omega (arith, read_within w64 c.remainder_slope-slope.result (2 ^ 61) c.remainder_slope-slope.ensures.size (omega arith))
 
 pub pair_sign-requires-clause-d_small : goal.pair_sign-requires-clause-d_small
 pair_sign-requires-clause-d_small c = c.radicand.ensures.small
@@ -64,7 +64,7 @@ pub radicand-requires-else-upper-clause-real : goal.radicand-requires-else-upper
 radicand-requires-else-upper-clause-real c = read_real c.args.a c.args.b c.args.c (clean w64 c.args.a c.ranges.a.sfits) (clean w64 c.args.b c.ranges.b.sfits) (clean w64 c.args.c c.ranges.c.sfits) c.requires.real
 
 pub pair_sign-requires-else-upper-clause-u_small : goal.pair_sign-requires-else-upper-clause-u_small
-pair_sign-requires-else-upper-clause-u_small c = read_within w64 c.remainder_slope-slope.result (2 ^ 62) (omega (arith, c.remainder_slope-slope.ensures.size)) (omega arith)
+pair_sign-requires-else-upper-clause-u_small c = omega (arith, read_within w64 c.remainder_slope-slope.result (2 ^ 61) c.remainder_slope-slope.ensures.size (omega arith))
 
 pub pair_sign-requires-else-upper-clause-d_small : goal.pair_sign-requires-else-upper-clause-d_small
 pair_sign-requires-else-upper-clause-d_small c = c.radicand-else-upper.ensures.small

@@ -1,22 +1,9 @@
-use Rattle.std.proofs.Common.{◌≡◌, sym, ap, ◌∙◌, subst, List, ◌∷◌, ◌++◌, ℕ, ◌+◌, ◌<◌, length, get_or, drop, append_assoc}
+use Rattle.std.proofs.Common.{sym, ap, ◌∙◌, subst, List, ◌++◌, ℕ, ◌+◌, drop}
 use Rattle.std.proofs.Math.ListN.{drop_of_length-le}
-use Rattle.std.proofs.lemmas.List.{drop_more, append-nil}
-use Rattle.kin_motion.specs.Edits.{Edit, edited, dropped_by_one, all_edited, dropped_by, AreFitting}
+use Rattle.std.proofs.lemmas.List.{append-nil}
+use Rattle.kin_motion.specs.Edits.{Edit, edited, all_edited, dropped_by, AreFitting}
+use Rattle.kin_overlay.proofs.InTurnLaws.{fits_next, led_next, noted_next}
 use Rattle.kin_overlay.proofs.edit.carry_out.Goals as goal
-
--- the edit whose turn it is, and those that are left
-module _ (es : List Edit) (k : ℕ) (e : Edit) (at : e ≡ get_or es k e) (more : k < length es) (xs : List ℕ) where
-  next : drop k es ≡ e ∷ drop (k + 1) es
-  next = drop_more es k e more ∙ ap (λ (x : Edit). x ∷ drop (k + 1) es) (sym at)
-
-  fits_next : AreFitting (drop k es) xs → AreFitting (e ∷ drop (k + 1) es) xs
-  fits_next h = subst (λ (l : List Edit). AreFitting l xs) next h
-
-  led_next : all_edited (drop (k + 1) es) (edited e xs) ≡ all_edited (drop k es) xs
-  led_next = ap (λ (l : List Edit). all_edited l xs) (sym next)
-
-  noted_next : (gone : List ℕ) → (gone ++ dropped_by_one e xs) ++ dropped_by (drop (k + 1) es) (edited e xs) ≡ gone ++ dropped_by (drop k es) xs
-  noted_next gone = append_assoc gone (dropped_by_one e xs) (dropped_by (drop (k + 1) es) (edited e xs)) ∙ ap (λ (l : List Edit). gone ++ dropped_by l xs) (sym next)
 
 pub carry_out-requires : goal.carry_out-requires
 carry_out-requires c = record { fits = (fits_next c.args.edits.now c.loop-edit.edit-index c.edit-item.result c.edit-item.is c.loop-edit-test.true c.loop-edit.list.items c.loop-edit.invariant.fit).0 }

@@ -1,6 +1,6 @@
 use Rattle.std.proofs.Common.{◌≡◌, subst, arith, ℕ, ◌+◌, ◌-◌, [], ◌∷◌, drop}
 use Rattle.kin_overlay.specs.Passing.{AreUntouched}
-use Rattle.kin_overlay.proofs.PassLaws.{linked-none, linked-before, untouched-before, untouched-end}
+use Rattle.kin_overlay.proofs.PassLaws.{untouched-before, untouched-end}
 use Rattle.kin_overlay.proofs.passing.pass_back.Goals as goal
 
 pub loop-place-init : goal.loop-place-init
@@ -13,7 +13,6 @@ loop-place-init c =
       a_within = omega (arith, c.requires.a_some);
       b_within = omega (arith, c.requires.b_some);
       untouched = untouched-end w c.args.puts.a.now c.args.puts.b.now rs c.len-place.result c.args.front.a.now c.args.front.b.now (omega (arith, c.len-place.ensures)) c.requires.a_some c.requires.b_some;
-      linked = linked-none rs c.len-place.result (omega (arith, c.len-place.ensures));
     }
 
 pub loop-place-preserved : goal.loop-place-preserved
@@ -42,5 +41,4 @@ loop-place-preserved c =
         u.1,
         untouched-before w put_a put_b rs before p.0 (drop from.0 a) (drop from.1 b) a_left b_left (u.0 ∷ []) (u.1 ∷ []) p.1 (subst (λ (n : ℕ). AreUntouched w put_a put_b (drop n rs) a_left b_left (u.0 ∷ []) (u.1 ∷ [])) is u.2) p.2 p.3,
       );
-      linked = linked-before rs c.loop-place.place before is c.in-Some.ensures.linked i.linked;
     }

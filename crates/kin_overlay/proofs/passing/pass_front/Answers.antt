@@ -1,6 +1,4 @@
 use Rattle.std.proofs.Common.{arith}
-use borrow.Author.Count.{below_more}
-use Rattle.kin_overlay.specs.Passing.{IsLinkedAt}
 use Rattle.kin_overlay.proofs.PassLaws.{untouched-more}
 use Rattle.kin_overlay.proofs.passing.pass_front.Goals as goal
 
@@ -13,5 +11,4 @@ loop-place-preserved c =
     record {
       within = omega (arith, c.loop-place-test.true, c.len.ensures);
       untouched = untouched-more w c.args.puts.a.now c.args.puts.b.now rs c.loop-place.place p.0 c.args.a.now c.args.b.now c.loop-place.first.now c.loop-place.second.now c.in-Some.left.0.now c.in-Some.left.1.now p.1 i.untouched p.2 p.3;
-      linked = below_more (λ k. IsLinkedAt rs k) c.loop-place.place i.linked c.in-Some.ensures.linked;
     }

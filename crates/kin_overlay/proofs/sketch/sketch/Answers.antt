@@ -28,8 +28,8 @@ returns-then-left-back-2 c =
     let whole = whole_sketch span rs out in
     record {
       clean =
-          clean rs span back.place a b begun.passed.0 begun.passed.1 back.a.now back.b.now u.0 u.1 (omega (arith, passed.within, c.len.ensures)) (omega (arith, passed.behind, passed.within, c.len.ensures)) begun.passed.2 begun.linked u.2.passed
-          (end-end back.a.now front.a.now a passed.a_end begun.a_end) (end-end back.b.now front.b.now b passed.b_end begun.b_end) passed.linked;
+          clean rs span back.place a b begun.passed.0 begun.passed.1 back.a.now back.b.now u.0 u.1 (omega (arith, passed.within, c.len.ensures)) (omega (arith, passed.behind, passed.within, c.len.ensures)) begun.passed.2 (λ k l. c.requires.linked k) u.2.passed
+          (end-end back.a.now front.a.now a passed.a_end begun.a_end) (end-end back.b.now front.b.now b passed.b_end begun.b_end) (λ k l. c.requires.linked k);
       interleaved = all.interleaved;
       fit = all.fit;
       seated = all-seated w puts a b c.requires.a_some c.requires.b_some c.requires.a_once c.requires.b_once whole all;
@@ -58,7 +58,7 @@ returns c =
     (c.in_ok-draw_rest.ensures a b start (subst (λ (n : ℕ). IsDrawnBefore w puts.a.now puts.b.now a b (drop n rs) left.a.now left.b.now (start ++ drawn)) (sym c.in_ok-left.ensures.place) here)) in
     let whole = whole_sketch span rs out in
     record {
-      clean = clean-front rs front.place a b begun.passed.0 begun.passed.1 begun.within c.requires.a_some c.requires.b_some begun.passed.2 begun.linked;
+      clean = clean-front rs front.place a b begun.passed.0 begun.passed.1 begun.within c.requires.a_some c.requires.b_some begun.passed.2 (λ k l. c.requires.linked k);
       interleaved = all.interleaved;
       fit = all.fit;
       seated = all-seated w puts a b c.requires.a_some c.requires.b_some c.requires.a_once c.requires.b_once whole all;

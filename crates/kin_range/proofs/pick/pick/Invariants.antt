@@ -1,6 +1,6 @@
-use Rattle.std.proofs.Common.{◌≡◌, ◌++◌, filter, drop}
-use Rattle.kin_motion.specs.Boxes.{is_inside}
+use Rattle.std.proofs.Common.{◌≡◌, ◌++◌, ℕ, Bool, filter, drop}
+use Rattle.kin_range.specs.Sides.{IsSpanOf}
 use Rattle.kin_range.proofs.pick.pick.Given as goal
 
 abbrev pub invariant-loop-no : goal.invariant-loop-no
-invariant-loop-no g l = l.picked.items ++ filter (is_inside l.motions l.now l.rect) (drop l.no-index l.numbers) ≡ filter (is_inside l.motions l.now l.rect) l.numbers
+invariant-loop-no l = (test : ℕ → Bool) → IsSpanOf test l.list.items l.span → l.picked.items ++ filter test (drop l.no-index l.numbers) ≡ filter test l.numbers

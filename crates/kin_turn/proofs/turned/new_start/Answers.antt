@@ -1,8 +1,9 @@
-use Rattle.std.proofs.Common.{◌≡◌, ◌≢◌, ◌≤◌, ◌<◌, ◌^◌, ℤ, pos, ◌-ℤ◌, ◌*ℤ◌, unsigned_abs, to_z, of_z, w32, w64, arith, sym, ap, subst, ◌∙◌, refl, MatchOption, Option}
+use Rattle.std.proofs.Common.{◌≡◌, ◌≢◌, ◌≤◌, ◌^◌, ℤ, pos, ◌-ℤ◌, ◌*ℤ◌, unsigned_abs, to_z, of_z, w32, w64, arith, sym, ap, subst, ◌∙◌, refl, MatchOption, Option}
 use Rattle.std.proofs.lemmas.Int.{ints}
 use Rattle.kin_num.specs.declared.instant.Shape.TheVariants.{Ratio, Root}
 use Rattle.kin_num.specs.Canonical.{IsCanonical}
 use Rattle.kin_instant.proofs.Widths.{clean}
+use Rattle.kin_motion.specs.Course.{motion_limit}
 use Rattle.kin_motion.specs.Turning.{IsNewStart}
 use Rattle.kin_turn.proofs.Starts.{same_speed, found_at_ratio, at_root}
 use Rattle.kin_turn.proofs.turned.new_start.Goals as goal
@@ -12,16 +13,16 @@ same_numbers : (x s n d x' s' n' d' : ℤ) (found : Option ℤ) → x' ≡ x →
     → MatchOption found ((k : ℤ) → n *ℤ s ≢ (k -ℤ x) *ℤ d) (λ k. n *ℤ s ≡ (k -ℤ x) *ℤ d)
 same_numbers x s n d x' s' n' d' found a b e f h = rw (sym a, sym b, sym e, sym f) h
 
-slower : (u v r : ℤ) → unsigned_abs u ≤ 4096 → unsigned_abs v ≤ 4096 → r ≡ to_z w32 (of_z w32 (to_z w32 (of_z w32 u) -ℤ to_z w32 (of_z w32 v))) → to_z w64 (of_z w64 r) ≡ u -ℤ v
+slower : (u v r : ℤ) → unsigned_abs u ≤ motion_limit → unsigned_abs v ≤ motion_limit → r ≡ to_z w32 (of_z w32 (to_z w32 (of_z w32 u) -ℤ to_z w32 (of_z w32 v))) → to_z w64 (of_z w64 r) ≡ u -ℤ v
 slower u v r h k e = omega (arith, ints, e)
 
-start : (x r : ℤ) → unsigned_abs x ≤ 4096 → r ≡ to_z w32 (of_z w32 x) → to_z w64 (of_z w64 r) ≡ x
+start : (x r : ℤ) → unsigned_abs x ≤ motion_limit → r ≡ to_z w32 (of_z w32 x) → to_z w64 (of_z w64 r) ≡ x
 start x r h e = omega (arith, ints, e)
 
 nothing : (z : ℤ) → of_z w64 z ≡ 0 → to_z w64 (of_z w64 z) ≡ pos 0
 nothing z e = rw (e) refl
 
-small_number : (z : ℤ) → unsigned_abs z < 2 ^ 31 → to_z w64 (of_z w64 z) ≡ z
+small_number : (z : ℤ) → unsigned_abs z ≤ 2 ^ 31 → to_z w64 (of_z w64 z) ≡ z
 small_number z h = omega (arith, ints)
 
 pub returns-in-Ratio : goal.returns-in-Ratio

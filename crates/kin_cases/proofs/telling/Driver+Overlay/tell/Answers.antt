@@ -23,5 +23,5 @@ returns-clause-gone c =
     let gone = c.args.gone.now.items in
     told_gone c.args.half es c.args.self _ c.args.old.now gone (c.in_ok-edit.ensures.told ∙ ap (told c.args.half es) c.self.view_is) c.requires.old c.requires.gone
     ∙ ap (λ (fs : List Edit). gone ++ dropped_by fs c.args.old.now) (c.deref-2.ensures.value ∙ sym c.deref.ensures.value)
-    ∙ ap (λ (xs : List ℕ). gone ++ dropped_by c.deref.result.now xs) (sym c.in_ok-chain.ensures.items)
+    ∙ ap (λ (xs : List ℕ). gone ++ dropped_by c.deref.result.now xs) (sym c.in_ok-chain.ensures.ok)
     ∙ sym c.in_ok-edit_list.ensures.gone

@@ -11,7 +11,7 @@ returns c =
     let d = c.in_ok-diff.ensures in
     record {
       taken = c.set.ensures;
-      leads = on_ok c.set.result (leads_between c.deref.ensures.value c.chain.ensures d.fit d.lead d.apart);
+      leads = on_ok c.set.result (leads_between c.as_slice-passed.ensures c.chain.ensures d.fit d.lead d.apart);
       failed = on_ok c.set.result refl;
     }
 

@@ -72,3 +72,6 @@ invariant_of-self-in_err-settle-2 g c = nothing
 
 pub returns-in_err-settle-2-clause-broken : goal.returns-in_err-settle-2-clause-broken
 returns-in_err-settle-2-clause-broken g c = search rules
+
+pub returns-clause-tests : goal.returns-clause-tests
+returns-clause-tests g c = search rules

@@ -20,7 +20,7 @@ drawn-is : (span : Shared) (old records : List Record) (sketch drawn : List Draf
 drawn-is span old records sketch drawn eo es = ap₂ (λ (l : List Record) (ds : List Draft). whole_sketch span l ds) eo es
 
 pub sketch-requires : goal.sketch-requires
-sketch-requires g c = record { a_some = c.requires.a_some; b_some = c.requires.b_some; a_once = c.requires.a_once; b_once = c.requires.b_once }
+sketch-requires g c = record { a_some = c.requires.a_some; b_some = c.requires.b_some; a_once = c.requires.a_once; b_once = c.requires.b_once; linked = c.requires.linked }
 
 pub resort-requires : goal.resort-requires
 resort-requires g c =

@@ -12,6 +12,7 @@ use Rattle.kin_overlay.specs.Remembered.{Remembered, facts_of, all_placed}
 use Rattle.kin_overlay.specs.Reports.{IsTold}
 use Rattle.kin_overlay.specs.Sound.{IsWhole}
 use Rattle.kin_overlay.proofs.FactLaws.{merged-settled}
+use Rattle.kin_overlay.proofs.PassLaws.{linked-none}
 use Rattle.kin_overlay.proofs.PastLaws.{whole-new, whole-cleared}
 use Rattle.kin_overlay.proofs.ReadLaws.{read-merged}
 use Rattle.kin_overlay.proofs.SoundLaws.{all-born, told-all}
@@ -26,6 +27,9 @@ merge-requires-clause-b_once g c = let s = g.O.Signs.scene c.args.now.now in ris
 pub merge-requires-clause-standing : goal.merge-requires-clause-standing
 merge-requires-clause-standing g c = λ f there u. absurd (contains_none f (subst (λ (m : Remembered). Contains (facts_of m) f) c.new-none.ensures there))
 
+pub merge-requires-clause-linked : goal.merge-requires-clause-linked
+merge-requires-clause-linked g c = λ k. linked-none _ 0 (let none = ap (λ (m : Remembered). length m.records) c.new-none.ensures in omega (arith, none)) k (omega arith)
+
 pub invariant_of-result : goal.invariant_of-result
 invariant_of-result g c =
     let s = g.O.Signs.scene c.args.now.now in
@@ -33,7 +37,7 @@ invariant_of-result g c =
     let b = c.args.b.now in
     let m = c.merge.new.self in
     let merged = c.in_ok-merge.ensures.merged in
-    let settled = merged-settled s c.requires.real _ _ _ c.args.part _ c.requires.a_some c.requires.b_some c.requires.less c.requires.a_chain c.requires.b_chain merged (c.in_ok-merged_chain.ensures ∙ read-merged s a b m _ c.requires.a_some c.requires.b_some merged merged.left) in
+    let settled = merged-settled s c.requires.real _ _ _ c.args.part _ c.requires.a_some c.requires.b_some c.requires.less c.requires.a_chain c.requires.b_chain merged (c.in_ok-chain.ensures ∙ read-merged s a b m _ c.requires.a_some c.requires.b_some merged merged.left) in
     let once_a = rising_once s (real_line_laws s c.requires.real) a c.requires.a_chain.rising in
     let once_b = rising_once s (real_line_laws s c.requires.real) b c.requires.b_chain.rising in
     let whole = whole-new s c.args.part m a b c.requires.a_some c.requires.b_some once_a once_b c.requires.less settled.exact.once merged in
@@ -41,7 +45,7 @@ invariant_of-result g c =
     let with_both = subst (λ (l : List ℕ). IsWhole c.args.part m [] [] [] [] [] l c.in_ok-copied-2.field-0.items) (sym c.in_ok-copied.ensures) with_b in
     record {
       whole = whole-cleared c.args.part m _ _ _ _ _ _ _ (search rules) (search rules) (search rules) (search rules) (search rules) with_both;
-      read = c.in_ok-merged_chain.ensures;
+      read = c.in_ok-chain.ensures;
       once = rising_once s (real_line_laws s c.requires.real) _ settled.is_chain.rising;
     }
 
@@ -51,7 +55,7 @@ returns g c =
     let a = c.args.a.now in
     let m = c.merge.new.self in
     let settled = merged-settled s c.requires.real _ _ _ c.args.part _ c.requires.a_some c.requires.b_some c.requires.less c.requires.a_chain c.requires.b_chain c.in_ok-merge.ensures.merged
-    (c.in_ok-merged_chain.ensures ∙ read-merged s a c.args.b.now m _ c.requires.a_some c.requires.b_some c.in_ok-merge.ensures.merged c.in_ok-merge.ensures.merged.left) in
+    (c.in_ok-chain.ensures ∙ read-merged s a c.args.b.now m _ c.requires.a_some c.requires.b_some c.in_ok-merge.ensures.merged c.in_ok-merge.ensures.merged.left) in
     let done = all-born c.args.part m c.new-none.result c.out.inside.dropped.items c.out.inside.born.items c.tell_missing.new.told.items c.new-none.ensures settled.exact.once c.in_ok-tell_missing.ensures in
     record {
       a = search rules;
@@ -59,8 +63,8 @@ returns g c =
       part = search rules;
       rest = search rules;
       settled =
-          subst (λ (l : List ℕ). IsSettledMerge s l c.in_ok-copied-2.field-0.items c.merged_chain.new.chain.items c.args.part (all_placed c.args.part (facts_of m))) (sym c.in_ok-copied.ensures)
-          (subst (λ (l : List ℕ). IsSettledMerge s a l c.merged_chain.new.chain.items c.args.part (all_placed c.args.part (facts_of m))) (sym c.in_ok-copied-2.ensures) settled);
+          subst (λ (l : List ℕ). IsSettledMerge s l c.in_ok-copied-2.field-0.items c.in_ok-chain.chain.items c.args.part (all_placed c.args.part (facts_of m))) (sym c.in_ok-copied.ensures)
+          (subst (λ (l : List ℕ). IsSettledMerge s a l c.in_ok-chain.chain.items c.args.part (all_placed c.args.part (facts_of m))) (sym c.in_ok-copied-2.ensures) settled);
       edits = search rules;
       gone = search rules;
       unedited = search rules;
@@ -101,12 +105,6 @@ pub returns-in_err-chain : goal.returns-in_err-chain
 returns-in_err-chain g c =
     let r = c.from_residual-in_err-chain.result in
     let e = c.from_residual-in_err-chain.ensures.0 in
-    record { a = none_made _ r e; b = none_made _ r e; part = none_made _ r e; rest = none_made _ r e; settled = none_made _ r e; edits = none_made _ r e; gone = none_made _ r e; unedited = none_made _ r e; born = none_made _ r e; tests = none_asked _ r e }
-
-pub returns-in_err-merged_chain : goal.returns-in_err-merged_chain
-returns-in_err-merged_chain g c =
-    let r = c.from_residual-in_err-merged_chain.result in
-    let e = c.from_residual-in_err-merged_chain.ensures.0 in
     record { a = none_made _ r e; b = none_made _ r e; part = none_made _ r e; rest = none_made _ r e; settled = none_made _ r e; edits = none_made _ r e; gone = none_made _ r e; unedited = none_made _ r e; born = none_made _ r e; tests = none_asked _ r e }
 
 pub returns-in_err-copied : goal.returns-in_err-copied

@@ -18,6 +18,7 @@ use Rattle.kin_overlay.specs.Walks.{chain_read}
 use Rattle.kin_overlay.proofs.FactLaws.{merged-settled, merged-same, changed}
 use Rattle.kin_overlay.proofs.PastLaws.{whole-new, whole-cleared, known-past, failed-fail, reports-pay}
 use Rattle.kin_overlay.proofs.AgainLaws.{alike_where}
+use Rattle.kin_overlay.proofs.LinkedLaws.{linked-noted}
 use Rattle.kin_overlay.proofs.ReadLaws.{read-merged, threaded}
 use Rattle.kin_overlay.proofs.SoundLaws.{sound}
 use Rattle.kin_overlay.proofs.StandingLaws.{still-stand}
@@ -34,13 +35,13 @@ paid g c apart =
     let are = rw (sym c.self.view_is) at apart in
     let listed = rw (sym c.self.view_is) at c.requires.failing in
     c.in_ok-known.ensures.tests w.past
-    (known-past w.past _ _ o.notes.put_a o.notes.put_b o.notes.gone o.a.items o.b.items _ _ c.put_a.ensures c.put_b.ensures c.gone.ensures c.deref.ensures.value c.deref-2.ensures.value w.is_past
+    (known-past w.past _ _ o.notes.put_a o.notes.put_b o.notes.gone o.a.items o.b.items _ _ c.put_a.ensures c.put_b.ensures c.gone.ensures c.as_slice.ensures c.as_slice-2.ensures w.is_past
     (subst (λ (l : List ℕ). AreApart o.notes.put_a l) (sym w.a_dropped) are.a) (subst (λ (l : List ℕ). AreApart o.notes.put_b l) (sym w.b_dropped) are.b))
     (failed-fail (g.O.Signs.scene c.args.now.now) _ _ c.args.failed.now listed)
 
 -- the new merge
 merged : (g : given.Over) (c : In_ok-copy g) → IsMerged (g.O.Signs.scene c.args.now.now) c.self.inside.a.items c.self.inside.b.items c.copy.new.self
-merged g c = merged-same _ _ _ _ _ _ _ c.deref.ensures.value c.deref-2.ensures.value (sym c.in_ok-copy.ensures) c.in_ok-known.ensures.merged
+merged g c = merged-same _ _ _ _ _ _ _ c.as_slice.ensures c.as_slice-2.ensures (sym c.in_ok-copy.ensures) c.in_ok-known.ensures.merged
 
 -- it is settled
 done : (g : given.Over) (c : In_ok-copy g) → IsSettledMerge (g.O.Signs.scene c.args.now.now) c.self.inside.a.items c.self.inside.b.items c.renew.new.chain.items c.self.inside.part (all_placed c.self.inside.part (facts_of c.copy.new.self))
@@ -60,7 +61,7 @@ renew-requires g c =
     let ready = rw (sym c.self.view_is) at c.requires.ready in
     let kept = sound o.stage _ ready.whole c.self.invariant in
     let p = kept.whole.is_past in
-    let new = merged-same _ _ _ _ _ _ _ c.deref.ensures.value c.deref-2.ensures.value refl c.in_ok-known.ensures.merged in
+    let new = merged-same _ _ _ _ _ _ _ c.as_slice.ensures c.as_slice-2.ensures refl c.in_ok-known.ensures.merged in
     record {
       once = kept.once;
       read = (o.list, kept.read, alike_where o.list c.merge.new.self c.with_ends-same.result c.between-shared.result p.merged.left (threaded kept.whole.past.scene _ _ o.list _ p.a_some p.b_some p.merged p.merged.left) new.left (threaded s _ _ c.merge.new.self _ ready.a_some ready.b_some new new.left) c.between-shared.ensures.one c.with_ends-same.ensures.front c.with_ends-same.ensures.back c.with_ends-same.ensures.left c.with_ends-same.ensures.right);
@@ -70,13 +71,13 @@ pub merge-requires-clause-a_once : goal.merge-requires-clause-a_once
 merge-requires-clause-a_once g c =
     let s = g.O.Signs.scene c.args.now.now in
     let chain = rw (sym c.self.view_is) at c.requires.ready.a_chain in
-    subst IsOnce (sym c.deref.ensures.value) (rising_once s (real_line_laws s c.requires.real) c.self.inside.a.items chain.rising)
+    subst IsOnce (sym c.as_slice.ensures) (rising_once s (real_line_laws s c.requires.real) c.self.inside.a.items chain.rising)
 
 pub merge-requires-clause-b_once : goal.merge-requires-clause-b_once
 merge-requires-clause-b_once g c =
     let s = g.O.Signs.scene c.args.now.now in
     let chain = rw (sym c.self.view_is) at c.requires.ready.b_chain in
-    subst IsOnce (sym c.deref-2.ensures.value) (rising_once s (real_line_laws s c.requires.real) c.self.inside.b.items chain.rising)
+    subst IsOnce (sym c.as_slice-2.ensures) (rising_once s (real_line_laws s c.requires.real) c.self.inside.b.items chain.rising)
 
 pub merge-requires-clause-standing : goal.merge-requires-clause-standing
 merge-requires-clause-standing g c = λ f there u.
@@ -84,6 +85,13 @@ merge-requires-clause-standing g c = λ f there u.
     let o = c.self.inside in
     let listed = rw (sym c.self.view_is) at c.requires.failing in
     still-stand s o.part o.list c.args.failed.now o.notes.gone listed f there (subst (λ (l : List ℕ). IsUnfailed c.args.failed.now l f) c.gone.ensures u)
+
+pub merge-requires-clause-linked : goal.merge-requires-clause-linked
+merge-requires-clause-linked g c =
+    let o = c.self.inside in
+    let ready = rw (sym c.self.view_is) at c.requires.ready in
+    let p = (sound o.stage _ ready.whole c.self.invariant).whole.is_past in
+    linked-noted _ _ _ _ p.merged.noted p.merged.in_place
 
 pub invariant_of-self-2 : goal.invariant_of-self-2
 invariant_of-self-2 g c =

@@ -1,4 +1,4 @@
-use Rattle.std.proofs.Common.{sym, ◌∙◌, ap}
+use Rattle.std.proofs.Common.{sym, ◌∙◌, ap, rules}
 use Rattle.kin_tourney.specs.Standings.{Standings}
 use Rattle.kin_tourney.proofs.Entries.{entry_in_slot}
 use Rattle.kin_tourney.proofs.tree.Tree.play.Goals as goal
@@ -23,3 +23,15 @@ returns-in_ok-untell-in-None-entry-clause-same g c = ap (λ (t : Standings g.row
 
 pub returns-after-right-clause-same : goal.returns-after-right-clause-same
 returns-after-right-clause-same g c = ap (λ (t : Standings g.row.K-Item.Denot). record t { facts = c.untell-in-None.new.self }) c.self.view_is
+
+pub returns-after-right-clause-value : goal.returns-after-right-clause-value
+returns-after-right-clause-value g c = search rules
+
+pub returns-in_ok-untell-in-None-entry-clause-value : goal.returns-in_ok-untell-in-None-entry-clause-value
+returns-in_ok-untell-in-None-entry-clause-value g c = search rules
+
+pub returns-in_ok-untell-in-None-entry-clause-facts : goal.returns-in_ok-untell-in-None-entry-clause-facts
+returns-in_ok-untell-in-None-entry-clause-facts g c = search rules
+
+pub returns-in_ok-untell-in-None-entry-clause-reported : goal.returns-in_ok-untell-in-None-entry-clause-reported
+returns-in_ok-untell-in-None-entry-clause-reported g c = search rules

@@ -1,0 +1,11 @@
+mod Filed
+mod Entries
+pub mod BeginLaws
+pub mod LeftLaws
+pub mod SceneLaws
+pub mod NextLegs
+pub mod LastingLaws
+pub mod PlanExistence
+pub mod NextLaws
+pub mod ShownLaws
+pub mod JoinedLaws

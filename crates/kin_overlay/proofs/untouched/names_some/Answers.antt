@@ -1,0 +1,6 @@
+use Rattle.std.proofs.Common.{arith}
+use Rattle.std.proofs.lemmas.Grind.{common_steps}
+use Rattle.kin_overlay.proofs.untouched.names_some.Goals as goal
+
+pub loop-no-preserved : goal.loop-no-preserved
+loop-no-preserved c = grind (arith, common_steps)

@@ -1,0 +1,9 @@
+pub mod Members
+pub mod Placing
+pub mod Climbing
+pub mod Leading
+pub mod Following
+pub mod Sameness
+pub mod Keeping
+pub mod Walking
+pub mod Asking
