@@ -60,5 +60,5 @@ goes_on limit b old new can stepped = at b stepped
     }
 
     at : (b : Option Block) → HasStepped limit b old new → HasGoneOn old new
-    at None h = later limit h.whole (ap (λ (w : World). w.keeps) h.state) (ap (λ (w : World). w.moment) h.state) can.ahead
-    at (Some b) h = later b.moment h.whole (ap (λ (w : World). w.keeps) h.state) (ap (λ (w : World). w.moment) h.state) h.next.later
+    at None h = later limit h.gone.whole (ap (λ (w : World). w.keeps) h.gone.state) (ap (λ (w : World). w.moment) h.gone.state) can.ahead
+    at (Some b) h = later b.moment h.gone.whole (ap (λ (w : World). w.keeps) h.gone.state) (ap (λ (w : World). w.moment) h.gone.state) h.next.later

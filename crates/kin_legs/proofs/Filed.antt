@@ -59,7 +59,7 @@ first_or d [] = d
 first_or d (l ∷ ls) = l
 
 -- ---- a leg is added
-at_most : (a b : Leg) → is_earlier a b ≡ true → a.at ≤ b.at
+pub at_most : (a b : Leg) → is_earlier a b ≡ true → a.at ≤ b.at
 at_most a b h = go (nat_lt a.at b.at) refl (nat_eq a.at b.at) refl h
   where
     go : (p : Bool) → nat_lt a.at b.at ≡ p → (q : Bool) → nat_eq a.at b.at ≡ q → p || (q && nat_lt a.no b.no) ≡ true → a.at ≤ b.at

@@ -43,10 +43,10 @@ without_any legs i c none = ap (λ (ls : List Planned). option_map (λ (d : Cour
 
 -- ---- one number is another
 module _ (n i : ℕ) where
-  same_number : nat_eq i n ≡ true → i ≡ n
+  pub same_number : nat_eq i n ≡ true → i ≡ n
   same_number e = grind (arith, nat_tests, e)
 
-  other_number : nat_eq i n ≡ false → i ≢ n
+  pub other_number : nat_eq i n ≡ false → i ≢ n
   other_number e = grind (arith, nat_tests, e)
 
 pub dropped_legs_are_gone : DroppedLegsAreGone
@@ -94,7 +94,7 @@ added_legs_are_last ms legs l c rising later had = same_plans _ _ (planned_lengt
     each i low = planned_of ms (put_in is_earlier l legs) i ∙ at i (let room = planned_length ms (put_in is_earlier l legs) in omega (arith, room, low)) (nat_eq i l.no) refl
 
 -- ---- what is left
-left_plan : (m : Moment) (plans : List (Option Plan)) (i : ℕ) → plan_of (plans_left m plans) i ≡ option_map (left_of m) (plan_of plans i)
+pub left_plan : (m : Moment) (plans : List (Option Plan)) (i : ℕ) → plan_of (plans_left m plans) i ≡ option_map (left_of m) (plan_of plans i)
 left_plan m [] i = refl
 left_plan m (p ∷ plans) zero = refl
 left_plan m (p ∷ plans) (suc i) = left_plan m plans i

@@ -65,17 +65,18 @@ pub past_legs_dont_matter : PastLegsDontMatter
 past_legs_dont_matter plans now m paths here there not_before = past_legs_dont_matter_here now m here there not_before plans paths
 
 -- ---- what is left of a path is a path
-filtered_rising : (p : Leg → Bool) (ls : List Leg) → IsChain is_sooner ls → IsChain is_sooner (filter p ls)
-filtered_rising p [] rising = tt
-filtered_rising p (l ∷ ls) rising = at (p l) (filtered_rising p ls (chain_tail is_sooner l ls rising))
-  where
-    at : (t : Bool) → IsChain is_sooner (filter p ls) → IsChain is_sooner (if t then l ∷ filter p ls else filter p ls)
-    at false rest = rest
-    at true rest = in_front (filter p ls) rest (λ k there. chain_first is_sooner sooner_through l ls rising k (filter-sound p ls k there).0)
-      where
-        in_front : (ks : List Leg) → IsChain is_sooner ks → ((k : Leg) → Contains ks k → is_sooner l k ≡ true) → IsChain is_sooner (l ∷ ks)
-        in_front [] chain first = tt
-        in_front (k ∷ ks) chain first = (first k (contains_head k ks), chain)
+module _ {A : Type 0} (lt : A → A → Bool) (through : (x y z : A) → lt x y ≡ true → lt y z ≡ true → lt x z ≡ true) (p : A → Bool) where
+  pub filtered_chain : (xs : List A) → IsChain lt xs → IsChain lt (filter p xs)
+  filtered_chain [] rising = tt
+  filtered_chain (x ∷ xs) rising = at (p x) (filtered_chain xs (chain_tail lt x xs rising))
+    where
+      in_front : (ys : List A) → IsChain lt ys → ((y : A) → Contains ys y → lt x y ≡ true) → IsChain lt (x ∷ ys)
+      in_front [] chain first = tt
+      in_front (y ∷ ys) chain first = (first y (contains_head y ys), chain)
+
+      at : (t : Bool) → IsChain lt (filter p xs) → IsChain lt (if t then x ∷ filter p xs else filter p xs)
+      at false rest = rest
+      at true rest = in_front (filter p xs) rest (λ y there. chain_first lt through x xs rising y (filter-sound p xs y there).0)
 
 module _ (m : Moment) (canonical : IsCanonical m.at) where
   unbroken_left : (c : Course) (ls : List Leg) → All IsFair ls → IsChain is_sooner ls → IsUnbroken c ls → IsUnbroken (last_begun c ls m) (filter (is_left m) ls)
@@ -101,6 +102,6 @@ pub paths_are_left : PathsAreLeft
 paths_are_left plan m path canonical = record {
   slow = slow_left m canonical plan.first plan.legs path.fair path.slow;
   fair = All-filter (is_left m) IsFair plan.legs path.fair;
-  rising = filtered_rising (is_left m) plan.legs path.rising;
+  rising = filtered_chain is_sooner sooner_through (is_left m) plan.legs path.rising;
   unbroken = unbroken_left m canonical plan.first plan.legs path.fair path.rising path.unbroken;
 }

@@ -9,3 +9,7 @@ pub mod PlanExistence
 pub mod NextLaws
 pub mod ShownLaws
 pub mod JoinedLaws
+pub mod SchedulingLaws
+pub mod PathLaws
+pub mod FollowedLaws
+pub mod AlikeLaws

@@ -132,7 +132,7 @@ quiet_times_add_nothing t now then last bs here canonical quiet = journal_after_
 
 -- ---- plans
 -- the motions in force are the first ones of what is left
-force_left : (m : Moment) (plans : List (Option Plan)) → motions_in_force plans m ≡ map (option_map (λ (p : Plan). p.first)) (plans_left m plans)
+pub force_left : (m : Moment) (plans : List (Option Plan)) → motions_in_force plans m ≡ map (option_map (λ (p : Plan). p.first)) (plans_left m plans)
 force_left m [] = refl
 force_left m (None ∷ plans) = ap (λ (cs : List (Option Course)). None ∷ cs) (force_left m plans)
 force_left m (Some plan ∷ plans) = ap (λ (cs : List (Option Course)). Some (motion_in_force m plan) ∷ cs) (force_left m plans)

@@ -1,11 +1,12 @@
 -- Motions and the legs that are planned for all points together, as a plan for each number.
 use Rattle.std.specs.Prelude.{◌≡◌, ◌<◌, ℕ, ◌+◌, ◌++◌, List, [], ◌∷◌, map, Option, Some, option_map, slice_set, Contains, IsTrue, IsFalse, IfSome}
 use Rattle.kin_num.specs.declared.instant.Moment.{Moment}
-use Rattle.kin_motion.specs.Course.{Course, motion_of}
+use Rattle.kin_num.specs.Order.{IsEarlier}
+use Rattle.kin_motion.specs.Course.{Course, is_live, motion_of}
 use Rattle.kin_motion.specs.Numbers.{put_in}
 use Rattle.kin_motion.specs.Plans.{Leg, Plan, is_begun, motions_in_force}
 use Rattle.kin_legs.specs.declared.leg.Leg.{Leg as Planned}
-use Rattle.kin_legs.specs.Paths.{lasting, plans_left}
+use Rattle.kin_legs.specs.Paths.{ArePaths, beginning, lasting, plans_left}
 use Rattle.kin_legs.specs.Planning.{IsRising, is_earlier, last, legs_of, without}
 
 -- a leg, in the plan of its number
@@ -24,6 +25,20 @@ plans_from first (c ∷ cs) legs = option_map (plan_with legs first) c ∷ plans
 -- the plan of each number
 abbrev pub plans_of : List (Option Course) → List Planned → List (Option Plan)
 plans_of ms legs = plans_from 0 ms legs
+
+-- the moment at which a leg begins
+abbrev pub begins_at : Planned → Moment
+begins_at l = beginning (piece_of l)
+
+-- legs by rising instant and number, all of live numbers, which follow paths
+pub record AreFollowed (ms : List (Option Course)) (legs : List Planned) : Type 0 where
+  pub rising : IsRising legs
+  pub live : (l : Planned) → Contains legs l → IsTrue (is_live ms l.no)
+  pub paths : ArePaths (plans_of ms legs)
+
+-- each begins later
+abbrev pub AreAhead : Moment → List Planned → Type 0
+AreAhead now legs = (l : Planned) → Contains legs l → IsEarlier now (begins_at l)
 
 -- the plan with one leg more
 abbrev pub with_leg : Plan → Leg → Plan

@@ -5,3 +5,4 @@ pub mod Planned
 pub mod Nexts
 pub mod Shown
 pub mod Joined
+pub mod Scheduling

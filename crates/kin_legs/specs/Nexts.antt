@@ -1,5 +1,5 @@
 -- What comes next as points follow their plans: live facts fail, or a leg begins.
-use Rattle.std.specs.Prelude.{◌≡◌, ℕ, List, [], Option}
+use Rattle.std.specs.Prelude.{◌≡◌, ℕ, List, [], Option, Some, None}
 use Rattle.kin_num.specs.declared.instant.Moment.{Moment}
 use Rattle.kin_num.specs.Canonical.{IsCanonical}
 use Rattle.kin_num.specs.Order.{IsEarlier}
@@ -47,6 +47,12 @@ abbrev pub IsNext : View → Next → Type 0
 IsNext v (block b) = IsBlockFirst v b
 IsNext v (leg m) = IsLegFirst v m
 IsNext v nothing = IsAtRest v
+
+-- when it comes, if ever
+abbrev pub comes_at : Next → Option Moment
+comes_at (block b) = Some b.moment
+comes_at (leg m) = Some m
+comes_at nothing = None
 
 -- one thing comes next
 abbrev pub OneNext : Type 0

@@ -4,6 +4,7 @@ ghost use Rattle.kin_legs.specs.Joined.{AddedLegsAreLast, BegunLegsAreMotions, D
 ghost use Rattle.kin_legs.specs.Nexts.{NextsExist, OneNext};
 ghost use Rattle.kin_legs.specs.Paths.{LastingMotionsStay, LegsBeginInTime, LegsKeepScene, PastLegsDontMatter, PathsAreLeft};
 ghost use Rattle.kin_legs.specs.Planned.{PlannedBlocksExist, PlannedFailuresExist, PlannedJournalsExist};
+ghost use Rattle.kin_legs.specs.Scheduling.{OneContinues};
 ghost use Rattle.kin_legs.specs.Shown.{AlikeBlocks, AlikeJournals, MotionsShowAlike, PastLegsShowNothing, QuietTimesAddNoBlock, QuietTimesAddNothing};
 
 /// A leg is in force from its instant on. What is left of a path at a moment is a path, and what is left later of that
@@ -59,4 +60,10 @@ pub fn legs_join_motions()
     ensures added { AddedLegsAreLast }
     ensures begun { BegunLegsAreMotions }
     ensures ahead { LegsAheadAreLeft }
+{}
+
+/// From a whole instant below 2^31 on, a plan goes on with each whole velocity, its path being unbroken, and there is one
+/// motion with which it does.
+pub fn legs_can_be_planned()
+    ensures { OneContinues }
 {}

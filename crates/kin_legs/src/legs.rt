@@ -24,7 +24,7 @@ pub struct Legs {
     size: u32,
     /// All legs, by instant and number.
     by_time: BTreeMap<(u32, u32), Motion>,
-    /// The legs of each number, the earliest in front. Numbers behind the last of these never had one.
+    /// The legs of each number, the earliest in front. A number without a queue never had one.
     by_point: Vec<VecDeque<Leg>>,
 }
 

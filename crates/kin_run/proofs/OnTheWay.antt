@@ -1,9 +1,10 @@
 -- One turn of the loop that passes the failures up to an instant: the blocks up to now, with their lines and their counts.
-use Rattle.std.proofs.Common.{rules, arith, ◌≡◌, ℕ, Bool, true, false, List, [], ◌∷◌, ◌++◌, refl, sym, ap, ◌∙◌, subst, append_assoc, append-nil, length, Option, Some, None}
-use Rattle.kin_run.proofs.Vocabulary.{IsCanonical, IsEarlier, Moment, Shape, Block, IsJournal, IsNextBlock, Setting, State, just_at, state_setting}
-use Rattle.kin_run.proofs.Vocabulary.{IsPassedText, IsFrontOfEach, printed_if, AppendsFront, PutsFront, HasMoved, HasPassed, HasStepped, IsWhole, World, failure_count, BreaksOff, state_of, HasTallied, counted_on, Gains, GainsSome, Printer, printer, Tally, Fault, NoMemory}
+use Rattle.std.proofs.Common.{◌≡◌, ℕ, Bool, true, false, List, [], ◌∷◌, ◌++◌, refl, sym, ap, ◌∙◌, subst, append_assoc, append-nil, length, Option, Some, None}
+use Rattle.kin_run.proofs.Vocabulary.{IsCanonical, IsEarlier, Moment, Shape, Block, IsJournal, IsNextBlock, State, just_at, state_setting}
+use Rattle.kin_run.proofs.Vocabulary.{IsPassedText, IsFrontOfEach, printed_if, AppendsFront, PutsFront, HasArrived, HasMoved, HasPassed, HasStepped, IsWhole, World, failure_count, BreaksOff, state_of, HasTallied, counted_on, Gains, GainsSome, Printer, printer, Tally, Fault, NoMemory}
+use Rattle.kin_run.proofs.Arriving.{arrived_now, block_from_start, goes_further, gone_moment, is_here, journal_from_start}
 use Rattle.kin_status.proofs.Gathering.{gains_nothing, gains_put, some_then, some_lost, some_flushed, some_is, front_through, front_after}
-use Rattle.kin_status.proofs.Passing.{ArePassed, behind_block, cut_on_the_way, is_text, lines_behind, lines_if}
+use Rattle.kin_status.proofs.Passing.{ArePassed, behind_block, cut_on_the_way, is_text, lines_behind, lines_if, not_back}
 use Rattle.kin_status.proofs.Tallying.{none_tallied, one_tallied, tallied_then, tallied_is}
 
 -- the blocks up to now
@@ -14,20 +15,29 @@ AreUpTo s w now bs = ArePassed (state_setting s) s.moment now (just_at w) bs
 abbrev AreLines : Bool → State → Shape → Moment → List ℕ → Type 0
 AreLines journal s w now lines = (bs : List Block) × AreUpTo s w now bs × (lines ≡ lines_if journal bs)
 
--- some blocks were passed, printed and counted, and nothing else was done
+-- a whole world has gone on to now, and what was passed was printed and counted
 pub record IsOnTheWay (journal : Bool) (start : World) (w : Shape) (now : World) (p q : Printer) (old new : Option Tally) : Type 0 where
-  pub state : state_of journal now ≡ record (state_of journal start) { moment = now.moment }
+  pub set_out : IsWhole start
+  pub arrived : HasArrived now.moment start now
   pub printed : GainsSome (AreLines journal (state_of journal start) w now.moment) p q
   pub counted : HasTallied (AreUpTo (state_of journal start) w now.moment) old new
-  pub whole : IsWhole now
   pub later : ¬ (IsEarlier (just_at w) now.moment)
 
 no_lines : (journal : Bool) → [] ≡ lines_if journal []
 no_lines false = refl
 no_lines true = refl
 
+none_passed : (s : State) (w : Shape) → AreUpTo s w s.moment []
+none_passed s w = record { forth = λ more j. j; back = λ all j. (all, j, refl) }
+
 pub sets_out : (journal : Bool) (start : World) (w : Shape) (p : Printer) (t : Option Tally) → IsWhole start → ¬ (IsEarlier (just_at w) start.moment) → IsOnTheWay journal start w start p p t t
-sets_out journal start w p t whole later = search (rules, arith, gains_nothing, no_lines, none_tallied)
+sets_out journal start w p t whole later = record {
+  set_out = whole;
+  arrived = is_here start whole;
+  printed = record { text = []; gained = gains_nothing p; is = ([], none_passed (state_of journal start) w, no_lines journal) };
+  counted = none_tallied _ t (none_passed (state_of journal start) w);
+  later = later;
+}
 
 -- a step that lists nothing has passed a block where it tells how many failures that held, and else has moved
 pub told_some : (limit : Moment) (old new : World) (count : Option ℕ) (failures : ℕ) → count ≡ Some failures → (block : Option Block) × HasStepped limit block old new × (count ≡ failure_count block)
@@ -50,19 +60,15 @@ module _ {journal : Bool} {start : World} {w : Shape} {now : World} {p q : Print
   pub breaks_here : BreaksOff (IsFrontOfEach (IsPassedText journal S w)) NoMemory p q
   breaks_here = some_is on.printed (IsFrontOfEach (IsPassedText journal S w)) (cut now.moment)
 
-  -- the setting has not changed
-  same_setting : state_setting (state_of journal now) ≡ state_setting S
-  same_setting = ap state_setting on.state
-
   module _ {new : World} {block : Block} (h : HasPassed (just_at w) block now new) where
     up_to_block : (bs : List Block) → AreUpTo S w now.moment bs → AreUpTo S w block.moment (bs ++ block ∷ [])
     up_to_block bs is =
-        let next : IsNextBlock (state_setting S) now.moment block = subst (λ (t : Setting). IsNextBlock t now.moment block) same_setting h.next in
+        let next : IsNextBlock (state_setting S) now.moment block = block_from_start on.set_out on.arrived block h.next in
         record {
           forth = λ more j. subst (IsJournal (state_setting S) start.moment (just_at w)) (sym (append_assoc bs (block ∷ []) more)) (is.forth (block ∷ more) (next, h.within, j));
           back = λ all j.
               let x = is.back all j in
-              let y = behind_block (state_setting S) now.moment (just_at w) block on.whole.canonical canonical next h.within x.0 x.1 in
+              let y = behind_block (state_setting S) now.moment (just_at w) block on.arrived.whole.canonical canonical next h.within x.0 x.1 in
               (y.0, y.1, x.2 ∙ ap (λ (more : List Block). bs ++ more) y.2 ∙ sym (append_assoc bs (block ∷ []) y.0));
         }
 
@@ -81,16 +87,19 @@ module _ {journal : Bool} {start : World} {w : Shape} {now : World} {p q : Print
         some_lost on.printed (IsFrontOfEach (IsPassedText journal S w)) f (printed_if journal block) (subst (AppendsFront q.held f.held) e front) (λ lines a. cut block.moment (lines ++ printed_if journal block) (lines_more lines a))
 
     at_block : new.moment ≡ block.moment
-    at_block = ap (λ (v : World). v.moment) h.state
+    at_block = gone_moment h.gone
+
+    arrives_at_block : HasArrived block.moment start new
+    arrives_at_block = goes_further on.set_out on.arrived (not_back now.moment block.moment on.arrived.whole.canonical h.next.canonical h.next.later) h.gone
 
     pub goes_on : (r : List ℕ) {f : Printer} → r ≡ q.gathered ++ printed_if journal block → Gains (printer q.held r) f [] → (failures : ℕ) {last : Option Tally} → failures ≡ length block.failures → last ≡ counted_on failures middle
         → IsOnTheWay journal start w new p f old last
     goes_on r e flushed failures {last} same counts = record {
-      state = ap (state_of journal) h.state ∙ ap (λ (s : State). record s { moment = block.moment }) on.state ∙ ap (λ (m : Moment). record S { moment = m }) (sym at_block);
+      set_out = on.set_out;
+      arrived = arrived_now arrives_at_block;
       printed = some_flushed (some_then on.printed (AreLines journal S w new.moment) (gains_put q.held q.gathered r (printed_if journal block) e)
           (λ lines a. rw at_block (lines_more lines a))) flushed;
       counted = tallied_then on.counted (one_tallied (λ bs. bs ≡ block ∷ []) block failures middle last same refl counts) (λ bs cs is more. rw (at_block, more) (up_to_block bs is));
-      whole = h.whole;
       later = rw at_block h.within;
     }
 
@@ -104,11 +113,14 @@ module _ {journal : Bool} {start : World} {w : Shape} {now : World} {p q : Print
   module _ {new : World} (h : HasMoved (just_at w) now new) where
     all_passed : (bs : List Block) → AreUpTo S w now.moment bs → IsJournal (state_setting S) start.moment (just_at w) bs
     all_passed bs is =
-        let rest = subst (λ (t : Setting). IsJournal t now.moment (just_at w) []) same_setting h.nothing in
+        let rest : IsJournal (state_setting S) now.moment (just_at w) [] = journal_from_start on.set_out on.arrived (just_at w) [] canonical on.later h.nothing in
         subst (λ (cs : List Block). IsJournal (state_setting S) start.moment (just_at w) cs) (append-nil bs) (is.forth [] rest)
 
     pub arrives : GainsSome (IsPassedText journal S w) p q
     arrives = some_is on.printed (IsPassedText journal S w) (λ lines a. subst (IsPassedText journal S w) (sym a.2) (is_text journal S w a.0 (all_passed a.0 a.1)))
+
+    pub arrives_there : HasArrived (just_at w) start new
+    arrives_there = goes_further on.set_out on.arrived on.later h.gone
 
     pub counted_all : HasTallied (IsJournal (state_setting S) start.moment (just_at w)) old middle
     counted_all = tallied_is on.counted all_passed

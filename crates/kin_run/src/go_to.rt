@@ -1,12 +1,13 @@
 //! The failures on the way to an instant, each block written before the next is computed; no clause
 //! says so.
 
-ghost use Rattle.std.specs.Prelude.{◌≡◌, ◌≤◌, OnOk, IsErrOf};
+ghost use Rattle.std.specs.Prelude.{◌≤◌, OnOk, IsErrOf};
 ghost use Rattle.kin_num.specs.Canonical.{IsCanonical};
 ghost use Rattle.kin_num.specs.Order.{IsEarlier};
 ghost use Rattle.kin_motion.specs.Journal.{IsJournal};
 ghost use Rattle.kin_motion.specs.Turning.{just_at};
 ghost use Rattle.kin_io.specs.Causes.{Rose};
+ghost use Rattle.kin_script.specs.Alike.{IsAlike};
 ghost use Rattle.kin_script.specs.States.{state_setting};
 ghost use Rattle.kin_script.specs.Text.{IsPassedText};
 ghost use Rattle.kin_status.specs.declared.stop.Stop.TheVariants.{Fault as FaultOf};
@@ -56,7 +57,7 @@ pub fn go_to<K: Sink, L: Ledger>(
     requires canonical { IsCanonical asked }
     requires later { ¬ (IsEarlier (just_at asked) world.old.moment) }
     ensures text { Puts (IsPassedText journal (state_of journal world.old) asked) result (printer (K.held sink.old) out.old.items) (printer (K.held sink.new) out.new.items) }
-    ensures moved { OnOk result (state_of journal world.new ≡ record (state_of journal world.old) { moment = just_at asked }) }
+    ensures moved { OnOk result (IsAlike (record (state_of journal world.old) { moment = just_at asked }) (state_of journal world.new)) }
     ensures tallied { OnOk result (HasTallied (IsJournal (state_setting (state_of journal world.old)) world.old.moment (just_at asked)) tally.old tally.new) }
     ensures whole { OnOk result (IsWhole world.new) }
     ensures later { K.faults sink.old ≤ K.faults sink.new }

@@ -16,7 +16,7 @@ ghost use Rattle.kin_status.specs.Written.{printer};
 ghost use Rattle.kin_world.specs.Worlds.{IsWhole};
 ghost use Rattle.kin_run.specs.States.{state_of};
 
-use crate::change::{insert, remove, replace, turn};
+use crate::change::{insert, leg, remove, replace, turn};
 use crate::go_to::go_to;
 use crate::next::put_next;
 use crate::reply::put_reply_to;
@@ -82,6 +82,7 @@ pub fn perform<K: Sink, L: Ledger>(
         Command::Remove { no } => remove(world, no, steps),
         Command::Replace { no, m } => replace(world, no, m, steps),
         Command::Turn { no, u, v } => turn(world, no, u, v, steps),
+        Command::Leg { no, at, u, v } => leg(world, no, at, u, v),
         Command::AtRatio { n, d } => move_to(world, journal, ratio(n, d), out, sink, steps, tally),
         Command::AtRoot { a, b, c, upper } => match named_root(a, b, c, upper) {
             Some(asked) => move_to(world, journal, asked, out, sink, steps, tally),

@@ -16,6 +16,8 @@ mod generated;
 #[cfg(test)]
 mod kept;
 #[cfg(test)]
+mod legs;
+#[cfg(test)]
 mod prefixes;
 #[cfg(test)]
 mod runs;

@@ -25,7 +25,7 @@ const CROSSING: [Line; 10] = [
 ];
 
 /// A line of each kind.
-const KINDS: [Line; 24] = [
+const KINDS: [Line; 25] = [
     ("size 2 # four\n", "-----ooooooooo", ""),
     ("keep order 1 0\n", "-------------oo", ""),
     ("keep extreme 0 1\n", "---------------oo", ""),
@@ -51,6 +51,7 @@ const KINDS: [Line; 24] = [
     ("hull\n", "---oo", "0 3 1\n"),
     ("closest\n", "------oo", "0 3\n"),
     ("replace 0 5 5 -1 0\n", "-----------------oo", ""),
+    ("leg 3 9 1 0\n", "----------oo", ""),
     ("box 0 3 -4 9\n", "-----------oo", "0 1\n"),
     ("remove 3\n", "-------oo", ""),
     ("live", "---o", "15\n"),

@@ -4,6 +4,7 @@ ghost use Rattle.std.specs.Prelude.{◌<◌};
 
 use crate::bounds::CORNERS;
 use crate::kept::{CARRIAGEWAYS, CARRIAGEWAYS_TEXT, CHANGES, CLOSE, HULLS};
+use crate::legs::LEGS;
 use crate::runs::{run_to, source_of};
 use crate::worked::WORKED;
 use kin_run::status::Status;
@@ -46,6 +47,13 @@ fn gives_the_texts_of_closest_pairs_and_rectangles(rt: HostRuntime) -> Result<()
 #[test]
 fn gives_the_texts_of_hulls(rt: HostRuntime) -> Result<(), Fail> {
     let wrong = first_wrong(rt.alloc(), &HULLS, 64, 400)?;
+    assert!(rt; wrong == None, "script {wrong:?}");
+    Ok(())
+}
+
+#[test]
+fn gives_the_texts_of_points_with_legs(rt: HostRuntime) -> Result<(), Fail> {
+    let wrong = first_wrong(rt.alloc(), &LEGS, 64, 100)?;
     assert!(rt; wrong == None, "script {wrong:?}");
     Ok(())
 }

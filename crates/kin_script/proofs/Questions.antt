@@ -15,6 +15,7 @@ use Rattle.kin_motion.specs.Extremes.{IsExtremePoint, extreme_of}
 use Rattle.kin_motion.specs.Keeps.{is_alike}
 use Rattle.kin_motion.specs.Live.{IsLiveFact, IsSmallKeep, live_facts}
 use Rattle.kin_motion.specs.Orders.{IsOrder, order_of}
+use Rattle.kin_motion.specs.Plans.{motions_in_force}
 use Rattle.kin_motion.specs.Scene.{IsReal}
 use Rattle.kin_motion.proofs.ClosestLaws.{closest_proved}
 use Rattle.kin_motion.proofs.LiveFactLaws.{live_facts_agree}
@@ -22,7 +23,7 @@ use Rattle.kin_motion.proofs.MotionScenes.{real_at}
 use Rattle.kin_motion.proofs.OneLaws.{one_extreme, one_closest, one_hull_cycle}
 use Rattle.kin_motion.proofs.Proved.{order_is_one, order_proved, extreme_proved, cycle_proved}
 use Rattle.kin_script.specs.declared.command.Command.{Command}
-use Rattle.kin_script.specs.declared.command.Command.TheVariants.{Insert, Remove, Replace, Turn, AtRatio, AtRoot, Next, Order, Extreme, Hull, Closest, Live, Inside}
+use Rattle.kin_script.specs.declared.command.Command.TheVariants.{Insert, Remove, Replace, Turn, Leg, AtRatio, AtRoot, Next, Order, Extreme, Hull, Closest, Live, Inside}
 use Rattle.kin_script.specs.Deeds.{asks, deed_of}
 use Rattle.kin_script.specs.Questions.{keep_of, IsKeepInRange, order_question_of, extreme_question_of, box_question_of, question_of, IsQuestionInRange, HasKeep, IsProvided, IsOrderLine, IsExtremeLine, IsLiveLine, IsReplyLine}
 use Rattle.kin_script.specs.Lines.{Word}
@@ -115,6 +116,7 @@ question_in_range size (Insert number m) h = absurd h
 question_in_range size (Remove number) h = absurd h
 question_in_range size (Replace number m) h = absurd h
 question_in_range size (Turn number u v) h = absurd h
+question_in_range size (Leg number at u v) h = absurd h
 question_in_range size (AtRatio n d) h = absurd h
 question_in_range size (AtRoot a b c upper) h = absurd h
 question_in_range size Next h = absurd h
@@ -122,15 +124,17 @@ question_in_range size question h = h
 
 -- what neither changes points nor moves time asks
 pub asks_otherwise : (c : Command) → ((number : ℕ) (m : Course) → c ≡ Insert number m → ⊥) → ((number : ℕ) → c ≡ Remove number → ⊥) → ((number : ℕ) (m : Course) → c ≡ Replace number m → ⊥) → ((number : ℕ) (u v : ℤ) → c ≡ Turn number u v → ⊥)
+    → ((number at : ℕ) (u v : ℤ) → c ≡ Leg number at u v → ⊥)
     → ((n d : ℤ) → c ≡ AtRatio n d → ⊥) → ((x y z : ℤ) (upper : Bool) → c ≡ AtRoot x y z upper → ⊥) → (c ≡ Next → ⊥) → deed_of c ≡ asks c
-asks_otherwise (Insert number m) a b d e f g h = absurd (a number m refl)
-asks_otherwise (Remove number) a b d e f g h = absurd (b number refl)
-asks_otherwise (Replace number m) a b d e f g h = absurd (d number m refl)
-asks_otherwise (Turn number u v) a b d e f g h = absurd (e number u v refl)
-asks_otherwise (AtRatio n m) a b d e f g h = absurd (f n m refl)
-asks_otherwise (AtRoot x y z upper) a b d e f g h = absurd (g x y z upper refl)
-asks_otherwise Next a b d e f g h = absurd (h refl)
-asks_otherwise question a b d e f g h = refl
+asks_otherwise (Insert number m) a b d e l f g h = absurd (a number m refl)
+asks_otherwise (Remove number) a b d e l f g h = absurd (b number refl)
+asks_otherwise (Replace number m) a b d e l f g h = absurd (d number m refl)
+asks_otherwise (Turn number u v) a b d e l f g h = absurd (e number u v refl)
+asks_otherwise (Leg number at u v) a b d e l f g h = absurd (l number at u v refl)
+asks_otherwise (AtRatio n m) a b d e l f g h = absurd (f n m refl)
+asks_otherwise (AtRoot x y z upper) a b d e l f g h = absurd (g x y z upper refl)
+asks_otherwise Next a b d e l f g h = absurd (h refl)
+asks_otherwise question a b d e l f g h = refl
 
 -- what a command does is in range
 pub deed_in_range : (size : ℕ) (c : Command) → IsCommandInRange size c → IsDeedInRange (deed_of c)
@@ -138,6 +142,7 @@ deed_in_range size (Insert number m) range = range.1
 deed_in_range size (Remove number) range = tt
 deed_in_range size (Replace number m) range = range.1
 deed_in_range size (Turn number u v) range = range.1
+deed_in_range size (Leg number at u v) range = (range.1, range.2)
 deed_in_range size (AtRatio n d) range = inl (n, d, range, refl, refl)
 deed_in_range size (AtRoot a b c upper) range = inr range
 deed_in_range size Next range = tt
@@ -151,7 +156,7 @@ along_same Said dx dy ex ey e said = subst (λ (d : ℤ). Said d ey) e.0 (subst 
 
 module _ (s : State) (canonical : IsCanonical s.moment.at) where
   pub real : IsReal (state_scene s)
-  real = real_at s.motions s.moment canonical
+  real = real_at (motions_in_force s.plans s.moment) s.moment canonical
 
   same_order : (dx dy ex ey : ℤ) → keep.Order dx dy ≡ keep.Order ex ey → (dx ≡ ex) × (dy ≡ ey)
   same_order dx dy ex ey e = (cc, cc)
@@ -221,6 +226,6 @@ module _ (s : State) (canonical : IsCanonical s.moment.at) where
   has_line fits (Extreme k) = extreme_line k (slice_get s.keeps k) refl
   has_line fits Hull = by_kind Hull keep.Hull hull_alone refl (λ h. h) (λ h. h) (list_line (cycle_of (state_scene s))) (cycle_of (state_scene s), cycle_proved (state_scene s) real, refl)
   has_line fits Closest = by_kind Closest keep.Closest closest_alone refl (λ h. h) (λ h. h) (pair_line (closest_of (state_scene s))) (closest_of (state_scene s), closest_proved (state_scene s) real, refl)
-  has_line fits (Inside r) = by_kind (Inside r) keep.Range range_alone refl (λ h. h) (λ h. h) (list_line (points_in s.motions s.moment r)) refl
+  has_line fits (Inside r) = by_kind (Inside r) keep.Range range_alone refl (λ h. h) (λ h. h) (list_line (points_in (motions_in_force s.plans s.moment) s.moment r)) refl
   has_line fits Live = live_line fits
   has_line fits other = inl (λ h. h)

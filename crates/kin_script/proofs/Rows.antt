@@ -3,13 +3,13 @@ use Rattle.std.proofs.Common.{refl, [], ◌∷◌, pos, true, false}
 use Rattle.std.specs.Prelude.{codes}
 use lib.IntN.{neg_ℤ}
 use Rattle.kin_motion.specs.declared.keep.Keep.TheVariants as keep
-use Rattle.kin_script.specs.declared.command.Command.TheVariants.{Insert, Remove, Replace, Turn, AtRatio, AtRoot, Next, Order, Extreme, Live}
+use Rattle.kin_script.specs.declared.command.Command.TheVariants.{Insert, Remove, Replace, Turn, Leg, AtRatio, AtRoot, Next, Order, Extreme, Live}
 use Rattle.kin_script.specs.Lines.{lines_of, words_of, pieces_of}
 use Rattle.kin_script.specs.Left.{numbered}
 use Rattle.kin_script.specs.Numbers.{digits_after, numeral_of, natural_of, integer_of, ratio_of}
-use Rattle.kin_script.specs.Words.{natural_at, number_at, integer_at, motion_at, velocity_at, side_at, direction_at}
+use Rattle.kin_script.specs.Words.{natural_at, number_at, instant_at, integer_at, motion_at, velocity_at, side_at, direction_at}
 use Rattle.kin_script.specs.Questions.{keep_of, order_question_of, extreme_question_of, box_question_of, question_of}
-use Rattle.kin_script.specs.Changes.{insert_of, remove_of, replace_of, turn_of}
+use Rattle.kin_script.specs.Changes.{insert_of, remove_of, replace_of, turn_of, leg_of}
 use Rattle.kin_script.specs.Commands.{quadratic_at, root_of, at_of, command_of, size_of, journal_of, header_line_of}
 use Rattle.kin_script.specs.Grammar.{IsScript, IsFirstOutside, commands_of, behind_size, script_of_lines, script_of}
 
@@ -35,10 +35,10 @@ Fraction = IsScript (codes "size 3\nat 6/004\n") (record { size = 3; keeps = [];
 abbrev Root : Type 0
 Root = IsScript (codes "size 1\nat root 2 -0 -4 hi\n") (record { size = 1; keeps = []; journal = false; lines = (2, AtRoot (pos 2) (pos 0) (neg_ℤ (pos 4)) true) ∷ [] })
 
--- a point leaves, one starts anew and one turns
+-- a point leaves, one starts anew, one turns and one gets a leg
 abbrev Changed : Type 0
 Changed = IsScript
-    (codes "size 2\nremove 3\nreplace 0 1 -2 3 -4\nturn 1 -8192 007\n")
+    (codes "size 2\nremove 3\nreplace 0 1 -2 3 -4\nturn 1 -8192 007\nleg 2 2147483647 -0 8192\n")
     (record {
       size = 2;
       keeps = [];
@@ -47,6 +47,7 @@ Changed = IsScript
           (2, Remove 3)
           ∷ (3, Replace 0 (record { x = pos 1; y = neg_ℤ (pos 2); u = pos 3; v = neg_ℤ (pos 4) }))
           ∷ (4, Turn 1 (neg_ℤ (pos 8192)) (pos 7))
+          ∷ (5, Leg 2 2147483647 (pos 0) (pos 8192))
           ∷ [];
     })
 
@@ -81,5 +82,5 @@ WordsOnlyInComments = IsFirstOutside (codes "# one\n\n  # two") 4
 
 -- all of it is so
 rows : Spelling × TooFar × Fraction × Root × Changed × HalfAVelocity × JournalOn × SecondJournalLine × EmptyInput × NumberOutOfRange × LateKeep × WordsOnlyInComments
-unfolding script_of lines_of words_of pieces_of numbered commands_of behind_size script_of_lines command_of question_of insert_of remove_of replace_of turn_of side_at quadratic_at root_of at_of order_question_of extreme_question_of box_question_of motion_at velocity_at number_at natural_at integer_at size_of direction_at keep_of journal_of header_line_of digits_after numeral_of natural_of integer_of ratio_of
+unfolding script_of lines_of words_of pieces_of numbered commands_of behind_size script_of_lines command_of question_of insert_of remove_of replace_of turn_of leg_of instant_at side_at quadratic_at root_of at_of order_question_of extreme_question_of box_question_of motion_at velocity_at number_at natural_at integer_at size_of direction_at keep_of journal_of header_line_of digits_after numeral_of natural_of integer_of ratio_of
 rows = (refl, refl, refl, refl, refl, refl, refl, refl, refl, refl, refl, refl)

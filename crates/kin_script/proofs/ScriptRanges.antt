@@ -19,7 +19,7 @@ use Rattle.kin_script.specs.Grammar.{IsScript}
 use Rattle.kin_script.specs.Ranges.{IsRootInRange, IsCommandInRange, IsWithin}
 use Rattle.kin_script.specs.Written.{SaysHeaderLine, SaysCommand, keeps_of, worded_lines, IsWritten}
 use Rattle.kin_script.proofs.EachGiven.{Each, each_none, each_one, each_way, each_unless, each_last, each_map, each_then}
-use Rattle.kin_script.proofs.Changes.{insert_range, remove_range, replace_range, turn_range}
+use Rattle.kin_script.proofs.Changes.{insert_range, remove_range, replace_range, turn_range, leg_range}
 use Rattle.kin_script.proofs.Questions.{keep_range, question_range, question_in_range}
 use Rattle.kin_script.proofs.Theorems.{scripts_are_written}
 use Rattle.kin_script.proofs.WordRanges.{IsRatio, ratio_range, natural_at_range, integer_at_range, some}
@@ -63,9 +63,10 @@ command_range size (name ∷ ws) =
     (each_way _ _ _ _ (remove_range size ws)
     (each_way _ _ _ _ (replace_range size ws)
     (each_way _ _ _ _ (turn_range size ws)
+    (each_way _ _ _ _ (leg_range size ws)
     (each_way _ _ _ _ (at_range size ws)
     (each_way _ _ _ _ (each_last _ Next ws tt)
-    (λ c e. question_in_range size c (question_range name ws c e)))))))
+    (λ c e. question_in_range size c (question_range name ws c e))))))))
 
 -- ---- the header
 size_range : (ws : List Word) → Each (λ k. (1 ≤ k) × (k ≤ 12)) (size_of ws)

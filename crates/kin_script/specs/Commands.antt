@@ -5,7 +5,7 @@ use Rattle.kin_script.specs.declared.command.Command.{Command}
 use Rattle.kin_script.specs.declared.command.Command.TheVariants.{AtRatio, AtRoot, Next}
 use Rattle.kin_script.specs.declared.line.HeaderLine.{HeaderLine}
 use Rattle.kin_script.specs.declared.line.HeaderLine.TheVariants as header_line
-use Rattle.kin_script.specs.Changes.{insert_of, remove_of, replace_of, turn_of}
+use Rattle.kin_script.specs.Changes.{insert_of, remove_of, replace_of, turn_of, leg_of}
 use Rattle.kin_script.specs.Questions.{keep_of, question_of}
 use Rattle.kin_script.specs.Lines.{Word}
 use Rattle.kin_script.specs.Numbers.{◌>>=◌, ratio_of}
@@ -41,6 +41,7 @@ command_of size (name ∷ ws) =
     else if bytes_eq name (codes "remove") then remove_of size ws
     else if bytes_eq name (codes "replace") then replace_of size ws
     else if bytes_eq name (codes "turn") then turn_of size ws
+    else if bytes_eq name (codes "leg") then leg_of size ws
     else if bytes_eq name (codes "at") then at_of ws
     else if bytes_eq name (codes "next") then last Next ws
     else question_of name ws

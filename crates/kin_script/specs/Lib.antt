@@ -15,5 +15,6 @@ pub mod PrintedJournal
 pub mod Written
 pub mod Deeds
 pub mod Replay
+pub mod Alike
 pub mod Text
 pub mod Generated

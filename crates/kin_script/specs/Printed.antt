@@ -9,7 +9,7 @@ use Rattle.kin_num.specs.declared.instant.Phase.TheVariants.{At, After}
 use Rattle.kin_num.specs.declared.instant.Moment.{Moment}
 use Rattle.kin_num.specs.Canonical.{IsCanonical}
 use Rattle.kin_script.specs.declared.refusal.Refusal.{Refusal}
-use Rattle.kin_script.specs.declared.refusal.Refusal.TheVariants.{NotKept, Taken, Absent, NoRoot, Past, NotWhole, OutOfBounds}
+use Rattle.kin_script.specs.declared.refusal.Refusal.TheVariants.{NotKept, Taken, Absent, NoRoot, Past, Planned, NotWhole, OutOfBounds}
 
 -- the name of a refusal
 abbrev pub name_of : Refusal → List ℕ
@@ -18,6 +18,7 @@ name_of Taken = codes "Taken"
 name_of Absent = codes "Absent"
 name_of NoRoot = codes "NoRoot"
 name_of Past = codes "Past"
+name_of Planned = codes "Planned"
 name_of NotWhole = codes "NotWhole"
 name_of OutOfBounds = codes "OutOfBounds"
 

@@ -10,6 +10,7 @@ use Rattle.kin_motion.specs.ClosestPairs.{IsClosest}
 use Rattle.kin_motion.specs.Extremes.{IsExtremePoint}
 use Rattle.kin_motion.specs.Live.{IsLiveCount}
 use Rattle.kin_motion.specs.Orders.{IsOrder}
+use Rattle.kin_motion.specs.Plans.{motions_in_force}
 use Rattle.kin_motion.specs.Scene.{Scene}
 use Rattle.kin_script.specs.declared.command.Command.{Command}
 use Rattle.kin_script.specs.declared.command.Command.TheVariants.{Order, Extreme, Hull, Closest, Inside, Live}
@@ -133,7 +134,7 @@ IsClosestLine s text = (pair : Option (ℕ × ℕ)) × IsClosest (state_scene s)
 
 -- the line of the points in a rectangle
 abbrev pub IsInsideLine : State → Rect → List ℕ → Type 0
-IsInsideLine s r text = text ≡ list_line (points_in s.motions s.moment r)
+IsInsideLine s r text = text ≡ list_line (points_in (motions_in_force s.plans s.moment) s.moment r)
 
 -- the line with the number of live facts
 abbrev pub IsLiveLine : State → List ℕ → Type 0

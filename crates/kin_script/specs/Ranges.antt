@@ -5,7 +5,7 @@ use Rattle.kin_num.specs.Instants.{line}
 use Rattle.kin_motion.specs.Course.{IsSlow}
 use Rattle.kin_motion.specs.Keeps.{are_few}
 use Rattle.kin_script.specs.declared.command.Command.{Command}
-use Rattle.kin_script.specs.declared.command.Command.TheVariants.{Insert, Remove, Replace, Turn, AtRatio, AtRoot, Next}
+use Rattle.kin_script.specs.declared.command.Command.TheVariants.{Insert, Remove, Replace, Turn, Leg, AtRatio, AtRoot, Next}
 use Rattle.kin_script.specs.declared.script.Script.{Script}
 use Rattle.kin_script.specs.Changes.{IsSlowVelocity, IsChangeInRange}
 use Rattle.kin_script.specs.Deeds.{Deed, changes, goes_to, goes_on, asks}
@@ -31,6 +31,7 @@ IsCommandInRange size (Insert number motion) = (number < 2 ^ size) × IsSlow mot
 IsCommandInRange size (Remove number) = number < 2 ^ size
 IsCommandInRange size (Replace number motion) = (number < 2 ^ size) × IsSlow motion
 IsCommandInRange size (Turn number u v) = (number < 2 ^ size) × IsSlowVelocity u v
+IsCommandInRange size (Leg number at u v) = (number < 2 ^ size) × (at < 2 ^ 31) × IsSlowVelocity u v
 IsCommandInRange size (AtRatio n d) = IsRatioInRange n d
 IsCommandInRange size (AtRoot a b c upper) = IsRootInRange a b c
 IsCommandInRange size Next = Unit {0}

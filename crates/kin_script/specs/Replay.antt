@@ -1,20 +1,21 @@
--- The replay of a script: the motions and the moment after each command, and why a command is refused.
-use Rattle.std.specs.Prelude.{◌≡◌, ◌⊎◌, ℕ, pos, ◌<ℤ◌, Bool, true, false, Option, slice_set}
+-- The replay of a script: the plans and the moment after each command, and why a command is refused.
+use Rattle.std.specs.Prelude.{◌≡◌, ◌⊎◌, ℕ, pos, ◌<ℤ◌, Bool, true, false, Option, slice_set, unwrap_or}
 use Rattle.kin_algebra.specs.declared.sign.Sign.TheVariants.{Zero}
 use Rattle.kin_num.specs.declared.instant.Shape.{Shape}
 use Rattle.kin_num.specs.Quadratic.{Quadratic}
 use Rattle.kin_num.specs.Canonical.{IsCanonical, discriminant}
 use Rattle.kin_num.specs.Instants.{sign_at_instant}
 use Rattle.kin_num.specs.Order.{IsLess, IsEarlier}
-use Rattle.kin_motion.specs.Course.{Course, motion_of}
-use Rattle.kin_motion.specs.Journal.{Block, IsNextBlock, NothingFails}
+use Rattle.kin_motion.specs.Plans.{Plan}
 use Rattle.kin_motion.specs.Turning.{just_at}
+use Rattle.kin_legs.specs.Nexts.{Next, IsNext, comes_at}
+use Rattle.kin_legs.specs.Paths.{plan_of}
 use Rattle.kin_script.specs.Changes.{PointChange, IsRefusedChange, ChangesTo}
 use Rattle.kin_script.specs.Deeds.{Deed, changes, goes_to, goes_on, asks}
 use Rattle.kin_script.specs.Questions.{IsProvided}
 use Rattle.kin_script.specs.declared.refusal.Refusal.{Refusal}
 use Rattle.kin_script.specs.declared.refusal.Refusal.TheVariants.{NotKept, NoRoot, Past}
-use Rattle.kin_script.specs.States.{State, state_setting}
+use Rattle.kin_script.specs.States.{State, state_view}
 
 -- the polynomial is 0 at the instant
 pub record IsRootOf (p : Quadratic) (w : Shape) : Type 0 where
@@ -36,7 +37,7 @@ IsPast s upper p = (w : Shape) × IsNamedRoot upper p w × IsEarlier (just_at w)
 
 -- why a deed is refused: a number can't be changed so, there is no such root, its moment is past, or what is asked for is not kept
 abbrev pub IsRefused : State → Deed → Refusal → Type 0
-IsRefused s (changes number change) r = IsRefusedChange s.moment (motion_of s.motions number) change r
+IsRefused s (changes number change) r = IsRefusedChange s.moment (plan_of s.plans number) change r
 IsRefused s (goes_to upper p) r = ((r ≡ NoRoot) × HasNoRoot p) ⊎ ((r ≡ Past) × IsPast s upper p)
 IsRefused s goes_on r = ⊥
 IsRefused s (asks q) r = (r ≡ NotKept) × ¬ (IsProvided s q)
@@ -45,14 +46,13 @@ IsRefused s (asks q) r = (r ≡ NotKept) × ¬ (IsProvided s q)
 abbrev pub IsAllowed : State → Deed → Type 0
 IsAllowed s d = (r : Refusal) → ¬ (IsRefused s d r)
 
--- to the moment of the next block; where no live fact ever fails, nothing changes
+-- to the moment of what comes next; where nothing does, the moment stays
 abbrev pub LeadsToNext : State → State → Type 0
-LeadsToNext s t = ((b : Block) × IsNextBlock (state_setting s) s.moment b × (t ≡ record s { moment = b.moment }))
-    ⊎ (NothingFails (state_setting s) s.moment × (t ≡ s))
+LeadsToNext s t = (n : Next) × IsNext (state_view s) n × (t ≡ record s { moment = unwrap_or (comes_at n) s.moment })
 
--- the number has the motion that it changes to, or none, and all others have theirs
+-- the number has the plan that it changes to, or none, and all others have theirs
 abbrev pub LeadsToChanged : State → ℕ → PointChange → State → Type 0
-LeadsToChanged s number change t = (next : Option Course) × ChangesTo s.moment (motion_of s.motions number) change next × (t ≡ record s { motions = slice_set s.motions number next })
+LeadsToChanged s number change t = (next : Option Plan) × ChangesTo s.moment (plan_of s.plans number) change next × (t ≡ record s { plans = slice_set s.plans number next })
 
 -- the state after a deed that is not refused
 abbrev pub LeadsTo : State → Deed → State → Type 0

@@ -2,8 +2,9 @@
 use Rattle.std.specs.Prelude.{◌≡◌, ℕ, Bool, true, false, List, [], ◌∷◌, ◌++◌, Option, Some, None, codes, ◌⊎◌, if◌then◌else◌}
 use Rattle.std.specs.Fmt.{decimal}
 use Rattle.kin_num.specs.declared.instant.Shape.{Shape}
-use Rattle.kin_motion.specs.Journal.{Block, IsNextBlock, IsJournal, NothingFails}
+use Rattle.kin_motion.specs.Journal.{Block, IsJournal}
 use Rattle.kin_motion.specs.Turning.{just_at}
+use Rattle.kin_legs.specs.Nexts.{Next, block, leg, nothing, IsNext}
 use Rattle.kin_script.specs.declared.command.Command.{Command}
 use Rattle.kin_script.specs.declared.refusal.Refusal.{Refusal}
 use Rattle.kin_script.specs.Deeds.{Deed, changes, goes_to, goes_on, asks, deed_of}
@@ -11,7 +12,7 @@ use Rattle.kin_script.specs.Questions.{IsReplyLine}
 use Rattle.kin_script.specs.Printed.{name_of}
 use Rattle.kin_script.specs.PrintedJournal.{block_lines, journal_lines, now_line, none_line}
 use Rattle.kin_script.specs.Replay.{IsNamedRoot, IsRefused, IsAllowed, LeadsTo}
-use Rattle.kin_script.specs.States.{State, state_setting}
+use Rattle.kin_script.specs.States.{State, state_setting, state_view}
 
 -- the line that names the first line outside the grammar
 abbrev pub bad_line : ℕ → List ℕ
@@ -26,10 +27,15 @@ abbrev pub IsPassedText : Bool → State → Shape → List ℕ → Type 0
 IsPassedText false s w text = text ≡ []
 IsPassedText true s w text = (bs : List Block) × IsJournal (state_setting s) s.moment (just_at w) bs × (text ≡ journal_lines bs)
 
--- the lines of the next block where the journal is on, and its moment; where no live fact ever fails, none
+-- the lines of a block where the journal is on, and its moment; the moment of a leg; or none
+abbrev pub next_lines : Bool → Next → List ℕ
+next_lines journal (block b) = (if journal then block_lines b else []) ++ now_line b.moment
+next_lines journal (leg m) = now_line m
+next_lines journal nothing = none_line
+
+-- the lines of what comes next
 abbrev pub IsNextText : State → List ℕ → Type 0
-IsNextText s text = ((b : Block) × IsNextBlock (state_setting s) s.moment b × (text ≡ (if s.journal then block_lines b else []) ++ now_line b.moment))
-    ⊎ (NothingFails (state_setting s) s.moment × (text ≡ none_line))
+IsNextText s text = (n : Next) × IsNext (state_view s) n × (text ≡ next_lines s.journal n)
 
 -- what a deed that is not refused prints
 abbrev pub Prints : State → Deed → List ℕ → Type 0

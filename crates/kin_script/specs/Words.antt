@@ -22,6 +22,10 @@ last x ws = if is_nil ws then Some x else None
 unfoldable pub number_at : ℕ → List Word → Option (ℕ × List Word)
 number_at size ws = natural_at 0 (2 ^ size - 1) ws
 
+-- a whole instant below 2^31, and the words after it
+unfoldable pub instant_at : List Word → Option (ℕ × List Word)
+instant_at ws = natural_at 0 2147483647 ws
+
 -- four numbers as a motion, and the words after them
 unfoldable pub motion_at : List Word → Option (Course × List Word)
 motion_at ws = do

@@ -13,12 +13,14 @@ pub enum Command {
     Replace { no: u32, m: Motion },
     /// The point of this number goes on from where it is, with this velocity.
     Turn { no: u32, u: i32, v: i32 },
+    /// The point of this number has this velocity from the whole instant `at` on, its path being unbroken.
+    Leg { no: u32, at: u32, u: i32, v: i32 },
     /// Time goes to `n/d`, as it is written, in lowest terms or not.
     AtRatio { n: i64, d: i64 },
     /// Time goes to the greater (`upper`) or the lesser root of `a*t^2 + b*t + c`, as it is written.
     /// With one root both name it.
     AtRoot { a: i64, b: i64, c: i64, upper: bool },
-    /// Time goes to the next moment at which a live fact fails, if there is one.
+    /// Time goes to the next moment at which a live fact fails or a leg begins, if there is one.
     Next,
     /// The points along the direction of the kept order `s`.
     Order { s: u32 },

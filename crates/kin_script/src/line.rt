@@ -1,7 +1,7 @@
 //! What a line says: one function for each kind of line.
 
 ghost use Rattle.std.specs.Prelude.{◌≡◌, ◌≤◌, IfSome, option_map};
-ghost use Rattle.kin_script.specs.Changes.{insert_of, remove_of, replace_of, turn_of};
+ghost use Rattle.kin_script.specs.Changes.{insert_of, remove_of, replace_of, turn_of, leg_of};
 ghost use Rattle.kin_script.specs.Commands.{quadratic_at, root_of, at_of, command_of, size_of, journal_of, header_line_of};
 ghost use Rattle.kin_script.specs.Questions.{keep_of, order_question_of, extreme_question_of, box_question_of, question_of};
 ghost use Rattle.kin_script.specs.Words.{direction_at};
@@ -62,6 +62,19 @@ fn turn(size: u32, words: &mut Words<'_>) -> Option<Command>
     let no = words.number(size)?;
     let (u, v) = words.velocity()?;
     words.last(Command::Turn { no, u, v })
+}
+
+/// What follows the word `leg`: a number, the instant at which the leg begins, and the velocity from then on.
+#[tactic(auto, unfolding(crate::specs::Changes::leg_of))]
+fn leg(size: u32, words: &mut Words<'_>) -> Option<Command>
+    requires low { 1 ≤ size }
+    requires high { size ≤ 12 }
+    ensures { result ≡ leg_of size words.old }
+{
+    let no = words.number(size)?;
+    let at = words.instant()?;
+    let (u, v) = words.velocity()?;
+    words.last(Command::Leg { no, at, u, v })
 }
 
 /// Three coefficients, of which the first is not 0.
@@ -173,6 +186,8 @@ pub fn command_of(size: u32, mut words: Words<'_>) -> Option<Command>
         replace(size, &mut words)
     } else if name == b"turn".as_slice() {
         turn(size, &mut words)
+    } else if name == b"leg".as_slice() {
+        leg(size, &mut words)
     } else if name == b"at".as_slice() {
         at(&mut words)
     } else if name == b"next".as_slice() {

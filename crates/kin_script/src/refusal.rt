@@ -14,8 +14,10 @@ pub enum Refusal {
     Absent,
     /// The quadratic has no real root.
     NoRoot,
-    /// The asked moment is before now.
+    /// The asked moment is before now, or the leg would begin now or before.
     Past,
+    /// The point has a leg already that begins at that instant or later.
+    Planned,
     /// No motion with whole numbers and the asked velocity is at the point's place, or the moment
     /// is just after an instant.
     NotWhole,
@@ -34,6 +36,7 @@ impl Refusal {
             Refusal::Absent => "Absent",
             Refusal::NoRoot => "NoRoot",
             Refusal::Past => "Past",
+            Refusal::Planned => "Planned",
             Refusal::NotWhole => "NotWhole",
             Refusal::OutOfBounds => "OutOfBounds",
         }

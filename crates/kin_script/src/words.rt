@@ -3,7 +3,7 @@
 ghost use Rattle.std.specs.Prelude.{◌≡◌, ◌<◌, ◌≤◌, ◌^◌, ◌∷◌, [], length, position, slice_index, false, ◌==◌, MatchOption, IfSome, option_map, unsigned_abs};
 ghost use Rattle.kin_motion.specs.Course.{IsSlow};
 ghost use Rattle.kin_script.specs.Lines.{is_blank, pieces_of, words_of, is_nil};
-ghost use Rattle.kin_script.specs.Words.{natural_at, number_at, integer_at, side_at, motion_at, velocity_at, last};
+ghost use Rattle.kin_script.specs.Words.{natural_at, number_at, instant_at, integer_at, side_at, motion_at, velocity_at, last};
 
 use crate::number;
 use kin_motion::Motion;
@@ -83,6 +83,14 @@ impl<'a> Words<'a> {
         ensures { option_map (λ n. (n, self.new)) result ≡ number_at size self.old }
     {
         self.natural(0, (1 << size) - 1)
+    }
+
+    /// The next word as a whole instant below 2^31.
+    #[tactic(auto, unfolding(crate::specs::Words::instant_at))]
+    pub fn instant(&mut self) -> Option<u32>
+        ensures { option_map (λ n. (n, self.new)) result ≡ instant_at self.old }
+    {
+        self.natural(0, i32::MAX as u32)
     }
 
     /// The next word as a number at most `far` from 0.

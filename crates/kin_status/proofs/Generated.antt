@@ -2,11 +2,12 @@
 use Rattle.std.proofs.Common.{rules, ◌≡◌, inl, inr, ℕ, zero, suc, ◌+◌, ◌≤◌, ◌^◌, true, false, List, [], ◌∷◌, ◌++◌, Some, None, refl, sym, ap, ◌∙◌, subst, append_assoc, arith, pos, take, is_some, get_or-set_other}
 use lib.IntN.{neg_ℤ}
 use Rattle.std.proofs.lemmas.Nat.Gcd.{IsGcd-from_zero, IsGcd-from_mod}
-use Rattle.kin_status.proofs.Vocabulary.{Appends, Appends-trans, ints, same_Some, line, sign_at_instant, IsEarlier, After, At, Shape, above_fraction, less_asym, start_canonical, is_live, none_live, AppendsFront, asks}
+use Rattle.kin_status.proofs.Vocabulary.{Appends, Appends-trans, ints, same_Some, line, sign_at_instant, IsEarlier, After, At, Shape, above_fraction, less_asym, start_canonical, plan_of, AppendsFront, asks}
 use Rattle.kin_status.proofs.Vocabulary.{deed_of, IsGenerated, insertion, insertions, one_of_each, questions, IsProvided, IsNamedRoot, State, just_at, Ending, Text, Command, Script, IsDemoText}
 use Rattle.kin_status.proofs.Vocabulary.{OneDemoText, WritesDemo, start_of, status_of_stop, PassesInTurn, IsCutOfText, IsFrontOfEach, HasTallied, tally_line, IsFront, Wrote, Tally, Stop, Fault, NoMemory}
 use Rattle.kin_num.specs.declared.instant.Shape.TheVariants.{Ratio}
 use Rattle.kin_num.proofs.FractionOrder.{fraction_itself, line_at_fraction}
+use Rattle.kin_legs.proofs.PathLaws.{none_planned}
 use Rattle.kin_motion.specs.declared.keep.Rect.{Rect}
 use Rattle.kin_script.specs.declared.command.Command.TheVariants.{Extreme, Hull, Closest, Inside, Live}
 use Rattle.kin_status.proofs.Gathering.{Bytes, front_through, front_take, front_after}
@@ -17,7 +18,7 @@ use Rattle.kin_status.proofs.Tallying.{tallied_from_nothing}
 -- ---- the points enter
 -- no number from the first on is live, one of each kind is kept, and it is the instant 0
 record IsAwaiting (first : ℕ) (s : State) : Type 0 where
-  free : (number : ℕ) → first ≤ number → is_live s.motions number ≡ false
+  free : (number : ℕ) → first ≤ number → is_some (plan_of s.plans number) ≡ false
   keeps : s.keeps ≡ one_of_each
   moment : s.moment ≡ just_at (Ratio (pos 0) (pos 1))
 
@@ -68,7 +69,7 @@ questions_end_well count number s text ending awaiting (inr g) = (replies_end_we
 pub never_refused : (seed count : ℕ) (s : Script) (text : List ℕ) (ending : Ending) → IsGenerated seed count s → Text (start_of s) s.lines text ending → ending ≡ None
 never_refused seed count s text ending is t =
     insertions_end_well seed count (questions (8 + count)) (questions_end_well count (8 + count)) (start_of s) text ending
-    (record { free = λ number low. ap is_some (none_live (2 ^ s.size) number); keeps = is.keeps; moment = refl }) (rw is.lines at t)
+    (record { free = λ number low. ap is_some (none_planned (2 ^ s.size) number); keeps = is.keeps; moment = refl }) (rw is.lines at t)
 
 -- ---- a seed and a count have one script, and so one text
 one_script : (seed count : ℕ) (s t : Script) → IsGenerated seed count s → IsGenerated seed count t → s ≡ t

@@ -4,6 +4,8 @@ pub mod NamedRoots
 pub mod Tallying
 pub mod Passing
 pub mod Determined
+pub mod OnPaths
+pub mod Forgetting
 pub mod Performing
 pub mod Playing
 pub mod OneText

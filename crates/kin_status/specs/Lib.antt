@@ -1,6 +1,7 @@
 pub mod Written
 pub mod Performed
 pub mod Passed
+pub mod Alike
 pub mod Tallies
 pub mod Headline
 pub mod Demo

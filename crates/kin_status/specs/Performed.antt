@@ -5,6 +5,7 @@ use Rattle.kin_script.specs.declared.refusal.Refusal.TheVariants.{NotKept}
 use Rattle.kin_script.specs.Deeds.{Deed}
 use Rattle.kin_script.specs.Questions.{IsProvided, IsReplyLine}
 use Rattle.kin_script.specs.Replay.{IsRefused, IsAllowed}
+use Rattle.kin_script.specs.Alike.{IsAlike}
 use Rattle.kin_script.specs.States.{State}
 use Rattle.kin_script.specs.Text.{Step, Text, Ending, Prints}
 use Rattle.kin_print.specs.declared.reply.Reply.{Reply}
@@ -48,10 +49,10 @@ abbrev pub Puts : {E : Type 0} → (List ℕ → Type 0) → Result E Stop → P
 Puts IsText (Ok x) p q = GainsSome IsText p q
 Puts IsText (Err stop) p q = BreaksOff (IsFrontOfEach IsText) stop p q
 
--- it was done and its text appended to all bytes so far; or it is refused and nothing is changed; or it is not refused and the run was broken off at a prefix
--- of its text
+-- it was done and its text appended to all bytes so far, and the state is the one that it leads to, but for legs that are over; or it is refused and nothing is
+-- changed; or it is not refused and the run was broken off at a prefix of its text
 abbrev pub Performs : {E : Type 0} → State → Deed → Result E Halt → Printer → Printer → State → Type 0
-Performs s d (Ok x) p q t = GainsSome (λ text. Step s d text t) p q
+Performs s d (Ok x) p q t = GainsSome (λ text. (u : State) × Step s d text u × IsAlike u t) p q
 Performs s d (Err (Refused r)) p q t = IsRefused s d r × (q ≡ p) × (t ≡ s)
 Performs s d (Err (Broken stop)) p q t = IsAllowed s d × BreaksOff (IsFrontOfEach (Prints s d)) stop p q
 

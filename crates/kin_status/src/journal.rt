@@ -39,7 +39,7 @@ pub fn put_if_on(out: &mut Vec<u8>, journal: bool, block: &Block) -> Result<(), 
 }
 
 /// Appends the line with the moment that `next` moved to.
-fn put_now(out: &mut Vec<u8>, now: &Moment) -> Result<(), NoMemory>
+pub fn put_now(out: &mut Vec<u8>, now: &Moment) -> Result<(), NoMemory>
     ensures ok { OnOk result (out.new.items ≡ out.old.items ++ now_line now.now) }
     ensures err { OnErr result (PutsFront out.old.items out.new.items (now_line now.now)) }
 {

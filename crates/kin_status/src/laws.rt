@@ -1,5 +1,6 @@
 //! The laws of the text. Each function's contract is one law; none of them does anything.
 
+ghost use Rattle.kin_status.specs.Alike.{AlikePasses, AlikeTexts};
 ghost use Rattle.kin_status.specs.Demo.{DemoTextsExist, OneDemoText};
 ghost use Rattle.kin_status.specs.Headline.{OneAnswer, TextsExist};
 
@@ -25,4 +26,11 @@ pub fn demo_texts_exist()
 /// A seed and a count have at most one text.
 pub fn one_demo_text()
     ensures { OneDemoText }
+{}
+
+/// Legs that are over don't matter: from two states that differ in nothing else, commands have the same text with the
+/// same ending, and pass the same blocks.
+pub fn past_legs_change_no_text()
+    ensures texts { AlikeTexts }
+    ensures passes { AlikePasses }
 {}

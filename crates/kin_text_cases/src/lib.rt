@@ -18,6 +18,8 @@ mod outside;
 #[cfg(test)]
 mod ranges;
 #[cfg(test)]
+mod refusals;
+#[cfg(test)]
 mod replies;
 #[cfg(test)]
 mod rows;

@@ -120,3 +120,32 @@ fn points_leave_start_anew_and_turn(rt: HostRuntime) -> Result<(), Fail> {
     says(&rt, rt.alloc(), bytes, &told)?;
     Ok(())
 }
+
+#[test]
+fn legs_are_planned(rt: HostRuntime) -> Result<(), Fail> {
+    let bytes =
+        b"size 3\ninsert 0 0 0 1 0\nleg 0 4 -1 0\n\tleg 007 2147483647 -8192 8192 # late\nnext\n";
+    let m = Motion::new(0, 0, 1, 0);
+    let (at, u, v) = (2147483647, -8192, 8192);
+    let told = Told {
+        size: 3,
+        keeps: &[],
+        journal: false,
+        lines: &[
+            (2, Command::Insert { no: 0, m }),
+            (
+                3,
+                Command::Leg {
+                    no: 0,
+                    at: 4,
+                    u: -1,
+                    v: 0,
+                },
+            ),
+            (4, Command::Leg { no: 7, at, u, v }),
+            (5, Command::Next),
+        ],
+    };
+    says(&rt, rt.alloc(), bytes, &told)?;
+    Ok(())
+}

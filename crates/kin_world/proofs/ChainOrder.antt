@@ -19,7 +19,7 @@ use Rattle.kin_motion.specs.Live.{owned_by}
 use Rattle.kin_motion.specs.Merges.{IsHullFact, points_under}
 use Rattle.kin_motion.specs.Moments.{IsFromUntil, HoldsAt}
 use Rattle.kin_motion.specs.Numbers.{IsIn}
-use Rattle.kin_motion.specs.Scene.{Scene, IsReal, scene_at, x_sign}
+use Rattle.kin_motion.specs.Scene.{Scene, Holds, IsReal, scene_at, x_sign}
 use Rattle.kin_motion.proofs.ChainLaws.{chain_within, plus_from}
 use Rattle.kin_motion.proofs.LiveLaws.{live-members}
 use Rattle.kin_motion.proofs.Members.{in_from_contains}
@@ -119,6 +119,18 @@ pub blocks_keep_order : BlocksKeepOrder
 blocks_keep_order ms size keeps hull now b proper kept here next =
     until_keeps ms size proper.slow (λ m. live_fits size ms m proper.slots) now b.moment here next.canonical next.later
     (λ m until p fact. next.hold_before (owned_by hull p) (record { keep = Hull; kept = kept; fact = fact }) m until)
+
+-- where all facts of the hull hold in a second scene its chains there are those of the first, so what keeps their order since the second keeps it since the first
+pub kept_since : (size : ℕ) (u v w : Scene) → IsReal u → IsReal v → FitsSize size u → u.live ≡ v.live → ((p : Placed) → IsHullFact size u p → Holds v p.fact) → TreesKeepOrder size v w → TreesKeepOrder size u w
+kept_since size u v w real real' fits same hold keeps = record {
+  upper = λ node old new some low was is. keeps.upper node old new some low (moved Upper node old was) is;
+  lower = λ node old new some low was is. keeps.lower node old new some low (moved Lower node old was) is;
+}
+  where
+    moved : (side : Side) (node : ℕ) (old : List ℕ) → IsChainOfNode size (seen_from side u) node old → IsChainOfNode size (seen_from side v) node old
+    moved side node old was =
+        node_stays size (seen_from side u) (seen_from side v) (seen_real side u real) (seen_real side v real') (λ i h. fits i (subst (IsIn i) (seen_live side u) h)) (seen_live side u ∙ same ∙ sym (seen_live side v))
+        (tree_holds size u v real real' hold side) node old was
 
 -- ---- at one moment
 -- a line between two numbers with the same motions has the same sign

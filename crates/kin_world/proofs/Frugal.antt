@@ -5,7 +5,7 @@ use Rattle.std.proofs.lemmas.Nat.{mul-le}
 use Rattle.std.specs.Prelude.{◌*◌, Bool, cond, count_by, filter, sum}
 use Rattle.kin_world.proofs.Vocabulary.{◌≡◌, ◌↔◌, refl, sym, ap, ◌∙◌, subst, arith, ℕ, ◌+◌, ◌≤◌, true, List, [], ◌∷◌, map, length, length-map, slice_get, Some, Option, Contains}
 use Rattle.kin_world.proofs.Vocabulary.{Moment, Course, Certificate, IsNextBlock, Block, IsReal, Keep, Scene, scene_at, live_fits, contains_map, contains_mapped, exactly_in_words, filter-complete}
-use Rattle.kin_world.proofs.Vocabulary.{AreWaiting, Facts, HasGivenOut, HasSameFrame, IsMarked, IsSound, LiveFact, NoneWaits, Owned, Stage, Structure, certificate_of, certificates_of, meaning, setting, sight, AreLiveAfter}
+use Rattle.kin_world.proofs.Vocabulary.{AreWaiting, Facts, HasGivenOut, HasSameFrame, IsMarked, IsSound, LiveFact, NoneWaits, Owned, Stage, Structure, certificate_of, certificates_of, meaning, owned_by, setting, sight, AreLiveAfter}
 use Rattle.kin_motion.specs.declared.keep.Keep.TheVariants.{Order, Extreme, Hull, Closest, Range}
 use Rattle.kin_motion.specs.Agreements.{FitsSize}
 use Rattle.kin_motion.specs.KeptOrder.{KeptHullKeepsOrder, TreesKeepOrder}
@@ -16,12 +16,12 @@ use Rattle.kin_cert.specs.Remade.{names_number}
 use Rattle.kin_cert.proofs.Costs.{enough}
 use Rattle.kin_world.specs.declared.structure.Mark.{Mark}
 use Rattle.kin_world.specs.Costs.{AreAsked, IsRepairCost, IsTurnCost}
-use Rattle.kin_world.specs.Paid.{HavePaid, IsInStep, IsPaid}
+use Rattle.kin_world.specs.Paid.{HavePaid, IsInStep, IsPaid, IsRepaid, IsSeenBefore}
 use Rattle.kin_world.proofs.Certificates.{same_listed}
-use Rattle.kin_world.proofs.ChainOrder.{blocks_keep_order}
+use Rattle.kin_world.proofs.ChainOrder.{blocks_keep_order, kept_since}
 use Rattle.kin_world.proofs.MarkLaws.{live_after}
-use Rattle.kin_world.proofs.RootLaws.{proper}
-use Rattle.kin_world.proofs.SoundLaws.{fits, real, whole}
+use Rattle.kin_legs.specs.declared.leg.Leg.{Leg}
+use Rattle.kin_world.proofs.SoundLaws.{fit_proper, fits, live_holds, real}
 use Rattle.kin_world.proofs.TakeLaws.{same_facts}
 
 -- ---- what waits
@@ -50,23 +50,37 @@ given_wait live given h =
 
 -- ---- a call that repairs
 -- The facts given out are paid for, and the table that they were given out of has the certificates of the start.
-pub frugal_of : (s t : Stage) (start : List LiveFact) (asked : List ℕ) (given failures before halfway after : ℕ) → ((c : Certificate) → Contains (certificates_of s.table.live) c ↔ Contains (certificates_of start) c)
-    → length start ≡ length s.table.live → AreAsked s.size s.keeps (sight s) (sight t) asked → NoneWaits t.table.live → IsPaid start t.table.live (sum asked) halfway after → given ≤ waiting_count start
-    → ((r : ℕ) → IsEnough (length s.table.live) r → halfway ≤ before + (given * r + 2 * failures + 4)) → IsRepairCost (meaning s true) (meaning t true) failures before after
-frugal_of s t start asked given failures before halfway after same count asks none paid wait first = record {
+pub frugal_of : (v : Scene) (s t : Stage) (start : List LiveFact) (asked : List ℕ) (given failures before halfway after : ℕ) → ((c : Certificate) → Contains (certificates_of s.table.live) c ↔ Contains (certificates_of start) c)
+    → length start ≡ length s.table.live → AreAsked s.size s.keeps v (sight t) asked → NoneWaits t.table.live → IsPaid start t.table.live (sum asked) halfway after → given ≤ waiting_count start
+    → ((r : ℕ) → IsEnough (length s.table.live) r → halfway ≤ before + (given * r + 2 * failures + 1)) → IsRepaid v s t failures before after
+frugal_of v s t start asked given failures before halfway after same count asks none paid wait first = record {
   asked = asked;
   asks = asks;
   dropped = paid.dropped;
   gone = exactly_in_words paid.dropped _ _ (λ c. (λ h. ((same c).1 h.0, h.1), λ h. ((same c).0 h.0, h.1))) paid.gone;
   born = paid.born;
   come = exactly_in_words paid.born _ _ (λ c. (λ h. (h.0, λ k. h.1 ((same c).0 k)), λ h. (h.0, λ k. h.1 ((same c).1 k)))) paid.come;
+  few = let few = paid.few in omega (arith, few, count);
   bound = λ r e.
-      let listed = length-map s.table.live (λ (l : LiveFact). l.certificate) in
-      let one = paid.bound r (enough (length start + length paid.born) (length (certificates_of s.table.live) + length paid.born) r (omega (arith, listed, count)) e) in
-      let two = first r (enough (length s.table.live) (length (certificates_of s.table.live) + length paid.born) r (omega (arith, listed)) e) in
+      let one = paid.bound r (enough (length start + length paid.born) (length s.table.live + length paid.born) r (omega (arith, count)) e) in
+      let two = first r (enough (length s.table.live) (length s.table.live + length paid.born) r (omega arith) e) in
       let times : given * r ≤ waiting_count start * r = mul-le given r (waiting_count start) r wait (omega arith) in
       let zero : waiting_count t.table.live * r ≡ 0 * r = ap (λ n. n * r) (none_waiting t.table.live none) in
       omega (arith, one, two, times, zero);
+}
+
+-- what a repair at one moment cost
+as_cost : {s t : Stage} {failures before after : ℕ} → IsRepaid (sight s) s t failures before after → (legs others : List Leg) → IsRepairCost (meaning s legs true) (meaning t others true) failures before after
+as_cost {s} {t} {failures} {before} {after} paid legs others = record {
+  asked = paid.asked;
+  asks = paid.asks;
+  dropped = paid.dropped;
+  gone = paid.gone;
+  born = paid.born;
+  come = paid.come;
+  bound = λ r e.
+      let bound = paid.bound r (enough (length s.table.live + length paid.born) (length (certificates_of s.table.live) + length paid.born) r (omega (arith, length-map s.table.live (λ (l : LiveFact). l.certificate))) e) in
+      omega (arith, bound);
 }
 
 -- the chains of a kept hull keep their order
@@ -77,49 +91,63 @@ chains_kept size Hull v w trees = trees refl
 chains_kept size Closest v w trees = tt
 chains_kept size Range v w trees = tt
 
-module _ {s : Stage} (sound : IsSound s) where
+-- what was seen just now
+pub seen_now : {s : Stage} → IsSound s → IsSeenBefore (sight s) s
+seen_now {s} sound = record {
+  real = real sound;
+  fits = fits sound;
+  same_live = refl;
+  settled = λ j keep st kept here. (sound.in_order.each j keep st kept here).fine;
+  hold = live_holds sound;
+}
+
+module _ {s : Stage} (sound : IsSound s) {v : Scene} (before_now : IsSeenBefore v s) where
   -- every structure is in step with another real scene
-  in_step : (w : Scene) → IsReal w → FitsSize s.size w → ((hull : ℕ) → slice_get s.keeps hull ≡ Some Hull → TreesKeepOrder s.size (sight s) w)
-      → (j : ℕ) (keep : Keep) (st : Structure) → slice_get s.keeps j ≡ Some keep → slice_get s.structures j ≡ Some st → IsInStep s.size keep (sight s) w st
+  in_step : (w : Scene) → IsReal w → FitsSize s.size w → ((hull : ℕ) → slice_get s.keeps hull ≡ Some Hull → TreesKeepOrder s.size v w)
+      → (j : ℕ) (keep : Keep) (st : Structure) → slice_get s.keeps j ≡ Some keep → slice_get s.structures j ≡ Some st → IsInStep s.size keep v w st
   in_step w there fit trees j keep st kept here = record {
-    settled = (sound.in_order.each j keep st kept here).fine;
+    settled = before_now.settled j keep st kept here;
     step = record {
-      old_real = real sound;
+      old_real = before_now.real;
       new_real = there;
-      old_fits = fits sound;
+      old_fits = before_now.fits;
       new_fits = fit;
-      chains = chains_kept s.size keep (sight s) w (λ e. trees j (subst (λ (x : Keep). slice_get s.keeps j ≡ Some x) e kept));
+      chains = chains_kept s.size keep v w (λ e. trees j (subst (λ (x : Keep). slice_get s.keeps j ≡ Some x) e kept));
     };
   }
-
-  -- a number has entered or left
-  pub marked_frugal : (mark : Mark) (motions : List (Option Course)) → IsMarked mark 0 s.motions (record s { motions = motions }) → TreesKeepOrder s.size (sight s) (scene_at motions s.moment) → {t : Stage} {before halfway after : ℕ}
-      → HasSameFrame (record s { motions = motions }) t → IsSound t → HavePaid (λ live. AreLiveAfter mark live (scene_at motions s.moment).live) (length s.keeps) (record s { motions = motions }) t halfway after
-      → halfway ≤ before + 4 → IsRepairCost (meaning s true) (meaning t true) 0 before after
-  marked_frugal mark motions marked trees {t} {before} {halfway} {after} frame sound' paid less =
-      let w = scene_at motions s.moment in
-      let sees : sight t ≡ w = ap (λ (x : Stage). sight x) frame in
-      let fit : FitsSize s.size w = subst (λ (x : Stage). FitsSize x.size (sight x)) frame (fits sound') in
-      let done = paid.paid (sight s) (live_after mark marked) (in_step w (subst (λ (x : Scene). IsReal x) sees (real sound')) fit (λ hull kept. trees)) in
-      let asks : AreAsked s.size s.keeps (sight s) (sight t) done.asked = subst (λ (x : Scene). AreAsked s.size s.keeps (sight s) x done.asked) (sym sees) (record { count = done.count; each = done.each }) in
-      frugal_of s t s.table.live done.asked 0 0 before halfway after (λ c. (λ h. h, λ h. h)) refl asks sound'.none_waits done.paid (omega arith) (λ r e. omega (arith, less))
 
   -- a block
   pub block_frugal : (table : Facts) {given : List Owned} (out : HasGivenOut s.table.live table.live given) → AreWaiting table.live given → (m : Moment) (b : Block) → IsNextBlock (setting s) s.moment b → b.moment ≡ m
       → {t : Stage} {before halfway after : ℕ} → HasSameFrame (record s { moment = m; table = table }) t → IsSound t → HavePaid (λ live. live ≡ (scene_at s.motions m).live) (length s.keeps) (record s { moment = m; table = table }) t halfway after
-      → ((r : ℕ) → IsEnough (length s.table.live) r → halfway ≤ before + (length given * r + 2 * length given + 4)) → IsRepairCost (meaning s true) (meaning t true) (length given) before after
+      → ((r : ℕ) → IsEnough (length s.table.live) r → halfway ≤ before + (length given * r + 2 * length given + 1)) → IsRepaid v s t (length given) before after
   block_frugal table {given} out waits m b next at {t} {before} {halfway} {after} frame sound' paid first =
       let w = scene_at s.motions m in
       let sees : sight t ≡ w = ap (λ (x : Stage). sight x) frame in
-      let trees : (hull : ℕ) → slice_get s.keeps hull ≡ Some Hull → TreesKeepOrder s.size (sight s) w = λ hull kept.
-      subst (λ (n : Moment). TreesKeepOrder s.size (sight s) (scene_at s.motions n)) at (blocks_keep_order s.motions s.size s.keeps hull s.moment b (proper (meaning s true) (whole sound)) kept sound.in_order.canonical next) in
-      let done = paid.paid (sight s) refl (in_step w (subst (λ (x : Scene). IsReal x) sees (real sound')) (live_fits s.size s.motions m sound.in_order.fit.room) trees) in
-      let asks : AreAsked s.size s.keeps (sight s) (sight t) done.asked = subst (λ (x : Scene). AreAsked s.size s.keeps (sight s) x done.asked) (sym sees) (record { count = done.count; each = done.each }) in
-      frugal_of s t table.live done.asked (length given) (length given) before halfway after (same_listed (same_facts sound table out)) out.has_taken.count asks sound'.none_waits done.paid (given_wait table.live given waits) first
+      let done = paid.paid v before_now.same_live (in_step w (subst (λ (x : Scene). IsReal x) sees (real sound')) (live_fits s.size s.motions m sound.in_order.fit.room) trees) in
+      let asks : AreAsked s.size s.keeps v (sight t) done.asked = subst (λ (x : Scene). AreAsked s.size s.keeps v x done.asked) (sym sees) (record { count = done.count; each = done.each }) in
+      frugal_of v s t table.live done.asked (length given) (length given) before halfway after (same_listed (same_facts sound table out)) out.has_taken.count asks sound'.none_waits done.paid (given_wait table.live given waits) first
+    where
+      trees : (hull : ℕ) → slice_get s.keeps hull ≡ Some Hull → TreesKeepOrder s.size v (scene_at s.motions m)
+      trees hull kept =
+          kept_since s.size v (sight s) (scene_at s.motions m) before_now.real (real sound) before_now.fits before_now.same_live
+          (λ p fact. before_now.hold (owned_by hull p) (record { keep = Hull; kept = kept; fact = fact }))
+          (subst (λ (n : Moment). TreesKeepOrder s.size (sight s) (scene_at s.motions n)) at (blocks_keep_order s.motions s.size s.keeps hull s.moment b (fit_proper sound) kept sound.in_order.canonical next))
+
+-- a number has entered or left
+pub marked_frugal : {s : Stage} (sound : IsSound s) (mark : Mark) (motions : List (Option Course)) → IsMarked mark 0 s.motions (record s { motions = motions }) → TreesKeepOrder s.size (sight s) (scene_at motions s.moment) → {t : Stage} {before after : ℕ}
+    → HasSameFrame (record s { motions = motions }) t → IsSound t → HavePaid (λ live. AreLiveAfter mark live (scene_at motions s.moment).live) (length s.keeps) (record s { motions = motions }) t before after
+    → (legs others : List Leg) → IsRepairCost (meaning s legs true) (meaning t others true) 0 before after
+marked_frugal {s} sound mark motions marked trees {t} {before} {after} frame sound' paid legs others =
+    let w = scene_at motions s.moment in
+    let sees : sight t ≡ w = ap (λ (x : Stage). sight x) frame in
+    let fit : FitsSize s.size w = subst (λ (x : Stage). FitsSize x.size (sight x)) frame (fits sound') in
+    let done = paid.paid (sight s) (live_after mark marked) (in_step sound (seen_now sound) w (subst (λ (x : Scene). IsReal x) sees (real sound')) fit (λ hull kept. trees)) in
+    let asks : AreAsked s.size s.keeps (sight s) (sight t) done.asked = subst (λ (x : Scene). AreAsked s.size s.keeps (sight s) x done.asked) (sym sees) (record { count = done.count; each = done.each }) in
+    as_cost (frugal_of (sight s) s t s.table.live done.asked 0 0 before before after (λ c. (λ h. h, λ h. h)) refl asks sound'.none_waits done.paid (omega arith) (λ r e. omega arith)) legs others
 
 -- ---- a turn
-pub turn_frugal : (s : Stage) (number before halfway after : ℕ) → halfway ≤ before + 4 → TakesAtMost (length s.table.live) (λ r. count_by (names_number number) s.table.live * (2 * r + 1)) halfway after
-    → IsTurnCost number (meaning s true) before after
-turn_frugal s number before halfway after less takes r e =
+pub turn_frugal : (s : Stage) (legs : List Leg) (number before after : ℕ) → TakesAtMost (length s.table.live) (λ r. count_by (names_number number) s.table.live * (2 * r + 1)) before after
+    → IsTurnCost number (meaning s legs true) before after
+turn_frugal s legs number before after takes r e =
     let part = takes r (enough (length s.table.live) (length (certificates_of s.table.live)) r (omega (arith, length-map s.table.live (λ (l : LiveFact). l.certificate))) e) in
-    rw fold-map (omega (arith, part, less))
+    rw fold-map (omega (arith, part))

@@ -22,3 +22,11 @@ pub mod ChainOrder
 pub mod Sufficiency
 pub mod PaidLaws
 pub mod Frugal
+pub mod NextStops
+pub mod CrossingLaws
+pub mod Beginnings
+pub mod Ways
+pub mod StepLaws
+pub mod LegLaws
+pub mod Coming
+pub mod Following

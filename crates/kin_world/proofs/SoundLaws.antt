@@ -3,7 +3,8 @@ use Rattle.std.proofs.Common.{◌≡◌, inl, inr, refl, sym, ap, ◌∙◌, sub
 use Rattle.kin_world.proofs.Vocabulary.{All-contains, slice_get_read, slice_get_within, get_within, IsCanonical, IsEarlier, Moment, never, through, total, Course, IsAskable, NothingFails, failures_at, Certificate, IsLiveFact, ListsLive}
 use Rattle.kin_world.proofs.Vocabulary.{FailsFirst, IsReal, scene_at, AreDistinct, Placed, Keep, live_fits, real_at, contains_map, contains_mapped, distinct_cons, distinct_none, AreAlike, LiveFact, NoneAlike, IsLeastFailure, NoneFails}
 use Rattle.kin_world.proofs.Vocabulary.{NoneFailsUntil, IsTimed, certificates_of, IsInTime, earlier_still, fails_first, hold_before_least, later_start, nothing_fails, timed_holds, placed_facts, IsSettledFor, HasSameFrame, HasSettled}
-use Rattle.kin_world.proofs.Vocabulary.{IsSound, Stage, meaning, setting, sight, FailsWithin, HasInserted, HasMade, HasRemoved, IsNextMoment, IsWhole, with_facts_of, Structure}
+use Rattle.kin_world.proofs.Vocabulary.{rules, slice_get-get_or, AreAhead, AreFollowed, Holds, IsNextBlock, IsSound, IsAtEase, Leg, Planning, Stage, meaning, setting, sight, without, HasInserted, Facts, HasMade, HasRemoved, IsWhole, with_facts_of, Structure}
+use Rattle.kin_fail.specs.Laws.{IsProper}
 use Rattle.kin_motion.specs.Agreements.{FitsSize}
 use Rattle.kin_motion.proofs.LiveFactLaws.{live_facts_agree}
 use Rattle.kin_fail.proofs.JournalExistence.{least_block}
@@ -57,8 +58,17 @@ module _ {s : Stage} (sound : IsSound s) where
   is_live : (l : LiveFact) → Contains s.table.live l → IsLiveFact s.size s.keeps (sight s) l.certificate
   is_live l there = (lists_live.each l.certificate).0 (contains_map (λ (x : LiveFact). x.certificate) s.table.live l there)
 
-  pub whole : IsWhole (meaning s true)
-  whole = assumption (lists_live, sound)
+  pub whole : {legs : List Leg} → AreFollowed s.motions legs → AreAhead s.moment legs → IsWhole (meaning s legs true)
+  whole followed ahead = assumption (lists_live, sound, followed, ahead)
+
+  pub fit_proper : IsProper s.motions s.size s.keeps
+  fit_proper = search (rules, sound.in_order.fit, slice_get-get_or)
+
+  -- and they all hold now
+  pub live_holds : (c : Certificate) → IsLiveFact s.size s.keeps (sight s) c → Holds (sight s) c.placed.fact
+  live_holds c live =
+      let l = contains_mapped (λ (k : LiveFact). k.certificate) s.table.live c ((lists_live.each c).1 live) in
+      subst (λ (d : Certificate). Holds (sight s) d.placed.fact) (sym l.2) (timed_holds (scene_at s.motions) s.moment sound.in_order.canonical l.0 (timed_here l.0 l.1))
 
   pub real : IsReal (sight s)
   real = real_at s.motions s.moment sound.in_order.canonical
@@ -97,23 +107,16 @@ module _ {s : Stage} (sound : IsSound s) where
   ]
 
   module _ (m : Moment) (least : IsLeastFailure s.table.live m) where
-    -- the least failure is the next moment
-    pub next_moment : IsNextMoment (setting s) s.moment m
-    next_moment =
+    -- the least failure is the moment of the next block
+    pub next_at : IsNextBlock (setting s) s.moment (record { moment = m; failures = failures_at (setting s) s.moment m })
+    next_at =
         let listed = live_facts_agree s.size s.keeps (sight s) real fits in
-        record {
-          failures = failures_at (setting s) s.moment m;
-          next = least_block (setting s) s.moment real fits m (record {
-            some = least.some.0.certificate;
-            among = (listed.each least.some.0.certificate).1 (is_live least.some.0 least.some.1);
-            fails = least_fails m least;
-            hold_before = λ c there x until. hold_before_least (setting s) s.moment s.table.live in_time m least x until.canonical until.from until.until c ((listed.each c).0 there);
-          });
-        }
-
-    -- where it isn't after the limit, a live fact fails until then
-    pub fails_within : (limit : Moment) → ¬ (IsEarlier limit m) → FailsWithin limit (meaning s true)
-    fails_within limit within = record { certificate = least.some.0.certificate; live = is_live least.some.0 least.some.1; moment = m; fails = least_fails m least; within = within }
+        least_block (setting s) s.moment real fits m (record {
+          some = least.some.0.certificate;
+          among = (listed.each least.some.0.certificate).1 (is_live least.some.0 least.some.1);
+          fails = least_fails m least;
+          hold_before = λ c there x until. hold_before_least (setting s) s.moment s.table.live in_time m least x until.canonical until.from until.until c ((listed.each c).0 there);
+        })
 
   module _ (limit : Moment) (canonical : IsCanonical limit.at) (from : ¬ (IsEarlier limit s.moment)) (none : NoneFailsUntil s.table.live limit) where
     later : (l : LiveFact) → Contains s.table.live l → (n : Moment) → l.fails ≡ Some n → IsEarlier limit n
@@ -141,19 +144,35 @@ module _ {s : Stage} (sound : IsSound s) where
 
 -- where a call has changed nothing but the facts, of a stage that was another's moment or motions before
 module _ (s : Stage) {t : Stage} (did : HasSettled s.table t) (frame : HasSameFrame s t) where
-  pub same_but_facts : meaning t true ≡ with_facts_of (meaning s true) (meaning t true)
-  same_but_facts = ap (λ (x : Stage). meaning x true) frame
-
-  pub has_made : (before : Stage) → before.table ≡ s.table → HasMade (meaning before true) (meaning t true)
-  has_made before same = record { born = did.made.born; exactly = rw same did.made.exactly; count = rw same did.made.count }
+  pub has_made : (before : Stage) → before.table ≡ s.table → {legs others : List Leg} → HasMade 0 (meaning before legs true) (meaning t others true)
+  has_made before same = record {
+    born = did.made.born;
+    exactly = rw same did.made.exactly;
+    count = let made = did.made.count in let was = ap (λ (f : Facts). f.made) same in omega (arith, made, was);
+  }
 
   -- a number has another motion, or none
-  module _ (before : List (Option Course)) (i : ℕ) where
-    state_with : (o : Option Course) → s.motions ≡ slice_set before i o → meaning t true ≡ with_facts_of (record (meaning s true) { motions = slice_set before i o }) (meaning t true)
-    state_with o written = same_but_facts ∙ ap (λ (ms : List (Option Course)). with_facts_of (record (meaning s true) { motions = ms }) (meaning t true)) written
+  module _ (before : List (Option Course)) (i : ℕ) (o : Option Course) (written : s.motions ≡ slice_set before i o) where
+    state_with : (legs : List Leg) → meaning t legs true ≡ with_facts_of (record (meaning s legs true) { motions = slice_set before i o }) (meaning t legs true)
+    state_with legs = ap (λ (x : Stage). meaning x legs true) frame ∙ ap (λ (ms : List (Option Course)). with_facts_of (record (meaning s legs true) { motions = ms }) (meaning t legs true)) written
 
-    pub has_inserted : (motion : Course) → s.motions ≡ slice_set before i (Some motion) → HasInserted i motion (meaning (record s { motions = before }) true) (meaning t true)
-    has_inserted motion written = record { state = state_with (Some motion) written; whole = whole did.sound; made = has_made (record s { motions = before }) refl }
+    -- points that follow legs follow them then
+    pub ease_with : (plan : Planning) → plan.size ≡ s.size → AreFollowed (slice_set before i o) plan.legs → AreAhead s.moment plan.legs → IsAtEase t plan
+    ease_with plan size followed ahead = record {
+      sound = did.sound;
+      size = size ∙ sym (ap (λ (x : Stage). x.size) frame);
+      followed = subst (λ (ms : List (Option Course)). AreFollowed ms plan.legs) (sym written ∙ sym (ap (λ (x : Stage). x.motions) frame)) followed;
+      ahead = subst (λ (m : Moment). AreAhead m plan.legs) (sym (ap (λ (x : Stage). x.moment) frame)) ahead;
+    }
 
-    pub has_removed : s.motions ≡ slice_set before i None → HasRemoved i (meaning (record s { motions = before }) true) (meaning t true)
-    has_removed written = record { state = state_with None written; whole = whole did.sound; made = has_made (record s { motions = before }) refl }
+  pub has_inserted : (before : List (Option Course)) (i : ℕ) (motion : Course) → s.motions ≡ slice_set before i (Some motion) → {plan : Planning} → IsAtEase t plan
+      → HasInserted i motion (meaning (record s { motions = before }) plan.legs true) (meaning t plan.legs true)
+  has_inserted before i motion written {plan} ease = record { state = state_with before i (Some motion) written plan.legs; whole = whole did.sound ease.followed ease.ahead; made = has_made (record s { motions = before }) refl }
+
+  pub has_removed : (before : List (Option Course)) (i : ℕ) → s.motions ≡ slice_set before i None → (legs : List Leg) {plan : Planning} → plan.legs ≡ without i legs → IsAtEase t plan
+      → HasRemoved i (meaning (record s { motions = before }) legs true) (meaning t plan.legs true)
+  has_removed before i written legs {plan} left ease = record {
+    state = state_with before i None written plan.legs ∙ ap (λ (ls : List Leg). with_facts_of (record (meaning s ls true) { motions = slice_set before i None }) (meaning t plan.legs true)) left;
+    whole = whole did.sound ease.followed ease.ahead;
+    made = has_made (record s { motions = before }) refl;
+  }

@@ -1,5 +1,5 @@
 -- The words and lemmas of std and of the crates below that several proofs of this crate speak in, brought in at one place.
-pub use Rattle.std.proofs.Common.{All, Contains, Err, IsNone, IsTrue, List, None, Option, Some, [], ap, arith, false, get_or, get_or-set_same, inl, inr, is_some, length, length-set, map, pos, refl, rules, set-set, slice_get}
+pub use Rattle.std.proofs.Common.{All, Contains, Err, IsNone, IsTrue, List, None, Option, Some, [], ap, arith, false, get_or, get_or-set_same, inl, inr, is_some, length, length-set, map, min, pos, refl, rules, set-set, slice_get}
 pub use Rattle.std.proofs.Common.{slice_index_or, slice_set, subst, sym, take, true, w32, ℕ, ℤ, ◌++◌, ◌+◌, ◌-◌, ◌<◌, ◌^◌, ◌↔◌, ◌∙◌, ◌∷◌, ◌≡◌, ◌≢◌, ◌≤◌, ◌⊎◌}
 pub use Rattle.std.proofs.lemmas.Bool.{cases_Bool, cases_eq, or_parts}
 pub use Rattle.std.proofs.lemmas.Bool.Decides.{nat_tests}
@@ -47,8 +47,13 @@ pub use Rattle.kin_world.specs.Kinds.{HasMembers, kinetic, placed_facts}
 pub use Rattle.kin_world.specs.Costs.{IsRepairCost, IsTurnCost}
 pub use Rattle.kin_world.specs.Paid.{HavePaid}
 pub use Rattle.kin_world.specs.Structures.{AreLiveAfter, AreVacant, HoldFor, IsSettledFor, IsSettledWhereAllHold, IsVacant}
-pub use Rattle.kin_world.specs.Upkeep.{AreLeft, AreTold, AreWaiting, HasComeTo, HasGoneOn, HasGoneOver, HasLanded, HasOneMore, HasRepaired, HasSameFrame, HasSettled, HasTimedNew, HasUpdated, IsBeyond, IsCarriedOut, IsDueWithin, IsFit}
-pub use Rattle.kin_world.specs.Upkeep.{IsInOrder, IsInPlace, IsLanding, IsMarked, IsRepairing, IsSound, IsTimedOrFailed, IsUnderRepair, ListsWaiting, Stage, is_line, meaning, setting, sight}
+pub use Rattle.kin_world.specs.Upkeep.{AreLeft, AreTold, AreWaiting, HasComeTo, HasGoneOn, HasGoneOver, HasLanded, HasOneMore, HasRepaired, HasSameFrame, HasSettled, HasTakenUp, HasTimedNew, HasUpdated, IsBeyond, IsCarriedOut, IsDueWithin, IsFit}
+pub use Rattle.kin_world.specs.Upkeep.{IsInOrder, IsInPlace, IsLanding, IsMarked, IsRepairing, IsSound, IsTimedOrFailed, IsUnderRepair, ListsWaiting, MayTakeUp, Stage, is_line, meaning, setting, sight}
 pub use Rattle.kin_world.specs.Upkeep.{stage_of, with_marked}
-pub use Rattle.kin_world.specs.Worlds.{CanTurn, FailsWithin, HasInserted, HasLeftBehind, HasMade, HasMoved, HasPassed, HasRemoved, HasTurned, IsNextMoment, IsWhole, World, certificate, with_facts_of, world_setting}
+pub use Rattle.kin_legs.specs.declared.leg.Leg.{Leg}
+pub use Rattle.kin_legs.specs.Joined.{AreAhead, AreFollowed, begins_at, piece_of, plans_of}
+pub use Rattle.kin_legs.specs.Planning.{Planning, without}
+pub use Rattle.kin_world.specs.Crossing.{EndsAt, Flight, HasCrossed, HasCrossedTo, IsAtEase, IsKnownBy, IsNextStop, IsReady, NoneIsPast, flight_of, seen, two_a_leg}
+pub use Rattle.kin_world.specs.Worlds.{BeginsWithin, CanPlan, CanTurn, FailsWithin, HasGoneTo, HasInserted, HasLeftBehind, HasMade, HasMoved, HasPassed, HasPlanned, HasRemoved, HasTurned, IsBusyWithin, IsNextMoment, IsWhole, World, certificate}
+pub use Rattle.kin_world.specs.Worlds.{facts_as_begins, is_about, legs_by, remade_by, with_facts_of, world_plans, world_setting, world_view}
 pub use Rattle.kin_world.specs.declared.structure.Structure.{Structure}

@@ -7,3 +7,4 @@ pub mod ChainOrder
 pub mod Sufficiency
 pub mod Costs
 pub mod Paid
+pub mod Crossing

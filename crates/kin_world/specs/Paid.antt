@@ -1,14 +1,15 @@
 -- What repairs cost, structure after structure. No public clause of the world cites this module.
 use Rattle.std.specs.Prelude.{◌≡◌, ◌≢◌, ℕ, ◌+◌, ◌*◌, ◌≤◌, List, Some, slice_get, length, sum}
 use Rattle.kin_motion.specs.declared.keep.Keep.{Keep}
-use Rattle.kin_motion.specs.Live.{Certificate}
-use Rattle.kin_motion.specs.Scene.{Scene}
+use Rattle.kin_motion.specs.Agreements.{FitsSize}
+use Rattle.kin_motion.specs.Live.{Certificate, IsLiveFact}
+use Rattle.kin_motion.specs.Scene.{Scene, IsReal, Holds}
 use Rattle.kin_motion.specs.Spending.{AreInStep}
 use Rattle.kin_cert.specs.Cost.{IsEnough, waiting_count}
 use Rattle.kin_cert.specs.Facts.{LiveFact}
-use Rattle.kin_cert.specs.Told.{AreNew}
+use Rattle.kin_cert.specs.Told.{AreNew, certificates_of}
 use Rattle.kin_world.specs.declared.structure.Structure.{Structure}
-use Rattle.kin_world.specs.Costs.{IsAsked}
+use Rattle.kin_world.specs.Costs.{IsAsked, AreAsked, AreInFirstAlone}
 use Rattle.kin_world.specs.Structures.{IsSettledFor}
 use Rattle.kin_world.specs.Upkeep.{Stage, sight}
 
@@ -47,3 +48,22 @@ pub record ArePaid (k : ℕ) (v : Scene) (start now : Stage) (before after : ℕ
 pub record HavePaid (may : List ℕ → Type 0) (k : ℕ) (start now : Stage) (before after : ℕ) : Type 0 where
   pub ahead : (j : ℕ) → k ≤ j → slice_get now.structures j ≡ slice_get start.structures j
   pub paid : (v : Scene) → may v.live → AreAllInStep v start → ArePaid k v start now before after
+
+-- a scene before, in which all structures were settled as they are now, and all of whose live facts hold now
+pub record IsSeenBefore (v : Scene) (s : Stage) : Type 0 where
+  pub real : IsReal v
+  pub fits : FitsSize s.size v
+  pub same_live : v.live ≡ (sight s).live
+  pub settled : (j : ℕ) (keep : Keep) (st : Structure) → slice_get s.keeps j ≡ Some keep → slice_get s.structures j ≡ Some st → IsSettledFor s.size keep v st
+  pub hold : (c : Certificate) → IsLiveFact s.size s.keeps v c → Holds (sight s) c.placed.fact
+
+-- The count has risen by at most what the structures ask since that scene, by what the changes of the table take, 2 for each failure, and 1.
+pub record IsRepaid (v : Scene) (s t : Stage) (failures before after : ℕ) : Type 0 where
+  pub asked : List ℕ
+  pub asks : AreAsked s.size s.keeps v (sight t) asked
+  pub dropped : List Certificate
+  pub gone : AreInFirstAlone (certificates_of s.table.live) (certificates_of t.table.live) dropped
+  pub born : List Certificate
+  pub come : AreInFirstAlone (certificates_of t.table.live) (certificates_of s.table.live) born
+  pub few : length t.table.live ≤ length s.table.live + length born
+  pub bound : (r : ℕ) → IsEnough (length s.table.live + length born) r → after ≤ before + (sum asked + (length dropped + length born) * (r + 1) + 2 * failures + 1)

@@ -1,5 +1,5 @@
 -- All that a world is made of, in one piece: what is true of it between two calls, and while it is repaired. No public clause of the world cites this module.
-use Rattle.std.specs.Prelude.{◌≡◌, ◌≢◌, ℕ, ◌+◌, ◌<◌, ◌≤◌, ◌^◌, ◌-◌, ◌⊎◌, min, true, false, Bool, List, map, length, slice_get, slice_index_or, slice_set, [], Option, Some, filter, nat_eq, Contains, ◌↔◌, IsTrue}
+use Rattle.std.specs.Prelude.{◌≡◌, ◌≢◌, ℕ, ◌+◌, ◌<◌, ◌≤◌, ◌^◌, ◌-◌, ◌⊎◌, min, true, false, Bool, List, length, slice_get, slice_set, Option, Some, count_by, Contains, ◌↔◌, IsTrue}
 use Rattle.std.specs.List.{All}
 use Rattle.kin_num.specs.declared.instant.Moment.{Moment}
 use Rattle.kin_num.specs.declared.instant.Phase.TheVariants.{At, After}
@@ -9,7 +9,7 @@ use Rattle.kin_motion.specs.declared.fact.Placed.{Placed}
 use Rattle.kin_motion.specs.declared.form.Form.{Form}
 use Rattle.kin_motion.specs.declared.form.Form.TheVariants.{Line, Turn, Slope, Dist}
 use Rattle.kin_motion.specs.declared.keep.Keep.{Keep}
-use Rattle.kin_motion.specs.Course.{Course, AreSlow, is_live}
+use Rattle.kin_motion.specs.Course.{Course, AreSlow, IsSlow, is_live, motion_of}
 use Rattle.kin_motion.specs.Deltas.{Change}
 use Rattle.kin_motion.specs.Journal.{Setting, setting_of}
 use Rattle.kin_motion.specs.Kinetics.{HasChanged}
@@ -17,19 +17,21 @@ use Rattle.kin_motion.specs.Live.{Certificate, owned_by}
 use Rattle.kin_motion.specs.Moments.{HoldsAt}
 use Rattle.kin_motion.specs.Scene.{Scene, scene_at}
 use Rattle.kin_motion.specs.Sets.{AreDistinct, ListsExactly}
+use Rattle.kin_motion.specs.Turning.{TurnsTo}
 use Rattle.kin_fail.specs.declared.owned.Owned.{Owned}
 use Rattle.kin_fail.specs.Blocks.{certificate_of}
 use Rattle.kin_cert.specs.Facts.{LiveFact, Facts, NoneAlike}
 use Rattle.kin_cert.specs.Mails.{told_to}
 use Rattle.kin_cert.specs.Taken.{NoneWaits, IsLeastFailure}
 use Rattle.kin_cert.specs.Told.{HasFactsOf, IsTimed, IsTold, AreNew, certificates_of, nothing}
+use Rattle.kin_legs.specs.declared.leg.Leg.{Leg}
 use Rattle.kin_world.specs.declared.structure.Mark.{Mark}
 use Rattle.kin_world.specs.declared.structure.Mark.TheVariants.{Enters, Leaves}
 use Rattle.kin_world.specs.declared.structure.Structure.{Structure}
 use Rattle.kin_world.specs.declared.upkeep.Upkeep.{Upkeep}
 use Rattle.kin_world.specs.Kinds.{placed_facts}
 use Rattle.kin_world.specs.Structures.{IsSettledFor, IsSettledWhereAllHold, marked}
-use Rattle.kin_world.specs.Worlds.{World, AreKeepable}
+use Rattle.kin_world.specs.Worlds.{World, AreKeepable, is_about}
 
 -- what is kept, the structures in the same order, the table of their live facts, the motions, and the moment now
 pub record Stage : Type 0 where
@@ -44,8 +46,8 @@ abbrev pub stage_of : Upkeep → Stage
 stage_of u = record { size = u.size; keeps = u.keeps.items; structures = u.structures.items; table = u.table; motions = u.motions; moment = u.moment }
 
 -- what a contract of the world sees of it
-abbrev pub meaning : Stage → Bool → World
-meaning s whole = record { size = s.size; keeps = s.keeps; motions = s.motions; moment = s.moment; live = certificates_of s.table.live; made = s.table.made; whole = whole }
+abbrev pub meaning : Stage → List Leg → Bool → World
+meaning s legs whole = record { size = s.size; keeps = s.keeps; motions = s.motions; legs = legs; moment = s.moment; live = certificates_of s.table.live; made = s.table.made; whole = whole }
 
 -- what is kept, and what is seen at each moment
 abbrev pub setting : Stage → Setting
@@ -224,3 +226,20 @@ pub record HasLanded (due limit : Moment) (s t : Stage) : Type 0 where
   pub past : ¬ (IsEarlier t.moment due)
   pub within : ¬ (IsEarlier limit t.moment)
   pub settled : HasSettled s.table t
+
+-- a number may take this motion up now: it is where the number is
+pub record MayTakeUp (number : ℕ) (motion : Course) (s : Stage) : Type 0 where
+  pub before : Course
+  pub had : motion_of s.motions number ≡ Some before
+  pub at : s.moment.phase ≡ At
+  pub turns : TurnsTo s.moment.at motion.u motion.v before motion
+  pub slow : IsSlow motion
+
+-- it has taken it up: every certificate stays, and failure moments were made for those about the number
+pub record HasTakenUp (number : ℕ) (motion : Course) (s t : Stage) : Type 0 where
+  pub state : t ≡ record s { motions = slice_set s.motions number (Some motion); table = t.table }
+  pub sound : IsSound t
+  pub same_sight : sight t ≡ sight s
+  pub stay : (c : Certificate) → Contains (certificates_of t.table.live) c ↔ Contains (certificates_of s.table.live) c
+  pub count : length t.table.live ≡ length s.table.live
+  pub made : t.table.made ≡ min (s.table.made + count_by (is_about number) (certificates_of s.table.live)) (2 ^ 64 - 1)

@@ -5,8 +5,8 @@ ghost use Rattle.kin_world.specs.ChainOrder.{BlocksKeepOrder, HullsFollowTrees, 
 ghost use Rattle.kin_world.specs.Laws.{BlocksAreAtRoots, JournalsExist, WholeWorldsAreProper};
 ghost use Rattle.kin_world.specs.Sufficiency.{LiveFactsImplyAnswers, LiveFactsStay};
 
-/// The next block of a whole world is at a root of the polynomial of each of its failures, or just after one, and there is
-/// a journal up to each moment that isn't before now.
+/// Where no leg begins before the next block of a whole world, the block is at a root of the polynomial of each of its
+/// failures over the motions of now, or just after one. There is a journal up to each moment that isn't before now.
 pub fn failures_are_at_roots()
     ensures block { BlocksAreAtRoots }
     ensures journal { JournalsExist }
@@ -14,7 +14,7 @@ pub fn failures_are_at_roots()
 
 /// In both trees of a hull, the numbers that the chain of a node has both before and after are in the same order. Before and
 /// after are a moment and that of the next block, where a hull is kept, or one moment without a number and with it. The first
-/// asks for proper motions, size and keeps, as those of a whole world are.
+/// is about motions that are kept for ever, and asks for proper motions, size and keeps, as those of a whole world are.
 ///
 /// Up to the block all facts hold, so no chain changes, and along each x rises strictly. No sign goes from + to - without
 /// being 0 between, and two points of one chain differ in x. Where a number enters or leaves, the others are where they were.

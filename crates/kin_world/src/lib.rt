@@ -2,8 +2,8 @@
 //!
 //! This is the event loop of a kinetic data structure (Basch, Guibas and Hershberger, "Data Structures for Mobile Data",
 //! 1999), one step at a time: `World::step` moves to the first moment at which live facts fail, rational or irrational,
-//! repairs all structures there together, and answers what failed. A contract sees a world as its motions, its moment
-//! and its live facts (`specs/Worlds`). `Upkeep` is written for any kind of structure; what holds of every kind is in
+//! repairs all structures there together, and answers what failed. A contract sees a world as its motions, its planned
+//! legs, its moment and its live facts (`specs/Worlds`). `Upkeep` is written for any kind of structure; what holds of every kind is in
 //! `specs/Structures`.
 //!
 //! A program that uses a world imports the names of lower crates from here.
@@ -21,12 +21,15 @@ pub use kin_instant::solve;
 pub use kin_motion::{Fact, Form, Keep, Motion, Rect};
 pub use kin_num::{Instant, Moment, NoMemory, Phase, Poly, Shape, Sign, Steps};
 pub use kin_turn::turned::TurnError;
+pub use planning::LegError;
 pub use std::sync::ledger::Ledger;
 pub use world::World;
 
 pub mod counter;
+mod crossing;
 pub mod laws;
 mod places;
+pub mod planning;
 mod structure;
 mod upkeep;
 pub mod world;

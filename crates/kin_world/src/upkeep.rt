@@ -1,20 +1,22 @@
 //! All that a world is made of, in one piece, and its repair.
 
-ghost use Rattle.std.specs.Prelude.{◌≡◌, ◌<◌, ◌≤◌, ◌+◌, ◌^◌, ℕ, true, length, All, OnOk, IfOk};
+ghost use Rattle.std.specs.Prelude.{◌≡◌, ◌<◌, ◌≤◌, ◌+◌, ◌*◌, ◌^◌, true, [], length, count_by, All, OnOk, IfOk};
 ghost use Rattle.kin_motion.specs.Journal.{Block as Listed, IsNextBlock};
+ghost use Rattle.kin_motion.specs.Scene.{Scene};
 ghost use Rattle.kin_cert.specs.Mails.{told_to};
 ghost use Rattle.kin_cert.specs.Taken.{IsLeastFailure};
-ghost use Rattle.kin_world.specs.Costs.{IsRepairCost};
-ghost use Rattle.kin_world.specs.Paid.{HasPaid, HavePaid};
+ghost use Rattle.kin_cert.specs.Cost.{TakesAtMost};
+ghost use Rattle.kin_cert.specs.Remade.{names_number};
+ghost use Rattle.kin_world.specs.Paid.{HasPaid, HavePaid, IsSeenBefore, IsRepaid};
 ghost use Rattle.kin_world.specs.Structures.{AreLiveAfter, AreVacant};
 ghost use Rattle.kin_world.specs.Worlds.{AreKeepable, empty};
-ghost use Rattle.kin_world.specs.Upkeep.{stage_of, meaning, setting, sight, HasSameFrame, IsSound, IsUnderRepair, IsCarriedOut, ListsWaiting, AreWaiting, HasTimedNew, HasRepaired, HasGoneOn, HasSettled, AreTold};
+ghost use Rattle.kin_world.specs.Upkeep.{stage_of, meaning, setting, sight, HasSameFrame, IsSound, IsUnderRepair, MayTakeUp, HasTakenUp, IsCarriedOut, ListsWaiting, AreWaiting, HasTimedNew, HasRepaired, HasGoneOn, HasSettled, AreTold};
 
 use crate::structure::{Mark, Structure};
 use kin_cert::{Mail, Plan, Table};
 use kin_fail::failures::block_of;
 use kin_fail::{Block, Now, Owned};
-use kin_motion::{Delta, Keep, Motions};
+use kin_motion::{Delta, Keep, Motion, Motions};
 use kin_num::{Instant, Moment, NoMemory, Phase, Shape, Steps};
 use std::alloc::Global;
 use std::mem::replace;
@@ -47,7 +49,7 @@ impl Upkeep {
         requires high { size ≤ 12 }
         requires keepable { AreKeepable keeps.now }
         ensures sound { IfOk result (λ u. IsSound (stage_of u)) }
-        ensures empty { IfOk result (λ u. meaning (stage_of u) true ≡ empty size keeps.now) }
+        ensures empty { IfOk result (λ u. meaning (stage_of u) [] true ≡ empty size keeps.now) }
     {
         let motions = Motions::new(alloc, size)?;
         let moment = Moment {
@@ -143,7 +145,7 @@ impl Upkeep {
         ensures moment { IfOk result (λ b. b.moment ≡ moment.now) }
         ensures settled { OnOk result (HasSettled self.old.table (stage_of self.new)) }
         ensures frame { HasSameFrame (record (stage_of self.old) { moment = moment.now }) (stage_of self.new) }
-        ensures cost { IfOk result (λ b. (before : ℕ) → steps.old ≤ before + 1 → IsRepairCost (meaning (stage_of self.old) true) (meaning (stage_of self.new) true) (length b.failures) before steps.new) }
+        ensures cost { IfOk result (λ b. (v : Scene) → IsSeenBefore v (stage_of self.old) → IsRepaid v (stage_of self.old) (stage_of self.new) (length b.failures) steps.old steps.new) }
     {
         self.moment = *moment;
         let taken = self.table.take_failing(steps)?;
@@ -168,7 +170,7 @@ impl Upkeep {
         ensures next { IfOk result (λ count. (b : Listed) × IsNextBlock (setting (stage_of self.old)) self.old.moment b × (b.moment ≡ moment.now) × (length b.failures ≡ count)) }
         ensures settled { OnOk result (HasSettled self.old.table (stage_of self.new)) }
         ensures frame { HasSameFrame (record (stage_of self.old) { moment = moment.now }) (stage_of self.new) }
-        ensures cost { IfOk result (λ count. (before : ℕ) → steps.old ≤ before + 1 → IsRepairCost (meaning (stage_of self.old) true) (meaning (stage_of self.new) true) count before steps.new) }
+        ensures cost { IfOk result (λ count. (v : Scene) → IsSeenBefore v (stage_of self.old) → IsRepaid v (stage_of self.old) (stage_of self.new) count steps.old steps.new) }
     {
         self.moment = *moment;
         let structures = self.structures.len();
@@ -177,6 +179,24 @@ impl Upkeep {
             .post_failing(moment, structures, &mut self.mail, steps)?;
         self.repair_told(steps)?;
         Ok(count)
+    }
+
+    /// Gives a live number another motion that is where the number is now. No sign changes now, so only the
+    /// failure moments of the facts that name the number are computed anew.
+    pub fn take_up<L: Ledger>(
+        &mut self,
+        no: u32,
+        motion: Motion,
+        steps: &mut Steps<L>,
+    ) -> Result<(), NoMemory>
+        requires sound { IsSound (stage_of self.old) }
+        requires may { MayTakeUp no motion (stage_of self.old) }
+        ensures taken_up { OnOk result (HasTakenUp no motion (stage_of self.old) (stage_of self.new)) }
+        ensures keeps { self.new.keeps ≡ self.old.keeps }
+        ensures cost { OnOk result (TakesAtMost (length self.old.table.live) (λ r. count_by (names_number no) self.old.table.live * (2 * r + 1)) steps.old steps.new) }
+    {
+        self.motions.set(no, motion);
+        self.table.remake(no, &self.motions, &self.moment, steps)
     }
 
     /// Lets each structure take in a number that has become live, or let go one that isn't live any

@@ -1,4 +1,4 @@
-//! The world: motions, structures and the table of live facts together.
+//! The world: motions, planned legs, structures and the table of live facts together.
 
 ghost use Rattle.std.specs.Prelude.{◌≡◌, ◌≤◌, ◌<◌, ◌+◌, ◌^◌, ◌↔◌, ℕ, true, false, Option, Some, None, slice_get, length, Contains, IsTrue, IsFalse, Err, IfOk, OnOk, OnErr, IfSome, IsSome, IsNone, MatchOption, unsigned_abs};
 ghost use Rattle.kin_algebra.specs.declared.sign.Sign.{Sign as Signum};
@@ -7,19 +7,24 @@ ghost use Rattle.kin_num.specs.Order.{IsEarlier};
 ghost use Rattle.kin_motion.specs.declared.keep.Keep.TheVariants as keep;
 ghost use Rattle.kin_motion.specs.Course.{Course, is_live, live_of, motion_limit, motion_of};
 ghost use Rattle.kin_motion.specs.FactCounts.{most_live};
-ghost use Rattle.kin_motion.specs.Journal.{Block as Listed, NothingFails};
-ghost use Rattle.kin_motion.specs.Turning.{IsNotWhole, IsOutOfBounds};
+ghost use Rattle.kin_motion.specs.Journal.{Block as Listed};
+ghost use Rattle.kin_motion.specs.Plans.{Plan as Path};
+ghost use Rattle.kin_motion.specs.Turning.{IsNotWhole, IsOutOfBounds, just_at};
+ghost use Rattle.kin_legs.specs.Nexts.{IsAtRest};
+ghost use Rattle.kin_legs.specs.Paths.{plan_of, whole};
+ghost use Rattle.kin_legs.specs.Scheduling.{HasLegFrom, IsOver, FollowsTooFast};
 ghost use Rattle.kin_turn.specs.declared.turned.TurnError.TheVariants.{NotWhole as Broken, OutOfBounds as Outside};
-ghost use Rattle.kin_cert.specs.Taken.{NoneWaits, NoneFailsUntil};
+ghost use Rattle.kin_world.specs.declared.planning.LegError.TheVariants.{Past as Late, Planned as AlreadyPlanned, OutOfBounds as TooFar};
 ghost use Rattle.kin_world.specs.Costs.{IsRepairCost, IsReplacementCost, IsStepCost, IsTurnCost};
-ghost use Rattle.kin_world.specs.Upkeep.{IsDueWithin};
-ghost use Rattle.kin_world.specs.Worlds.{AreKeepable, IsNextMoment, IsWhole, CanTurn, HasInserted, HasRemoved, HasReplaced, HasTurned, HasStepped, HasLeapt, failure_count, FailsWithin, certificate, empty, world_setting};
+ghost use Rattle.kin_world.specs.Worlds.{AreKeepable, IsNextMoment, IsWhole, CanTurn, CanPlan, HasInserted, HasRemoved, HasReplaced, HasTurned, HasPlanned, HasStepped, HasLeapt, failure_count, IsBusyWithin, certificate, empty, world_plans, world_view};
 
+use crate::crossing::{begin_due, beginning, cross, next_stop};
 use crate::places::find;
+use crate::planning::{LegError, first_of, following};
 use crate::structure::Mark;
 use crate::upkeep::Upkeep;
-use crate::upkeep::leap::is_after;
 use kin_fail::Block;
+use kin_legs::{Leg, Legs};
 use kin_motion::{Form, Keep, Motion};
 use kin_num::{Moment, NoMemory, Sign, Steps};
 use kin_turn::turned::{TurnError, turned};
@@ -31,29 +36,35 @@ mod answers;
 
 /// Moving points and the structures that are kept over them, at one moment.
 ///
+/// A point has a motion, and legs: other motions that it takes up at planned whole instants. Time that goes on begins
+/// the legs on its way.
+///
 /// Between two calls, while the world is whole, every structure is settled at the moment now, and the
 /// table has exactly the live facts. After a changing call that answered want of memory the world
 /// isn't whole, and only `is_whole`, `keep` and `keeps` may be asked.
 ///
 /// Clause `cost` of a changing call bounds the steps of an `Ok` by the worlds before and after it and
-/// the number of failures (`specs/Costs`). `leap` has none.
+/// the number of failures (`specs/Costs`). `leap` has none, and `leg` takes no steps.
 #[derive(Drop)]
 pub struct World {
     alloc: Global,
     upkeep: Upkeep,
+    /// The legs after now.
+    legs: Legs,
     whole: bool,
 }
 
 impl Model for World {
     ghost use Rattle.std.specs.Prelude.{IsTrue};
     ghost use Rattle.kin_world.specs.Worlds.{World as Meaning};
-    ghost use Rattle.kin_world.specs.Upkeep.{IsSound, meaning, stage_of};
+    ghost use Rattle.kin_world.specs.Crossing.{IsAtEase};
+    ghost use Rattle.kin_world.specs.Upkeep.{meaning, stage_of};
 
     ghost Value = { Meaning };
 
-    ghost view = { λ w. meaning (stage_of w.upkeep) w.whole };
+    ghost view = { λ w. meaning (stage_of w.upkeep) w.legs.legs w.whole };
 
-    ghost invariant = { λ w. IsTrue w.whole → IsSound (stage_of w.upkeep) };
+    ghost invariant = { λ w. IsTrue w.whole → IsAtEase (stage_of w.upkeep) w.legs };
 }
 
 impl World {
@@ -70,6 +81,7 @@ impl World {
         Ok(World {
             alloc,
             upkeep: Upkeep::new(alloc, size, keeps)?,
+            legs: Legs::new(alloc, size)?,
             whole: true,
         })
     }
@@ -82,7 +94,7 @@ impl World {
         self.whole
     }
 
-    /// The motion of a number, or `None` exactly where it isn't live.
+    /// The motion of a number now, or `None` exactly where it isn't live.
     pub fn motion(&self, no: u32) -> Option<Motion>
         requires { IsTrue self.now.whole }
         ensures value { result ≡ motion_of self.now.motions no }
@@ -123,7 +135,7 @@ impl World {
         Ok(())
     }
 
-    /// Takes a live number's motion away. Each structure lets it go, and failure moments are computed
+    /// Takes a live number's motion and its legs away. Each structure lets it go, and failure moments are computed
     /// only for facts that are new. After want of memory the world isn't whole.
     pub fn remove<L: Ledger>(&mut self, no: u32, steps: &mut Steps<L>) -> Result<(), NoMemory>
         requires whole { IsTrue self.old.whole }
@@ -135,12 +147,13 @@ impl World {
     {
         self.whole = false;
         self.upkeep.motions.clear(no);
+        self.legs.drop_of(no);
         self.upkeep.carry_out_each(Mark::Leaves(no), steps)?;
         self.whole = true;
         Ok(())
     }
 
-    /// Gives a live number any motion, at any place: it leaves, and enters again at the same moment.
+    /// Gives a live number any motion, at any place: it leaves, and enters again at the same moment, without legs.
     /// After want of memory in either half the world isn't whole.
     pub fn replace<L: Ledger>(
         &mut self,
@@ -180,7 +193,7 @@ impl World {
         turned(&motion, &self.upkeep.moment, u, v)
     }
 
-    /// Gives a live number another velocity at the place where it is, which `turned` has to allow. No
+    /// Gives a live number another velocity at the place where it is, which `turned` has to allow, and drops its legs. No
     /// sign changes now, so every live fact stays, and by the law `turns_keep_the_scene` every answer
     /// but that of a rectangle, of which no clause speaks. The failure moments of the facts that name
     /// the number are computed anew. After want of memory the world isn't whole.
@@ -202,20 +215,60 @@ impl World {
             unreachable!()
         };
         self.whole = false;
-        let upkeep = &mut self.upkeep;
-        upkeep.motions.set(no, motion);
-        upkeep
-            .table
-            .remake(no, &upkeep.motions, &upkeep.moment, steps)?;
+        self.legs.drop_of(no);
+        self.upkeep.take_up(no, motion, steps)?;
         self.whole = true;
         Ok(())
     }
 
-    /// Moves to the first moment, not after the limit, at which live facts fail, and repairs all
-    /// structures there. `None` exactly where no live fact fails at or before the limit: then the moment
-    /// is the limit, and the call doesn't answer want of memory (`cause`). A loop over steps ends, since
-    /// fewer moments are left after each block. No clause says that structures without a failed fact are
-    /// skipped. After want of memory the world isn't whole.
+    /// The motion with the velocity `(u, v)` that a live number may have from the whole instant `at` on, which is below
+    /// 2^31: it has there the place of the last motion that is planned for the number. Each of `u` and `v` is in
+    /// -8192..8192. Takes no memory.
+    ///
+    /// `Past` comes exactly where `at` isn't after now; else `Planned` exactly where the number has a leg at `at` or later;
+    /// else `OutOfBounds` exactly where a coordinate of the new place at time 0 is outside -8192..8192.
+    pub fn planned(&self, no: u32, at: u32, u: i32, v: i32) -> Result<Motion, LegError>
+        requires whole { IsTrue self.now.whole }
+        requires live { IsTrue (is_live self.now.motions no) }
+        requires soon { at < 2 ^ 31 }
+        requires u { unsigned_abs u ≤ motion_limit }
+        requires v { unsigned_abs v ≤ motion_limit }
+        ensures plans { IfOk result (CanPlan no at u v self.now) }
+        ensures past { (result ≡ Err Late) ↔ IsOver self.now.moment at }
+        ensures planned { (plan : Path) → plan_of (world_plans self.now) no ≡ Some plan → (result ≡ Err AlreadyPlanned) ↔ (IsEarlier self.now.moment (just_at (whole at)) × HasLegFrom plan at) }
+        ensures outside { (plan : Path) → plan_of (world_plans self.now) no ≡ Some plan → (result ≡ Err TooFar) ↔ FollowsTooFast self.now.moment plan at u v }
+    {
+        let Some(motion) = self.upkeep.motions.get(no) else {
+            unreachable!()
+        };
+        following(&motion, self.legs.last(no), &self.upkeep.moment, at, u, v)
+    }
+
+    /// Plans that a live number has the velocity `(u, v)` from the whole instant `at` on, which `planned` has to allow.
+    /// No failure moment is computed. After want of memory the world isn't whole.
+    pub fn leg(&mut self, no: u32, at: u32, u: i32, v: i32) -> Result<(), NoMemory>
+        requires whole { IsTrue self.old.whole }
+        requires soon { at < 2 ^ 31 }
+        requires plannable { (motion : Course) × CanPlan no at u v self.old motion }
+        ensures planned { OnOk result (HasPlanned no at u v self.old self.new) }
+        ensures broken { OnErr result (self.new.whole ≡ false) }
+        ensures keeps { OnErr result (self.new.keeps ≡ self.old.keeps) }
+    {
+        let Ok(m) = self.planned(no, at, u, v) else {
+            unreachable!()
+        };
+        self.whole = false;
+        self.legs.add(Leg { at, no, m })?;
+        self.legs.recall_rising();
+        self.whole = true;
+        Ok(())
+    }
+
+    /// Moves to the first moment, not after the limit, at which live facts fail, and repairs all structures there. `None`
+    /// exactly where no live fact fails at or before the limit: then the moment is the limit. The legs that begin up to
+    /// the new moment are begun. Where no live fact fails and no leg begins up to the limit, the call doesn't answer want
+    /// of memory (`cause`). A loop over steps ends, since fewer moments are left after each block. No clause says that
+    /// structures without a failed fact are skipped. After want of memory the world isn't whole.
     pub fn step<L: Ledger>(
         &mut self,
         limit: &Moment,
@@ -228,15 +281,16 @@ impl World {
         ensures broken { OnErr result (self.new.whole ≡ false) }
         ensures cost { IfOk result (λ block. IsStepCost self.old self.new (failure_count block) steps.old steps.new) }
         ensures keeps { OnErr result (self.new.keeps ≡ self.old.keeps) }
-        ensures cause { OnErr result (FailsWithin limit.now self.old) }
+        ensures cause { OnErr result (IsBusyWithin limit.now self.old) }
     {
         limit.at.recall_canonical();
-        let Some(moment) = due_within(&self.upkeep, limit, steps) else {
-            self.upkeep.moment = *limit;
+        self.whole = false;
+        let Some(due) = cross(&mut self.upkeep, &mut self.legs, limit, steps)? else {
+            self.whole = true;
             return Ok(None);
         };
-        self.whole = false;
-        let block = self.upkeep.step(self.alloc, &moment, steps)?;
+        let block = self.upkeep.step(self.alloc, &due, steps)?;
+        begin_due(&mut self.upkeep, &mut self.legs, steps)?;
         self.whole = true;
         Ok(Some(block))
     }
@@ -255,23 +309,24 @@ impl World {
         ensures broken { OnErr result (self.new.whole ≡ false) }
         ensures cost { IfOk result (λ count. IsStepCost self.old self.new count steps.old steps.new) }
         ensures keeps { OnErr result (self.new.keeps ≡ self.old.keeps) }
-        ensures cause { OnErr result (FailsWithin limit.now self.old) }
+        ensures cause { OnErr result (IsBusyWithin limit.now self.old) }
     {
         limit.at.recall_canonical();
-        let Some(moment) = due_within(&self.upkeep, limit, steps) else {
-            self.upkeep.moment = *limit;
+        self.whole = false;
+        let Some(due) = cross(&mut self.upkeep, &mut self.legs, limit, steps)? else {
+            self.whole = true;
             return Ok(None);
         };
-        self.whole = false;
-        let count = self.upkeep.pass(&moment, steps)?;
+        let count = self.upkeep.pass(&due, steps)?;
+        begin_due(&mut self.upkeep, &mut self.legs, steps)?;
         self.whole = true;
         Ok(Some(count))
     }
 
     /// Moves to a moment up to the limit by which a live fact has failed, or to the limit where none
-    /// fails up to it; answers whether a live fact has failed. It may go from before an instant to
-    /// just after it. No clause says where it lands, but `fewer` says that it is later; none bounds its
-    /// steps. After want of memory the world isn't whole.
+    /// fails up to it; answers whether a live fact has failed. The legs that begin up to the new moment are begun. It may
+    /// go from before an instant to just after it, but never over the beginning of a leg. No clause says where it lands,
+    /// but `fewer` says that it is later; none bounds its steps. After want of memory the world isn't whole.
     pub fn leap<L: Ledger>(
         &mut self,
         limit: &Moment,
@@ -283,15 +338,17 @@ impl World {
         ensures fewer { IfOk result (λ some. IsTrue some → moments_left self.new.moment < moments_left self.old.moment) }
         ensures broken { OnErr result (self.new.whole ≡ false) }
         ensures keeps { OnErr result (self.new.keeps ≡ self.old.keeps) }
-        ensures cause { OnErr result (FailsWithin limit.now self.old) }
+        ensures cause { OnErr result (IsBusyWithin limit.now self.old) }
     {
         limit.at.recall_canonical();
-        let Some(moment) = due_within(&self.upkeep, limit, steps) else {
-            self.upkeep.moment = *limit;
+        self.whole = false;
+        let Some(due) = cross(&mut self.upkeep, &mut self.legs, limit, steps)? else {
+            self.whole = true;
             return Ok(false);
         };
-        self.whole = false;
-        self.upkeep.leap(self.alloc, &moment, limit, steps)?;
+        let stop = next_stop(&self.legs, limit, steps);
+        self.upkeep.leap(self.alloc, &due, &stop, steps)?;
+        begin_due(&mut self.upkeep, &mut self.legs, steps)?;
         self.whole = true;
         Ok(true)
     }
@@ -305,13 +362,18 @@ impl World {
         &self.upkeep.moment
     }
 
-    /// The moment of the next block, or `None` exactly where no live fact ever fails.
+    /// The moment of the next block or at which the first leg begins, whichever is earlier, or `None` exactly where no
+    /// leg is still to come and no live fact ever fails.
     pub fn next(&self) -> Option<Moment>
         requires { IsTrue self.now.whole }
-        ensures some { IfSome result (λ m. IsNextMoment (world_setting self.now) self.now.moment m) }
-        ensures none { IsNone result ↔ NothingFails (world_setting self.now) self.now.moment }
+        ensures some { IfSome result (IsNextMoment (world_view self.now)) }
+        ensures none { IsNone result ↔ IsAtRest (world_view self.now) }
     {
-        self.upkeep.table.failing()
+        let failing = self.upkeep.table.failing();
+        let Some(leg) = self.legs.first() else {
+            return failing;
+        };
+        Some(first_of(beginning(&leg), failing))
     }
 
     /// How many facts are live: at most `most_live`, the sum over the kept structures. Without live
@@ -359,22 +421,5 @@ impl World {
         ensures none { IsNone result ↔ ((sign : Signum) → ¬ (Contains self.now.live (certificate structure part form.now sign))) }
     {
         self.upkeep.table.sign_of(structure, part, form)
-    }
-}
-
-// The least failure moment, or `None` where nothing fails at the limit or before it.
-#[inline(always)]
-fn due_within<L: Ledger>(upkeep: &Upkeep, limit: &Moment, steps: &mut Steps<L>) -> Option<Moment>
-    requires { NoneWaits upkeep.now.table.live }
-    ensures value { MatchOption result (NoneFailsUntil upkeep.now.table.live limit.now) (IsDueWithin limit.now upkeep.now.table.live) }
-    ensures count { steps.new ≤ steps.old + 1 }
-{
-    let Some(moment) = upkeep.table.failing() else {
-        return None;
-    };
-    if is_after(&moment, limit, steps) {
-        None
-    } else {
-        Some(moment)
     }
 }

@@ -3,7 +3,7 @@
 ghost use Rattle.std.specs.Prelude.{◌≤◌, ◌^◌, unsigned_abs, IsTrue};
 ghost use Rattle.kin_motion.specs.Boxes.{IsRectInRange};
 
-use crate::script::{Call, form, moment};
+use crate::script::{Call, form, moment, motion};
 use kin_motion::{Keep, Rect};
 use kin_num::NoMemory;
 use kin_world::World;
@@ -73,6 +73,7 @@ pub fn answers(world: &World, call: &Call) -> Result<bool, NoMemory> {
     }
     match *call {
         Call::MayInsert(no, may) => Ok(world.can_insert(no) == may),
+        Call::Goes(no, m) => Ok(world.motion(no) == m.and_then(motion)),
         Call::Next(None) => Ok(world.next() == None),
         Call::Next(Some(time)) => Ok(world.next() == moment(time)),
         Call::Facts(live, made) => Ok(world.live() == live && world.made() == made),

@@ -4,7 +4,7 @@ use crate::script::motion;
 use kin_motion::Motion;
 use kin_num::{NoMemory, Steps};
 use kin_turn::turned::TurnError;
-use kin_world::World;
+use kin_world::{LegError, World};
 use std::sync::ledger::Ledger;
 
 /// A number that may enter does.
@@ -73,4 +73,26 @@ pub fn turns<L: Ledger>(
     };
     world.turn(no, u, v, steps)?;
     Ok(refused.is_none() && world.is_whole() && world.motion(no) == Some(motion))
+}
+
+/// A live number has this velocity from a whole second on, or can't for this reason.
+pub fn plans(
+    world: &mut World,
+    no: u32,
+    at: u32,
+    (u, v): (i32, i32),
+    refused: Option<LegError>,
+) -> Result<bool, NoMemory> {
+    if !world.is_whole() || world.motion(no).is_none() || at >= 1 << 31 {
+        return Ok(false);
+    }
+    if u.unsigned_abs() > Motion::LIMIT || v.unsigned_abs() > Motion::LIMIT {
+        return Ok(false);
+    }
+    let before = world.motion(no);
+    let Ok(_) = world.planned(no, at, u, v) else {
+        return Ok(world.planned(no, at, u, v).err() == refused);
+    };
+    world.leg(no, at, u, v)?;
+    Ok(refused.is_none() && world.is_whole() && world.motion(no) == before)
 }

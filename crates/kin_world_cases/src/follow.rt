@@ -5,7 +5,7 @@ ghost use Rattle.kin_world.specs.Worlds.{AreKeepable};
 
 use crate::advance::{leaps, moves, passes, runs, stops};
 use crate::answer::answers;
-use crate::change::{enters, is_replaced, leaves, turns};
+use crate::change::{enters, is_replaced, leaves, plans, turns};
 use crate::script::{Call, Script};
 use kin_motion::Keep;
 use kin_motion::keep::are_few;
@@ -37,6 +37,7 @@ fn follows<L: Ledger>(
         Call::Remove(no) => leaves(world, no, steps),
         Call::Replace(no, m) => is_replaced(world, no, m, steps),
         Call::Turns(no, speed, refused) => turns(world, no, speed, refused, steps),
+        Call::Plans(no, at, speed, refused) => plans(world, no, at, speed, refused),
         Call::Stops(limit, time, lost) => stops(world, limit, time, lost, steps),
         Call::Passes(limit, time, count) => passes(world, limit, time, count, steps),
         Call::Leaps(limit, time) => leaps(world, limit, time, steps),

@@ -16,6 +16,8 @@ mod follow;
 #[cfg(test)]
 mod leaping;
 #[cfg(test)]
+mod planning;
+#[cfg(test)]
 mod script;
 #[cfg(test)]
 mod stepping;

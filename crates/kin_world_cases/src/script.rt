@@ -4,6 +4,7 @@ use kin_instant::ratio::ratio;
 use kin_motion::{Form, Keep, Motion, Rect};
 use kin_num::{Moment, Phase, Sign};
 use kin_turn::turned::TurnError;
+use kin_world::LegError;
 
 /// A whole second and the phase.
 pub type Time = (i64, Phase);
@@ -26,6 +27,10 @@ pub enum Call {
     Replace(u32, [i32; 4]),
     /// A live number turns to this velocity, or doesn't for this reason.
     Turns(u32, (i32, i32), Option<TurnError>),
+    /// A live number has this velocity from a whole second on, or can't for this reason.
+    Plans(u32, u32, (i32, i32), Option<LegError>),
+    /// The motion of a number now.
+    Goes(u32, Option<[i32; 4]>),
     /// A step towards the first time stops at the second, where these facts have failed.
     Stops(Time, Time, &'static [Lost]),
     /// The same without a list: so many facts have failed.

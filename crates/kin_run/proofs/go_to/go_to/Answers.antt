@@ -3,7 +3,8 @@ use Rattle.kin_run.proofs.Vocabulary.{err_from_is_err_and, just_at, printer}
 use Rattle.kin_world.proofs.RootLaws.{journals_exist}
 use Rattle.kin_status.proofs.Tallying.{untallied}
 use Rattle.kin_status.proofs.Gathering.{gains_nothing}
-use Rattle.kin_run.proofs.OnTheWay.{sets_out, breaks_here, breaks_within, faults_behind, goes_on, goes_on_quietly, arrives, counted_all, told_some, told_none}
+use Rattle.kin_run.proofs.Arriving.{alike_there}
+use Rattle.kin_run.proofs.OnTheWay.{sets_out, breaks_here, breaks_within, faults_behind, goes_on, goes_on_quietly, arrives, arrives_there, counted_all, told_some, told_none}
 use Rattle.kin_run.proofs.go_to.go_to.Goals as goal
 
 pub loop-block-init : goal.loop-block-init
@@ -75,3 +76,15 @@ returns-then-is_none-clause-tallied g c =
     let w = c.args.world.now in
     let j = journals_exist w (just_at c.args.asked) c.requires.whole c.requires.canonical c.requires.later in
     untallied _ c.args.tally.now j.0 (c.is_none.ensures ∙ ap not c.if-is_none.true) j.1
+
+-- ---- what the replay sees
+pub returns-clause-moved : goal.returns-clause-moved
+returns-clause-moved g c =
+    alike_there c.args.journal (arrives_there c.loop-block.invariant.on c.requires.canonical (rw c.in_default-2.is at c.in_ok-block.ensures.stepped))
+
+pub returns-then-not-journal-2-clause-moved : goal.returns-then-not-journal-2-clause-moved
+returns-then-not-journal-2-clause-moved g c =
+    alike_there c.args.journal (arrives_there c.loop-failures.invariant c.requires.canonical (told_none (just_at c.args.asked) c.loop-failures.world c.pass.new.self c.in_ok-failures.field-0 c.in_default.is c.in_ok-failures.ensures.stepped))
+
+pub returns-then-is_none-clause-moved : goal.returns-then-is_none-clause-moved
+returns-then-is_none-clause-moved g c = alike_there c.args.journal c.in_ok-leap_to.ensures.arrived

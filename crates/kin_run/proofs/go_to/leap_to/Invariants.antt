@@ -1,12 +1,10 @@
-use Rattle.std.proofs.Common.{◌≡◌}
-use Rattle.kin_run.proofs.Vocabulary.{moments_left, IsEarlier, IsWhole, with_facts_of}
+use Rattle.kin_run.proofs.Vocabulary.{moments_left, HasArrived, IsEarlier}
 use Rattle.kin_run.proofs.go_to.leap_to.Given as goal
 
--- on the way to the limit nothing but the moment and the facts has changed
+-- on the way to the limit
 abbrev pub invariant-loop : goal.invariant-loop
 invariant-loop g l = record {
-  state : l.world ≡ with_facts_of (record l.fn.world { moment = l.world.moment }) l.world;
-  whole : IsWhole l.world;
+  arrived : HasArrived l.world.moment l.fn.world l.world;
   later : ¬ (IsEarlier l.limit l.world.moment);
 }
 

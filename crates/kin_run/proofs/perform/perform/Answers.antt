@@ -19,6 +19,15 @@ returns-in-Turn-clause-performs g c =
     let v_is : to_z w32 (of_z w32 v) ≡ v = grind (arith, to_z-of_z, range.v_small) in
     rw c.in-Turn.is (rw (u_is, v_is) at c.turn.ensures.performs c.args.journal (printer (g.K.Sink.held c.args.sink.now) c.args.out.now.items))
 
+pub returns-in-Leg-clause-performs : goal.returns-in-Leg-clause-performs
+returns-in-Leg-clause-performs g c =
+    let u = c.in-Leg.u in
+    let v = c.in-Leg.v in
+    let range : IsSlowVelocity u v = (rw c.in-Leg.is at c.requires.range).2 in
+    let u_is : to_z w32 (of_z w32 u) ≡ u = grind (arith, to_z-of_z, range.u_small) in
+    let v_is : to_z w32 (of_z w32 v) ≡ v = grind (arith, to_z-of_z, range.v_small) in
+    rw c.in-Leg.is (rw (u_is, v_is) at c.leg.ensures.performs c.args.journal (printer (g.K.Sink.held c.args.sink.now) c.args.out.now.items))
+
 pub returns-in-Replace-clause-performs : goal.returns-in-Replace-clause-performs
 returns-in-Replace-clause-performs g c = search rules
 
@@ -31,7 +40,8 @@ returns-in_err-put_next-in-Next-clause-performs g c =
 pub returns-in_ok-put_next-in-Next-clause-performs : goal.returns-in_ok-put_next-in-Next-clause-performs
 returns-in_ok-put_next-in-Next-clause-performs g c =
     let put = c.in_ok-put_next-in-Next.ensures.line in
-    rw c.in-Next.is (record { text = put.0; gained = gains_put (g.K.Sink.held c.args.sink.now) c.args.out.now.items c.put_next.new.out.items put.0 put.1; is = record { allowed = λ r h. h; prints = put.2; leads = c.in_ok-put_next-in-Next.ensures.leads } })
+    let leads = c.in_ok-put_next-in-Next.ensures.leads in
+    rw c.in-Next.is (record { text = put.0; gained = gains_put (g.K.Sink.held c.args.sink.now) c.args.out.now.items c.put_next.new.out.items put.0 put.1; is = (leads.0, record { allowed = λ r h. h; prints = put.2; leads = leads.1 }, leads.2) })
 
 pub returns-in_default-clause-performs : goal.returns-in_default-clause-performs
 returns-in_default-clause-performs g c = search (rules, arith, asks_otherwise, replied, c.put_reply_to.ensures.line)

@@ -1,4 +1,4 @@
-use Rattle.kin_world.proofs.Vocabulary.{ap, true, ◌^◌, At, certificates_of}
+use Rattle.kin_world.proofs.Vocabulary.{ap, true, ◌^◌, [], At, certificates_of}
 use Rattle.kin_num.proofs.Values.{start_canonical}
 use Rattle.kin_world.proofs.StartLaws.{empty_slots, sound_start}
 use Rattle.kin_world.proofs.upkeep.Upkeep.new.Goals as goal
@@ -19,4 +19,4 @@ pub returns-clause-empty : goal.returns-clause-empty
 returns-clause-empty c =
     let none = empty_slots (2 ^ c.args.size) c.in_ok-motions.motions c.in_ok-motions.ensures.room c.in_ok-motions.ensures.none in
     let live = ap certificates_of c.in_ok-with_room.ensures.live in
-    λ t. record { size = c.args.size; keeps = c.in-Ok.ensures.items t; motions = none t; moment = record { at = c.of.ensures t; phase = At }; live = live t; made = c.in_ok-with_room.ensures.made t; whole = true }
+    λ t. record { size = c.args.size; keeps = c.in-Ok.ensures.items t; motions = none t; legs = []; moment = record { at = c.of.ensures t; phase = At }; live = live t; made = c.in_ok-with_room.ensures.made t; whole = true }

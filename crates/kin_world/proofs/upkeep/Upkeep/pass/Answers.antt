@@ -1,5 +1,6 @@
 use Rattle.std.specs.Prelude.{◌*◌}
-use Rattle.kin_world.proofs.Vocabulary.{rules, ap, ◌+◌, ◌≡◌, length, map, refl, sym, ◌∙◌, length-map, length_permutation, Block, Failure, seen_in, scene_at, certificate_of, Owned, arith, subst, ℕ, IsRepairCost, meaning, stage_of, true}
+use Rattle.kin_world.proofs.Vocabulary.{rules, ap, ◌+◌, ◌≡◌, length, map, refl, sym, ◌∙◌, length-map, length_permutation, Block, Failure, seen_in, scene_at, certificate_of, Owned, arith, subst, ℕ, stage_of}
+use Rattle.kin_world.specs.Paid.{IsRepaid}
 use Rattle.kin_world.proofs.Frugal.{block_frugal}
 use Rattle.kin_world.proofs.MailLaws.{told_first}
 use Rattle.kin_world.proofs.TakeLaws.{given_waiting, taken_under_repair, taken_block, settled_since}
@@ -37,7 +38,7 @@ returns-clause-cost g c =
     let seen : Owned → Failure = λ o. seen_in (scene_at c.args.self.now.motions m) (certificate_of o) in
     let b : Block = record { moment = m; failures = map seen posted.out.taken } in
     let next = taken_block c.requires.sound c.post_failing.new.self posted.out m c.requires.failing b refl in
-    λ before less.
-    subst (λ (n : ℕ). IsRepairCost (meaning (stage_of c.args.self.now) true) (meaning (stage_of c.repair_told.new.self) true) n before c.repair_told.new.steps) (sym posted.all)
-    (block_frugal c.requires.sound c.post_failing.new.self posted.out (given_waiting c.requires.sound c.post_failing.new.self posted.out) m b next refl c.repair_told.ensures.frame c.in_ok-repair_told.ensures.settled.sound c.in_ok-repair_told.ensures.cost
-    (λ r e. let took = c.in_ok-count.ensures.cost r e in let times = ap (λ (n : ℕ). n * (r + 1)) posted.all in omega (arith, took, times, posted.all, less)))
+    λ v before_now.
+    subst (λ (n : ℕ). IsRepaid v (stage_of c.args.self.now) (stage_of c.repair_told.new.self) n c.args.steps.now c.repair_told.new.steps) (sym posted.all)
+    (block_frugal c.requires.sound before_now c.post_failing.new.self posted.out (given_waiting c.requires.sound c.post_failing.new.self posted.out) m b next refl c.repair_told.ensures.frame c.in_ok-repair_told.ensures.settled.sound c.in_ok-repair_told.ensures.cost
+    (λ r e. let took = c.in_ok-count.ensures.cost r e in let times = ap (λ (n : ℕ). n * (r + 1)) posted.all in omega (arith, took, times, posted.all)))

@@ -1,4 +1,5 @@
-use Rattle.kin_world.proofs.Vocabulary.{rules, ◌≡◌, sym, ◌∙◌, ap, subst, arith, ℕ, length, length-map, Block, Failure, IsRepairCost, Owned, certificate_of, meaning, scene_at, seen_in, stage_of, true}
+use Rattle.kin_world.proofs.Vocabulary.{rules, ◌≡◌, sym, ◌∙◌, ap, subst, arith, ℕ, length, length-map, Block, Failure, Owned, certificate_of, scene_at, seen_in, stage_of}
+use Rattle.kin_world.specs.Paid.{IsRepaid}
 use Rattle.kin_world.proofs.Frugal.{block_frugal}
 use Rattle.kin_world.proofs.TakeLaws.{as_given, given_waiting, given_askable, taken_under_repair, taken_block, settled_since}
 use Rattle.kin_world.proofs.upkeep.Upkeep.step.Goals as goal
@@ -26,7 +27,7 @@ returns-clause-cost g c =
     let is = rw c.deref.ensures.value at c.in_ok-block.ensures.value in
     let next = taken_block c.requires.sound c.take_failing.new.self out c.args.moment.now c.requires.failing c.in_ok-block.block is in
     let count : length c.in_ok-block.block.failures ≡ length c.in_ok-taken.taken.items = ap (λ (b : Block). length b.failures) is ∙ length-map c.in_ok-taken.taken.items seen in
-    λ before less.
-    subst (λ (n : ℕ). IsRepairCost (meaning (stage_of c.args.self.now) true) (meaning (stage_of c.repair_each.new.self) true) n before c.repair_each.new.steps) (sym count)
-    (block_frugal c.requires.sound c.take_failing.new.self out (given_waiting c.requires.sound c.take_failing.new.self out) c.args.moment.now c.in_ok-block.block next (ap (λ (b : Block). b.moment) is) c.repair_each.ensures.frame c.in_ok-repair_each.ensures.settled.sound c.in_ok-repair_each.ensures.cost
-    (λ r e. let took = c.in_ok-taken.ensures.cost r e in let listed = c.in_ok-block.ensures.count in omega (arith, took, listed, less)))
+    λ v before_now.
+    subst (λ (n : ℕ). IsRepaid v (stage_of c.args.self.now) (stage_of c.repair_each.new.self) n c.args.steps.now c.repair_each.new.steps) (sym count)
+    (block_frugal c.requires.sound before_now c.take_failing.new.self out (given_waiting c.requires.sound c.take_failing.new.self out) c.args.moment.now c.in_ok-block.block next (ap (λ (b : Block). b.moment) is) c.repair_each.ensures.frame c.in_ok-repair_each.ensures.settled.sound c.in_ok-repair_each.ensures.cost
+    (λ r e. let took = c.in_ok-taken.ensures.cost r e in let listed = c.in_ok-block.ensures.count in omega (arith, took, listed)))

@@ -1,32 +1,65 @@
-use Rattle.kin_world.proofs.Vocabulary.{ℕ, Some, None, ap, sym, refl, on_err, arith, meaning, stage_of, true, IsRepairCost}
-use Rattle.kin_world.proofs.Inside.{as_seen, sound_inside, rests_sound, has_rested, fails_seen, passes, passed_fewer}
+use Rattle.kin_world.proofs.Vocabulary.{ℕ, Some, None, ap, refl, sym, on_err}
+use Rattle.kin_world.proofs.Inside.{at_due, begins_seen, cost_then, ease_inside, ease_then, fails_seen, fewer_then, frame_there, later_there, moved_cost, moved_seen, none_past_there, passes, ready_inside, ready_there}
+use Rattle.kin_world.proofs.StepLaws.{seen_since}
 use Rattle.kin_world.proofs.world.World.pass.Goals as goal
 
-pub due_within-requires : goal.due_within-requires
-due_within-requires g c = (sound_inside c.self.inside c.self.view_is c.self.invariant c.requires.whole).none_waits
+pub cross-requires-clause-ready : goal.cross-requires-clause-ready
+cross-requires-clause-ready g c = ready_inside c.self.inside c.self.view_is c.self.invariant c.requires.whole c.args.steps.now
 
-pub invariant_of-self : goal.invariant_of-self
-invariant_of-self g c = λ _. rests_sound c.self.inside c.self.view_is c.self.invariant c.requires.whole c.args.limit.now c.recall_canonical.ensures c.requires.later c.in_default.ensures.value
+pub cross-requires-clause-ahead : goal.cross-requires-clause-ahead
+cross-requires-clause-ahead g c = (ease_inside c.self.inside c.self.view_is c.self.invariant c.requires.whole).ahead
+
+pub returns-in_err-due-clause-cause : goal.returns-in_err-due-clause-cause
+returns-in_err-due-clause-cause g c = on_err c.from_residual.result (begins_seen c.self.inside c.self.view_is c.self.invariant c.requires.whole c.args.steps.now c.args.limit.now c.in_err-due.ensures.cause)
 
 pub returns-in_default-clause-stepped : goal.returns-in_default-clause-stepped
-returns-in_default-clause-stepped g c = (None, has_rested c.self.inside c.self.view_is c.self.invariant c.requires.whole c.args.limit.now c.recall_canonical.ensures c.requires.later c.in_default.ensures.value, refl)
+returns-in_default-clause-stepped g c = (None, moved_seen c.self.inside c.self.view_is c.self.invariant c.requires.whole c.args.steps.now c.args.limit.now (rw c.in_default.is at c.in_ok-due.ensures.crossed), refl)
+
+pub returns-in_default-clause-cost : goal.returns-in_default-clause-cost
+returns-in_default-clause-cost g c = moved_cost c.self.inside c.self.view_is c.self.invariant c.requires.whole c.args.steps.now c.args.limit.now (rw c.in_default.is at c.in_ok-due.ensures.crossed)
 
 pub returns-in_err-count-clause-cause : goal.returns-in_err-count-clause-cause
-returns-in_err-count-clause-cause g c = on_err c.from_residual.result (fails_seen c.self.inside c.self.view_is c.self.invariant c.requires.whole c.args.limit.now c.in-Some.moment c.in-Some.ensures.value)
+returns-in_err-count-clause-cause g c = on_err c.from_residual-in_err-count.result (fails_seen c.self.inside c.self.view_is c.self.invariant c.requires.whole c.args.steps.now c.args.limit.now (rw c.in-Some.is at c.in_ok-due.ensures.crossed))
+
+pub begin_due-requires : goal.begin_due-requires
+begin_due-requires g c =
+    let to = rw c.in-Some.is at c.in_ok-due.ensures.crossed in
+    let frame = c.pass.ensures.frame in
+    record { ready = ready_there c.self.inside c.self.view_is c.self.invariant c.requires.whole c.args.steps.now c.args.limit.now to (frame_there to frame) (later_there to frame) c.in_ok-count.ensures.settled (none_past_there to frame) c.pass.new.steps }
+
+pub returns-in_err-begin_due-clause-cause : goal.returns-in_err-begin_due-clause-cause
+returns-in_err-begin_due-clause-cause g c = on_err c.from_residual-in_err-begin_due.result (fails_seen c.self.inside c.self.view_is c.self.invariant c.requires.whole c.args.steps.now c.args.limit.now (rw c.in-Some.is at c.in_ok-due.ensures.crossed))
+
+pub invariant_of-self-2 : goal.invariant_of-self-2
+invariant_of-self-2 g c = λ _.
+    let to = rw c.in-Some.is at c.in_ok-due.ensures.crossed in
+    let frame = c.pass.ensures.frame in
+    let did = c.in_ok-begin_due.ensures in
+    ease_then c.self.inside c.self.view_is c.self.invariant c.requires.whole c.args.steps.now c.args.limit.now to (frame_there to frame) (later_there to frame) c.in_ok-count.ensures.settled (none_past_there to frame) c.pass.new.steps did.begun did.ahead did.moment
 
 pub returns-clause-stepped : goal.returns-clause-stepped
 returns-clause-stepped g c =
+    let to = rw c.in-Some.is at c.in_ok-due.ensures.crossed in
+    let frame = c.pass.ensures.frame in
+    let did = c.in_ok-begin_due.ensures in
     let done = c.in_ok-count.ensures in
-    let b = done.next.0 in
-    (Some b, passes c.self.inside c.self.view_is c.self.invariant c.requires.whole c.args.limit.now c.in-Some.moment c.in-Some.ensures.value _ c.pass.ensures.frame done.settled b done.next.2 done.next.1, ap (λ (n : ℕ). Some n) (sym done.next.3))
+    let b = done.next.0 in (
+      Some b,
+      passes c.self.inside c.self.view_is c.self.invariant c.requires.whole c.args.steps.now c.args.limit.now to (frame_there to frame) (later_there to frame) done.settled (none_past_there to frame) c.pass.new.steps did.begun did.ahead did.moment (at_due to frame) b done.next.2 done.next.1,
+      ap (λ (n : ℕ). Some n) (sym done.next.3),
+    )
 
 pub returns-clause-fewer : goal.returns-clause-fewer
-returns-clause-fewer g c = λ some. passed_fewer c.self.inside c.self.view_is c.self.invariant c.requires.whole c.args.limit.now c.in-Some.moment c.in-Some.ensures.value _ c.pass.ensures.frame
-
-pub returns-in_default-clause-cost : goal.returns-in_default-clause-cost
-returns-in_default-clause-cost g c = omega (arith, c.due_within.ensures.count)
+returns-clause-fewer g c = λ some.
+    let to = rw c.in-Some.is at c.in_ok-due.ensures.crossed in
+    let frame = c.pass.ensures.frame in
+    let did = c.in_ok-begin_due.ensures in
+    fewer_then c.self.inside c.self.view_is c.self.invariant c.requires.whole c.args.steps.now c.args.limit.now to (frame_there to frame) (later_there to frame) c.in_ok-count.ensures.settled (none_past_there to frame) c.pass.new.steps did.begun did.ahead did.moment
 
 pub returns-clause-cost : goal.returns-clause-cost
 returns-clause-cost g c =
-    as_seen c.self.inside c.self.view_is c.self.invariant c.requires.whole (λ v. IsRepairCost v (meaning (stage_of c.pass.new.self) true) c.in_ok-count.count c.args.steps.now c.pass.new.steps)
-    (c.in_ok-count.ensures.cost c.args.steps.now c.due_within.ensures.count)
+    let to = rw c.in-Some.is at c.in_ok-due.ensures.crossed in
+    let frame = c.pass.ensures.frame in
+    let did = c.in_ok-begin_due.ensures in
+    cost_then c.self.inside c.self.view_is c.self.invariant c.requires.whole c.args.steps.now c.args.limit.now to (frame_there to frame) (later_there to frame) c.in_ok-count.ensures.settled (none_past_there to frame) c.pass.new.steps did.begun did.ahead did.moment c.in_ok-count.count
+    (c.in_ok-count.ensures.cost _ (seen_since to.crossed))

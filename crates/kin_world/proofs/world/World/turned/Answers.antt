@@ -10,6 +10,6 @@ returns-clause-not_whole c = search (rules, arith, seen_so, c.self.view_is, c.in
 
 pub returns-clause-outside : goal.returns-clause-outside
 returns-clause-outside c =
-    let inner = meaning (stage_of c.self.inside.upkeep) c.self.inside.whole in
+    let inner = meaning (stage_of c.self.inside.upkeep) c.self.inside.legs.legs c.self.inside.whole in
     seen_so (λ m had. (c.turned.result ≡ Err OutOfBounds) ↔ IsOutOfBounds m c.args.u c.args.v had) inner c.args.self.now c.args.no c.in-Some.motion c.self.view_is (sym c.get.ensures.motion ∙ c.in-Some.is)
     (rw (clean w32 c.args.u c.ranges.u.sfits, clean w32 c.args.v c.ranges.v.sfits) at c.turned.ensures.outside)

@@ -1,5 +1,5 @@
 use Rattle.std.proofs.Common.{inl, inr}
-use Rattle.kin_world.proofs.world.due_within.Goals as goal
+use Rattle.kin_world.proofs.crossing.due_within.Goals as goal
 
 pub returns-in_default-clause-value : goal.returns-in_default-clause-value
 returns-in_default-clause-value g c = inl (c.failing.ensures.none.0 c.in_default.is)
