@@ -32,7 +32,7 @@ pub enum LegError {
 }
 
 /// A whole instant below 2^31, as a moment.
-pub fn whole_moment(at: u32) -> Moment
+pub(crate) fn whole_moment(at: u32) -> Moment
     requires soon { at < 2 ^ 31 }
     ensures { result ≡ just_at (whole at) }
 {
@@ -53,7 +53,7 @@ fn is_later(instant: &Instant, moment: &Moment) -> bool
 }
 
 /// The earlier one of the moment at which a leg begins and the next failure, if there is one. Counts no step.
-pub fn first_of(begins: Moment, failing: Option<Moment>) -> Moment
+pub(crate) fn first_of(begins: Moment, failing: Option<Moment>) -> Moment
     requires at { begins.phase ≡ At }
     ensures none { failing ≡ None → result ≡ begins }
     ensures some { (due : MomentOf) → failing ≡ Some due → ((result ≡ due) × IsEarlier due begins) ⊎ ((result ≡ begins) × ¬ (IsEarlier due begins)) }
@@ -91,7 +91,7 @@ fn motion_after(motion: &Motion, last: &Option<Leg>) -> Motion
 }
 
 /// The motion with the velocity `(u, v)` of a leg from `at` on, for a point with this motion and this last leg.
-pub fn following(
+pub(crate) fn following(
     motion: &Motion,
     last: Option<Leg>,
     now: &Moment,
