@@ -8,6 +8,7 @@ ghost use Rattle.kin_motion.specs.Numbers.{HasEntered};
 ghost use Rattle.kin_motion.specs.Scene.{Scene, scene_at};
 
 use crate::answer::Answer;
+use crate::ask::is_live;
 use crate::driver::Driver;
 use crate::failing::{after, failing_at};
 use crate::fault::Fault;
@@ -17,6 +18,7 @@ use kin_fail::Now;
 use kin_motion::keep::Keep;
 use kin_motion::kept::{Kept, enter};
 use kin_motion::{Delta, Motion, Motions, Placed};
+use kin_nearest::KinNearest;
 use kin_num::{Moment, Steps};
 use std::alloc::Global;
 use std::marker::Model;
@@ -191,5 +193,26 @@ impl<K: Answer> Keeping<K> {
         self.kept
             .structure
             .answer(self.kept.alloc, &self.motions, &self.moment)
+    }
+}
+
+impl Keeping<KinNearest> {
+    /// The nearest other point of a live point, if there is another.
+    pub fn nearest<L: Ledger>(
+        &self,
+        no: u32,
+        tally: &Tally,
+        steps: &mut Steps<L>,
+    ) -> Result<Option<u32>, Fault> {
+        if !is_live(&self.motions, no) {
+            return Err(Fault::NotLive);
+        }
+        self.moment.at.recall_canonical();
+        let now = Watch {
+            motions: &self.motions,
+            moment: &self.moment,
+            tally,
+        };
+        Ok(self.kept.structure.nearest(&now, no, steps))
     }
 }

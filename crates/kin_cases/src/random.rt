@@ -31,6 +31,28 @@ pub fn motion_for(seed: u64) -> Motion {
     )
 }
 
+/// A number of these many, from 0 on.
+fn one_of(seed: u64, many: u64) -> i32
+    requires low { 1 ≤ many }
+    requires high { many ≤ 100 }
+    ensures { unsigned_abs result ≤ 100 }
+{
+    ((seed >> 33) % many) as i32
+}
+
+/// A motion on a small lattice for a seed: it begins in 0..5, and moves by at most four places a second along each
+/// axis.
+pub fn lattice_motion_for(seed: u64) -> Motion {
+    let second = after_number(seed);
+    let third = after_number(second);
+    Motion::new(
+        one_of(seed, 6),
+        one_of(second, 6),
+        one_of(third, 9) - 4,
+        one_of(after_number(third), 9) - 4,
+    )
+}
+
 /// The motions of the numbers below 64.
 pub fn crowd_of_motions(alloc: Global, seed: u64) -> Result<Motions, Fault> {
     let mut motions = Motions::new(alloc, 6)?;

@@ -1,20 +1,33 @@
 -- What changes of slots do to the index of a roll.
-use Rattle.std.proofs.Common.{◌≡◌, refl, sym, ap, ◌∙◌, arith, List, [], ◌∷◌, length, get_or, ℕ, zero, suc, ◌+◌, ◌*◌, ◌≤◌, Option, Some, None, inl, inr}
+use Rattle.std.proofs.Common.{◌≡◌, ◌≢◌, refl, sym, ap, subst, ◌∙◌, arith, List, [], ◌∷◌, ◌++◌, length, get_or, ℕ, zero, suc, ◌+◌, ◌*◌, ◌≤◌, Option, Some, None, inl, inr}
+use Rattle.std.specs.List.{Contains}
 use Rattle.std.proofs.lemmas.Option.{same_Some, none-some}
 use Rattle.std.proofs.lemmas.Bool.{cases_eq, cases_lt}
+use Rattle.std.proofs.lemmas.List.Elements.{Contains-push_cases}
 use Rattle.kin_pointers.specs.Pointing.{Pointing}
 use Rattle.kin_cert.specs.Entries.{Entry}
 use Rattle.kin_cert.specs.Layout.{entry_at, HasSlot}
-use Rattle.kin_cert.specs.Names.{target_of, slot_number, numbers_in, numbers_at, owned_in, IsIndex, IsIndexUpTo, AreNamed, HasNumbers, AreKept, HaveSameFacts}
+use Rattle.kin_cert.specs.Names.{Aimed, target_of, slot_number, numbers_in, numbers_at, owned_in, IsIndex, IsIndexUpTo, IsIndexBut, AreNamed, HasNumbers, AreKept, HaveSameFacts}
 
--- the fact of one id changes, and its slots follow
-pub renamed : (p q : Option Pointing) (slots after : List (Option Entry)) (id : ℕ) (ns : List ℕ) (o : Option Entry) → AreNamed p slots → HasSlot slots after id o → AreKept p q id ns → ns ≡ numbers_at o → AreNamed q after
-renamed p None slots after id ns o named slot kept same = tt
-renamed None (Some q) slots after id ns o named slot kept same = absurd kept
-renamed (Some p) (Some q) slots after id ns o named slot kept same = λ j k low.
+-- the fact of one id changes, which is noted
+pub renamed : (a b : Option Aimed) (slots after : List (Option Entry)) (id : ℕ) (o : Option Entry) → AreNamed a slots → HasSlot slots after id o → AreKept a b id → AreNamed b after
+renamed a None slots after id o named slot kept = tt
+renamed None (Some b) slots after id o named slot kept = absurd kept
+renamed (Some a) (Some b) slots after id o named slot kept = λ j k out low.
+    let other : j ≢ id = λ e. out (subst (Contains b.changed) (sym e) kept.1.there) in
+    ap (λ (p : Pointing). target_of p (4 * j + k)) kept.0
+    ∙ named j k (λ h. out (kept.1.kept j h)) low
+    ∙ ap (λ (x : Option Entry). slot_number (numbers_at x) k) (sym (slot.others j other))
+
+-- an id that has changed is aimed
+pub renewed : (a : Aimed) (changed : List ℕ) (q : Pointing) (slots : List (Option Entry)) (id : ℕ) → IsIndexBut a slots → a.changed ≡ changed ++ id ∷ [] → HasNumbers a.pointing q id (numbers_at (entry_at slots id)) → IsIndexBut (record { pointing = q; changed = changed }) slots
+renewed a changed q slots id index taken aimed = λ j k out low.
     elim (cases_eq j id) [
-      | inl j_is ↦ ap (λ (x : ℕ). target_of q (4 * x + k)) j_is ∙ kept.changed k low ∙ ap (λ (xs : List ℕ). slot_number xs k) (same ∙ ap numbers_at (sym (ap (entry_at after) j_is ∙ slot.changed)))
-      | inr n ↦ kept.others j k n low ∙ named j k low ∙ ap (λ (x : Option Entry). slot_number (numbers_at x) k) (sym (slot.others j n))
+      | inl is ↦ ap (λ (x : ℕ). target_of q (4 * x + k)) is ∙ aimed.changed k low ∙ ap (λ (x : ℕ). slot_number (numbers_at (entry_at slots x)) k) (sym is)
+      | inr n ↦ aimed.others j k n low ∙ index j k (λ h. elim (Contains-push_cases changed id j (subst (λ (xs : List ℕ). Contains xs j) taken h)) [
+        | inl still ↦ absurd (out still)
+        | inr is ↦ absurd (n (sym is))
+      ]) low
     ]
 
 same_numbers : (x y : Option Entry) → owned_in x ≡ owned_in y → numbers_at x ≡ numbers_at y
@@ -24,9 +37,9 @@ same_numbers (Some x) None e = absurd (none-some x.owned (sym e))
 same_numbers (Some x) (Some y) e = ap (λ o. numbers_in (Some o.fact.form)) (same_Some x.owned y.owned e)
 
 -- no fact changes
-pub still-named : (p : Option Pointing) (slots after : List (Option Entry)) → AreNamed p slots → HaveSameFacts slots after → AreNamed p after
+pub still-named : (a : Option Aimed) (slots after : List (Option Entry)) → AreNamed a slots → HaveSameFacts slots after → AreNamed a after
 still-named None slots after named same = tt
-still-named (Some p) slots after named same = λ id k low. named id k low ∙ ap (λ (xs : List ℕ). slot_number xs k) (sym (same_numbers (entry_at after id) (entry_at slots id) (same id)))
+still-named (Some a) slots after named same = λ id k out low. named id k out low ∙ ap (λ (xs : List ℕ). slot_number xs k) (sym (same_numbers (entry_at after id) (entry_at slots id) (same id)))
 
 pub same-facts : (slots after : List (Option Entry)) (id : ℕ) (e f : Entry) → entry_at slots id ≡ Some e → HasSlot slots after id (Some f) → f.owned ≡ e.owned → HaveSameFacts slots after
 same-facts slots after id e f there slot same j =

@@ -15,7 +15,7 @@ use Rattle.kin_cert.specs.Entries.{Entry}
 use Rattle.kin_cert.specs.Facts.{LiveFact}
 use Rattle.kin_fail.specs.Failures.{IsFirstFailure}
 use Rattle.kin_cert.specs.Layout.{entry_at, live_fact, live_in, fresh, timed, HasSlot}
-use Rattle.kin_cert.specs.Names.{target_of, slot_number, numbers_at, owned_in, IsIndex, AreNamed, ListsSlotsOf, MayRenew, IsRenewed, AreRenewed}
+use Rattle.kin_cert.specs.Names.{Aimed, IsCurrent, target_of, slot_number, numbers_at, owned_in, IsIndex, AreNamed, ListsSlotsOf, MayRenew, IsRenewed, AreRenewed}
 use Rattle.kin_cert.specs.Remade.{names_number, IsRemade, HasRemade}
 use Rattle.kin_cert.proofs.Slots.{live-there, live-from, IsEntryOf}
 use Rattle.kin_cert.proofs.Tables.{has-slot}
@@ -74,9 +74,10 @@ module _ (p : Pointing) (slots : List (Option Entry)) (number : ℕ) (marks : Li
         );
   }
 
-pub marks-of : (names : Option Pointing) (slots : List (Option Entry)) (number : ℕ) (marks : List ℕ) → AreNamed names slots → ListsSlotsOf names number marks → AreMarks slots number marks
-marks-of None slots number marks index exact = absurd exact
-marks-of (Some p) slots number marks index exact = index-marks p slots number marks index exact
+pub marks-of : (names : Option Aimed) (slots : List (Option Entry)) (number : ℕ) (marks : List ℕ) → AreNamed names slots → IsCurrent names number → ListsSlotsOf names number marks → AreMarks slots number marks
+marks-of None slots number marks index current exact = absurd exact
+marks-of (Some a) slots number marks index current exact =
+    index-marks a.pointing slots number marks (λ id k low. index id k (λ h. contains_none id (subst (λ (xs : List ℕ). Contains xs id) current.0 h)) low) exact
 
 -- ---- how many they are
 abbrev naming : ℕ → List (Option Entry) → ℕ

@@ -54,25 +54,34 @@ pub record IsIndexUpTo (n : ℕ) (p : Pointing) (slots : List (Option Entry)) : 
   pub done : (id k : ℕ) → id < n → k < 4 → target_of p (4 * id + k) ≡ slot_number (numbers_at (entry_at slots id)) k
   pub rest : (id k : ℕ) → n ≤ id → k < 4 → target_of p (4 * id + k) ≡ None
 
--- where there is an index, it is that of these entries
-abbrev pub AreNamed : Option Pointing → List (Option Entry) → Type 0
+-- an index, as callers see it: at which numbers the slots point, and the ids of which the slots may point elsewhere
+pub record Aimed : Type 0 where
+  pub pointing : Pointing
+  pub changed : List ℕ
+
+-- the slots of each id point at the numbers that its fact names, but for those of the changed ids
+abbrev pub IsIndexBut : Aimed → List (Option Entry) → Type 0
+IsIndexBut a slots = (id k : ℕ) → ¬ (Contains a.changed id) → k < 4 → target_of a.pointing (4 * id + k) ≡ slot_number (numbers_at (entry_at slots id)) k
+
+-- where there is an index, it is that of these entries, but for the changed ids
+abbrev pub AreNamed : Option Aimed → List (Option Entry) → Type 0
 AreNamed None slots = ⊤
-AreNamed (Some p) slots = IsIndex p slots
+AreNamed (Some a) slots = IsIndexBut a slots
 
 -- the queue has exactly the facts that will fail and don't wait, and the index, where there is one, is theirs
-pub record IsListed (slots : List (Option Entry)) (moments : FinMap nat_cmp Moment) (names : Option Pointing) : Type 0 where
+pub record IsListed (slots : List (Option Entry)) (moments : FinMap nat_cmp Moment) (names : Option Aimed) : Type 0 where
   pub table : IsTable slots moments
   pub named : AreNamed names slots
 
--- there is an index that has the number
-abbrev pub HasNumber : Option Pointing → ℕ → Type 0
-HasNumber None number = ⊥
-HasNumber (Some p) number = number < p.numbers
+-- there is an index that has the number, and no id has changed
+abbrev pub IsCurrent : Option Aimed → ℕ → Type 0
+IsCurrent None number = ⊥
+IsCurrent (Some a) number = (a.changed ≡ []) × (number < a.pointing.numbers)
 
 -- these are the slots that point at the number, each once
-abbrev pub ListsSlotsOf : Option Pointing → ℕ → List ℕ → Type 0
+abbrev pub ListsSlotsOf : Option Aimed → ℕ → List ℕ → Type 0
 ListsSlotsOf None number marks = ⊥
-ListsSlotsOf (Some p) number marks = AreSlotsOf p number marks
+ListsSlotsOf (Some a) number marks = AreSlotsOf a.pointing number marks
 
 -- the slot points at this number now, and every other one as before
 pub record IsAimed (old new : Pointing) (slot : ℕ) (target : Option ℕ) : Type 0 where
@@ -84,11 +93,16 @@ pub record HasNumbers (old new : Pointing) (id : ℕ) (ns : List ℕ) : Type 0 w
   pub changed : (k : ℕ) → k < 4 → target_of new (4 * id + k) ≡ slot_number ns k
   pub others : (j k : ℕ) → j ≢ id → k < 4 → target_of new (4 * j + k) ≡ target_of old (4 * j + k)
 
--- the same, unless there is no index any more
-abbrev pub AreKept : Option Pointing → Option Pointing → ℕ → List ℕ → Type 0
-AreKept old None id ns = ⊤
-AreKept None (Some q) id ns = ⊥
-AreKept (Some p) (Some q) id ns = HasNumbers p q id ns
+-- the id is there now, and each that was there is
+pub record IsNoted (old new : List ℕ) (id : ℕ) : Type 0 where
+  pub there : Contains new id
+  pub kept : (j : ℕ) → Contains old j → Contains new j
+
+-- the id is noted and no slot points elsewhere, unless there is no index any more
+abbrev pub AreKept : Option Aimed → Option Aimed → ℕ → Type 0
+AreKept old None id = ⊤
+AreKept None (Some b) id = ⊥
+AreKept (Some a) (Some b) id = (b.pointing ≡ a.pointing) × IsNoted a.changed b.changed id
 
 -- the fact of an entry with its owner, if there is one
 abbrev pub owned_in : Option Entry → Option Owned

@@ -129,7 +129,7 @@ impl Table {
             return Ok(false);
         };
         unqueue(&mut self.schedule, vacancy, steps);
-        self.names.note(vacancy.id, &born.fact.form)?;
+        self.names.note(vacancy.id)?;
         time(
             &mut self.roll,
             &mut self.schedule,
@@ -191,7 +191,7 @@ impl Table {
             .take_out(structure, placed.part, &placed.fact.form);
         unqueue(&mut self.schedule, vacancy, steps);
         // Without memory for it the index is given up, and gathered again when it is asked for.
-        let _ = self.names.forget(vacancy.id);
+        let _ = self.names.note(vacancy.id);
     }
 
     // Drops these live facts.
@@ -255,7 +255,7 @@ impl Table {
         ensures cost { OnOk result (TakesAtMost (length self.old.live) (λ r. r + 1) steps.old steps.new) }
     {
         let id = self.roll.put_in(structure, placed)?;
-        self.names.note(id, &placed.fact.form)?;
+        self.names.note(id)?;
         time(
             &mut self.roll,
             &mut self.schedule,

@@ -1,33 +1,48 @@
 //! Which facts name each number.
 
-ghost use Rattle.std.specs.Prelude.{◌≡◌, ℕ, ◌+◌, ◌*◌, ◌<◌, ◌^◌, cond, length, Some, None, IfOk, OnOk};
-ghost use Rattle.kin_cert.specs.Names.{target_of, numbers_in, AreTargets, IsIndex, AreNamed, HasNumber, ListsSlotsOf, IsAimed, HasNumbers, AreKept};
+ghost use Rattle.std.specs.Prelude.{◌≡◌, ℕ, ◌+◌, ◌*◌, ◌<◌, ◌^◌, [], cond, length, Some, None, IfOk, OnOk};
+ghost use Rattle.kin_cert.specs.Names.{target_of, numbers_in, AreTargets, IsIndex, IsIndexBut, AreNamed, IsCurrent, ListsSlotsOf, IsAimed, HasNumbers, IsNoted, AreKept};
 
 use crate::roll::Roll;
 use kin_motion::form::Form;
 use kin_num::NoMemory;
+use kin_pointers::ids::Ids;
 use kin_pointers::pointers::Pointers;
 use std::alloc::Global;
 use std::marker::Model;
 
 /// The ids of the facts that name each number, from the first time on that those of a number are asked
-/// for.
-///
-/// Each id has four slots, from `4 * id` on. The slot `4 * id + k` points at the number that the form
-/// names in its place `k`, if there is one that it doesn't name earlier too.
+/// for. In between only the ids are noted whose facts change: most change often, and are looked at once.
 #[derive(Drop)]
 pub(crate) struct Names {
     alloc: Global,
-    pointers: Option<Pointers>,
+    index: Option<Index>,
+}
+
+/// Each id has four slots, from `4 * id` on. The slot `4 * id + k` points at the number that the form
+/// names in its place `k`, if there is one that it doesn't name earlier too.
+#[derive(Drop)]
+struct Index {
+    pointers: Pointers,
+    /// The slots of these ids may point elsewhere.
+    changed: Ids,
+}
+
+impl Model for Index {
+    ghost use Rattle.kin_cert.specs.Names.{Aimed};
+
+    ghost Value = { Aimed };
+
+    ghost view = { λ i. record { pointing = i.pointers; changed = i.changed } };
 }
 
 impl Model for Names {
     ghost use Rattle.std.specs.Prelude.{Option};
-    ghost use Rattle.kin_pointers.specs.Pointing.{Pointing};
+    ghost use Rattle.kin_cert.specs.Names.{Aimed};
 
-    ghost Value = { Option Pointing };
+    ghost Value = { Option Aimed };
 
-    ghost view = { λ n. n.pointers };
+    ghost view = { λ n. n.index };
 }
 
 impl Names {
@@ -35,87 +50,100 @@ impl Names {
     pub(crate) fn new(alloc: Global) -> Names
         ensures { result ≡ None }
     {
-        Names {
-            alloc,
-            pointers: None,
-        }
+        Names { alloc, index: None }
     }
 
-    /// Makes the index of what the facts of the roll name, if there is none, and lets it have this
+    /// Brings the index of what the facts of the roll name up to date, or makes it, and lets it have this
     /// number. After want of memory there is no index.
     pub(crate) fn gather(&mut self, roll: &Roll, number: u32) -> Result<(), NoMemory>
         requires { AreNamed self.old roll.now }
         ensures named { AreNamed self.new roll.now }
-        ensures ok { OnOk result (HasNumber self.new number) }
+        ensures ok { OnOk result (IsCurrent self.new number) }
     {
-        let mut pointers = match self.pointers.take() {
-            Some(pointers) => pointers,
-            None => pointers_of(self.alloc, roll)?,
+        let mut index = match self.index.take() {
+            Some(index) => index,
+            None => index_of(self.alloc, roll)?,
         };
-        reach(&mut pointers, number)?;
-        self.pointers = Some(pointers);
+        index.renew(roll)?;
+        reach(&mut index.pointers, number)?;
+        self.index = Some(index);
         Ok(())
     }
 
     /// The slots of the ids whose facts name a number.
     pub(crate) fn slots_of(&self, number: u32) -> &[u32]
-        requires { HasNumber self.now number }
+        requires { IsCurrent self.now number }
         ensures { ListsSlotsOf self.now number result.now }
     {
-        match &self.pointers {
-            Some(pointers) => pointers.slots_of(number),
+        match &self.index {
+            Some(index) => index.pointers.slots_of(number),
             None => unreachable!(),
         }
     }
 
-    /// Notes the form of an id's fact. After want of memory there is no index.
+    /// Notes that the fact of an id is another one, or gone. After want of memory there is no index.
     #[inline(always)]
-    pub(crate) fn note(&mut self, id: usize, form: &Form) -> Result<(), NoMemory>
-        ensures { AreKept self.old self.new id (numbers_in (Some form.now)) }
+    pub(crate) fn note(&mut self, id: usize) -> Result<(), NoMemory>
+        ensures { AreKept self.old self.new id }
     {
         // Without an index not even a call is made.
-        if self.pointers.is_none() {
+        if self.index.is_none() {
             return Ok(());
         }
-        self.note_form(id, form)
+        self.note_changed(id)
     }
 
-    // The same, where there may be an index. The form is copied only here.
+    // The same, where there may be an index.
     #[inline(never)]
-    fn note_form(&mut self, id: usize, form: &Form) -> Result<(), NoMemory>
-        ensures { AreKept self.old self.new id (numbers_in (Some form.now)) }
+    fn note_changed(&mut self, id: usize) -> Result<(), NoMemory>
+        ensures { AreKept self.old self.new id }
     {
-        self.note_asked(id, Some(*form))
-    }
-
-    /// Notes that an id has no fact. After want of memory there is no index.
-    #[inline(always)]
-    pub(crate) fn forget(&mut self, id: usize) -> Result<(), NoMemory>
-        ensures { AreKept self.old self.new id (numbers_in None) }
-    {
-        if self.pointers.is_none() {
-            return Ok(());
-        }
-        self.note_asked(id, None)
-    }
-
-    // Notes the form of an id's fact, or that there is none, where there may be an index.
-    #[inline(never)]
-    fn note_asked(&mut self, id: usize, form: Option<Form>) -> Result<(), NoMemory>
-        ensures { AreKept self.old self.new id (numbers_in form) }
-    {
-        let Some(pointers) = &mut self.pointers else {
+        let Some(index) = &mut self.index else {
             return Ok(());
         };
-        if aim_each(pointers, id, form).is_err() {
-            self.pointers = None;
+        if put_once(&mut index.changed, id).is_err() {
+            self.index = None;
             return Err(NoMemory);
         }
         Ok(())
     }
 }
 
+impl Index {
+    // Lets the slots of the changed ids point at what their facts name.
+    fn renew(&mut self, roll: &Roll) -> Result<(), NoMemory>
+        requires { IsIndexBut self.old roll.now }
+        ensures index { OnOk result (IsIndexBut self.new roll.now) }
+        ensures all { OnOk result (self.new.changed ≡ []) }
+    {
+        'ids: while let Some(id) = self.changed.pop() {
+            aim_each(&mut self.pointers, id, roll.form_of(id))?;
+        }
+        Ok(())
+    }
+}
+
 // What the facts of a roll name.
+fn index_of(alloc: Global, roll: &Roll) -> Result<Index, NoMemory>
+    ensures { IfOk result (λ i. IsIndexBut i roll.now) }
+{
+    Ok(Index {
+        pointers: pointers_of(alloc, roll)?,
+        changed: Ids::new(alloc),
+    })
+}
+
+// Puts in an id, if it isn't there.
+fn put_once(ids: &mut Ids, id: usize) -> Result<(), NoMemory>
+    ensures { OnOk result (IsNoted ids.old ids.new id) }
+{
+    if ids.has(id) {
+        return Ok(());
+    }
+    ids.insert(id)
+}
+
+// At which numbers the slots point.
 fn pointers_of(alloc: Global, roll: &Roll) -> Result<Pointers, NoMemory>
     ensures { IfOk result (λ p. IsIndex p roll.now) }
 {
@@ -131,6 +159,7 @@ fn aim_each(pointers: &mut Pointers, id: usize, form: Option<Form>) -> Result<()
     ensures { OnOk result (HasNumbers pointers.old pointers.new id (numbers_in form)) }
 {
     let first = first_slot(id)?;
+    cover(pointers, first + 3)?;
     let [i, j, k, l] = targets(form);
     aim(pointers, first, i)?;
     aim(pointers, first + 1, j)?;
@@ -189,14 +218,26 @@ fn unless(is_named: bool, number: u32) -> Option<u32>
     if is_named { None } else { Some(number) }
 }
 
-// Lets a slot point at a number, or at none.
+// Lets a slot point at a number, or at none. Most slots do so already, which is tested in line.
+#[inline(always)]
 fn aim(pointers: &mut Pointers, slot: u32, target: Option<u32>) -> Result<(), NoMemory>
-    ensures { OnOk result (IsAimed pointers.old pointers.new slot target) }
+    requires { slot < length pointers.old.targets }
+    ensures aimed { OnOk result (IsAimed pointers.old pointers.new slot target) }
+    ensures slots { OnOk result (length pointers.new.targets ≡ length pointers.old.targets) }
 {
-    cover(pointers, slot)?;
     if pointers.target(slot) == target {
         return Ok(());
     }
+    turn(pointers, slot, target)
+}
+
+// Lets a slot point at another number, or at none.
+#[inline(never)]
+fn turn(pointers: &mut Pointers, slot: u32, target: Option<u32>) -> Result<(), NoMemory>
+    requires { slot < length pointers.old.targets }
+    ensures aimed { OnOk result (IsAimed pointers.old pointers.new slot target) }
+    ensures slots { OnOk result (length pointers.new.targets ≡ length pointers.old.targets) }
+{
     pointers.release(slot);
     let Some(number) = target else {
         return Ok(());
@@ -206,6 +247,7 @@ fn aim(pointers: &mut Pointers, slot: u32, target: Option<u32>) -> Result<(), No
 }
 
 // Adds slots until there is this one.
+#[inline(always)]
 fn cover(pointers: &mut Pointers, slot: u32) -> Result<(), NoMemory>
     ensures there { OnOk result (slot < length pointers.new.targets) }
     ensures same { OnOk result ((s : ℕ) → target_of pointers.new s ≡ target_of pointers.old s) }

@@ -1,6 +1,6 @@
 //! When the live facts fail.
 
-ghost use Rattle.std.specs.Prelude.{◌≡◌, ◌≢◌, ◌⊎◌, ◌↔◌, ℕ, [], slice_get, Contains, None, Some, IsSome, IsTrue, IsFalse, IfSome, IfNone, MatchOption, OnOk, OnErr, IfOk};
+ghost use Rattle.std.specs.Prelude.{◌≡◌, ◌≢◌, ◌⊎◌, ◌↔◌, ℕ, [], None, Some, IsSome, IsTrue, IsFalse, IfSome, IfNone, MatchOption, OnOk, OnErr, IfOk};
 ghost use Rattle.std.specs.FinMap.{get, insert, remove, empty, len};
 ghost use Rattle.kin_num.specs.declared.instant.Moment.{Moment as Time};
 ghost use Rattle.kin_num.specs.Order.{IsEarlier};
@@ -11,6 +11,7 @@ ghost use Rattle.kin_cert.specs.Schedules.{just_after};
 use kin_instant::order::compare;
 use kin_instant::ratio::ratio;
 use kin_num::{Instant, Moment, NoMemory, Phase, Steps};
+use kin_pointers::ids::Ids;
 use kin_queue::due::{Due, is_same_instant};
 use kin_queue::queue::Queue;
 use std::alloc::Global;
@@ -27,7 +28,7 @@ use std::sync::ledger::Ledger;
 pub(crate) struct Schedule {
     queue: Queue,
     /// The ids of the side list.
-    soon: Vec<usize>,
+    soon: Ids,
     /// The ids of the side list have the moment just after this instant. Where there are none it means nothing.
     soon_from: Instant,
 }
@@ -42,9 +43,9 @@ impl Model for Schedule {
 
     ghost coded = { schedule_code };
 
-    ghost view = { λ s. with_each s.queue.moments (just_after s.soon_from) s.soon.items };
+    ghost view = { λ s. with_each s.queue.moments (just_after s.soon_from) s.soon };
 
-    ghost invariant = { λ s. AreBeside s.queue.moments s.soon.items };
+    ghost invariant = { λ s. AreBeside s.queue.moments s.soon };
 }
 
 impl Schedule {
@@ -54,7 +55,7 @@ impl Schedule {
     {
         Schedule {
             queue: Queue::new(alloc),
-            soon: Vec::new(alloc),
+            soon: Ids::new(alloc),
             soon_from: ratio(0, 1),
         }
     }
@@ -65,7 +66,7 @@ impl Schedule {
     {
         Ok(Schedule {
             queue: Queue::with_room(alloc, count)?,
-            soon: Vec::new(alloc),
+            soon: Ids::new(alloc),
             soon_from: ratio(0, 1),
         })
     }
@@ -93,8 +94,7 @@ impl Schedule {
             };
             return self.queue.insert(id, at, steps);
         }
-        self.soon.reserve(1)?;
-        self.soon.push_reserved(id);
+        self.soon.insert(id)?;
         self.soon_from = at.at;
         Ok(())
     }
@@ -110,10 +110,7 @@ impl Schedule {
             self.queue.remove(id, steps);
             return;
         }
-        let Some(place) = place_of(&self.soon, id) else {
-            unreachable!()
-        };
-        self.soon.remove(place);
+        self.soon.remove(id);
     }
 
     /// The least moment of an id, or `None` exactly where there is no id. Compares moments at most
@@ -124,7 +121,7 @@ impl Schedule {
     {
         self.soon_from.recall_canonical();
         let Some(next) = self.queue.first() else {
-            return if is_vacant(&self.soon) {
+            return if self.soon.is_empty() {
                 None
             } else {
                 Some(moment_after(self.soon_from))
@@ -160,7 +157,7 @@ impl Schedule {
 }
 
 // Whether an id with this moment may join the side list.
-fn may_join(soon: &[usize], soon_from: &Instant, at: &Moment) -> bool
+fn may_join(soon: &Ids, soon_from: &Instant, at: &Moment) -> bool
     ensures after { IsTrue result → at.now ≡ just_after at.now.at }
     ensures same { IsTrue result → (soon.now ≡ []) ⊎ (soon_from.now ≡ at.now.at) }
 {
@@ -179,15 +176,8 @@ fn moment_after(at: Instant) -> Moment
     }
 }
 
-fn is_vacant(ids: &[usize]) -> bool
-    ensures yes { IsTrue result → ids.now ≡ [] }
-    ensures other { IsFalse result → ids.now ≢ [] }
-{
-    ids.is_empty()
-}
-
 // Whether the side list has ids, and this is their moment.
-fn have_moment(soon: &[usize], soon_from: &Instant, moment: &Moment) -> bool
+fn have_moment(soon: &Ids, soon_from: &Instant, moment: &Moment) -> bool
     ensures yes { IsTrue result → (soon.now ≢ []) × (just_after soon_from.now ≡ moment.now) }
     ensures other { IsFalse result → (soon.now ≡ []) ⊎ (just_after soon_from.now ≢ moment.now) }
 {
@@ -198,24 +188,11 @@ fn have_moment(soon: &[usize], soon_from: &Instant, moment: &Moment) -> bool
 }
 
 // Whether a moment is earlier than that of the side list, or the list is empty.
-fn comes_first(at: &Moment, soon: &[usize], soon_from: &Instant) -> bool
+fn comes_first(at: &Moment, soon: &Ids, soon_from: &Instant) -> bool
     ensures yes { IsTrue result → (soon.now ≡ []) ⊎ IsEarlier at.now (just_after soon_from.now) }
     ensures other { IsFalse result → (soon.now ≢ []) × ¬ (IsEarlier at.now (just_after soon_from.now)) }
 {
     soon.is_empty() || comes_before(at, soon_from)
-}
-
-// The place of an id in a list.
-fn place_of(ids: &[usize], id: usize) -> Option<usize>
-    ensures some { IfSome result (λ place. slice_get ids.now place ≡ Some id) }
-    ensures none { IfNone result (¬ (Contains ids.now id)) }
-{
-    for place in 0..ids.len() {
-        if ids[place] == id {
-            return Some(place);
-        }
-    }
-    None
 }
 
 // Whether a moment is earlier than the one just after an instant.

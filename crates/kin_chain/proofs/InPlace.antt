@@ -18,10 +18,10 @@ either false b e f = e
 
 module _ (s : Scene) where
   -- the first is steeper
-  abbrev falls : Breakpoint → Breakpoint → Bool
+  abbrev pub falls : Breakpoint → Breakpoint → Bool
   falls e f = is_plus (s.sign (slope_form e f))
 
-  breakpoints_fall : (h : Half) (a : List ℕ) → Falls s a → IsChain falls (breakpoints_of h a)
+  pub breakpoints_fall : (h : Half) (a : List ℕ) → Falls s a → IsChain falls (breakpoints_of h a)
   breakpoints_fall h [] f = tt
   breakpoints_fall h (i ∷ []) f = tt
   breakpoints_fall h (i ∷ j ∷ []) f = tt
@@ -50,7 +50,7 @@ module _ (s : Scene) where
       steeper_first e f
       (subst (λ b. IsChain falls (cond b (e ∷ f ∷ own_of h es) (f ∷ own_of h es))) first (subst (λ b. IsChain falls (cond (is_of h e.half) (e ∷ cond b (f ∷ own_of h es) (own_of h es)) (cond b (f ∷ own_of h es) (own_of h es)))) second c)).0
 
-  in_place_falls : (es : List Breakpoint) → IsChain falls (own_of A es) → IsChain falls (own_of B es) → IsChain (is_in_place s) es → IsChain (is_placed_before s) es
+  pub in_place_falls : (es : List Breakpoint) → IsChain falls (own_of A es) → IsChain falls (own_of B es) → IsChain (is_in_place s) es → IsChain (is_placed_before s) es
   in_place_falls [] fa fb c = tt
   in_place_falls (e ∷ []) fa fb c = tt
   in_place_falls (e ∷ f ∷ es) fa fb c = (at e.half refl f.half refl, in_place_falls (f ∷ es) (own_behind A e (f ∷ es) fa) (own_behind B e (f ∷ es) fb) c.1)

@@ -2,8 +2,9 @@
 use Rattle.std.proofs.Common.{◌≡◌, [], ◌∷◌, ℕ, refl}
 use Rattle.kin_algebra.proofs.Ring.{by_identity, quotes_in}
 use Rattle.kin_algebra.proofs.OrderedRings.{OrderedRing}
-use Rattle.kin_motion.specs.declared.form.Form.TheVariants.{Turn, Slope}
+use Rattle.kin_motion.specs.declared.form.Form.TheVariants.{Turn, Slope, Dist}
 use Rattle.kin_motion.specs.Scene.{Scene, x_sign, y_sign}
+use Rattle.kin_motion.proofs.DistanceValues.{square}
 use Rattle.kin_chain.proofs.Comparisons.{way}
 use Rattle.kin_algebra.proofs.Vectors.{Vector, cross}
 
@@ -29,6 +30,8 @@ module _ {R : Type 0} (o : OrderedRing R) where
     pub turns : (i j k : ℕ) → s.sign (Turn i j k) ≡ o.sign (way o (height ps (step ps i j)) i k)
     -- the slope is how much lower l is than k along the way from i to j
     pub slopes : (i j k l : ℕ) → s.sign (Slope i j k l) ≡ o.sign (way o (height ps (step ps i j)) l k)
+    -- the difference of squared distances is that of the squares of both steps
+    pub distances : (i j k l : ℕ) → s.sign (Dist i j k l) ≡ o.sign (o.ring.plus (square o (step ps k l)) (o.ring.negative (square o (step ps i j))))
 
   module _ (ps : Places) where
     -- a rise is the cross of the vector and the step

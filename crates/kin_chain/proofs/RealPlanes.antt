@@ -5,16 +5,17 @@ use Rattle.std.proofs.lemmas.List.Elements.{Contains-append_left, Contains-appen
 use Rattle.kin_algebra.proofs.Members.{contains_none, contains_head, contains_tail, contains_cases}
 use Rattle.kin_algebra.proofs.OrderedRings.{OrderedRing}
 use Rattle.kin_algebra.proofs.Pairs.{Pair}
-use Rattle.kin_num.specs.Quadratic.{Quadratic}
+use Rattle.kin_num.specs.Quadratic.{Quadratic, quadratic_sum}
 use Rattle.kin_num.specs.Instants.{sign_at_number}
 use Rattle.kin_num.proofs.NumberRing.{ring_over}
 use Rattle.kin_motion.specs.declared.form.Form.{Form}
-use Rattle.kin_motion.specs.declared.form.Form.TheVariants.{Line, Turn, Slope}
+use Rattle.kin_motion.specs.declared.form.Form.TheVariants.{Line, Turn, Slope, Dist}
 use Rattle.kin_motion.specs.Course.{Course, motion_of}
 use Rattle.kin_motion.specs.Forms.{Linear, minus, product, difference, along, x_of_course, y_of_course, x_of, y_of, x_step, y_step, polynomial_of, sign_of_form}
 use Rattle.kin_motion.specs.Scene.{Scene, IsReal, x_sign, y_sign}
 use Rattle.kin_motion.proofs.SetLaws.{contains_map}
 use Rattle.kin_motion.proofs.SeenLaws.{SeenAt, seen_at}
+use Rattle.kin_motion.proofs.DistanceValues.{square, distance_sign}
 use Rattle.kin_motion.proofs.LineValues.{line_value, line_value-minus, x_sign-value, y_sign-value, products-value}
 use Rattle.kin_chain.proofs.Comparisons.{way}
 use Rattle.kin_algebra.proofs.Vectors.{cross}
@@ -77,8 +78,14 @@ turn c d e = difference (product (x_between c d) (y_between c e)) (product (y_be
 abbrev slope : Motion → Motion → Motion → Motion → Quadratic
 slope c d e f = difference (product (y_between c d) (x_between e f)) (product (y_between e f) (x_between c d))
 
+abbrev square_between : Motion → Motion → Quadratic
+square_between c d = quadratic_sum (product (x_between c d) (x_between c d)) (product (y_between c d) (y_between c d))
+
+abbrev distance : Motion → Motion → Motion → Motion → Quadratic
+distance c d e f = difference (square_between e f) (square_between c d)
+
 pub all_of : List Motion → List Quadratic
-all_of cs = two x_line cs ++ (two y_line cs ++ (three turn cs ++ four slope cs))
+all_of cs = two x_line cs ++ (two y_line cs ++ (three turn cs ++ (four slope cs ++ four distance cs)))
 
 -- every number has a motion of the list, or none
 motion_in : (ms : List Motion) (i : ℕ) → Contains (None ∷ ms) (motion_of ms i)
@@ -149,12 +156,24 @@ module _ (s : Scene) (r : IsReal s) where
   unfolding polynomial_of all_of cross
   slope_here i j k l =
       sign_here (Slope i j k l)
-      (Contains-append_right (two x_line cs) _ _ (Contains-append_right (two y_line cs) _ _ (Contains-append_right (three turn cs) _ _
-      (in_four slope cs (motion_of ms i) (motion_of ms j) (motion_of ms k) (motion_of ms l) (motion_in ms i) (motion_in ms j) (motion_in ms k) (motion_in ms l)))))
+      (Contains-append_right (two x_line cs) _ _ (Contains-append_right (two y_line cs) _ _ (Contains-append_right (three turn cs) _ _ (Contains-append_left (four slope cs) _ _
+      (in_four slope cs (motion_of ms i) (motion_of ms j) (motion_of ms k) (motion_of ms l) (motion_in ms i) (motion_in ms j) (motion_in ms k) (motion_in ms l))))))
       ∙ products-value (seen).number (seen).sound (seen).positive (y_step ms i j) (x_step ms k l) (y_step ms k l) (x_step ms i j)
       ∙ ap here.sign (same_mixed (y_way i j) (x_way k l) (y_way k l) (x_way i j)
       ∙ ap (λ (z : Pair). here.ring.plus z (here.ring.negative (here.ring.times (way here places.y k l) (way here places.x i j)))) (here.ring.times_comm (way here places.y i j) (way here places.x k l))
       ∙ sym (fall here places (step here places i j) k l))
 
+  square_here : (i j : ℕ) → square here (record { x = line_value (x_step ms i j) (seen).number; y = line_value (y_step ms i j) (seen).number }) ≡ square here (step here places i j)
+  square_here i j = ap₂ here.ring.plus (ap₂ here.ring.times (x_way i j) (x_way i j)) (ap₂ here.ring.times (y_way i j) (y_way i j))
+
+  distance_here : (i j k l : ℕ) → s.sign (Dist i j k l) ≡ here.sign (here.ring.plus (square here (step here places k l)) (here.ring.negative (square here (step here places i j))))
+  unfolding polynomial_of all_of
+  distance_here i j k l =
+      sign_here (Dist i j k l)
+      (Contains-append_right (two x_line cs) _ _ (Contains-append_right (two y_line cs) _ _ (Contains-append_right (three turn cs) _ _ (Contains-append_right (four slope cs) _ _
+      (in_four distance cs (motion_of ms i) (motion_of ms j) (motion_of ms k) (motion_of ms l) (motion_in ms i) (motion_in ms j) (motion_in ms k) (motion_in ms l))))))
+      ∙ distance_sign (seen).number (seen).sound (seen).positive (x_step ms i j) (y_step ms i j) (x_step ms k l) (y_step ms k l)
+      ∙ ap here.sign (ap₂ (λ (u v : Pair). here.ring.plus u (here.ring.negative v)) (square_here k l) (square_here i j))
+
   pub shown : Shows here s places
-  shown = record { x_signs = x_here; y_signs = y_here; turns = turn_here; slopes = slope_here }
+  shown = record { x_signs = x_here; y_signs = y_here; turns = turn_here; slopes = slope_here; distances = distance_here }

@@ -1,31 +1,28 @@
 -- Without members it is settled wherever no number is live.
-use Rattle.std.proofs.Common.{◌≡◌, inl, inr, refl, sym, ap, ◌∙◌, subst, arith, List, [], ◌∷◌, ◌++◌, ℕ, ◌+◌, ◌*◌, ◌/◌, ◌%◌, ◌^◌, ◌≤◌, ℤ, length, map, true, false}
-use Rattle.std.specs.Prelude.{Option, Some, None, Contains, slice_get, slice_index_or, replicate}
+use Rattle.std.proofs.Common.{◌≡◌, inl, inr, refl, sym, ap, ◌∙◌, subst, arith, [], ◌++◌, ℕ, ◌+◌, ◌*◌, ◌/◌, ◌%◌, ◌^◌, ◌≤◌, length, map, true, false}
+use Rattle.std.specs.Prelude.{Option, Some, None, slice_get, replicate}
 use Rattle.std.proofs.lemmas.List.{length-replicate}
 use Rattle.std.proofs.lemmas.Nat.{pow-add}
 use Rattle.std.proofs.lemmas.Option.{none-some, slice_get-get_or}
 use Rattle.std.proofs.Math.Pow.{pow_pos}
 use Rattle.kin_algebra.proofs.Places.{get_or-replicate_any}
 use Rattle.kin_algebra.specs.declared.sign.Sign.TheVariants.{Zero}
-use Rattle.kin_algebra.proofs.Members.{contains_none}
 use Rattle.kin_motion.specs.declared.fact.Placed.{Placed}
-use Rattle.kin_motion.specs.ClosestFacts.{HoldsNear, near_of, IsWedgeFact, IsClosestFact}
+use Rattle.kin_motion.specs.ClosestFacts.{HoldsNear, near_of, IsClosestFact}
 use Rattle.kin_motion.specs.ClosestPairs.{Near, distance_key, pair_in, IsClosest}
 use Rattle.kin_motion.specs.Contents.{IsSettledClosest, IsWinner}
-use Rattle.kin_motion.specs.Numbers.{is_in, IsIn, Lists}
-use Rattle.kin_motion.specs.Orders.{IsOrder, neighbour_facts}
+use Rattle.kin_motion.specs.Numbers.{is_in, IsIn}
 use Rattle.kin_motion.specs.Parts.{moved_by}
 use Rattle.kin_motion.specs.Scene.{Scene}
 use Rattle.kin_motion.specs.Sets.{ListsExactly}
 use Rattle.kin_motion.specs.Tournaments.{item_in}
 use Rattle.kin_motion.proofs.NodeLaws.{held_slot}
-use Rattle.kin_motion.proofs.Members.{in_head}
 use Rattle.kin_motion.proofs.NearLaws.{octant_at}
 use Rattle.kin_motion.proofs.SetLaws.{exactly_none}
 use Rattle.kin_list.specs.declared.mark.Mark.TheVariants.{Rest, Enters}
 use Rattle.kin_tourney.specs.Tournament.{Tournament, IsAtRest, IsSettled, winner_at}
-use Rattle.kin_wedge.specs.Rows.{AreOrders}
-use Rattle.kin_wedge.specs.Wedging.{Wedging, candidate_told, IsSettledWedging}
+use Rattle.kin_wedge.specs.Wedging.{Wedging, candidate_told}
+use Rattle.kin_wedge.proofs.NoMembers.{HasNoMembers, candidate_none, no_wedge_fact, settled_without}
 use Rattle.kin_near.specs.BestPairs.{HoldCandidates}
 use Rattle.kin_closest.specs.declared.distance.Distance.{Distance}
 use Rattle.kin_closest.specs.Closing.{Closing, facts_of, pair_told, IsSettledClosing, AreJoined}
@@ -45,30 +42,8 @@ module _ (k : Closing) (are : AreNone k.wedges k.pairs) (s : Scene) (none : s.li
   no_live : (i : ℕ) → ¬ (IsIn i s.live)
   no_live i h = let clash : false ≡ true = sym (ap (is_in i) none) ∙ h in cc
 
-  empty_order : (dx dy : ℤ) → IsOrder s dx dy []
-  empty_order dx dy = record { all = record { once = tt; same = λ i. sym (ap (is_in i) none) }; chain = tt }
-
-  ordered : AreOrders s k.wedges.orders
-  ordered = subst (AreOrders s) (sym are.orders) (record { count = refl; order = λ part low. subst (IsOrder s _ _) (sym (get_or-replicate_any 8 part [])) (empty_order _ _) })
-
-  no_neighbours : (dx dy : ℤ) (part : ℕ) (xs : List ℕ) (p : Placed) → Lists xs [] → ¬ (Contains (neighbour_facts s dx dy part xs) p)
-  no_neighbours dx dy part [] p l h = contains_none p h
-  no_neighbours dx dy part (x ∷ xs) p l h = let clash : true ≡ false = sym (in_head x xs) ∙ l.same x in cc
-
-  no_wedge_fact : (p : Placed) → ¬ (IsWedgeFact s p)
-  no_wedge_fact p w = no_neighbours w.way.dx w.way.dy p.part w.fact.order p (subst (Lists w.fact.order) none w.fact.ordered.all) w.fact.listed
-
-  candidate_none : (p w : ℕ) → candidate_told k.wedges p w ≡ None
-  candidate_none p w = ap (λ c. slice_index_or c (8 * p + w) None) are.candidates ∙ get_or-replicate_any (8 * 2 ^ k.wedges.size) (8 * p + w) None
-
-  octants : IsSettledWedging k.wedges s
-  octants = record {
-    ordered = ordered;
-    wedges = record {
-      candidates = record { of_live = λ p w o l e. absurd (no_live p l); of_others = λ p w h l n. candidate_none p w };
-      exact = subst (λ fs. ListsExactly fs (IsWedgeFact s)) (sym are.facts) (exactly_none _ no_wedge_fact);
-    };
-  }
+  no_members : HasNoMembers k.wedges
+  no_members = record { orders = are.orders; facts = are.facts; candidates = are.candidates }
 
   slot_none : (i : ℕ) → item_in k.pairs.slots i ≡ None
   slot_none i = ap (λ xs. item_in xs i) are.slots ∙ get_or-replicate_any (2 ^ (k.wedges.size + 3)) i None
@@ -78,7 +53,7 @@ module _ (k : Closing) (are : AreNone k.wedges k.pairs) (s : Scene) (none : s.li
     count = count;
     each = λ p w low eight.
         slice_get-get_or k.pairs.slots (8 * p + w) None (let g = pow-add 2 k.wedges.size 3 in let c = count in omega (arith, c, g, low, eight))
-        ∙ ap (λ (x : Option Near). Some x) (slot_none (8 * p + w) ∙ sym (ap (near_of (8 * p + w) p) (candidate_none p w)));
+        ∙ ap (λ (x : Option Near). Some x) (slot_none (8 * p + w) ∙ sym (ap (near_of (8 * p + w) p) (candidate_none k.wedges no_members s none p w)));
   }
     where
       count : length k.pairs.slots ≡ 2 ^ (k.wedges.size + 3)
@@ -92,7 +67,7 @@ module _ (k : Closing) (are : AreNone k.wedges k.pairs) (s : Scene) (none : s.li
       at (Some m) h = absurd (none-some m (sym (slot_none h.slot) ∙ h.held))
 
   no_fact : (p : Placed) → ¬ (IsClosestFact k.wedges.size s p)
-  no_fact p (inl w) = no_wedge_fact p w
+  no_fact p (inl w) = no_wedge_fact k.wedges no_members s none p w
   no_fact p (inr v) = no_live _ (here v.fact.left_best.slot v.fact.left v.fact.left_best.held).1
     where
       here : (i : ℕ) (m : Near) → item_in v.slots i ≡ Some m → HoldsNear s (octant_at (i % 8) (omega arith)).0 (i / 8) (8 * (i / 8) + i % 8) (Some m)
@@ -108,7 +83,7 @@ module _ (k : Closing) (are : AreNone k.wedges k.pairs) (s : Scene) (none : s.li
       nothing = λ t. are.facts t ++ map (moved_by 8) (are.pair_facts t)
 
   pub vacant_settled : IsSettledClosing k s
-  vacant_settled = record { closest = closest; fits = λ i l. absurd (no_live i l); octants = octants; size = are.size; held = held; pairs = are.settled s }
+  vacant_settled = record { closest = closest; fits = λ i l. absurd (no_live i l); octants = settled_without k.wedges no_members s none; size = are.size; held = held; pairs = are.settled s }
 
 -- a new structure has no members
 pub none_made : (size : ℕ) (wedges : Wedging) (pairs : Tournament Distance Near) → wedges ≡ record { size = size; orders = replicate 8 []; facts = []; candidates = replicate (8 * 2 ^ size) None; changed = []; mark = Rest }

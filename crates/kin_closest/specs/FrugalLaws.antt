@@ -4,25 +4,22 @@ use Rattle.std.specs.Prelude.{slice_get, Contains, ◌≢◌}
 use Rattle.std.proofs.lemmas.Bool.Decides.{nat_tests}
 use Rattle.kin_motion.specs.declared.fact.Placed.{Placed}
 use Rattle.kin_motion.specs.declared.keep.Keep.{Keep}
-use Rattle.kin_motion.specs.ClosestFacts.{IsWedgeFact, IsPairFact, IsClosestFact, near_slots}
+use Rattle.kin_motion.specs.ClosestFacts.{IsPairFact, IsClosestFact, near_slots}
 use Rattle.kin_motion.specs.Deltas.{Change}
 use Rattle.kin_motion.specs.Kinetics.{ListsFailing, HasChanged}
-use Rattle.kin_motion.specs.Octants.{Direction, eight_directions, AreCandidates, ListsChanged}
-use Rattle.kin_motion.specs.Orders.{IsOrder}
+use Rattle.kin_motion.specs.Octants.{eight_directions, AreCandidates, ListsChanged}
 use Rattle.kin_motion.specs.Scene.{Scene, IsReal}
 use Rattle.kin_motion.specs.Sets.{ListsExactly}
-use Rattle.kin_motion.specs.Spending.{AreInStep, HasFailed, IsFactAlong, HasRisenWithin, MayAsk, MayClosestAsk, MayOrdersAsk}
+use Rattle.kin_motion.specs.Spending.{AreInStep, HasFailed, HasRisenWithin, MayAsk, MayClosestAsk, MayOrdersAsk}
 use Rattle.kin_motion.proofs.ClosestFactLaws.{pair_part}
-use Rattle.kin_motion.proofs.SameOctants.{way_of}
-use Rattle.kin_motion.proofs.SetLaws.{distinct_filter, exactly_in_words, filter-complete, filter-sound}
+use Rattle.kin_motion.proofs.SetLaws.{distinct_filter, filter-complete, filter-sound}
 use Rattle.kin_list.specs.declared.mark.Mark.{Mark}
 use Rattle.kin_list.specs.Keeping.{LeadsTo}
 use Rattle.kin_list.specs.Listing.{names_leaving}
 use Rattle.kin_wedge.proofs.Led.{unspared_stay, staying_unspared}
 use Rattle.kin_wedge.specs.Costs.{AreFewBelow}
-use Rattle.kin_wedge.specs.Rows.{row_of}
-use Rattle.kin_wedge.specs.Wedging.{Wedging, candidate_told, IsSettledWedging}
-use Rattle.kin_wedge.proofs.OrdersAsk.{AreOrdersAlong, orders_ask}
+use Rattle.kin_wedge.specs.Wedging.{candidate_told}
+use Rattle.kin_wedge.proofs.EightAsk.{eight_ask}
 use Rattle.kin_near.specs.BestPairs.{HoldCandidates}
 use Rattle.kin_near.proofs.ChangedPairs.{changed_pairs}
 use Rattle.kin_near.proofs.SettledPairs.{wedge_part}
@@ -32,21 +29,6 @@ use Rattle.kin_closest.specs.Sorting.{is_of_pair}
 -- at rest it follows the scene in which it was settled
 pub closing_follows_scene : (k : Closing) (s : Scene) (live : List ℕ) → IsClosingAtRest k → HasMembers k s.live → IsSettledClosing k s → s.live ≡ live → FollowsClosing k s live
 closing_follows_scene k s live rest members settled same = record { settled = settled; led = subst (λ (mark : Mark). LeadsTo mark s.live live) (sym rest.rest) same }
-
--- ---- the eight orders
-along_eight : (k : Wedging) (s : Scene) → IsSettledWedging k s → AreOrdersAlong eight_directions s k.orders
-along_eight k s settled part d known =
-    let way = way_of part d known in
-    subst (λ (e : Direction). IsOrder s e.dx e.dy (row_of k.orders part)) (sym way.1) (settled.ordered.order part way.0)
-
-eight_facts : (k : Wedging) (s : Scene) → IsSettledWedging k s → ListsExactly k.facts (IsFactAlong eight_directions s)
-eight_facts k s settled = exactly_in_words k.facts (IsWedgeFact s) (IsFactAlong eight_directions s) (λ p. (to p, from p)) settled.wedges.exact
-  where
-    to : (p : Placed) → IsWedgeFact s p → IsFactAlong eight_directions s p
-    to p f = record { way = f.way; known = f.known; fact = f.fact }
-
-    from : (p : Placed) → IsFactAlong eight_directions s p → IsWedgeFact s p
-    from p f = record { way = f.way; known = f.known; fact = f.fact }
 
 -- ---- the facts of the tournament
 beyond_orders : (p : Placed) → 8 ≤ p.part → is_of_pair p ≡ true
@@ -90,10 +72,7 @@ module _ (old new : Closing) (v w : Scene) (real : IsReal v) (real' : IsReal w) 
   orders_within : (out out' : Change) (before after : ℕ) → HasChanged old.wedges.facts new.wedges.facts out out' → AreFewBelow 8 old.wedges.mark old.wedges.orders new.wedges.orders out out' before after
       → HasRisenWithin (MayOrdersAsk eight_directions v w) before after
   orders_within out out' before after changed few =
-      let was = follows.settled.octants in
-      let is = settled.octants in
-      orders_ask v w real real' eight_directions old.wedges.orders new.wedges.orders (along_eight old.wedges v was) (along_eight new.wedges w is) old.wedges.mark old.wedges.facts new.wedges.facts out out' before after follows.led
-      (eight_facts old.wedges v was) (eight_facts new.wedges w is) changed few
+      eight_ask old.wedges new.wedges v w real real' follows.settled.octants settled.octants out out' before after follows.led changed few
 
   closest_within : (failed : List Placed) (out : Change) (before after : ℕ) → ListsFailing (facts_of old) (names_leaving old.wedges.mark) w failed → AreFewTests old new failed out before after
       → HasRisenWithin (MayClosestAsk old.wedges.size v w) before after

@@ -13,13 +13,13 @@ use Rattle.kin_motion.specs.Numbers.{is_in, IsIn, IsOnce}
 use Rattle.kin_motion.specs.Scene.{Scene, IsReal, x_sign, reflected}
 use Rattle.kin_motion.proofs.AgreementLaws.{kept-members}
 use Rattle.kin_motion.proofs.ChainLaws.{left_through, plus_from}
-use Rattle.kin_motion.proofs.Members.{in_left, in_right, in_either}
+use Rattle.kin_motion.proofs.Members.{in_left, in_right, in_either, in_reverse, into_reverse}
 use Rattle.kin_motion.proofs.RealLaws.{real_line_laws}
 use Rattle.kin_motion.proofs.ReflectedLaws.{reflected-real}
 use Rattle.kin_chain.proofs.ChainLaws.{different_x}
 use Rattle.kin_hull.specs.Corners.{IsHighestOnVertical, IsLowestOnVertical, CornersEndVerticals, TwoHaveOneX, CornersTurnLeft, NeighboursTurnLeft, CyclesListOnce}
 use Rattle.kin_hull.proofs.Bends.{on_upper, on_lower, rotated, reversed, three_of_one, two_and_one, IsOn}
-use Rattle.kin_hull.proofs.Sorted.{Sorted, in_reverse, into_reverse, chain_sorted, sorted_at, sorted_join, sorted_kept, sorted_with, sorted_back, sorted_once}
+use Rattle.kin_hull.proofs.Sorted.{Sorted, chain_sorted, sorted_at, sorted_join, sorted_kept, sorted_with, sorted_back, sorted_once}
 
 -- ---- the corners of a cycle
 -- in the upper chain alone

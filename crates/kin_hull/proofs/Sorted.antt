@@ -1,5 +1,5 @@
 -- Lists of numbers in which a relation holds of each and each later one.
-use Rattle.std.proofs.Common.{◌≡◌, ◌⊎◌, inl, inr, sym, ap, ◌∙◌, subst, arith, List, [], ◌∷◌, ◌++◌, ℕ, zero, suc, ◌<◌, Bool, true, false, cond, filter, reverse, Some}
+use Rattle.std.proofs.Common.{◌≡◌, ◌⊎◌, inl, inr, sym, ◌∙◌, subst, arith, List, [], ◌∷◌, ◌++◌, ℕ, zero, suc, ◌<◌, Bool, true, false, cond, filter, reverse, Some}
 use Rattle.std.specs.Prelude.{slice_get}
 use Rattle.std.proofs.lemmas.Bool.{and_parts, false_from_ne_true}
 use Rattle.std.proofs.lemmas.List.{reverse-append}
@@ -8,29 +8,12 @@ use Rattle.kin_algebra.proofs.Members.{contains_from_get}
 use Rattle.kin_motion.specs.Numbers.{is_in, IsIn, IsOnce, IsChain}
 use Rattle.kin_motion.proofs.AgreementLaws.{kept-members}
 use Rattle.kin_motion.proofs.ListChains.{chain_tail, chain_first}
-use Rattle.kin_motion.proofs.Members.{in_front, in_head, in_tail, in_left, in_right, in_cases, in_either, in_from_contains, contains_from_in}
+use Rattle.kin_motion.proofs.Members.{in_head, in_tail, in_cases, in_either, in_reverse, in_from_contains, contains_from_in}
 
 -- R holds of each and each later one
 pub Sorted : (ℕ → ℕ → Type 0) → List ℕ → Type 0
 Sorted R [] = Unit {0}
 Sorted R (x ∷ xs) = ((y : ℕ) → IsIn y xs → R x y) × Sorted R xs
-
--- members of what is reversed
-pub in_reverse : (p : ℕ) (xs : List ℕ) → IsIn p (reverse xs) → IsIn p xs
-in_reverse p [] h = h
-in_reverse p (x ∷ xs) h = at (in_either p (reverse xs) (x ∷ []) (ap (is_in p) (sym (reverse-append (x ∷ []) xs)) ∙ h)) (in_reverse p xs)
-  where
-    at : IsIn p (reverse xs) ⊎ IsIn p (x ∷ []) → (IsIn p (reverse xs) → IsIn p xs) → IsIn p (x ∷ xs)
-    at (inl k) rest = in_tail p x xs (rest k)
-    at (inr k) rest = in_left p (x ∷ []) xs k
-
-pub into_reverse : (p : ℕ) (xs : List ℕ) → IsIn p xs → IsIn p (reverse xs)
-into_reverse p [] h = h
-into_reverse p (x ∷ xs) h = subst (IsIn p) (sym (reverse-append (x ∷ []) xs)) (at (in_cases p x xs h) (into_reverse p xs))
-  where
-    at : (p ≡ x) ⊎ IsIn p xs → (IsIn p xs → IsIn p (reverse xs)) → IsIn p (reverse xs ++ x ∷ [])
-    at (inl e) rest = in_right p (reverse xs) (x ∷ []) (in_front p x [] (sym e))
-    at (inr k) rest = in_left p (reverse xs) (x ∷ []) (rest k)
 
 -- a chain of an order that goes through is sorted by it
 pub chain_sorted : (lt : ℕ → ℕ → Bool) → ((x y z : ℕ) → lt x y ≡ true → lt y z ≡ true → lt x z ≡ true) → (xs : List ℕ) → IsChain lt xs → Sorted (λ x y. lt x y ≡ true) xs

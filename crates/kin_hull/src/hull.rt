@@ -2,12 +2,12 @@
 
 ghost use Rattle.std.specs.Prelude.{◌≡◌, ◌≤◌, ◌<◌, ◌^◌, ◌+◌, ◌*◌, ℕ, List, [], length, true, false, slice_set, IsTrue, IsOk, IfOk, OnOk, OnErr};
 ghost use Rattle.kin_motion.specs.declared.fact.Placed.{Placed as Put};
-ghost use Rattle.kin_motion.specs.Chains.{IsHullCycle};
+ghost use Rattle.kin_motion.specs.Chains.{IsHullCycle, IsLowerChain, IsUpperChain};
 ghost use Rattle.kin_motion.specs.Forms.{names};
 ghost use Rattle.kin_motion.specs.Kinetics.{ListsFailing, HasChanged};
 ghost use Rattle.kin_motion.specs.Numbers.{HasEntered};
 ghost use Rattle.kin_motion.specs.Scene.{Scene, IsReal};
-ghost use Rattle.kin_env.specs.Trees.{names_leaving};
+ghost use Rattle.kin_env.specs.Trees.{names_leaving, top_of};
 ghost use Rattle.kin_env.specs.Walks.{slot_in};
 ghost use Rattle.kin_hull.specs.Hulls.{HullsKeepOrder, IsHullAtRest, IsReadyHull, IsSettledKinHull, HasMembers, facts_of};
 
@@ -97,6 +97,24 @@ impl KinHull {
     {
         self.upper.clear(no);
         self.lower.clear(no);
+    }
+
+    /// The upper chain from left to right, where the hull is settled. It takes no memory.
+    pub fn upper(&self) -> &[u32]
+        requires rest { IsHullAtRest self.now }
+        ensures told { result.now ≡ top_of self.now.upper }
+        ensures chain { (s : Scene) → IsSettledKinHull self.now s → IsUpperChain s s.live result.now }
+    {
+        self.upper.top()
+    }
+
+    /// The lower chain from left to right, where the hull is settled. It takes no memory.
+    pub fn lower(&self) -> &[u32]
+        requires rest { IsHullAtRest self.now }
+        ensures told { result.now ≡ top_of self.now.lower }
+        ensures chain { (s : Scene) → IsSettledKinHull self.now s → IsLowerChain s s.live result.now }
+    {
+        self.lower.top()
     }
 
     /// The hull cycle, where the hull is settled: the lower chain from left to right, then the upper

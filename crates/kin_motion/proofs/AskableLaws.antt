@@ -9,7 +9,7 @@ use Rattle.kin_motion.specs.declared.form.Form.{Form}
 use Rattle.kin_motion.specs.declared.form.Form.TheVariants.{Line, Dist}
 use Rattle.kin_motion.specs.declared.fact.Placed.{Placed}
 use Rattle.kin_motion.specs.declared.keep.Keep.{Keep}
-use Rattle.kin_motion.specs.declared.keep.Keep.TheVariants.{Order, Extreme, Hull, Closest, Range}
+use Rattle.kin_motion.specs.declared.keep.Keep.TheVariants.{Order, Extreme, Hull, Closest, Range, Nearest}
 use Rattle.kin_motion.specs.Forms.{IsAskable}
 use Rattle.kin_motion.specs.Numbers.{is_in, IsIn}
 use Rattle.kin_motion.specs.Scene.{Scene, placed_at}
@@ -18,7 +18,7 @@ use Rattle.kin_motion.specs.Tournaments.{Key, item_in, IsNodeFact}
 use Rattle.kin_motion.specs.Extremes.{slot_of_point, point_slots, along_key, IsExtremeFact}
 use Rattle.kin_motion.specs.Octants.{Octant, is_in_octant, IsCandidate, Direction, eight_directions}
 use Rattle.kin_motion.specs.ClosestPairs.{Near, distance_key}
-use Rattle.kin_motion.specs.ClosestFacts.{near, HoldsNear, AreNearSlots, IsClosestFact}
+use Rattle.kin_motion.specs.ClosestFacts.{near, HoldsNear, AreNearSlots, IsWedgeFact, IsClosestFact}
 use Rattle.kin_motion.specs.Merges.{IsHullFact}
 use Rattle.kin_motion.specs.Live.{IsKeepFact, IsSmallKeep}
 use Rattle.kin_motion.specs.Theorems.{LiveFactsAreAskable}
@@ -125,9 +125,12 @@ small_direction (suc (suc (suc (suc (suc (suc zero)))))) d e = small_of d e (ome
 small_direction (suc (suc (suc (suc (suc (suc (suc zero))))))) d e = small_of d e (omega arith) (omega arith)
 small_direction (suc (suc (suc (suc (suc (suc (suc (suc n)))))))) d e = absurd cc
 
+wedge_fact_askable : (s : Scene) (p : Placed) → IsWedgeFact s p → IsAskable s.live p.fact.form
+wedge_fact_askable s p w = let d = small_direction p.part w.way w.known in order_fact_askable s w.way.dx w.way.dy p.part d.0 d.1 p w.fact
+
 closest_fact_askable : (size : ℕ) (s : Scene) (p : Placed) → IsClosestFact size s p → IsAskable s.live p.fact.form
 unfolding AreLive
-closest_fact_askable size s p (inl w) = let d = small_direction p.part w.way w.known in order_fact_askable s w.way.dx w.way.dy p.part d.0 d.1 p w.fact
+closest_fact_askable size s p (inl w) = wedge_fact_askable s p w
 closest_fact_askable size s p (inr f) =
     subst (IsAskable s.live) (sym (ap (λ (q : Placed). q.fact.form) f.placed))
     (node_fact_askable s distance_key (size + 3) f.slots (λ i j a b x y. pairs a b (pair_live size s f.slots f.filled i a x) (pair_live size s f.slots f.filled j b y)) f.node f.fact)
@@ -148,6 +151,7 @@ keep_fact_askable size s Hull p small f = hull_fact_askable size s p f
 keep_fact_askable size s Closest p small f = closest_fact_askable size s p f
 keep_fact_askable size s Range p small (inl f) = order_fact_askable s (pos 1) (pos 0) 0 (omega arith) (omega arith) p f
 keep_fact_askable size s Range p small (inr f) = order_fact_askable s (pos 0) (pos 1) 1 (omega arith) (omega arith) p f
+keep_fact_askable size s Nearest p small f = wedge_fact_askable s p f
 
 pub live_facts_are_askable : LiveFactsAreAskable
 live_facts_are_askable size keeps s c small f =

@@ -41,7 +41,7 @@ other_way Zero e = absurd cc
 other_way Minus e = refl
 
 -- ---- the breakpoints of one half
-own_half : (h : Half) (a : List ℕ) (e : Breakpoint) → Contains (breakpoints_of h a) e → e.half ≡ h
+pub own_half : (h : Half) (a : List ℕ) (e : Breakpoint) → Contains (breakpoints_of h a) e → e.half ≡ h
 own_half h [] e c = absurd (contains_none e c)
 own_half h (i ∷ []) e c = absurd (contains_none e c)
 own_half h (i ∷ j ∷ ps) e c = at (contains_cases (record { half = h; left = i; right = j }) e (breakpoints_of h (j ∷ ps)) c) (own_half h (j ∷ ps) e)
@@ -70,13 +70,13 @@ own_none h g (e ∷ es) n all =
     own_with h g e es (all e (contains_head e es)) ∙ ap (λ t. cond t (e ∷ own_of h es) (own_of h es)) n
     ∙ own_none h g es n (λ f c. all f (contains_tail e f es c))
 
-own_has : (h : Half) (es : List Breakpoint) (e : Breakpoint) → Contains es e → e.half ≡ h → Contains (own_of h es) e
+pub own_has : (h : Half) (es : List Breakpoint) (e : Breakpoint) → Contains es e → e.half ≡ h → Contains (own_of h es) e
 own_has h es e c q = filter-complete (λ (f : Breakpoint). is_of h f.half) es e c (ap (is_of h) q ∙ itself h)
 
-own_in : (h : Half) (es : List Breakpoint) (e : Breakpoint) → Contains (own_of h es) e → Contains es e
+pub own_in : (h : Half) (es : List Breakpoint) (e : Breakpoint) → Contains (own_of h es) e → Contains es e
 own_in h es e c = (filter-sound (λ (f : Breakpoint). is_of h f.half) es e c).0
 
-weaker_chain : {X : Type 0} (p q : X → X → Bool) → ((x y : X) → p x y ≡ true → q x y ≡ true) → (xs : List X) → IsChain p xs → IsChain q xs
+pub weaker_chain : {X : Type 0} (p q : X → X → Bool) → ((x y : X) → p x y ≡ true → q x y ≡ true) → (xs : List X) → IsChain p xs → IsChain q xs
 weaker_chain {X} p q f [] c = tt
 weaker_chain {X} p q f (x ∷ []) c = tt
 weaker_chain {X} p q f (x ∷ y ∷ ys) c = (f x y c.0, weaker_chain p q f (y ∷ ys) c.1)
@@ -107,7 +107,7 @@ module _ (s : Scene) (slopes : HasSlopeLaws s) where
   comes_never e c = not_itself (s.sign (slope_form e e)) e.half (slopes.opposite e.left e.right e.left e.right) (right_signs e e c).2
 
   -- the breakpoints of an upper chain come one before the other
-  breakpoints_come : (h : Half) (a : List ℕ) → IsChain (is_left s) a → Falls s a → IsChain comes (breakpoints_of h a)
+  pub breakpoints_come : (h : Half) (a : List ℕ) → IsChain (is_left s) a → Falls s a → IsChain comes (breakpoints_of h a)
   breakpoints_come h [] c f = tt
   breakpoints_come h (i ∷ []) c f = tt
   breakpoints_come h (i ∷ j ∷ []) c f = tt
@@ -182,7 +182,7 @@ module _ (s : Scene) (slopes : HasSlopeLaws s) where
             own_with B B f (put_before s e l) h ∙ ap (λ (fs : List Breakpoint). f ∷ fs) rest ∙ sym (own_with B B f l h)
 
   -- ---- the computed list
-  merged_right : (es fs : List Breakpoint) → ((e : Breakpoint) → Contains es e → e.half ≡ A) → ((f : Breakpoint) → Contains fs f → f.half ≡ B) → IsChain comes es → IsChain (is_placed_before s) fs
+  pub merged_right : (es fs : List Breakpoint) → ((e : Breakpoint) → Contains es e → e.half ≡ A) → ((f : Breakpoint) → Contains fs f → f.half ≡ B) → IsChain comes es → IsChain (is_placed_before s) fs
       → IsChain (is_placed_before s) (merged s es fs) × (own_of A (merged s es fs) ≡ es) × (own_of B (merged s es fs) ≡ fs)
   merged_right [] fs all_a all_b c d = (d, own_none A B fs refl all_b, own_all B fs all_b)
   merged_right (e ∷ es) fs all_a all_b c d =
@@ -214,7 +214,7 @@ module _ (s : Scene) (slopes : HasSlopeLaws s) where
   member_from a b es l e (inl c) = own_in A es e (subst (λ (gs : List Breakpoint). Contains gs e) (sym l.of_a) c)
   member_from a b es l e (inr c) = own_in B es e (subst (λ (gs : List Breakpoint). Contains gs e) (sym l.of_b) c)
 
-  list_comes : (es : List Breakpoint) → ((e : Breakpoint) → Contains es e → goes_right e ≡ true) → IsChain (is_placed_before s) es → IsChain comes es
+  pub list_comes : (es : List Breakpoint) → ((e : Breakpoint) → Contains es e → goes_right e ≡ true) → IsChain (is_placed_before s) es → IsChain comes es
   list_comes [] all c = tt
   list_comes (e ∷ []) all c = tt
   list_comes (e ∷ f ∷ es) all c = (

@@ -10,7 +10,7 @@ use Rattle.kin_motion.specs.Parts.{moved_by}
 use Rattle.kin_motion.specs.Tournaments.{item_in, tournament_facts}
 use Rattle.kin_motion.specs.Octants.{Direction, eight_directions}
 use Rattle.kin_motion.specs.ClosestPairs.{Near, distance_key}
-use Rattle.kin_motion.specs.ClosestFacts.{near_slots, wedge_facts_from, closest_facts}
+use Rattle.kin_motion.specs.ClosestFacts.{near_slots, wedge_facts_from, wedge_facts, closest_facts}
 use Rattle.kin_motion.proofs.Members.{contains_from_in}
 use Rattle.kin_motion.proofs.SetSizes.{contains_joined, length_joined}
 use Rattle.kin_motion.proofs.NodeLaws.{held_slot}
@@ -19,13 +19,16 @@ use Rattle.kin_motion.proofs.OrderCounts.{order_count}
 use Rattle.kin_motion.proofs.TournamentCounts.{tournament_count}
 
 -- ---- the orders
-wedge_count : (s : Scene) (part : ℕ) (ds : List Direction) (n : ℕ) → length s.live - 1 ≡ n → length (wedge_facts_from s part ds) ≡ length ds * n
-wedge_count s part [] n e = omega arith
-wedge_count s part (d ∷ ds) n e =
+ways_count : (s : Scene) (part : ℕ) (ds : List Direction) (n : ℕ) → length s.live - 1 ≡ n → length (wedge_facts_from s part ds) ≡ length ds * n
+ways_count s part [] n e = omega arith
+ways_count s part (d ∷ ds) n e =
     let both = length-append (order_facts s d.dx d.dy part) (wedge_facts_from s (part + 1) ds) in
     let first = order_count s d.dx d.dy part in
-    let rest = wedge_count s (part + 1) ds n e in
+    let rest = ways_count s (part + 1) ds n e in
     omega (arith, both, first, rest, e)
+
+pub wedge_count : (s : Scene) → length (wedge_facts s) ≡ 8 * (length s.live - 1)
+wedge_count s = ways_count s 0 eight_directions (length s.live - 1) refl
 
 -- ---- the tournament
 in_turn : (a k i : ℕ) → i < k → Contains (numbers_from a k) (a + i)
@@ -60,8 +63,8 @@ module _ (size : ℕ) (s : Scene) (real : IsReal s) where
 
   pub closest_count : length (closest_facts size s) ≤ 8 * (length s.live - 1) + (8 * length s.live - 1)
   closest_count =
-      let both = length-append (wedge_facts_from s 0 eight_directions) (map (moved_by 8) (tournament_facts s distance_key (size + 3) (near_slots size s))) in
-      let orders = wedge_count s 0 eight_directions (length s.live - 1) refl in
+      let both = length-append (wedge_facts s) (map (moved_by 8) (tournament_facts s distance_key (size + 3) (near_slots size s))) in
+      let orders = wedge_count s in
       let moved = length-map (tournament_facts s distance_key (size + 3) (near_slots size s)) (moved_by 8) in
       let pairs = pair_count in
       omega (arith, both, orders, moved, pairs)

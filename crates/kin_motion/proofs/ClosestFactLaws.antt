@@ -13,7 +13,7 @@ use Rattle.kin_motion.specs.Orders.{IsOrderFact, neighbour_forms, order_of, orde
 use Rattle.kin_motion.specs.Tournaments.{beats, IsNodeFact, tournament_facts}
 use Rattle.kin_motion.specs.Octants.{Direction, eight_directions}
 use Rattle.kin_motion.specs.ClosestPairs.{Near, left_is_nearer, distance_key}
-use Rattle.kin_motion.specs.ClosestFacts.{near_slots, IsWedgeFact, IsPairFact, wedge_facts_from}
+use Rattle.kin_motion.specs.ClosestFacts.{near_slots, IsWedgeFact, IsPairFact, wedge_facts_from, wedge_facts}
 use Rattle.kin_motion.specs.Laws.{HasDistanceLaws}
 use Rattle.kin_motion.specs.Agreements.{OrderFactsAgree, ClosestFactsAgree}
 use Rattle.kin_motion.proofs.SetLaws.{contains_mapped, exactly_none, exactly_both, exactly_in_words, exactly_mapped}
@@ -60,8 +60,8 @@ module _ (s : Scene) (real : IsReal s) where
           inl (subst (λ (x : Direction). IsOrderFact s x.dx x.dy n p) (sym same) (subst (λ part. IsOrderFact s way.dx way.dy part p) g f))
       from p (suc k, way, e, h, f) = inr (k, way, e, omega (arith, h), f)
 
-  pub wedge_exact : ListsExactly (wedge_facts_from s 0 eight_directions) (IsWedgeFact s)
-  wedge_exact = exactly_in_words (wedge_facts_from s 0 eight_directions) _ _ (λ p. (to p, from p)) (orders_exact 0 eight_directions)
+  pub wedge_exact : ListsExactly (wedge_facts s) (IsWedgeFact s)
+  wedge_exact = exactly_in_words (wedge_facts s) _ _ (λ p. (to p, from p)) (orders_exact 0 eight_directions)
     where
       to : (p : Placed) → IsFactOf 0 eight_directions p → IsWedgeFact s p
       to p (k, way, e, h, f) = let g : k ≡ p.part = omega (arith, h) in record { way = way; known = sym (ap (slice_get eight_directions) g) ∙ e; fact = f }
@@ -114,6 +114,6 @@ module _ (size : ℕ) (s : Scene) (real : IsReal s) where
 
 pub closest_facts_agree : ClosestFactsAgree
 closest_facts_agree size s real =
-    exactly_both (wedge_facts_from s 0 eight_directions) (map (moved_by 8) (tournament_facts s distance_key (size + 3) (near_slots size s))) (IsWedgeFact s) (IsPairFact size s)
+    exactly_both (wedge_facts s) (map (moved_by 8) (tournament_facts s distance_key (size + 3) (near_slots size s))) (IsWedgeFact s) (IsPairFact size s)
     (wedge_exact s real) (pairs_exact size s real)
     (λ p w v. let low = wedge_part s real p w in let high = pair_part size s real p v in omega (arith, low, high))

@@ -22,11 +22,11 @@ use Rattle.kin_motion.proofs.DistanceLaws.{LessPair, less_from, less_to, not_bot
 use Rattle.kin_motion.proofs.Members.{in_tail, in_front, in_cases}
 
 -- each number is less than all in_tail it
-abbrev Rises : List ℕ → Type 0
+abbrev pub Rises : List ℕ → Type 0
 Rises [] = Unit {0}
 Rises (x ∷ xs) = ((j : ℕ) → is_in j xs ≡ true → x < j) × Rises xs
 
-filled-rises : {A : Type 0} (n : ℕ) (cs : List (Option A)) → Rises (filled_from n cs)
+pub filled-rises : {A : Type 0} (n : ℕ) (cs : List (Option A)) → Rises (filled_from n cs)
 filled-rises {A} n [] = tt
 filled-rises {A} n (Some c ∷ cs) = ((λ j h. above j (nat_lt j (n + 1)) refl h), filled-rises (n + 1) cs)
   where
@@ -35,7 +35,7 @@ filled-rises {A} n (Some c ∷ cs) = ((λ j h. above j (nat_lt j (n + 1)) refl h
     above j false e h = grind (arith, nat_tests, e)
 filled-rises {A} n (None ∷ cs) = filled-rises (n + 1) cs
 
-abbrev pair : ℕ → ℕ → Near
+abbrev pub pair : ℕ → ℕ → Near
 pair i j = record { i = i; j = j; slot = 0 }
 
 with_members : (i j : ℕ) (js : List ℕ) → is_in j js ≡ true → Contains (pairs_with i js) (pair i j)
@@ -46,7 +46,7 @@ with_members i j (k ∷ js) h = at (in_cases j k js h) (with_members i j js)
     at (inl e) rest = (zero, omega arith, ap (pair i) (sym e))
     at (inr h) rest = contains_tail (pair i k) (pair i j) (pairs_with i js) (rest h)
 
-pairs_members : (xs : List ℕ) (i j : ℕ) → Rises xs → is_in i xs ≡ true → is_in j xs ≡ true → i < j → Contains (pairs_of xs) (pair i j)
+pub pairs_members : (xs : List ℕ) (i j : ℕ) → Rises xs → is_in i xs ≡ true → is_in j xs ≡ true → i < j → Contains (pairs_of xs) (pair i j)
 pairs_members [] i j r a b lt = absurd cc
 pairs_members (x ∷ xs) i j r a b lt = at (in_cases i x xs a) (in_cases j x xs b) (pairs_members xs i j r.1)
   where
@@ -57,11 +57,11 @@ pairs_members (x ∷ xs) i j r a b lt = at (in_cases i x xs a) (in_cases j x xs 
     at (inr h) (inr k) rest = Contains-append_right (pairs_with x xs) (pairs_of xs) (pair i j) (rest h k lt)
 
 -- what a listed pair is
-record IsListed (xs : List ℕ) (p : Near) : Type 0 where
-  i_in : is_in p.i xs ≡ true
-  j_in : is_in p.j xs ≡ true
-  rising : p.i < p.j
-  first_slot : p.slot ≡ 0
+pub record IsListed (xs : List ℕ) (p : Near) : Type 0 where
+  pub i_in : is_in p.i xs ≡ true
+  pub j_in : is_in p.j xs ≡ true
+  pub rising : p.i < p.j
+  pub first_slot : p.slot ≡ 0
 
 with_listed : (i : ℕ) (js : List ℕ) (p : Near) → Contains (pairs_with i js) p → (i ≡ p.i) × (is_in p.j js ≡ true) × (p.slot ≡ 0)
 with_listed i [] p (k, l, e) = absurd (omega arith)
@@ -74,7 +74,7 @@ with_listed i (j ∷ js) p h = at (contains_cases (pair i j) p (pairs_with i js)
     at (inl e) rest = (ap (λ (q : Near). q.i) e, in_front p.j j js (ap (λ (q : Near). q.j) e), sym (ap (λ (q : Near). q.slot) e))
     at (inr h) rest = let r = rest h in (r.0, in_tail p.j j js r.1, r.2)
 
-pairs_listed : (xs : List ℕ) → Rises xs → (p : Near) → Contains (pairs_of xs) p → IsListed xs p
+pub pairs_listed : (xs : List ℕ) → Rises xs → (p : Near) → Contains (pairs_of xs) p → IsListed xs p
 pairs_listed [] r p (k, l, e) = absurd (omega arith)
 pairs_listed (x ∷ xs) r p h = at (Contains-append_cases (pairs_with x xs) (pairs_of xs) p h) (pairs_listed xs r.1 p)
   where
@@ -82,7 +82,7 @@ pairs_listed (x ∷ xs) r p h = at (Contains-append_cases (pairs_with x xs) (pai
     at (inl h) rest = let w = with_listed x xs p h in let lt = r.0 p.j w.1 in record { i_in = in_front p.i x xs w.0; j_in = in_tail p.j x xs w.1; rising = subst (λ i. i < p.j) w.0 lt; first_slot = w.2 }
     at (inr h) rest = let l = rest h in record { i_in = in_tail p.i x xs l.i_in; j_in = in_tail p.j x xs l.j_in; rising = l.rising; first_slot = l.first_slot }
 
-nearer_otherwise : (t : Sign) (p q : Near) → left_is_nearer t p q ≡ false → (p ≡ q) ⊎ (left_is_nearer (opposite_of t) q p ≡ true)
+pub nearer_otherwise : (t : Sign) (p q : Near) → left_is_nearer t p q ≡ false → (p ≡ q) ⊎ (left_is_nearer (opposite_of t) q p ≡ true)
 nearer_otherwise Minus p q e = inr refl
 nearer_otherwise Plus p q e = absurd cc
 nearer_otherwise Zero p q e = at (same_or_less p q)

@@ -80,7 +80,7 @@ not_both p q (inr (e, inl h)) (inr (f, inr (g, k))) = omega (arith, h, g)
 not_both p q (inr (e, inr (g, h))) (inr (f, inl k)) = omega (arith, g, k)
 not_both p q (inr (e, inr (g, h))) (inr (f, inr (u, k))) = omega (arith, h, k)
 
-less_through : (p q r : Near) → LessPair p q → LessPair q r → LessPair p r
+pub less_through : (p q r : Near) → LessPair p q → LessPair q r → LessPair p r
 unfolding LessPair
 less_through p q r (inl h) (inl k) = inl (omega (arith, h, k))
 less_through p q r (inl h) (inr (e, k)) = inl (omega (arith, h, e))
@@ -125,7 +125,7 @@ same_or_less p q = at (three_ways p.i q.i) (three_ways p.j q.j) (three_ways p.sl
     at (inr (inl e)) (inr (inl f)) (inr (inr h)) = inr (inr (inr (sym e, inr (sym f, h))))
     at (inr (inl e)) (inr (inl f)) (inr (inl g)) = inl (λ t. record { i = e t; j = f t; slot = g t })
 
-turned_pair : (p q : Near) → p ≢ q → is_less_pair q p ≡ not (is_less_pair p q)
+pub turned_pair : (p q : Near) → p ≢ q → is_less_pair q p ≡ not (is_less_pair p q)
 turned_pair p q n = at (is_less_pair p q) refl (is_less_pair q p) refl
   where
     at : (a : Bool) → is_less_pair p q ≡ a → (b : Bool) → is_less_pair q p ≡ b → b ≡ not a

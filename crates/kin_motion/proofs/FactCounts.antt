@@ -3,7 +3,7 @@ use Rattle.std.proofs.Common.{◌≡◌, refl, ap, arith, List, [], ◌∷◌, �
 use Rattle.std.proofs.lemmas.List.{length-append, length-map}
 use Rattle.std.proofs.lemmas.List.Sums.{sum_by-cons}
 use Rattle.kin_motion.specs.declared.keep.Keep.{Keep}
-use Rattle.kin_motion.specs.declared.keep.Keep.TheVariants.{Order, Extreme, Hull, Closest, Range}
+use Rattle.kin_motion.specs.declared.keep.Keep.TheVariants.{Order, Extreme, Hull, Closest, Range, Nearest}
 use Rattle.kin_motion.specs.Sets.{ListsExactly}
 use Rattle.kin_motion.specs.Scene.{Scene, IsReal}
 use Rattle.kin_motion.specs.Agreements.{FitsSize}
@@ -13,7 +13,7 @@ use Rattle.kin_motion.proofs.SetSizes.{no_longer}
 use Rattle.kin_motion.proofs.LiveFactLaws.{keep_exact, live_facts_agree}
 use Rattle.kin_motion.proofs.OrderCounts.{order_count, range_count}
 use Rattle.kin_motion.proofs.ExtremeCounts.{extreme_count}
-use Rattle.kin_motion.proofs.ClosestCounts.{closest_count}
+use Rattle.kin_motion.proofs.ClosestCounts.{closest_count, wedge_count}
 use Rattle.kin_motion.proofs.HullCounts.{hull_count}
 
 -- of lists that have exactly the same, neither is longer
@@ -32,6 +32,8 @@ module _ (size : ℕ) (s : Scene) (real : IsReal s) (fits : FitsSize size s) whe
   keep_count Closest (suc n) e = let few = closest_count size s real in omega (arith, few, e)
   keep_count Range zero e = let few = range_count size s in omega (arith, few, e)
   keep_count Range (suc n) e = let few = range_count size s in omega (arith, few, e)
+  keep_count Nearest zero e = let few = wedge_count s in omega (arith, few, e)
+  keep_count Nearest (suc n) e = let few = wedge_count s in omega (arith, few, e)
 
   live_count : (first : ℕ) (keeps : List Keep) → length (live_facts_from first size keeps s) ≤ most_live size keeps (length s.live)
   live_count first [] = omega arith

@@ -19,8 +19,7 @@ use Rattle.kin_motion.specs.Chains.{upper_chain_of, cycle_of, round}
 use Rattle.kin_motion.specs.Merges.{IsNodeForm, node_forms, IsTreeFact, hull_facts}
 use Rattle.kin_motion.specs.Octants.{octants, candidate_of, IsCandidateAnswer, AreCandidates}
 use Rattle.kin_motion.specs.ClosestPairs.{closest_of}
-use Rattle.kin_motion.specs.ClosestFacts.{closest_facts, wedge_facts_from}
-use Rattle.kin_motion.specs.Octants.{eight_directions}
+use Rattle.kin_motion.specs.ClosestFacts.{closest_facts, wedge_facts}
 use Rattle.kin_motion.specs.Agreements.{FitsSize}
 use Rattle.kin_motion.specs.Contents.{IsWinner}
 use Rattle.kin_motion.proofs.Winners.{winner_agrees}
@@ -139,7 +138,7 @@ settled_states_exist size s real fits = record {
   );
   tree = (upper_chain_of s s.live, tree_facts size s, record { chain = chain_proved s s.live real (live-once s real); exact = tree_exact size s real fits });
   hull = (cycle_of s, hull_facts size s, record { is_cycle = cycle_proved s real; exact = hull_facts_agree size s real fits });
-  wedges = (candidate_told s, wedge_facts_from s 0 eight_directions, record { candidates = candidates_told size s real; exact = wedge_exact s real });
+  wedges = (candidate_told s, wedge_facts s, record { candidates = candidates_told size s real; exact = wedge_exact s real });
   closest = (closest_of s, closest_facts size s, record { pair = closest_proved s real; exact = closest_facts_agree size s real });
   range = (
     order_of s (pos 1) (pos 0),

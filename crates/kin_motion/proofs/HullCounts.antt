@@ -18,11 +18,11 @@ use Rattle.kin_motion.proofs.TournamentLaws.{is_under-halves}
 use Rattle.kin_motion.proofs.NodeLaws.{not_both_halves}
 use Rattle.kin_motion.proofs.NodeSums.{length_in_turn, sum_at_most, sum_times, levels_at_most}
 
-filter_at_most : {A : Type 0} (test : A → Bool) (xs : List A) → length (filter test xs) ≤ length xs
+pub filter_at_most : {A : Type 0} (test : A → Bool) (xs : List A) → length (filter test xs) ≤ length xs
 filter_at_most test xs = let e = length-filter test xs in let few = count_by-le-length test xs in omega (arith, e, few)
 
 -- ---- one merge
-breakpoints-length : (h : Half) (p : ℕ) (ps : List ℕ) → length (breakpoints_of h (p ∷ ps)) ≡ length ps
+pub breakpoints-length : (h : Half) (p : ℕ) (ps : List ℕ) → length (breakpoints_of h (p ∷ ps)) ≡ length ps
 breakpoints-length h p [] = refl
 breakpoints-length h p (q ∷ qs) = ap suc (breakpoints-length h q qs)
 
@@ -35,7 +35,7 @@ module _ (s : Scene) where
       at true h = refl
       at false h = ap suc h
 
-  merged-length : (es fs : List Breakpoint) → length (merged s es fs) ≡ length es + length fs
+  pub merged-length : (es fs : List Breakpoint) → length (merged s es fs) ≡ length es + length fs
   merged-length [] fs = omega arith
   merged-length (e ∷ es) fs = let one = put-length e (merged s es fs) in let rest = merged-length es fs in omega (arith, one, rest)
 
@@ -50,7 +50,7 @@ module _ (s : Scene) where
       at true = omega arith
       at false = omega arith
 
-  slopes_at_most : (es : List Breakpoint) → length (slopes_from es) ≤ length es
+  pub slopes_at_most : (es : List Breakpoint) → length (slopes_from es) ≤ length es
   slopes_at_most [] = omega arith
   slopes_at_most (e ∷ []) = omega arith
   slopes_at_most (e ∷ f ∷ es) =

@@ -6,7 +6,7 @@ use Rattle.kin_algebra.specs.declared.sign.Sign.TheVariants.{Minus, Zero, Plus}
 use Rattle.kin_num.specs.declared.instant.Moment.{Moment}
 use Rattle.kin_motion.specs.declared.fact.Placed.{Placed}
 use Rattle.kin_motion.specs.declared.keep.Keep.{Keep}
-use Rattle.kin_motion.specs.declared.keep.Keep.TheVariants.{Order, Extreme, Hull, Closest, Range}
+use Rattle.kin_motion.specs.declared.keep.Keep.TheVariants.{Order, Extreme, Hull, Closest, Range, Nearest}
 use Rattle.kin_motion.specs.Sets.{ListsExactly}
 use Rattle.kin_motion.specs.Scene.{Scene, IsReal}
 use Rattle.kin_motion.specs.Orders.{IsOrderFact, order_facts}
@@ -17,7 +17,7 @@ use Rattle.kin_motion.proofs.Sorting.{sorted-has}
 use Rattle.kin_motion.proofs.SetLaws.{contains_mapped, contains_map, exactly_none, exactly_both, exactly_in_words, exactly_mapped, filter-sound, filter-complete}
 use Rattle.kin_motion.proofs.HullFactLaws.{hull_facts_agree}
 use Rattle.kin_motion.proofs.ExtremeFactLaws.{extreme_facts_agree}
-use Rattle.kin_motion.proofs.ClosestFactLaws.{order_facts_agree, part_of_order, closest_facts_agree}
+use Rattle.kin_motion.proofs.ClosestFactLaws.{order_facts_agree, part_of_order, wedge_exact, closest_facts_agree}
 
 module _ (size : ℕ) (s : Scene) (real : IsReal s) (fits : FitsSize size s) where
   pub keep_exact : (keep : Keep) → ListsExactly (keep_facts size s keep) (IsKeepFact size s keep)
@@ -29,6 +29,7 @@ module _ (size : ℕ) (s : Scene) (real : IsReal s) (fits : FitsSize size s) whe
       exactly_both (order_facts s (pos 1) (pos 0) 0) (order_facts s (pos 0) (pos 1) 1) (IsOrderFact s (pos 1) (pos 0) 0) (IsOrderFact s (pos 0) (pos 1) 1)
       (order_facts_agree s (pos 1) (pos 0) 0 real) (order_facts_agree s (pos 0) (pos 1) 1 real)
       (λ p f g. let e = part_of_order s (pos 1) (pos 0) 0 p f in let h = part_of_order s (pos 0) (pos 1) 1 p g in omega (arith, e, h))
+  keep_exact Nearest = wedge_exact s real
 
   -- a fact of the k-th of these keeps, which are numbered from n on
   abbrev IsFactOf : ℕ → List Keep → Certificate → Type 0

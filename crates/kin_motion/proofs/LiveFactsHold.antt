@@ -3,13 +3,13 @@ use Rattle.std.proofs.Common.{◌≡◌, inl, inr, sym, ap, ◌∙◌, List, Opt
 use Rattle.kin_motion.specs.declared.form.Form.{Form}
 use Rattle.kin_motion.specs.declared.fact.Placed.{Placed}
 use Rattle.kin_motion.specs.declared.keep.Keep.{Keep}
-use Rattle.kin_motion.specs.declared.keep.Keep.TheVariants.{Order, Extreme, Hull, Closest, Range}
+use Rattle.kin_motion.specs.declared.keep.Keep.TheVariants.{Order, Extreme, Hull, Closest, Range, Nearest}
 use Rattle.kin_motion.specs.Scene.{Scene, Holds, placed_at}
 use Rattle.kin_motion.specs.Orders.{neighbour_forms, IsOrderFact}
 use Rattle.kin_motion.specs.Extremes.{along_key, point_slots}
 use Rattle.kin_motion.specs.Tournaments.{Key, IsNodeFact}
 use Rattle.kin_motion.specs.ClosestPairs.{distance_key}
-use Rattle.kin_motion.specs.ClosestFacts.{IsClosestFact}
+use Rattle.kin_motion.specs.ClosestFacts.{IsWedgeFact, IsClosestFact}
 use Rattle.kin_motion.specs.Merges.{IsHullFact}
 use Rattle.kin_motion.specs.Live.{Certificate, IsKeepFact, IsLiveFact}
 use Rattle.kin_motion.proofs.SetLaws.{contains_mapped}
@@ -29,8 +29,11 @@ hull_fact_holds : (size : ℕ) (s : Scene) (p : Placed) → IsHullFact size s p 
 hull_fact_holds size s p (inl f) = placed_holds s _ f.form p f.fact
 hull_fact_holds size s p (inr f) = placed_holds s _ f.form p f.fact
 
+wedge_fact_holds : (s : Scene) (p : Placed) → IsWedgeFact s p → Holds s p.fact
+wedge_fact_holds s p w = order_fact_holds s w.way.dx w.way.dy p.part p w.fact
+
 closest_fact_holds : (size : ℕ) (s : Scene) (p : Placed) → IsClosestFact size s p → Holds s p.fact
-closest_fact_holds size s p (inl w) = order_fact_holds s w.way.dx w.way.dy p.part p w.fact
+closest_fact_holds size s p (inl w) = wedge_fact_holds s p w
 closest_fact_holds size s p (inr f) =
     let node = node_fact_holds s distance_key _ f.slots f.node f.fact in
     ap (λ (q : Placed). s.sign q.fact.form) f.placed ∙ node ∙ sym (ap (λ (q : Placed). q.fact.sign) f.placed)
@@ -42,6 +45,7 @@ keep_fact_holds size s Hull p f = hull_fact_holds size s p f
 keep_fact_holds size s Closest p f = closest_fact_holds size s p f
 keep_fact_holds size s Range p (inl f) = order_fact_holds s (pos 1) (pos 0) 0 p f
 keep_fact_holds size s Range p (inr f) = order_fact_holds s (pos 0) (pos 1) 1 p f
+keep_fact_holds size s Nearest p f = wedge_fact_holds s p f
 
 pub live_fact_holds : (size : ℕ) (keeps : List Keep) (s : Scene) (c : Certificate) → IsLiveFact size keeps s c → Holds s c.placed.fact
 live_fact_holds size keeps s c f = keep_fact_holds size s f.keep c.placed f.fact

@@ -1,7 +1,8 @@
 -- Members of lists of numbers.
-use Rattle.std.proofs.Common.{◌≡◌, ◌⊎◌, inl, inr, refl, sym, ap, ◌∙◌, List, [], ◌∷◌, ◌++◌, ℕ, true, false, ◌||◌, nat_eq, zero, arith}
+use Rattle.std.proofs.Common.{◌≡◌, ◌⊎◌, inl, inr, refl, sym, ap, ◌∙◌, subst, List, reverse, [], ◌∷◌, ◌++◌, ℕ, true, false, ◌||◌, nat_eq, zero, arith}
 use Rattle.std.specs.Prelude.{Contains}
 use Rattle.std.proofs.lemmas.Bool.{or_left, or_right, or_cases, or_parts, or_from, eq-eqb, eqb-true, eqb-false, ne_eqb}
+use Rattle.std.proofs.lemmas.List.{reverse-append}
 use Rattle.kin_algebra.proofs.Tests.{or_assoc, or_none, or_swapped}
 use Rattle.kin_algebra.proofs.Members.{contains_none, contains_tail, contains_cases}
 use Rattle.kin_motion.specs.Numbers.{is_in, IsIn}
@@ -65,3 +66,20 @@ contains_from_in (x ∷ xs) i h = at (in_cases i x xs h) (contains_from_in xs i)
     at : (i ≡ x) ⊎ IsIn i xs → (IsIn i xs → Contains xs i) → Contains (x ∷ xs) i
     at (inl e) rest = let same : x ≡ i = sym e in (zero, omega arith, same)
     at (inr k) rest = contains_tail x i xs (rest k)
+
+-- members of what is reversed
+pub in_reverse : (p : ℕ) (xs : List ℕ) → IsIn p (reverse xs) → IsIn p xs
+in_reverse p [] h = h
+in_reverse p (x ∷ xs) h = at (in_either p (reverse xs) (x ∷ []) (ap (is_in p) (sym (reverse-append (x ∷ []) xs)) ∙ h)) (in_reverse p xs)
+  where
+    at : IsIn p (reverse xs) ⊎ IsIn p (x ∷ []) → (IsIn p (reverse xs) → IsIn p xs) → IsIn p (x ∷ xs)
+    at (inl k) rest = in_tail p x xs (rest k)
+    at (inr k) rest = in_left p (x ∷ []) xs k
+
+pub into_reverse : (p : ℕ) (xs : List ℕ) → IsIn p xs → IsIn p (reverse xs)
+into_reverse p [] h = h
+into_reverse p (x ∷ xs) h = subst (IsIn p) (sym (reverse-append (x ∷ []) xs)) (at (in_cases p x xs h) (into_reverse p xs))
+  where
+    at : (p ≡ x) ⊎ IsIn p xs → (IsIn p xs → IsIn p (reverse xs)) → IsIn p (reverse xs ++ x ∷ [])
+    at (inl e) rest = in_right p (reverse xs) (x ∷ []) (in_front p x [] (sym e))
+    at (inr k) rest = in_left p (reverse xs) (x ∷ []) (rest k)

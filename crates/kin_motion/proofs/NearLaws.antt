@@ -21,7 +21,7 @@ get_right {A} [] ys i = ap (slice_get ys) (omega arith)
 get_right {A} (x ∷ xs) ys i = let e : length (x ∷ xs) + i ≡ suc (length xs + i) = omega arith in ap (slice_get (x ∷ (xs ++ ys))) e ∙ get_right xs ys i
 
 -- lists of one length that agree at each place
-same_lists : {A : Type 0} (xs ys : List A) → length xs ≡ length ys → ((i : ℕ) (x y : A) → slice_get xs i ≡ Some x → slice_get ys i ≡ Some y → x ≡ y) → xs ≡ ys
+pub same_lists : {A : Type 0} (xs ys : List A) → length xs ≡ length ys → ((i : ℕ) (x y : A) → slice_get xs i ≡ Some x → slice_get ys i ≡ Some y → x ≡ y) → xs ≡ ys
 same_lists {A} [] [] n f = refl
 same_lists {A} [] (y ∷ ys) n f = absurd (omega (arith, n))
 same_lists {A} (x ∷ xs) [] n f = absurd (omega (arith, n))

@@ -59,8 +59,12 @@ abbrev pub wedge_facts_from : Scene → ℕ → List Direction → List Placed
 wedge_facts_from s part [] = []
 wedge_facts_from s part (d ∷ ds) = order_facts s d.dx d.dy part ++ wedge_facts_from s (part + 1) ds
 
+-- all facts of the eight orders by computation
+abbrev pub wedge_facts : Scene → List Placed
+wedge_facts s = wedge_facts_from s 0 eight_directions
+
 -- all facts of the closest pair by computation
 abbrev pub closest_facts : ℕ → Scene → List Placed
 closest_facts size s =
-    wedge_facts_from s 0 eight_directions
+    wedge_facts s
     ++ map (moved_by 8) (tournament_facts s distance_key (size + 3) (near_slots size s))

@@ -2,7 +2,7 @@
 use Rattle.std.specs.Prelude.{◌≡◌, ◌≢◌, ℕ, ◌+◌, ◌*◌, ◌^◌, ◌≤◌, pos, List, [], ◌∷◌, length, sum_by, Some, slice_get, IsTrue, ◌⊎◌}
 use Rattle.kin_motion.specs.declared.fact.Placed.{Placed}
 use Rattle.kin_motion.specs.declared.keep.Keep.{Keep}
-use Rattle.kin_motion.specs.declared.keep.Keep.TheVariants.{Order, Extreme, Hull, Closest, Range}
+use Rattle.kin_motion.specs.declared.keep.Keep.TheVariants.{Order, Extreme, Hull, Closest, Range, Nearest}
 use Rattle.kin_motion.specs.Agreements.{FitsSize}
 use Rattle.kin_motion.specs.Records.{moved_pairs}
 use Rattle.kin_motion.specs.ClosestFacts.{IsPairFact, near_slots}
@@ -98,6 +98,7 @@ MayAsk size (Extreme dx dy) v w asked = MayExtremeAsk size (direction dx dy) v w
 MayAsk size Hull v w asked = MayHullAsk size v w asked
 MayAsk size Closest v w asked = MayClosestAsk size v w asked
 MayAsk size Range v w asked = MayOrdersAsk (direction (pos 1) (pos 0) ∷ direction (pos 0) (pos 1) ∷ []) v w asked
+MayAsk size Nearest v w asked = MayOrdersAsk eight_directions v w asked
 
 -- the count has risen by at most a number that may be asked
 abbrev pub HasRisenWithin : (ℕ → Type 0) → ℕ → ℕ → Type 0

@@ -1,5 +1,5 @@
 -- What is proved of the definitions, as statements.
-use Rattle.std.specs.Prelude.{◌≡◌, ◌≢◌, ℕ, ◌+◌, ◌%◌, ℤ, List, Option, Some, count_by, map, slice_get, All}
+use Rattle.std.specs.Prelude.{◌≡◌, ◌≢◌, ℕ, ◌+◌, ◌%◌, ℤ, List, Option, Some, count_by, map, slice_get, All, reverse, Contains}
 use Rattle.kin_num.specs.declared.instant.Moment.{Moment}
 use Rattle.kin_num.specs.Quadratic.{IsSmall}
 use Rattle.kin_num.specs.Canonical.{IsCanonical}
@@ -16,10 +16,14 @@ use Rattle.kin_motion.specs.Laws.{HasLineLaws, HasTurnLaws, HasDistanceLaws, Has
 use Rattle.kin_motion.specs.Kinetics.{AllHold, HaveSameLive}
 use Rattle.kin_motion.specs.Orders.{IsOrder, IsOrderFact}
 use Rattle.kin_motion.specs.Extremes.{IsExtremePoint, IsExtremeFact}
-use Rattle.kin_motion.specs.Chains.{IsUpperChain, IsHullCycle}
+use Rattle.kin_motion.specs.Chains.{IsUpperChain, IsLowerChain, IsHullCycle}
 use Rattle.kin_motion.specs.Agreements.{FitsSize}
 use Rattle.kin_motion.specs.Octants.{Octant, octants, is_in_octant, IsCandidate}
-use Rattle.kin_motion.specs.ClosestPairs.{IsClosest}
+use Rattle.kin_motion.specs.ClosestPairs.{Near, IsClosest}
+use Rattle.kin_motion.specs.Farthest.{IsFarthest}
+use Rattle.kin_motion.specs.Nearest.{IsNearest}
+use Rattle.kin_motion.specs.Merges.{Breakpoint}
+use Rattle.kin_motion.specs.Sweeps.{IsSweep, sweep_of, IsSwept, cell_pairs}
 use Rattle.kin_motion.specs.Live.{Certificate, IsLiveFact, IsSmallKeep}
 use Rattle.kin_motion.specs.Moments.{FailsFirst}
 use Rattle.kin_motion.specs.Journal.{Setting, Block, IsNextBlock, IsJournal}
@@ -62,6 +66,25 @@ OneHullCycle = (s : Scene) (xs ys : List ℕ) → IsReal s → IsHullCycle s xs 
 -- there is one closest pair at most
 abbrev pub OneClosest : Type 0
 OneClosest = (s : Scene) (a b : Option (ℕ × ℕ)) → IsReal s → IsClosest s a → IsClosest s b → a ≡ b
+
+-- a point has one nearest other point at most
+abbrev pub OneNearest : Type 0
+OneNearest = (s : Scene) (i : ℕ) (a b : Option ℕ) → IsReal s → IsNearest s i a → IsNearest s i b → a ≡ b
+
+-- there is one farthest pair at most
+abbrev pub OneFarthest : Type 0
+OneFarthest = (s : Scene) (a b : Option (ℕ × ℕ)) → IsReal s → IsFarthest s a → IsFarthest s b → a ≡ b
+
+-- the two chains of all live numbers have a sweep, and only one
+abbrev pub OneSweep : Type 0
+OneSweep = (s : Scene) (upper lower : List ℕ) → IsReal s → IsUpperChain s s.live upper → IsLowerChain s s.live lower
+    → IsSweep s upper (reverse lower) (sweep_of s upper (reverse lower))
+    × ((es : List Breakpoint) → IsSweep s upper (reverse lower) es → es ≡ sweep_of s upper (reverse lower))
+
+-- no two cells have one slot
+abbrev pub SlotsDiffer : Type 0
+SlotsDiffer = (s : Scene) (upper lower : List ℕ) (es : List Breakpoint) (m n : Near) → IsReal s → IsSwept s upper lower es
+    → Contains (cell_pairs upper (reverse lower) es) m → Contains (cell_pairs upper (reverse lower) es) n → m.slot ≡ n.slot → m ≡ n
 
 -- an apex has one candidate at most in an octant
 abbrev pub OneCandidate : Type 0

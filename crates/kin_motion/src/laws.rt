@@ -1,13 +1,13 @@
 //! What holds of the definitions. Each function's contract is one law; none of them does anything.
 
-ghost use Rattle.kin_motion.specs.Agreements.{CandidateAgrees, ChainAgrees, ClosestAgrees, ClosestFactsAgree, CycleAgrees, ExtremeAgrees, ExtremeFactsAgree, FailuresAgree, HullFactsAgree, LiveFactsAgree, MergeFormsAgree, OrderAgrees, OrderFactsAgree};
+ghost use Rattle.kin_motion.specs.Agreements.{CandidateAgrees, ChainAgrees, ClosestAgrees, ClosestFactsAgree, CycleAgrees, DiameterFactsAgree, ExtremeAgrees, ExtremeFactsAgree, FailuresAgree, FarthestAgrees, HullFactsAgree, LiveFactsAgree, MergeFormsAgree, NearestAgrees, OrderAgrees, OrderFactsAgree};
 ghost use Rattle.kin_motion.specs.Claims.{ChainHasLeast, ChainIsStrict, HullHasLeast, HullIsStrict, SettledStatesExist, WrongRectIsEmpty};
-ghost use Rattle.kin_motion.specs.FactCounts.{FewFacts, FewLiveFacts};
+ghost use Rattle.kin_motion.specs.FactCounts.{FewDiameterFacts, FewFacts, FewLiveFacts};
 ghost use Rattle.kin_motion.specs.Parts.{MovedFactsChange, MovedFactsFail, MovedOrderFacts};
 ghost use Rattle.kin_motion.specs.RecordFacts.{FactsAreRecorded, FewFactsAreReported, FewFactsChange};
 ghost use Rattle.kin_motion.specs.ReflectedFacts.{ReflectedFactsHold, ReflectedTwiceIsSame};
 ghost use Rattle.kin_motion.specs.Turning.{OneTurn, SceneIsByPlaces, TurnKeepsScene};
-ghost use Rattle.kin_motion.specs.Theorems.{ExtremeIsDetermined, LiveFactsAreAskable, OctantsAreOpposite, OneCandidate, OneClosest, OneExtreme, OneFirstFailure, OneHullCycle, OneJournal, OneNextBlock, OneOctant, OneOrder, OneUpperChain, OrderIsDetermined, PolynomialsAreSmall, RealScenesHaveLaws, ReflectedIsMirrored, ReflectedIsReal};
+ghost use Rattle.kin_motion.specs.Theorems.{ExtremeIsDetermined, LiveFactsAreAskable, OctantsAreOpposite, OneCandidate, OneClosest, OneExtreme, OneFarthest, OneFirstFailure, OneHullCycle, OneJournal, OneNearest, OneNextBlock, OneOctant, OneOrder, OneSweep, OneUpperChain, OrderIsDetermined, PolynomialsAreSmall, RealScenesHaveLaws, ReflectedIsMirrored, ReflectedIsReal, SlotsDiffer};
 
 /// Where motions are slow, the polynomial of each form that may be asked for is within the bounds.
 pub fn polynomials_are_small()
@@ -79,6 +79,23 @@ pub fn one_closest()
     ensures { OneClosest }
 {}
 
+/// In a real scene, the upper and the lower chain of all live numbers have a sweep, and only one. No two of
+/// its cells have one slot.
+pub fn one_sweep()
+    ensures one { OneSweep }
+    ensures slots { SlotsDiffer }
+{}
+
+/// In a real scene, a point has at most one nearest other point.
+pub fn one_nearest()
+    ensures { OneNearest }
+{}
+
+/// A real scene has at most one farthest pair.
+pub fn one_farthest()
+    ensures { OneFarthest }
+{}
+
 /// In a real scene, an apex has at most one candidate in an octant.
 pub fn one_candidate()
     ensures { OneCandidate }
@@ -126,6 +143,8 @@ pub fn computed_answers_agree()
     ensures cycle { CycleAgrees }
     ensures closest { ClosestAgrees }
     ensures candidate { CandidateAgrees }
+    ensures nearest { NearestAgrees }
+    ensures farthest { FarthestAgrees }
 {}
 
 /// In a real scene, the functions that compute facts and failures list exactly those of the
@@ -135,6 +154,7 @@ pub fn computed_facts_agree()
     ensures order { OrderFactsAgree }
     ensures extreme { ExtremeFactsAgree }
     ensures closest { ClosestFactsAgree }
+    ensures diameter { DiameterFactsAgree }
     ensures merge { MergeFormsAgree }
     ensures hull { HullFactsAgree }
     ensures live { LiveFactsAgree }
@@ -142,10 +162,12 @@ pub fn computed_facts_agree()
 {}
 
 /// In a real scene with n live numbers, all with slots, an order or an extreme point has at most n - 1
-/// facts, a range twice as many, a closest pair 16n, and a hull 4n times the size; without live numbers
-/// there are none. So all kept structures together have at most the sum.
+/// facts, a range twice and nearest neighbours eight times as many, a closest pair 16n, and a hull 4n
+/// times the size; without live numbers there are none. So all kept structures together have at most
+/// the sum. A farthest pair has at most 4 facts for each live number but one.
 pub fn few_facts_are_live()
     ensures structure { FewFacts }
+    ensures diameter { FewDiameterFacts }
     ensures all { FewLiveFacts }
 {}
 

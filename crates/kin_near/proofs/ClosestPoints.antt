@@ -25,7 +25,7 @@ use Rattle.kin_near.proofs.ThreePoints.{line_form, AreLevel, first_is_nearer, as
 
 -- ---- the octant of one that has the other
 -- some octant passes a test that one passes
-counted : (f : Octant → Bool) (ws : List Octant) → count_by (λ b. b) (map f ws) ≡ 1 → (n : ℕ) × (w : Octant) × (slice_get ws n ≡ Some w) × (f w ≡ true)
+pub counted : (f : Octant → Bool) (ws : List Octant) → count_by (λ b. b) (map f ws) ≡ 1 → (n : ℕ) × (w : Octant) × (slice_get ws n ≡ Some w) × (f w ≡ true)
 counted f [] e = absurd (omega (arith, e))
 counted f (w ∷ ws) e = at (f w) refl e (counted f ws)
   where
@@ -49,7 +49,7 @@ lower (suc (suc (suc zero))) w h e = told _ w (record { bound = inr refl; ranked
 lower (suc (suc (suc (suc n)))) w h e = absurd (omega (arith, h))
 
 -- a list with a member has a first one
-first_there : (s : Scene) (t : Reading) (xs : List ℕ) (q : ℕ) → IsIn q xs → first_in s t xs ≢ None
+pub first_there : (s : Scene) (t : Reading) (xs : List ℕ) (q : ℕ) → IsIn q xs → first_in s t xs ≢ None
 first_there s t [] q h = absurd cc
 first_there s t (x ∷ xs) q h = at (first_in s t xs)
   where

@@ -2,14 +2,18 @@
 use Rattle.std.proofs.Common.{◌≡◌, ◌≢◌, inl, inr, [], ◌∷◌, ℤ, pos, refl, ap, ◌∙◌}
 use Rattle.kin_algebra.specs.declared.sign.Sign.TheVariants.{Minus, Zero}
 use Rattle.kin_algebra.specs.Signs.{opposite_of}
+use Rattle.kin_algebra.proofs.Operations.{operations}
 use Rattle.kin_algebra.proofs.Ring.{by_identity, quotes_in}
 use Rattle.kin_algebra.proofs.Signs.{AtLeast}
 use Rattle.kin_algebra.proofs.Vectors.{Vector as Step, along_way}
 use Rattle.kin_algebra.proofs.OrderedRings.{OrderedRing, nonnegative_sum, sign_square}
-use Rattle.kin_near.proofs.Coordinates.{between, square}
+use Rattle.kin_motion.proofs.DistanceValues.{square}
+use Rattle.kin_near.proofs.Coordinates.{between}
 use Rattle.kin_near.proofs.Nearness.{AreNone, times_none, sum_none, no_length}
 
 module _ {R : Type 0} (o : OrderedRing R) where
+  open operations o.ring use {◌·◌, ◌⊕◌, ◌⊖◌}
+
   pub along_x : (v : Step R) → along_way o (pos 1) (pos 0) v ≡ v.x
   along_x v = by_identity o.ring (v.x ∷ v.y ∷ []) _ _ (search quotes_in depth 20) (search quotes_in depth 20) refl
 
@@ -31,6 +35,13 @@ module _ {R : Type 0} (o : OrderedRing R) where
 
   pub length_none : (v : Step R) → IsNone v → o.sign (square o v) ≡ Zero
   length_none v k = sum_none o (times_none o v.x k.0, times_none o v.y k.1)
+
+  -- a step is as long as what is left of it after one that goes nowhere
+  pub same_length : (u v : Step R) → IsNone u → o.sign (square o v ⊖ square o (between o u v)) ≡ Zero
+  same_length u v k = ap o.sign difference ∙ sum_none o (times_none o (v.x ⊕ (v.x ⊖ u.x)) k.0, times_none o (v.y ⊕ (v.y ⊖ u.y)) k.1)
+    where
+      difference : square o v ⊖ square o (between o u v) ≡ ((v.x ⊕ (v.x ⊖ u.x)) · u.x) ⊕ ((v.y ⊕ (v.y ⊖ u.y)) · u.y)
+      difference = by_identity o.ring (u.x ∷ u.y ∷ v.x ∷ v.y ∷ []) _ _ (search quotes_in depth 30 fits 20000) (search quotes_in depth 30 fits 20000) refl
 
   -- less than nothing by some length
   pub length_less : (u v : Step R) → IsNone u → o.sign (o.ring.plus (square o u) (o.ring.negative (square o v))) ≡ opposite_of (o.sign (square o v))

@@ -6,6 +6,7 @@ use Rattle.kin_algebra.proofs.Ring.{by_identity, quotes_in}
 use Rattle.kin_algebra.proofs.Vectors.{Vector as Step, along_way}
 use Rattle.kin_algebra.proofs.OrderedRings.{OrderedRing}
 use Rattle.kin_motion.specs.Octants.{Reading, Octant, octants, direction_of}
+use Rattle.kin_motion.proofs.DistanceValues.{square}
 
 module _ {R : Type 0} (o : OrderedRing R) where
   open operations o.ring use {◌·◌, ◌⊕◌, ◌⊖◌}
@@ -19,10 +20,6 @@ module _ {R : Type 0} (o : OrderedRing R) where
   -- the second step, less the first
   abbrev pub between : Step R → Step R → Step R
   between u v = record { x = v.x ⊖ u.x; y = v.y ⊖ u.y }
-
-  -- the square of the length of a step
-  abbrev pub square : Step R → R
-  square v = (v.x · v.x) ⊕ (v.y · v.y)
 
   -- how far a step goes in an order as it is read
   abbrev pub as_read : Reading → Step R → R
@@ -51,17 +48,17 @@ module _ {R : Type 0} (o : OrderedRing R) where
     pub b : Reading
     pub bounds : ((a ≡ w.first) × (b ≡ w.second)) ⊎ ((a ≡ w.second) × (b ≡ w.first))
     pub third : (v : Step R) → as_read w.third v ≡ rank (as_read a v) (as_read b v)
-    pub length : (v : Step R) → square v ≡ norm (as_read a v) (as_read b v)
+    pub length : (v : Step R) → square o v ≡ norm (as_read a v) (as_read b v)
 
   told : (v w : Octant) → Frame v → Some v ≡ Some w → Frame w
   told v w f e = let same : v ≡ w = cc in subst Frame same f
 
   -- the first order is a
-  first_order : (w : Octant) → ((v : Step R) → as_read w.third v ≡ rank (as_read w.first v) (as_read w.second v)) → ((v : Step R) → square v ≡ norm (as_read w.first v) (as_read w.second v)) → Frame w
+  first_order : (w : Octant) → ((v : Step R) → as_read w.third v ≡ rank (as_read w.first v) (as_read w.second v)) → ((v : Step R) → square o v ≡ norm (as_read w.first v) (as_read w.second v)) → Frame w
   first_order w third length = record { a = w.first; b = w.second; bounds = inl (refl, refl); third = third; length = length }
 
   -- the second order is a
-  second_order : (w : Octant) → ((v : Step R) → as_read w.third v ≡ rank (as_read w.second v) (as_read w.first v)) → ((v : Step R) → square v ≡ norm (as_read w.second v) (as_read w.first v)) → Frame w
+  second_order : (w : Octant) → ((v : Step R) → as_read w.third v ≡ rank (as_read w.second v) (as_read w.first v)) → ((v : Step R) → square o v ≡ norm (as_read w.second v) (as_read w.first v)) → Frame w
   second_order w third length = record { a = w.second; b = w.first; bounds = inr (refl, refl); third = third; length = length }
 
   pub frame_of : (n : ℕ) (w : Octant) → slice_get octants n ≡ Some w → Frame w

@@ -1,10 +1,12 @@
 pub mod Coordinates
 pub mod Nearness
 pub mod Coincidence
-pub mod Numbers
 pub mod ThreePoints
 pub mod SwappedPairs
 pub mod ClosestPoints
+pub mod OnePlace
+pub mod WaysDown
+pub mod Hits
 pub mod BestPairs
 pub mod SettledPairs
 pub mod DeterminedPairs

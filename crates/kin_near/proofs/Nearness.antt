@@ -8,7 +8,8 @@ use Rattle.kin_algebra.proofs.Signs.{AtLeast, product-Zero, square_none}
 use Rattle.kin_algebra.proofs.Vectors.{Vector as Step}
 use Rattle.kin_algebra.proofs.OrderedRings.{OrderedRing, sign_twice, positive_sum, nonnegative_sum, sum_zero, positive_product, nonnegative_product, sign_square, positive_cancel}
 use Rattle.kin_motion.specs.Octants.{Octant}
-use Rattle.kin_near.proofs.Coordinates.{two, three, between, square, as_read, as_read-between, rank, norm, Frame}
+use Rattle.kin_motion.proofs.DistanceValues.{square}
+use Rattle.kin_near.proofs.Coordinates.{two, three, between, as_read, as_read-between, rank, norm, Frame}
 
 module _ {R : Type 0} (o : OrderedRing R) where
   open operations o.ring use {◌·◌, ◌⊕◌, ◌⊖◌}

@@ -24,11 +24,11 @@ use Rattle.kin_motion.proofs.RealLaws.{real_line_laws}
 use Rattle.kin_motion.proofs.SetLaws.{contains_map}
 use Rattle.kin_motion.proofs.SeenLaws.{SeenAt, seen_at}
 use Rattle.kin_motion.proofs.LineValues.{step_at, line_value, line_value-minus, line_sign}
+use Rattle.kin_motion.proofs.DistanceValues.{square, distance_sign}
 use Rattle.kin_near.specs.Candidates.{AreCoincident, FirstIsNearer}
-use Rattle.kin_near.proofs.Coordinates.{between, square, as_read, frame_of}
+use Rattle.kin_near.proofs.Coordinates.{between, as_read, frame_of}
 use Rattle.kin_near.proofs.Nearness.{AreNone, step_nearer}
-use Rattle.kin_near.proofs.Coincidence.{along_x, along_y, IsNone, way_none, between_none, length_none, length_less, not_longer}
-use Rattle.kin_near.proofs.Numbers.{distance_sign}
+use Rattle.kin_near.proofs.Coincidence.{along_x, along_y, IsNone, way_none, between_none, length_none, same_length, length_less, not_longer}
 
 -- the way from c to q is that from the apex to q, less that from the apex to c
 by_apex : {R : Type 0} (o : OrderedRing R) (p c q : R) → o.ring.plus q (o.ring.negative c) ≡ o.ring.plus (o.ring.plus q (o.ring.negative p)) (o.ring.negative (o.ring.plus c (o.ring.negative p)))
@@ -131,6 +131,13 @@ module _ (s : Scene) (r : IsReal s) (w : Octant) (p c q : ℕ) where
   pub as_near : AreCoincident s p c → s.sign (Dist p q p c) ≢ Minus → AreCoincident s p q
   as_near together near =
       at_one_place p q to_q (not_longer here (step p c) (step p q) (goes_nowhere p c to_c together) (λ e. near (dist_here 10 p q p c refl ∙ e)))
+
+  -- two points at one place are equally far from a third one
+  pub equally_far : AreCoincident s p c → s.sign (Dist c q p q) ≡ Zero
+  equally_far together =
+      dist_here 9 c q p q refl
+      ∙ ap (λ (v : Step Pair). here.sign (here.ring.plus (square here (step p q)) (here.ring.negative (square here v)))) step_between
+      ∙ same_length here (step p c) (step p q) (goes_nowhere p c to_c together)
 
   -- three points at one place: the distances are equal, and all are level in each order
   pub record AreLevel : Type 0 where

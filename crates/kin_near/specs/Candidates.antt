@@ -1,7 +1,8 @@
 -- What holds of candidates in octants and of the closest pair, as statements.
-use Rattle.std.specs.Prelude.{◌≡◌, ℕ, ◌<◌, true, Some, slice_get, ◌⊎◌}
+use Rattle.std.specs.Prelude.{◌≡◌, ℕ, ◌<◌, Bool, true, ◌&&◌, Some, slice_get, ◌⊎◌}
 use Rattle.kin_algebra.specs.declared.sign.Sign.TheVariants.{Zero, Plus}
 use Rattle.kin_motion.specs.declared.form.Form.TheVariants.{Dist}
+use Rattle.kin_motion.specs.Journal.{same_sign}
 use Rattle.kin_motion.specs.Scene.{Scene, IsReal, x_sign, y_sign}
 use Rattle.kin_motion.specs.Octants.{Octant, octants, is_in_octant, comes_after, IsCandidate}
 use Rattle.kin_motion.specs.ClosestPairs.{IsClosestPair}
@@ -9,6 +10,10 @@ use Rattle.kin_motion.specs.ClosestPairs.{IsClosestPair}
 -- both are at one place
 abbrev pub AreCoincident : Scene → ℕ → ℕ → Type 0
 AreCoincident s p q = (x_sign s p q ≡ Zero) × (y_sign s p q ≡ Zero)
+
+-- the same as a test
+abbrev pub is_there : Scene → ℕ → ℕ → Bool
+is_there s p q = same_sign (x_sign s p q) Zero && same_sign (y_sign s p q) Zero
 
 -- of two members of an octant the one that comes first in its third order is nearer to the other than the apex is, or it is at the apex's place
 abbrev pub FirstIsNearer : Type 0

@@ -3,6 +3,7 @@
 
 ghost use Rattle.kin_near.specs.BestPairs.{BestPairIsClosest, ClosestIsDetermined, ClosestIsSettled};
 ghost use Rattle.kin_near.specs.Candidates.{ClosestIsCandidate, FirstIsNearer};
+ghost use Rattle.kin_near.specs.Hits.{CandidateIsNextBelow, HitsSuffice};
 
 /// In a real scene, of two members of one octant the one that comes first in the third order is nearer to the
 /// other than the apex is, or it is at the apex's place.
@@ -33,4 +34,16 @@ pub fn closest_is_settled()
 /// its facts there.
 pub fn closest_is_determined()
     ensures { ClosestIsDetermined }
+{}
+
+/// In a real scene, the candidate in octant 4 is the next lesser number at the apex's place. If it is elsewhere, or there
+/// is none, the apex has the least number at its place.
+pub fn candidate_is_next_below()
+    ensures { CandidateIsNextBelow }
+{}
+
+/// In a real scene, the nearest other point of a live point is found from the apexes whose candidate it is: from one of
+/// them the way down at its place, from each number to the next lesser one, ends there.
+pub fn hits_suffice()
+    ensures { HitsSuffice }
 {}

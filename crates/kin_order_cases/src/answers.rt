@@ -14,6 +14,7 @@ use kin_closest::KinClosest;
 use kin_hull::KinHull;
 use kin_list::KinList;
 use kin_motion::keep::Keep;
+use kin_nearest::KinNearest;
 use kin_num::Steps;
 use kin_range::KinRange;
 use std::alloc::Global;
@@ -85,6 +86,8 @@ enum Seen {
     HullAtTheRootOfTwo,
     RangeWithItsBorder,
     ClosestOfThree,
+    /// Nearest points: the points, and what is to be seen of them.
+    Nearest(&'static str, &'static str),
 }
 
 impl Seen {
@@ -107,6 +110,7 @@ impl Seen {
                 "0 0 0 0, 4 0 -2 0, 1 0 0 0",
                 "0: 0 2 / 20; 3/2: 1 2 / 19; 2: 0 1 / 19",
             ),
+            Seen::Nearest(points, told) => (points, told),
         }
     }
 }
@@ -131,6 +135,7 @@ impl Scene for Seen {
             Seen::ClosestOfThree => {
                 goes_on::<KinClosest, L>(alloc, &Keep::Closest, written, steps)
             }
+            Seen::Nearest(..) => { goes_on::<KinNearest, L>(alloc, &Keep::Nearest, written, steps) }
         }
     }
 }
@@ -142,6 +147,47 @@ fn kept_structures_answer_and_ask_with_the_callers_counter(rt: HostRuntime) {
         Seen::HullAtTheRootOfTwo,
         Seen::RangeWithItsBorder,
         Seen::ClosestOfThree,
+    ];
+    assert_eq!(rt; first_wrong(rt.alloc(), &scenes), None);
+}
+
+#[test]
+fn nearest_points_at_one_place_and_between_groups(rt: HostRuntime) {
+    let scenes = [
+        Seen::Nearest("0 0 0 0, 3 4 0 0", "0: 1 0 / 8"),
+        Seen::Nearest("0 0 0 0, 0 0 0 0", "0: 1 0 / 8"),
+        Seen::Nearest(
+            "0 0 1 0, 4 0 -1 0, 2 2 0 -1, 2 -2 0 1, 8 4 -3 -2",
+            "0: 2 2 0 0 1 / 32; 1: 2 2 0 0 1 / 32; 2: 1 0 0 0 0 / 32; 2+: 2 2 0 0 1 / 32; 3: 2 2 0 0 1 / 32",
+        ),
+        Seen::Nearest(
+            "0 0 1 0, 6 0 -2 0, 2 2 0 -1, 8 -2 -3 1, 2 0 0 0",
+            "0: 4 3 4 1 0 / 32; 2: 1 0 0 0 0 / 32; 2+: 4 3 4 1 0 / 32; 3: 4 3 4 1 0 / 32",
+        ),
+        Seen::Nearest(
+            "3 3 0 0, 3 3 0 0, 3 3 0 0, 3 3 0 0, 3 3 1 0",
+            "0: 1 0 0 0 0 / 32; 0+: 1 0 0 0 0 / 32",
+        ),
+        Seen::Nearest(
+            "5 0 1 0, 0 0 0 0, 10 0 0 0, 0 0 0 0, 10 0 0 0, 10 0 0 0, 0 0 0 0, 10 0 0 0",
+            "0: 1 3 4 1 2 2 1 2 / 56; 0+: 2 3 4 1 2 2 1 2 / 56; 5: 2 3 0 1 0 0 1 0 / 56; 5+: 2 3 4 1 2 2 1 2 / 56; 7: 2 3 4 1 2 2 1 2 / 56",
+        ),
+        Seen::Nearest(
+            "0 0 0 0, 10 0 0 0, 0 0 0 0, 5 0 -1 0, 10 0 0 0, 0 0 0 0, 10 0 0 0",
+            "0: 2 4 0 0 1 0 1 / 48; 0+: 2 4 0 0 1 0 1 / 48; 5: 2 4 0 0 1 0 1 / 48; 5+: 2 4 0 0 1 0 1 / 48",
+        ),
+        Seen::Nearest(
+            "10 0 0 0, 10 0 0 0, 0 0 0 0, 10 0 0 0, 0 0 0 0, 0 0 0 0, 0 0 0 0, 5 0 1 0",
+            "0: 1 0 4 0 2 2 2 0 / 56; 0+: 1 0 4 0 2 2 2 0 / 56; 5: 1 0 4 0 2 2 2 0 / 56; 5+: 1 0 4 0 2 2 2 0 / 56",
+        ),
+        Seen::Nearest(
+            "0 0 0 0, 4 0 -2 0, 1 0 0 0",
+            "0: 2 2 0 / 16; 3/2: 1 2 1 / 16; 2: 1 0 0 / 16",
+        ),
+        Seen::Nearest(
+            "0 2 0 0, 2 0 0 0, 0 -2 0 0, -2 0 0 0, 1 1 0 0, 1 -1 0 0, -1 -1 0 0, 0 0 0 0",
+            "0: 4 4 5 6 0 1 2 4 / 56",
+        ),
     ];
     assert_eq!(rt; first_wrong(rt.alloc(), &scenes), None);
 }

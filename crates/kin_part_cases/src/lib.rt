@@ -1,7 +1,9 @@
-//! Tests of the parts that structures and the table of facts are made of: motions, reports, slots that point, planned
-//! legs, linked lists, three lists with a tree, a sorted list, a tournament and the event queue.
+//! Tests of the parts that structures and the table of facts are made of: motions, reports, slots that point, sets of
+//! ids, planned legs, linked lists, three lists with a tree, a sorted list, a tournament and the event queue.
 #![tactic(auto)]
 
+#[cfg(test)]
+mod ids;
 #[cfg(test)]
 mod legs;
 #[cfg(test)]

@@ -1,2 +1,3 @@
 pub mod Mutual
 pub mod Held
+pub mod IdLaws

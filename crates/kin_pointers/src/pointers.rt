@@ -149,18 +149,18 @@ fn empty_lists(alloc: Global, count: usize) -> Result<Vec<Vec<u32>>, NoMemory>
     Ok(lists)
 }
 
-/// Puts a slot after all others. Answers its place.
-fn append(list: &mut Vec<u32>, slot: u32) -> Result<u32, NoMemory>
-    ensures ok { IfOk result (λ place. (place ≡ length list.old.items) × (list.new.items ≡ list.old.items ++ slot ∷ [])) }
+/// Puts an item after all others. Answers its place.
+pub(crate) fn append(list: &mut Vec<u32>, item: u32) -> Result<u32, NoMemory>
+    ensures ok { IfOk result (λ place. (place ≡ length list.old.items) × (list.new.items ≡ list.old.items ++ item ∷ [])) }
     ensures err { OnErr result (list.new.items ≡ list.old.items) }
 {
     let place = u32::try_from(list.len()).map_err(|_| NoMemory)?;
-    list.push(slot).map_err(|_| NoMemory)?;
+    list.push(item).map_err(|_| NoMemory)?;
     Ok(place)
 }
 
-/// Takes the slot at a place out, and puts the last one there, which it answers.
-fn strike(list: &mut Vec<u32>, place: u32) -> u32
+/// Takes the item at a place out, and puts the last one there, which it answers.
+pub(crate) fn strike(list: &mut Vec<u32>, place: u32) -> u32
     requires { place < length list.old.items }
     ensures { IsStruck list.old.items list.new.items place result }
 {

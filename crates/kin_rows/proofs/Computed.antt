@@ -10,6 +10,7 @@ use Rattle.kin_rows.specs.Square.{SquareRow}
 use Rattle.kin_rows.specs.Boxes.{SlidingRow}
 use Rattle.kin_rows.specs.Passing.{PassingRow}
 use Rattle.kin_rows.specs.Extremes.{ExtremeRow}
+use Rattle.kin_rows.specs.NearestRows.{NearestRows}
 use Rattle.kin_rows.specs.Carriageways.{CarriagewaysRow}
 use Rattle.kin_rows.specs.Changes.{ChangeRows}
 use Rattle.kin_rows.specs.HullFactRows.{HullFactRows}
@@ -43,6 +44,10 @@ sliding_row = search refl
 pub passing_row : PassingRow
 unfolding sign_of_form polynomial_of sign_at sign_at_instant
 passing_row = search refl
+
+pub nearest_rows : NearestRows
+unfolding sign_of_form polynomial_of sign_at sign_at_instant
+nearest_rows = search refl
 
 pub extreme_row : ExtremeRow
 unfolding sign_of_form polynomial_of sign_at sign_at_instant

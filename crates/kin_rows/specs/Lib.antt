@@ -6,6 +6,7 @@ pub mod Twins
 pub mod Square
 pub mod Boxes
 pub mod Passing
+pub mod NearestRows
 pub mod Extremes
 pub mod Carriageways
 pub mod Changes

@@ -8,6 +8,7 @@ ghost use Rattle.kin_rows.specs.ClosestFactRows.{ClosestFactRows};
 ghost use Rattle.kin_rows.specs.Extremes.{ExtremeRow};
 ghost use Rattle.kin_rows.specs.Generated.{GeneratedRows};
 ghost use Rattle.kin_rows.specs.HullFactRows.{HullFactRows};
+ghost use Rattle.kin_rows.specs.NearestRows.{NearestRows};
 ghost use Rattle.kin_rows.specs.Orders.{OrderRows};
 ghost use Rattle.kin_rows.specs.Passing.{PassingRow};
 ghost use Rattle.kin_rows.specs.Square.{SquareRow};
@@ -50,6 +51,11 @@ pub fn sliding_row()
 /// Points that pass each other: coincident ones are the closest pair.
 pub fn passing_row()
     ensures { PassingRow }
+{}
+
+/// The nearest other points of a unit square, of points of which one passes the others, and of points at one place.
+pub fn nearest_rows()
+    ensures { NearestRows }
 {}
 
 /// Of two points that meet the lesser number is the extreme one.

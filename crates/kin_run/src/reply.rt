@@ -74,6 +74,20 @@ fn inside(world: &World, rect: &Rect) -> Result<Reply, Halt>
     Ok(Reply::List(world.inside(rect)?))
 }
 
+/// The nearest other point of a point. What isn't kept comes before what isn't there.
+fn nearest(world: &World, no: u32) -> Result<Reply, Halt>
+    requires { IsWhole world.now }
+    ensures { RepliesTo world.now (asked.Nearest no) result }
+{
+    if !world.keeps(&Keep::Nearest) {
+        return Err(Halt::Refused(Refusal::NotKept));
+    }
+    if world.motion(no).is_none() {
+        return Err(Halt::Refused(Refusal::Absent));
+    }
+    Ok(Reply::One(world.nearest(no)))
+}
+
 /// How many facts are live.
 fn live(world: &World) -> Result<Reply, Halt>
     requires { IsWhole world.now }
@@ -82,7 +96,8 @@ fn live(world: &World) -> Result<Reply, Halt>
     Ok(Reply::Count(world.live() as u64))
 }
 
-/// The reply to a question, or `NotKept` where what it asks for isn't kept. `command` is a question.
+/// The reply to a question, `NotKept` where what it asks for isn't kept, or else `Absent` where the point that it is about
+/// isn't there. `command` is a question.
 #[tactic(auto, using(crate::proofs::Changing::of_same))]
 fn reply_to(world: &World, command: &Command) -> Result<Reply, Halt>
     requires whole { IsWhole world.now }
@@ -95,6 +110,7 @@ fn reply_to(world: &World, command: &Command) -> Result<Reply, Halt>
         Command::Hull => hull(world),
         Command::Closest => closest(world),
         Command::Inside { rect } => inside(world, &rect),
+        Command::Nearest { no } => nearest(world, no),
         Command::Live => live(world),
         _ => Err(Halt::Refused(Refusal::NotKept)),
     }

@@ -18,6 +18,8 @@ mod kept;
 #[cfg(test)]
 mod legs;
 #[cfg(test)]
+mod nearest;
+#[cfg(test)]
 mod prefixes;
 #[cfg(test)]
 mod runs;

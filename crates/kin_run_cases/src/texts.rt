@@ -5,6 +5,7 @@ ghost use Rattle.std.specs.Prelude.{◌<◌};
 use crate::bounds::CORNERS;
 use crate::kept::{CARRIAGEWAYS, CARRIAGEWAYS_TEXT, CHANGES, CLOSE, HULLS};
 use crate::legs::LEGS;
+use crate::nearest::{CROWD, CROWD_TEXT, NEAREST};
 use crate::runs::{run_to, source_of};
 use crate::worked::WORKED;
 use kin_run::status::Status;
@@ -54,6 +55,32 @@ fn gives_the_texts_of_hulls(rt: HostRuntime) -> Result<(), Fail> {
 #[test]
 fn gives_the_texts_of_points_with_legs(rt: HostRuntime) -> Result<(), Fail> {
     let wrong = first_wrong(rt.alloc(), &LEGS, 64, 100)?;
+    assert!(rt; wrong == None, "script {wrong:?}");
+    Ok(())
+}
+
+#[test]
+fn gives_the_texts_of_nearest_points(rt: HostRuntime) -> Result<(), Fail> {
+    let wrong = first_wrong(rt.alloc(), &NEAREST, 64, 100)?;
+    assert!(rt; wrong == None, "script {wrong:?}");
+    Ok(())
+}
+
+/// A script with 256 points at one place, and these lines after it.
+fn crowd_and(alloc: Global, lines: &str) -> Result<String, Fail> {
+    let mut script = String::from_str(alloc, "size 9\nkeep nearest\n")?;
+    for no in 0..256 {
+        script.push_str(&format!(in alloc; "insert {no} 0 0 1 0\n")?)?;
+    }
+    script.push_str(lines)?;
+    Ok(script)
+}
+
+#[test]
+fn gives_the_nearest_points_of_a_crowd(rt: HostRuntime) -> Result<(), Fail> {
+    let script = crowd_and(rt.alloc(), CROWD)?;
+    let rows = [(script.as_str(), CROWD_TEXT, Status::Done)];
+    let wrong = first_wrong(rt.alloc(), &rows, 4096, 100)?;
     assert!(rt; wrong == None, "script {wrong:?}");
     Ok(())
 }

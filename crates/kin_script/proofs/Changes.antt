@@ -1,5 +1,5 @@
 -- The table of the proofs of what changes the points: numbers are in range, and a change has one cause of refusal or one outcome at most.
-use Rattle.std.proofs.Common.{◌≡◌, inl, inr, ℕ, ◌<◌, ◌≤◌, ◌-◌, ◌^◌, true, false, ℤ, List, Option, Some, sym, ap, ◌∙◌, subst, pow_pos, arith}
+use Rattle.std.proofs.Common.{◌≡◌, inl, inr, ℕ, ◌<◌, ◌≤◌, ◌^◌, true, false, ℤ, List, Option, Some, sym, ap, ◌∙◌, subst, arith}
 use Rattle.std.specs.Prelude.{is_some, IsFalse}
 use Rattle.std.proofs.lemmas.Option.{same_Some}
 use Rattle.kin_num.specs.declared.instant.Moment.{Moment}
@@ -17,18 +17,11 @@ use Rattle.kin_script.specs.declared.refusal.Refusal.{Refusal}
 use Rattle.kin_script.specs.Changes.{PointChange, enters, leaves, restarts, turns, schedules, insert_of, remove_of, replace_of, turn_of, leg_of, IsSlowVelocity, IsRefusedTurn, IsRefusedLeg, IsRefusedChange, IsTurned, IsScheduled, ChangesTo}
 use Rattle.kin_script.specs.Lines.{Word}
 use Rattle.kin_script.specs.Ranges.{IsCommandInRange}
-use Rattle.kin_script.specs.Words.{number_at, instant_at, velocity_at}
+use Rattle.kin_script.specs.Words.{instant_at, velocity_at}
 use Rattle.kin_script.proofs.EachGiven.{Each, each_one, each_last, each_then}
-use Rattle.kin_script.proofs.WordRanges.{natural_at_range, integer_at_range, motion_range}
+use Rattle.kin_script.proofs.WordRanges.{natural_at_range, integer_at_range, motion_range, number_range}
 
 -- ---- its numbers
-number_range : (size : ℕ) (ws : List Word) → Each (λ n. n.0 < 2 ^ size) (number_at size ws)
-unfolding number_at
-number_range size ws n e = below n.0 (natural_at_range 0 (2 ^ size - 1) ws n e).1
-  where
-    below : (n : ℕ) → n ≤ 2 ^ size - 1 → n < 2 ^ size
-    below n h = let some : 0 < 2 ^ size = pow_pos size in omega (arith, h, some)
-
 instant_range : (ws : List Word) → Each (λ n. n.0 < 2 ^ 31) (instant_at ws)
 unfolding instant_at
 instant_range ws n e = below n.0 (natural_at_range 0 2147483647 ws n e).1

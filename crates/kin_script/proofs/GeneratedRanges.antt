@@ -13,7 +13,7 @@ use Rattle.kin_motion.specs.Keeps.{are_few}
 use Rattle.kin_script.specs.declared.command.Command.{Command}
 use Rattle.kin_script.specs.declared.command.Command.TheVariants.{AtRatio, Extreme, Hull, Closest, Inside, Live}
 use Rattle.kin_script.specs.declared.script.Script.{Script}
-use Rattle.kin_script.specs.Generated.{state_after, drawn, picked, course_behind, insertion, insertions, questions, one_of_each, IsGenerated}
+use Rattle.kin_script.specs.Generated.{state_after, drawn, picked, course_behind, insertion, insertions, questions, generated_keeps, IsGenerated}
 use Rattle.kin_script.specs.Questions.{IsDirection, IsKeepInRange}
 use Rattle.kin_script.specs.Ranges.{IsRatioInRange, IsCommandInRange, IsWithin, IsInRange}
 use Rattle.kin_script.proofs.NumberedLaws.{Rises, wider, lows, highs, pairs}
@@ -97,7 +97,7 @@ questions_rise line = (
 )
 
 -- ---- the script
-kept_in_range : All IsKeepInRange one_of_each
+kept_in_range : All IsKeepInRange generated_keeps
 kept_in_range =
     let right : IsDirection (pos 1) (pos 0) = record { dx_small = omega (arith, ints); dy_small = omega (arith, ints); not_still = omega (arith, ints) } in
     let up_right : IsDirection (pos 1) (pos 1) = record { dx_small = omega (arith, ints); dy_small = omega (arith, ints); not_still = omega (arith, ints) } in

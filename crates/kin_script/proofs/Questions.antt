@@ -1,6 +1,6 @@
--- The table of the proofs of what may be kept and asked: numbers are in range; what is asked for is kept or not, and where it is, there is one line.
-use Rattle.std.proofs.Common.{◌≡◌, ◌⊎◌, inl, inr, ℕ, Bool, true, false, List, [], ◌∷◌, length, Option, Some, refl, sym, ap, ◌∙◌, subst, arith}
-use Rattle.std.specs.Prelude.{ℤ, Contains, slice_get}
+-- The table of the proofs of what may be kept and asked: numbers are in range; a question is refused for one cause, or it isn't and has one line.
+use Rattle.std.proofs.Common.{◌≡◌, ◌⊎◌, inl, inr, ℕ, Bool, true, false, List, [], ◌∷◌, length, Option, Some, None, refl, sym, ap, ◌∙◌, subst, arith}
+use Rattle.std.specs.Prelude.{ℤ, Contains, slice_get, is_some, IfSome, IsTrue}
 use Rattle.std.proofs.lemmas.Option.{same_Some}
 use Rattle.kin_algebra.proofs.Members.{contains_none, contains_head, contains_tail, contains_cases, contains_from_get, get_from_contains}
 use Rattle.kin_num.specs.Canonical.{IsCanonical}
@@ -14,18 +14,24 @@ use Rattle.kin_motion.specs.ClosestPairs.{closest_of}
 use Rattle.kin_motion.specs.Extremes.{IsExtremePoint, extreme_of}
 use Rattle.kin_motion.specs.Keeps.{is_alike}
 use Rattle.kin_motion.specs.Live.{IsLiveFact, IsSmallKeep, live_facts}
+use Rattle.kin_motion.specs.Nearest.{nearest_of}
 use Rattle.kin_motion.specs.Orders.{IsOrder, order_of}
-use Rattle.kin_motion.specs.Plans.{motions_in_force}
+use Rattle.kin_motion.specs.Plans.{Plan, motions_in_force}
 use Rattle.kin_motion.specs.Scene.{IsReal}
 use Rattle.kin_motion.proofs.ClosestLaws.{closest_proved}
 use Rattle.kin_motion.proofs.LiveFactLaws.{live_facts_agree}
 use Rattle.kin_motion.proofs.MotionScenes.{real_at}
+use Rattle.kin_motion.proofs.NearestLaws.{nearest_proved, one_nearest}
 use Rattle.kin_motion.proofs.OneLaws.{one_extreme, one_closest, one_hull_cycle}
 use Rattle.kin_motion.proofs.Proved.{order_is_one, order_proved, extreme_proved, cycle_proved}
+use Rattle.kin_legs.specs.Paths.{plan_of}
 use Rattle.kin_script.specs.declared.command.Command.{Command}
-use Rattle.kin_script.specs.declared.command.Command.TheVariants.{Insert, Remove, Replace, Turn, Leg, AtRatio, AtRoot, Next, Order, Extreme, Hull, Closest, Live, Inside}
+use Rattle.kin_script.specs.declared.command.Command.TheVariants.{Insert, Remove, Replace, Turn, Leg, AtRatio, AtRoot, Next, Order, Extreme, Hull, Closest, Live, Inside, Nearest}
+use Rattle.kin_script.specs.declared.refusal.Refusal.{Refusal}
+use Rattle.kin_script.specs.declared.refusal.Refusal.TheVariants.{NotKept, Absent}
 use Rattle.kin_script.specs.Deeds.{asks, deed_of}
-use Rattle.kin_script.specs.Questions.{keep_of, IsKeepInRange, order_question_of, extreme_question_of, box_question_of, question_of, IsQuestionInRange, HasKeep, IsProvided, IsOrderLine, IsExtremeLine, IsLiveLine, IsReplyLine}
+use Rattle.kin_script.specs.Questions.{keep_of, IsKeepInRange, order_question_of, extreme_question_of, box_question_of, nearest_question_of, question_of, IsQuestionInRange}
+use Rattle.kin_script.specs.Questions.{HasKeep, IsProvided, must_be_live, IsPresent, IsAnswerable, IsRefusedQuestion, IsOrderLine, IsExtremeLine, IsLiveLine, IsReplyLine}
 use Rattle.kin_script.specs.Lines.{Word}
 use Rattle.kin_script.specs.Printed.{list_line}
 use Rattle.kin_script.specs.PrintedJournal.{one_line, count_line, pair_line}
@@ -33,7 +39,7 @@ use Rattle.kin_script.specs.Ranges.{IsCommandInRange, IsDeedInRange}
 use Rattle.kin_script.specs.States.{State, state_scene}
 use Rattle.kin_script.proofs.Counts.{same_length}
 use Rattle.kin_script.proofs.EachGiven.{Each, each_none, each_way, each_last, each_map, each_then}
-use Rattle.kin_script.proofs.WordRanges.{natural_at_range, integer_at_range, direction_range}
+use Rattle.kin_script.proofs.WordRanges.{natural_at_range, integer_at_range, number_range, direction_range}
 
 -- ---- what is kept
 
@@ -45,7 +51,8 @@ keep_range (kind ∷ ws) =
     (each_way _ _ _ _ (each_map _ (λ d. keep.Extreme d.0 d.1) _ (direction_range ws))
     (each_way _ _ _ _ (each_last _ keep.Hull ws tt)
     (each_way _ _ _ _ (each_last _ keep.Closest ws tt)
-    (each_way _ _ _ _ (each_last _ keep.Range ws tt) (each_none _)))))
+    (each_way _ _ _ _ (each_last _ keep.Range ws tt)
+    (each_way _ _ _ _ (each_last _ keep.Nearest ws tt) (each_none _))))))
 
 -- a kept structure that a script can name has small numbers
 pub small_keep : (k : Keep) → IsKeepInRange k → IsSmallKeep k
@@ -54,6 +61,7 @@ small_keep (keep.Extreme dx dy) h = (h.dx_small, h.dy_small)
 small_keep keep.Hull h = tt
 small_keep keep.Closest h = tt
 small_keep keep.Range h = tt
+small_keep keep.Nearest h = tt
 
 hull_alone : (x : Keep) → is_alike keep.Hull x ≡ true → x ≡ keep.Hull
 hull_alone keep.Hull e = refl
@@ -66,6 +74,10 @@ closest_alone other e = absurd cc
 range_alone : (x : Keep) → is_alike keep.Range x ≡ true → x ≡ keep.Range
 range_alone keep.Range e = refl
 range_alone other e = absurd cc
+
+nearest_alone : (x : Keep) → is_alike keep.Nearest x ≡ true → x ≡ keep.Nearest
+nearest_alone keep.Nearest e = refl
+nearest_alone other e = absurd cc
 
 -- a structure of this kind is among those that are kept, or none is
 kept_or_not : (kind : Keep) → ((x : Keep) → is_alike kind x ≡ true → x ≡ kind) → is_alike kind kind ≡ true → (keeps : List Keep) → ¬ (Contains keeps kind) ⊎ Contains keeps kind
@@ -83,35 +95,40 @@ kept_or_not kind only own (x ∷ xs) = at (is_alike kind x) refl (kept_or_not ki
 
 -- ---- what is asked
 
-order_range : (ws : List Word) → Each IsQuestionInRange (order_question_of ws)
+order_range : (size : ℕ) (ws : List Word) → Each (IsQuestionInRange size) (order_question_of ws)
 unfolding order_question_of
-order_range ws = each_then _ _ _ _ (natural_at_range 0 31 ws) (λ s h. each_last _ _ s.1 h.1)
+order_range size ws = each_then _ _ _ _ (natural_at_range 0 31 ws) (λ s h. each_last _ _ s.1 h.1)
 
-extreme_range : (ws : List Word) → Each IsQuestionInRange (extreme_question_of ws)
+extreme_range : (size : ℕ) (ws : List Word) → Each (IsQuestionInRange size) (extreme_question_of ws)
 unfolding extreme_question_of
-extreme_range ws = each_then _ _ _ _ (natural_at_range 0 31 ws) (λ s h. each_last _ _ s.1 h.1)
+extreme_range size ws = each_then _ _ _ _ (natural_at_range 0 31 ws) (λ s h. each_last _ _ s.1 h.1)
 
-box_range : (ws : List Word) → Each IsQuestionInRange (box_question_of ws)
+box_range : (size : ℕ) (ws : List Word) → Each (IsQuestionInRange size) (box_question_of ws)
 unfolding box_question_of
-box_range ws =
+box_range size ws =
     each_then _ _ _ _ (integer_at_range 16777216 ws) (λ x1 h1.
     each_then _ _ _ _ (integer_at_range 16777216 x1.1) (λ x2 h2.
     each_then _ _ _ _ (integer_at_range 16777216 x2.1) (λ y1 h3.
     each_then _ _ _ _ (integer_at_range 16777216 y1.1) (λ y2 h4.
     each_last _ _ y2.1 (record { x1_small = omega (arith, h1); x2_small = omega (arith, h2); y1_small = omega (arith, h3); y2_small = omega (arith, h4) })))))
 
-pub question_range : (name : Word) (ws : List Word) → Each IsQuestionInRange (question_of name ws)
+nearest_range : (size : ℕ) (ws : List Word) → Each (IsQuestionInRange size) (nearest_question_of size ws)
+unfolding nearest_question_of
+nearest_range size ws = each_then _ _ _ _ (number_range size ws) (λ number h. each_last _ _ number.1 h)
+
+pub question_range : (size : ℕ) (name : Word) (ws : List Word) → Each (IsQuestionInRange size) (question_of size name ws)
 unfolding question_of
-question_range name ws =
-    each_way _ _ _ _ (order_range ws)
-    (each_way _ _ _ _ (extreme_range ws)
+question_range size name ws =
+    each_way _ _ _ _ (order_range size ws)
+    (each_way _ _ _ _ (extreme_range size ws)
     (each_way _ _ _ _ (each_last _ Hull ws tt)
     (each_way _ _ _ _ (each_last _ Closest ws tt)
-    (each_way _ _ _ _ (box_range ws)
-    (each_way _ _ _ _ (each_last _ Live ws tt) (each_none _))))))
+    (each_way _ _ _ _ (box_range size ws)
+    (each_way _ _ _ _ (nearest_range size ws)
+    (each_way _ _ _ _ (each_last _ Live ws tt) (each_none _)))))))
 
 -- a question in its range is a command in its range
-pub question_in_range : (size : ℕ) (c : Command) → IsQuestionInRange c → IsCommandInRange size c
+pub question_in_range : (size : ℕ) (c : Command) → IsQuestionInRange size c → IsCommandInRange size c
 question_in_range size (Insert number m) h = absurd h
 question_in_range size (Remove number) h = absurd h
 question_in_range size (Replace number m) h = absurd h
@@ -146,7 +163,21 @@ deed_in_range size (Leg number at u v) range = (range.1, range.2)
 deed_in_range size (AtRatio n d) range = inl (n, d, range, refl, refl)
 deed_in_range size (AtRoot a b c upper) range = inr range
 deed_in_range size Next range = tt
-deed_in_range size question range = range
+deed_in_range size question range = tt
+
+-- ---- refusals
+
+-- there is one cause at most
+pub one_refused_question : (s : State) (q : Command) (r p : Refusal) → IsRefusedQuestion s q r → IsRefusedQuestion s q p → r ≡ p
+one_refused_question s q r p (inl a) (inl b) = a.0 ∙ sym b.0
+one_refused_question s q r p (inl a) (inr b) = absurd (a.1 b.1)
+one_refused_question s q r p (inr a) (inl b) = absurd (b.1 a.1)
+one_refused_question s q r p (inr a) (inr b) = a.0 ∙ sym b.0
+
+-- and there is none where it has an answer
+pub answerable_allowed : (s : State) (q : Command) → IsAnswerable s q → (r : Refusal) → ¬ (IsRefusedQuestion s q r)
+answerable_allowed s q has r (inl a) = a.1 has.0
+answerable_allowed s q has r (inr a) = a.2 has.1
 
 -- ---- lines
 
@@ -188,44 +219,62 @@ module _ (s : State) (canonical : IsCanonical s.moment.at) where
   one_reply_line Hull x y a b = a.2 ∙ ap list_line (one_hull_cycle (state_scene s) a.0 b.0 real a.1 b.1) ∙ sym b.2
   one_reply_line Closest x y a b = a.2 ∙ ap pair_line (one_closest (state_scene s) a.0 b.0 real a.1 b.1) ∙ sym b.2
   one_reply_line (Inside r) x y a b = a ∙ sym b
+  one_reply_line (Nearest n) x y a b = a.2 ∙ ap one_line (one_nearest (state_scene s) n a.0 b.0 real a.1 b.1) ∙ sym b.2
   one_reply_line Live x y a b = one_live_line x y a b
   one_reply_line question x y a b = absurd a
 
-  -- what is asked for is not kept, or it is and there is a line
+  -- a question is refused, or it isn't and there is a line
   abbrev pub HasLine : Command → Type 0
-  HasLine q = ¬ (IsProvided s q) ⊎ (IsProvided s q × ((text : List ℕ) × IsReplyLine s q text))
+  HasLine q = ((r : Refusal) × IsRefusedQuestion s q r) ⊎ (IsAnswerable s q × ((text : List ℕ) × IsReplyLine s q text))
+
+  not_kept : (q : Command) → ¬ (IsProvided s q) → HasLine q
+  not_kept q not = inl (NotKept, inl (refl, not))
 
   order_line : (k : ℕ) (o : Option Keep) → slice_get s.keeps k ≡ o → HasLine (Order k)
   order_line k (Some (keep.Order dx dy)) e =
       let order = order_of (state_scene s) dx dy in
-      inr ((dx, dy, e), (list_line order, record { dx = dx; dy = dy; kept = e; order = order; ordered = order_proved (state_scene s) dx dy real; line = refl }))
-  order_line k other e = inl (λ h. let clash = sym e ∙ h.2 in cc)
+      inr (((dx, dy, e), tt), (list_line order, record { dx = dx; dy = dy; kept = e; order = order; ordered = order_proved (state_scene s) dx dy real; line = refl }))
+  order_line k other e = not_kept (Order k) (λ h. let clash = sym e ∙ h.2 in cc)
 
   extreme_line : (k : ℕ) (o : Option Keep) → slice_get s.keeps k ≡ o → HasLine (Extreme k)
   extreme_line k (Some (keep.Extreme dx dy)) e =
       let point = extreme_of (state_scene s) dx dy in
-      inr ((dx, dy, e), (one_line point, record { dx = dx; dy = dy; kept = e; point = point; extreme = extreme_proved (state_scene s) dx dy real; line = refl }))
-  extreme_line k other e = inl (λ h. let clash = sym e ∙ h.2 in cc)
+      inr (((dx, dy, e), tt), (one_line point, record { dx = dx; dy = dy; kept = e; point = point; extreme = extreme_proved (state_scene s) dx dy real; line = refl }))
+  extreme_line k other e = not_kept (Extreme k) (λ h. let clash = sym e ∙ h.2 in cc)
 
-  -- where a structure of its kind is kept a question has a line
-  by_kind : (q : Command) (kind : Keep) → ((x : Keep) → is_alike kind x ≡ true → x ≡ kind) → is_alike kind kind ≡ true
-      → (IsProvided s q → HasKeep s kind) → (HasKeep s kind → IsProvided s q) → (text : List ℕ) → IsReplyLine s q text → HasLine q
-  by_kind q kind only own asked kept text line = at (kept_or_not kind only own s.keeps)
+  -- the number that must be live isn't, or it is
+  present_or_not : (q : Command) → ¬ (IsPresent s q) ⊎ IsPresent s q
+  present_or_not q = at (must_be_live q)
     where
-      at : ¬ (Contains s.keeps kind) ⊎ Contains s.keeps kind → HasLine q
-      at (inl none) = inl (λ h. let k = asked h in none (contains_from_get s.keeps k.0 kind k.1))
-      at (inr some) = inr (kept (get_from_contains s.keeps kind some), (text, line))
+      by_plan : (p : Option Plan) → ¬ (IsTrue (is_some p)) ⊎ IsTrue (is_some p)
+      by_plan None = inl (λ live. absurd cc)
+      by_plan (Some plan) = inr refl
+
+      at : (o : Option ℕ) → ¬ (IfSome o (λ n. IsTrue (is_some (plan_of s.plans n)))) ⊎ IfSome o (λ n. IsTrue (is_some (plan_of s.plans n)))
+      at None = inr tt
+      at (Some n) = by_plan (plan_of s.plans n)
+
+  -- where a structure of its kind is kept and its number is live a question has a line
+  by_kind : (q : Command) (kind : Keep) → ((x : Keep) → is_alike kind x ≡ true → x ≡ kind) → is_alike kind kind ≡ true
+      → (IsProvided s q → HasKeep s kind) → (HasKeep s kind → IsProvided s q) → (text : List ℕ) → (IsPresent s q → IsReplyLine s q text) → HasLine q
+  by_kind q kind only own asked kept text line = at (kept_or_not kind only own s.keeps) (present_or_not q)
+    where
+      at : ¬ (Contains s.keeps kind) ⊎ Contains s.keeps kind → ¬ (IsPresent s q) ⊎ IsPresent s q → HasLine q
+      at (inl none) o = not_kept q (λ h. let k = asked h in none (contains_from_get s.keeps k.0 kind k.1))
+      at (inr some) (inl absent) = inl (Absent, inr (refl, kept (get_from_contains s.keeps kind some), absent))
+      at (inr some) (inr present) = inr ((kept (get_from_contains s.keeps kind some), present), (text, line present))
 
   live_line : FitsSize s.size (state_scene s) → HasLine Live
   live_line fits =
       let facts = live_facts s.size s.keeps (state_scene s) in
-      inr (tt, (count_line (length facts), (length facts, (facts, live_facts_agree s.size s.keeps (state_scene s) real fits, refl), refl)))
+      inr ((tt, tt), (count_line (length facts), (length facts, (facts, live_facts_agree s.size s.keeps (state_scene s) real fits, refl), refl)))
 
   pub has_line : FitsSize s.size (state_scene s) → (q : Command) → HasLine q
   has_line fits (Order k) = order_line k (slice_get s.keeps k) refl
   has_line fits (Extreme k) = extreme_line k (slice_get s.keeps k) refl
-  has_line fits Hull = by_kind Hull keep.Hull hull_alone refl (λ h. h) (λ h. h) (list_line (cycle_of (state_scene s))) (cycle_of (state_scene s), cycle_proved (state_scene s) real, refl)
-  has_line fits Closest = by_kind Closest keep.Closest closest_alone refl (λ h. h) (λ h. h) (pair_line (closest_of (state_scene s))) (closest_of (state_scene s), closest_proved (state_scene s) real, refl)
-  has_line fits (Inside r) = by_kind (Inside r) keep.Range range_alone refl (λ h. h) (λ h. h) (list_line (points_in (motions_in_force s.plans s.moment) s.moment r)) refl
+  has_line fits Hull = by_kind Hull keep.Hull hull_alone refl (λ h. h) (λ h. h) (list_line (cycle_of (state_scene s))) (λ present. (cycle_of (state_scene s), cycle_proved (state_scene s) real, refl))
+  has_line fits Closest = by_kind Closest keep.Closest closest_alone refl (λ h. h) (λ h. h) (pair_line (closest_of (state_scene s))) (λ present. (closest_of (state_scene s), closest_proved (state_scene s) real, refl))
+  has_line fits (Inside r) = by_kind (Inside r) keep.Range range_alone refl (λ h. h) (λ h. h) (list_line (points_in (motions_in_force s.plans s.moment) s.moment r)) (λ present. refl)
+  has_line fits (Nearest n) = by_kind (Nearest n) keep.Nearest nearest_alone refl (λ h. h) (λ h. h) (one_line (nearest_of (state_scene s) n)) (λ present. (nearest_of (state_scene s) n, nearest_proved (state_scene s) n real, refl))
   has_line fits Live = live_line fits
-  has_line fits other = inl (λ h. h)
+  has_line fits other = not_kept other (λ h. h)

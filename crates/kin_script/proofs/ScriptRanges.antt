@@ -66,7 +66,7 @@ command_range size (name ∷ ws) =
     (each_way _ _ _ _ (leg_range size ws)
     (each_way _ _ _ _ (at_range size ws)
     (each_way _ _ _ _ (each_last _ Next ws tt)
-    (λ c e. question_in_range size c (question_range name ws c e))))))))
+    (λ c e. question_in_range size c (question_range size name ws c e))))))))
 
 -- ---- the header
 size_range : (ws : List Word) → Each (λ k. (1 ≤ k) × (k ≤ 12)) (size_of ws)

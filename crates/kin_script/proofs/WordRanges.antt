@@ -1,5 +1,5 @@
 -- Every number that is read from the words of a line is in its range.
-use Rattle.std.proofs.Common.{◌≡◌, ℕ, ◌+◌, ◌<◌, ◌≤◌, Bool, true, false, cond, nat_le, nat_lt, List, [], ◌∷◌, Option, Some, None, refl, pos, unsigned_abs, drop, arith}
+use Rattle.std.proofs.Common.{◌≡◌, ℕ, ◌+◌, ◌-◌, ◌<◌, ◌≤◌, ◌^◌, Bool, true, false, cond, nat_le, nat_lt, List, [], ◌∷◌, Option, Some, None, refl, pos, unsigned_abs, drop, pow_pos, arith}
 use Rattle.std.specs.Prelude.{position, ◌==◌}
 use Rattle.std.proofs.lemmas.Int.{ints}
 use Rattle.std.proofs.lemmas.Bool.Decides.{nat_tests}
@@ -8,7 +8,7 @@ use Rattle.kin_motion.specs.Course.{IsSlow, motion_limit}
 use Rattle.kin_script.specs.Questions.{IsDirection}
 use Rattle.kin_script.specs.Lines.{Word}
 use Rattle.kin_script.specs.Numbers.{up_to, at_least, starts_with_minus, numeral_of, natural_of, integer_of, ratio_limit, ratio_at_slash, ratio_of}
-use Rattle.kin_script.specs.Words.{natural_at, integer_at, motion_at, direction_at}
+use Rattle.kin_script.specs.Words.{natural_at, integer_at, number_at, motion_at, direction_at}
 use Rattle.kin_script.proofs.EachGiven.{Each, each_none, each_one, each_way, each_unless, each_last, each_map, each_then}
 
 up_to_range : (most : ℕ) (o : Option ℕ) → Each (λ n. n ≤ most) (up_to most o)
@@ -61,6 +61,14 @@ pub natural_at_range : (low high : ℕ) (ws : List Word) → Each (λ r. (low �
 unfolding natural_at
 natural_at_range low high [] = each_none _
 natural_at_range low high (w ∷ ws) = each_then _ _ _ _ (natural_range low high w) (λ n h. each_one _ (n, ws) h)
+
+-- the number of a point
+pub number_range : (size : ℕ) (ws : List Word) → Each (λ n. n.0 < 2 ^ size) (number_at size ws)
+unfolding number_at
+number_range size ws n e = below n.0 (natural_at_range 0 (2 ^ size - 1) ws n e).1
+  where
+    below : (n : ℕ) → n ≤ 2 ^ size - 1 → n < 2 ^ size
+    below n h = let some : 0 < 2 ^ size = pow_pos size in omega (arith, h, some)
 
 pub integer_at_range : (far : ℕ) (ws : List Word) → Each (λ r. unsigned_abs r.0 ≤ far) (integer_at far ws)
 unfolding integer_at

@@ -44,7 +44,7 @@ command_of size (name ∷ ws) =
     else if bytes_eq name (codes "leg") then leg_of size ws
     else if bytes_eq name (codes "at") then at_of ws
     else if bytes_eq name (codes "next") then last Next ws
-    else question_of name ws
+    else question_of size name ws
 
 -- size K
 unfoldable pub size_of : List Word → Option ℕ

@@ -42,9 +42,9 @@ abbrev pub insertions : ℕ → ℕ → List (ℕ × Command)
 insertions seed zero = []
 insertions seed (suc n) = insertions seed n ++ insertion seed n ∷ []
 
--- one of each kind of structure
-abbrev pub one_of_each : List Keep
-one_of_each = keep.Order (pos 1) (pos 0) ∷ keep.Extreme (pos 1) (pos 1) ∷ keep.Hull ∷ keep.Closest ∷ keep.Range ∷ []
+-- what is kept: one structure of each kind but nearest neighbours
+abbrev pub generated_keeps : List Keep
+generated_keeps = keep.Order (pos 1) (pos 0) ∷ keep.Extreme (pos 1) (pos 1) ∷ keep.Hull ∷ keep.Closest ∷ keep.Range ∷ []
 
 -- the lines after the points: all that is kept is asked for at the time 20
 abbrev pub questions : ℕ → List (ℕ × Command)
@@ -66,6 +66,6 @@ pub record IsLeastSize (count size : ℕ) : Type 0 where
 -- the script of this seed with so many points
 pub record IsGenerated (seed count : ℕ) (s : Script) : Type 0 where
   pub size : IsLeastSize count s.size
-  pub keeps : s.keeps ≡ one_of_each
+  pub keeps : s.keeps ≡ generated_keeps
   pub journal : s.journal ≡ false
   pub lines : s.lines ≡ insertions seed count ++ questions (8 + count)

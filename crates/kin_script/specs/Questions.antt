@@ -1,5 +1,6 @@
--- The table of what may be kept and asked: how a keep line and a question are written, in which ranges their numbers are, what is asked for, and the line that answers.
-use Rattle.std.specs.Prelude.{◌≡◌, ℕ, ◌+◌, ◌<◌, ◌≤◌, ℤ, unsigned_abs, List, [], ◌∷◌, Option, Some, None, option_map, codes, slice_get, if◌then◌else◌}
+-- The table of what may be kept and asked: how a keep line and a question are written, in which ranges their numbers are, what must be kept,
+-- which number must be live, and the line that answers.
+use Rattle.std.specs.Prelude.{◌≡◌, ◌⊎◌, ℕ, ◌+◌, ◌<◌, ◌≤◌, ◌^◌, ℤ, unsigned_abs, List, [], ◌∷◌, Option, Some, None, option_map, is_some, IfSome, IsTrue, codes, slice_get, if◌then◌else◌}
 use Rattle.std.specs.Str.{bytes_eq}
 use Rattle.kin_motion.specs.declared.keep.Keep.{Keep}
 use Rattle.kin_motion.specs.declared.keep.Keep.TheVariants as keep
@@ -9,21 +10,25 @@ use Rattle.kin_motion.specs.Chains.{IsHullCycle}
 use Rattle.kin_motion.specs.ClosestPairs.{IsClosest}
 use Rattle.kin_motion.specs.Extremes.{IsExtremePoint}
 use Rattle.kin_motion.specs.Live.{IsLiveCount}
+use Rattle.kin_motion.specs.Nearest.{IsNearest}
 use Rattle.kin_motion.specs.Orders.{IsOrder}
 use Rattle.kin_motion.specs.Plans.{motions_in_force}
 use Rattle.kin_motion.specs.Scene.{Scene}
+use Rattle.kin_legs.specs.Paths.{plan_of}
 use Rattle.kin_script.specs.declared.command.Command.{Command}
-use Rattle.kin_script.specs.declared.command.Command.TheVariants.{Order, Extreme, Hull, Closest, Inside, Live}
+use Rattle.kin_script.specs.declared.command.Command.TheVariants.{Order, Extreme, Hull, Closest, Inside, Nearest, Live}
+use Rattle.kin_script.specs.declared.refusal.Refusal.{Refusal}
+use Rattle.kin_script.specs.declared.refusal.Refusal.TheVariants.{NotKept, Absent}
 use Rattle.kin_script.specs.Lines.{Word}
 use Rattle.kin_script.specs.Numbers.{◌>>=◌}
 use Rattle.kin_script.specs.Printed.{list_line}
 use Rattle.kin_script.specs.PrintedJournal.{count_line, one_line, pair_line}
 use Rattle.kin_script.specs.States.{State, state_scene}
-use Rattle.kin_script.specs.Words.{natural_at, integer_at, direction_at, last}
+use Rattle.kin_script.specs.Words.{natural_at, integer_at, number_at, direction_at, last}
 
 -- ---- what is kept
 
--- order DX DY, extreme DX DY, hull, closest, range
+-- order DX DY, extreme DX DY, hull, closest, range, nearest
 unfoldable pub keep_of : List Word → Option Keep
 keep_of [] = None
 keep_of (kind ∷ ws) =
@@ -32,6 +37,7 @@ keep_of (kind ∷ ws) =
     else if bytes_eq kind (codes "hull") then last keep.Hull ws
     else if bytes_eq kind (codes "closest") then last keep.Closest ws
     else if bytes_eq kind (codes "range") then last keep.Range ws
+    else if bytes_eq kind (codes "nearest") then last keep.Nearest ws
     else None
 
 -- both parts are in -16..16, and one is not 0
@@ -47,6 +53,7 @@ IsKeepInRange (keep.Extreme dx dy) = IsDirection dx dy
 IsKeepInRange keep.Hull = Unit {0}
 IsKeepInRange keep.Closest = Unit {0}
 IsKeepInRange keep.Range = Unit {0}
+IsKeepInRange keep.Nearest = Unit {0}
 
 -- ---- what is asked
 
@@ -71,26 +78,34 @@ box_question_of ws = do
   y2 ← integer_at 16777216 y1.1
   last (Inside (record { x1 = x1.0; x2 = x2.0; y1 = y1.0; y2 = y2.0 })) y2.1
 
--- the question of this name, with the words after it
-unfoldable pub question_of : Word → List Word → Option Command
-question_of name ws =
+-- nearest N
+unfoldable pub nearest_question_of : ℕ → List Word → Option Command
+nearest_question_of size ws = do
+  number ← number_at size ws
+  last (Nearest number.0) number.1
+
+-- the question of this name, with the words after it; the size bounds the numbers of points
+unfoldable pub question_of : ℕ → Word → List Word → Option Command
+question_of size name ws =
     if bytes_eq name (codes "order") then order_question_of ws
     else if bytes_eq name (codes "extreme") then extreme_question_of ws
     else if bytes_eq name (codes "hull") then last Hull ws
     else if bytes_eq name (codes "closest") then last Closest ws
     else if bytes_eq name (codes "box") then box_question_of ws
+    else if bytes_eq name (codes "nearest") then nearest_question_of size ws
     else if bytes_eq name (codes "live") then last Live ws
     else None
 
--- the numbers of a question; no other command is one
-abbrev pub IsQuestionInRange : Command → Type 0
-IsQuestionInRange (Order k) = k ≤ 31
-IsQuestionInRange (Extreme k) = k ≤ 31
-IsQuestionInRange Hull = Unit {0}
-IsQuestionInRange Closest = Unit {0}
-IsQuestionInRange (Inside r) = IsRectInRange r
-IsQuestionInRange Live = Unit {0}
-IsQuestionInRange _ = ⊥
+-- the numbers of a question, where the points have numbers below 2^size; no other command is one
+abbrev pub IsQuestionInRange : ℕ → Command → Type 0
+IsQuestionInRange size (Order k) = k ≤ 31
+IsQuestionInRange size (Extreme k) = k ≤ 31
+IsQuestionInRange size Hull = Unit {0}
+IsQuestionInRange size Closest = Unit {0}
+IsQuestionInRange size (Inside r) = IsRectInRange r
+IsQuestionInRange size (Nearest n) = n < 2 ^ size
+IsQuestionInRange size Live = Unit {0}
+IsQuestionInRange size _ = ⊥
 
 -- a structure of this kind is kept
 abbrev pub HasKeep : State → Keep → Type 0
@@ -103,8 +118,26 @@ IsProvided s (Extreme k) = (dx : ℤ) × (dy : ℤ) × (slice_get s.keeps k ≡ 
 IsProvided s Hull = HasKeep s keep.Hull
 IsProvided s Closest = HasKeep s keep.Closest
 IsProvided s (Inside r) = HasKeep s keep.Range
+IsProvided s (Nearest n) = HasKeep s keep.Nearest
 IsProvided s Live = Unit {0}
 IsProvided s _ = ⊥
+
+-- the number that must be live, if the question is about one point
+abbrev pub must_be_live : Command → Option ℕ
+must_be_live (Nearest n) = Some n
+must_be_live _ = None
+
+-- and it is live
+abbrev pub IsPresent : State → Command → Type 0
+IsPresent s q = IfSome (must_be_live q) (λ n. IsTrue (is_some (plan_of s.plans n)))
+
+-- a question has an answer: what it asks for is kept, and the number that must be live is
+abbrev pub IsAnswerable : State → Command → Type 0
+IsAnswerable s q = IsProvided s q × IsPresent s q
+
+-- why a question has none: what it asks for is not kept; or it is kept, and the number that must be live isn't
+abbrev pub IsRefusedQuestion : State → Command → Refusal → Type 0
+IsRefusedQuestion s q r = ((r ≡ NotKept) × ¬ (IsProvided s q)) ⊎ ((r ≡ Absent) × IsProvided s q × ¬ (IsPresent s q))
 
 -- the line of an order: the live numbers in their order along the kept direction
 pub record IsOrderLine (keeps : List Keep) (s : Scene) (k : ℕ) (text : List ℕ) : Type 0 where
@@ -136,6 +169,10 @@ IsClosestLine s text = (pair : Option (ℕ × ℕ)) × IsClosest (state_scene s)
 abbrev pub IsInsideLine : State → Rect → List ℕ → Type 0
 IsInsideLine s r text = text ≡ list_line (points_in (motions_in_force s.plans s.moment) s.moment r)
 
+-- the line of the nearest other point
+abbrev pub IsNearestLine : State → ℕ → List ℕ → Type 0
+IsNearestLine s n text = (point : Option ℕ) × IsNearest (state_scene s) n point × (text ≡ one_line point)
+
 -- the line with the number of live facts
 abbrev pub IsLiveLine : State → List ℕ → Type 0
 IsLiveLine s text = (n : ℕ) × IsLiveCount s.size s.keeps (state_scene s) n × (text ≡ count_line n)
@@ -147,5 +184,6 @@ IsReplyLine s (Extreme k) text = IsExtremeLine s.keeps (state_scene s) k text
 IsReplyLine s Hull text = IsHullLine s text
 IsReplyLine s Closest text = IsClosestLine s text
 IsReplyLine s (Inside r) text = IsInsideLine s r text
+IsReplyLine s (Nearest n) text = IsNearestLine s n text
 IsReplyLine s Live text = IsLiveLine s text
 IsReplyLine s _ text = ⊥

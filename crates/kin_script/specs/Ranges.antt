@@ -35,18 +35,18 @@ IsCommandInRange size (Leg number at u v) = (number < 2 ^ size) × (at < 2 ^ 31)
 IsCommandInRange size (AtRatio n d) = IsRatioInRange n d
 IsCommandInRange size (AtRoot a b c upper) = IsRootInRange a b c
 IsCommandInRange size Next = Unit {0}
-IsCommandInRange size question = IsQuestionInRange question
+IsCommandInRange size question = IsQuestionInRange size question
 
 -- the instant is asked for as a fraction, or as a root of a quadratic
 abbrev pub IsAskedFor : Bool → Quadratic → Type 0
 IsAskedFor upper p = ((n : ℤ) × (d : ℤ) × IsRatioInRange n d × (p ≡ line n d) × (upper ≡ true)) ⊎ IsRootInRange p.a p.b p.c
 
--- the numbers of what a command does
+-- the numbers of what a command does; a question does nothing
 abbrev pub IsDeedInRange : Deed → Type 0
 IsDeedInRange (changes number change) = IsChangeInRange change
 IsDeedInRange (goes_to upper p) = IsAskedFor upper p
 IsDeedInRange goes_on = Unit {0}
-IsDeedInRange (asks question) = IsQuestionInRange question
+IsDeedInRange (asks question) = Unit {0}
 
 -- every number of the script is in its range
 pub record IsWithin (s : Script) : Type 0 where

@@ -12,9 +12,9 @@ use Rattle.kin_legs.specs.Nexts.{Next, IsNext, comes_at}
 use Rattle.kin_legs.specs.Paths.{plan_of}
 use Rattle.kin_script.specs.Changes.{PointChange, IsRefusedChange, ChangesTo}
 use Rattle.kin_script.specs.Deeds.{Deed, changes, goes_to, goes_on, asks}
-use Rattle.kin_script.specs.Questions.{IsProvided}
+use Rattle.kin_script.specs.Questions.{IsRefusedQuestion}
 use Rattle.kin_script.specs.declared.refusal.Refusal.{Refusal}
-use Rattle.kin_script.specs.declared.refusal.Refusal.TheVariants.{NotKept, NoRoot, Past}
+use Rattle.kin_script.specs.declared.refusal.Refusal.TheVariants.{NoRoot, Past}
 use Rattle.kin_script.specs.States.{State, state_view}
 
 -- the polynomial is 0 at the instant
@@ -35,12 +35,12 @@ HasNoRoot p = discriminant p.a p.b p.c <ℤ pos 0
 abbrev pub IsPast : State → Bool → Quadratic → Type 0
 IsPast s upper p = (w : Shape) × IsNamedRoot upper p w × IsEarlier (just_at w) s.moment
 
--- why a deed is refused: a number can't be changed so, there is no such root, its moment is past, or what is asked for is not kept
+-- why a deed is refused: a number can't be changed so, there is no such root, its moment is past, or what is asked has no answer
 abbrev pub IsRefused : State → Deed → Refusal → Type 0
 IsRefused s (changes number change) r = IsRefusedChange s.moment (plan_of s.plans number) change r
 IsRefused s (goes_to upper p) r = ((r ≡ NoRoot) × HasNoRoot p) ⊎ ((r ≡ Past) × IsPast s upper p)
 IsRefused s goes_on r = ⊥
-IsRefused s (asks q) r = (r ≡ NotKept) × ¬ (IsProvided s q)
+IsRefused s (asks q) r = IsRefusedQuestion s q r
 
 -- it isn't refused
 abbrev pub IsAllowed : State → Deed → Type 0

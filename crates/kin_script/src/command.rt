@@ -32,6 +32,8 @@ pub enum Command {
     Closest,
     /// The points in a rectangle.
     Inside { rect: Rect },
+    /// The nearest other point of the point of this number.
+    Nearest { no: u32 },
     /// How many facts are live.
     Live,
 }

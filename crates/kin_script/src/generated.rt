@@ -2,7 +2,7 @@
 
 ghost use Rattle.std.specs.Prelude.{◌≡◌, ◌++◌, ◌≤◌, ◌^◌, unsigned_abs, IfOk, OnOk};
 ghost use Rattle.kin_script.specs.Ranges.{IsInRange};
-ghost use Rattle.kin_script.specs.Generated.{IsGenerated, IsLeastSize, insertions, questions, one_of_each, next_state, state_after, drawn, picked, course_behind};
+ghost use Rattle.kin_script.specs.Generated.{IsGenerated, IsLeastSize, insertions, questions, generated_keeps, next_state, state_after, drawn, picked, course_behind};
 
 use crate::command::Command;
 use crate::script::{Commands, Keeps, Script};
@@ -68,9 +68,9 @@ fn least_size(count: u32) -> u32
     size
 }
 
-/// One of each kind of structure.
-fn one_of_each(alloc: Global) -> Result<Keeps, AllocError>
-    ensures { IfOk result (λ k. k ≡ one_of_each) }
+/// One structure of each kind but nearest neighbours.
+fn generated_keeps(alloc: Global) -> Result<Keeps, AllocError>
+    ensures { IfOk result (λ k. k ≡ generated_keeps) }
 {
     let keeps = [
         Keep::Order { dx: 1, dy: 0 },
@@ -125,15 +125,15 @@ fn put_together(alloc: Global, seed: u32, count: u32) -> Result<Script, AllocErr
     ask(&mut lines, HEADER_LINES + 1 + count)?;
     Ok(Script {
         size: least_size(count),
-        keeps: one_of_each(alloc)?,
+        keeps: generated_keeps(alloc)?,
         journal: false,
         lines,
     })
 }
 
 /// The script of a seed, with `count` points, 1 to 1024: their places are drawn from -1000..1000 and their
-/// speeds from -10..10, along each axis. One structure of each kind is kept, and all are asked at the
-/// time 20.
+/// speeds from -10..10, along each axis. One structure of each kind but nearest neighbours
+/// is kept, and all are asked at the time 20.
 #[tactic(auto, using(crate::proofs::GeneratedRanges::result_in_range))]
 pub fn generate(alloc: Global, seed: u32, count: u32) -> Result<Script, AllocError>
     requires low { 1 ≤ count }

@@ -3,7 +3,7 @@
 ghost use Rattle.std.specs.Prelude.{◌≡◌, ◌≤◌, IfSome, option_map};
 ghost use Rattle.kin_script.specs.Changes.{insert_of, remove_of, replace_of, turn_of, leg_of};
 ghost use Rattle.kin_script.specs.Commands.{quadratic_at, root_of, at_of, command_of, size_of, journal_of, header_line_of};
-ghost use Rattle.kin_script.specs.Questions.{keep_of, order_question_of, extreme_question_of, box_question_of, question_of};
+ghost use Rattle.kin_script.specs.Questions.{keep_of, order_question_of, extreme_question_of, box_question_of, nearest_question_of, question_of};
 ghost use Rattle.kin_script.specs.Words.{direction_at};
 
 use crate::command::Command;
@@ -148,10 +148,23 @@ fn inside(words: &mut Words<'_>) -> Option<Command>
     words.last(Command::Inside { rect })
 }
 
+/// What follows the word `nearest`: the number of a point.
+#[tactic(auto, unfolding(crate::specs::Questions::nearest_question_of))]
+fn nearest(size: u32, words: &mut Words<'_>) -> Option<Command>
+    requires low { 1 ≤ size }
+    requires high { size ≤ 12 }
+    ensures { result ≡ nearest_question_of size words.old }
+{
+    let no = words.number(size)?;
+    words.last(Command::Nearest { no })
+}
+
 /// The question of this name.
 #[tactic(auto, unfolding(crate::specs::Questions::question_of))]
-fn question(name: &[u8], words: &mut Words<'_>) -> Option<Command>
-    ensures { result ≡ question_of name.now words.old }
+fn question(size: u32, name: &[u8], words: &mut Words<'_>) -> Option<Command>
+    requires low { 1 ≤ size }
+    requires high { size ≤ 12 }
+    ensures { result ≡ question_of size name.now words.old }
 {
     if name == b"order".as_slice() {
         order(words)
@@ -163,6 +176,8 @@ fn question(name: &[u8], words: &mut Words<'_>) -> Option<Command>
         words.last(Command::Closest)
     } else if name == b"box".as_slice() {
         inside(words)
+    } else if name == b"nearest".as_slice() {
+        nearest(size, words)
     } else if name == b"live".as_slice() {
         words.last(Command::Live)
     } else {
@@ -193,7 +208,7 @@ pub fn command_of(size: u32, mut words: Words<'_>) -> Option<Command>
     } else if name == b"next".as_slice() {
         words.last(Command::Next)
     } else {
-        question(name, &mut words)
+        question(size, name, &mut words)
     }
 }
 
@@ -241,6 +256,8 @@ fn keep(words: &mut Words<'_>) -> Option<Keep>
         words.last(Keep::Closest)
     } else if kind == b"range".as_slice() {
         words.last(Keep::Range)
+    } else if kind == b"nearest".as_slice() {
+        words.last(Keep::Nearest)
     } else {
         None
     }

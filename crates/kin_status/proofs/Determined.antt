@@ -1,7 +1,7 @@
 -- What comes of a deed: it is refused for one cause; or it is allowed, prints one text, and leads to one state, of the same size and at a canonical instant.
 use Rattle.std.proofs.Common.{◌≡◌, inl, inr, Bool, List, ℕ, Option, ◌∙◌, sym, ap, subst, slice_set, refl}
 use Rattle.std.specs.Prelude.{unwrap_or}
-use Rattle.kin_status.proofs.Vocabulary.{IsCanonical, IsEarlier, Quadratic, Shape, Plan, plan_of, Next, IsNext, block, leg, nothing, comes_at, Deed, asks, changes, goes_on, goes_to, IsAllowed, IsNamedRoot, IsRefused, LeadsTo, State, state_view, just_at, IsPassedText, Prints, Step, Refusal, one_reply_line}
+use Rattle.kin_status.proofs.Vocabulary.{IsCanonical, IsEarlier, Quadratic, Shape, Plan, plan_of, Next, IsNext, block, leg, nothing, comes_at, Deed, asks, changes, goes_on, goes_to, IsAllowed, IsNamedRoot, IsRefused, LeadsTo, State, state_view, just_at, IsPassedText, Prints, Step, Refusal, one_refused_question, one_reply_line}
 use Rattle.kin_status.proofs.NamedRoots.{one_named_root, named_root_of, has_root}
 use Rattle.kin_script.proofs.Changes.{one_refused_change, one_change}
 use Rattle.kin_status.proofs.Passing.{one_passed, one_next, one_told}
@@ -32,7 +32,7 @@ one_cause s (goes_to upper p) r q (inl x) (inr y) = absurd (has_root p.a p.b p.c
 one_cause s (goes_to upper p) r q (inr x) (inl y) = absurd (has_root p.a p.b p.c x.1.0 (named_root_of upper p x.1.0 x.1.1) y.1)
 one_cause s (goes_to upper p) r q (inr x) (inr y) = x.0 ∙ sym y.0
 one_cause s goes_on r q x y = absurd x
-one_cause s (asks k) r q x y = x.0 ∙ sym y.0
+one_cause s (asks k) r q x y = one_refused_question s k r q x y
 
 -- what is so at the named root is so of one thing, where it is so of one at each instant
 pub one_at_root : {A : Type 0} (upper : Bool) (p : Quadratic) (IsAt : Shape → A → Type 0) (x y : A) → ((w : Shape) → IsCanonical w → IsAt w x → IsAt w y → x ≡ y)

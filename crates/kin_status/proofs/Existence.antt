@@ -25,7 +25,7 @@ use Rattle.kin_script.proofs.ScriptRanges.{script_within}
 use Rattle.kin_status.specs.declared.status.Status.TheVariants as status
 use Rattle.kin_status.proofs.Vocabulary.{cases_lt, length-replicate, same_Some, start_canonical, IsCanonical, IsEarlier, Quadratic, Moment, Shape, After, At, Course, IsSlow, motion_limit, Plan, ArePlannable, lasting, motion_in_force, motions_in_force, plan_of, comes_at, Block}
 use Rattle.kin_status.proofs.Vocabulary.{PointChange, ChangesTo, IsChangeInRange, IsRefusedChange, enters, leaves, restarts, turns, schedules, Deed, asks, changes, goes_on, goes_to, IsDeedInRange, IsNamedRoot, IsRefused, State, just_at, state_view, next_lines, Step, Refusal}
-use Rattle.kin_status.proofs.Vocabulary.{Absent, NoRoot, NotKept, NotWhole, OutOfBounds, Past, Planned, Taken, has_line, Passes, block_of_next, deed_of, IsGenerated, IsLeastSize, insertions, one_of_each, questions, script_of, IsCommandInRange, IsWithin, start, Ending, Text, bad_line, refused_line, Script}
+use Rattle.kin_status.proofs.Vocabulary.{Absent, NoRoot, NotWhole, OutOfBounds, Past, Planned, Taken, answerable_allowed, has_line, Passes, block_of_next, deed_of, IsGenerated, IsLeastSize, insertions, generated_keeps, questions, script_of, IsCommandInRange, IsWithin, start, Ending, Text, bad_line, refused_line, Script}
 use Rattle.kin_status.proofs.Vocabulary.{deed_in_range, small_keep, DemoTextsExist, demo_line, start_of, IsAnswer, IsTextOf, TextsExist, PassesInTurn, Status}
 use Rattle.kin_status.proofs.Determined.{goes_allowed, next_canonical, stays}
 use Rattle.kin_status.proofs.Generated.{never_refused}
@@ -177,8 +177,8 @@ module _ (s : State) (sound : IsSound s) where
       let n = nexts_exist (state_view s) sound.plannable sound.canonical in
       at_moment goes_on (unwrap_or (comes_at n.0) s.moment) (next_canonical s n.0 sound.canonical n.1) (next_lines s.journal n.0) (block_of_next n.0) (record { allowed = λ r h. h; prints = (n.0, n.1, refl); leads = (n.0, n.1, refl) }) (n.0, n.1, refl)
   deed_ends (asks q) range = elim (has_line s sound.canonical (live_fits s.size (motions_in_force s.plans s.moment) s.moment (slots_in_force s.plans s.size s.keeps sound.plannable s.moment)) q) [
-    | inl not ↦ inl (NotKept, (refl, not))
-    | inr (kept, line) ↦ at_moment (asks q) s.moment sound.canonical line.0 [] (record { allowed = λ r h. h.1 kept; prints = line.1; leads = refl }) refl
+    | inl refused ↦ inl refused
+    | inr (has, line) ↦ at_moment (asks q) s.moment sound.canonical line.0 [] (record { allowed = answerable_allowed s q has; prints = line.1; leads = refl }) refl
   ]
 
 -- ---- a text with its ending, and the blocks that the commands pass if none is refused
@@ -247,7 +247,7 @@ least_size count (suc n) room = elim (cases_lt (2 ^ suc n) count) [
 pub demo_texts_exist : DemoTextsExist
 demo_texts_exist seed count some few =
     let size = least_size count 9 few in
-    let s : Script = record { size = size.0; keeps = one_of_each; journal = false; lines = insertions seed count ++ questions (8 + count) } in
+    let s : Script = record { size = size.0; keeps = generated_keeps; journal = false; lines = insertions seed count ++ questions (8 + count) } in
     let generated : IsGenerated seed count s = record { size = size.1; keeps = refl; journal = refl; lines = refl } in
     let within : IsWithin s = (generated_in_range seed count s few generated).within in
     let has = text_exists s.lines (start_of s) (start_sound s within) within.commands in

@@ -1,13 +1,14 @@
 -- Legs that are over don't matter: states that differ in nothing else are refused alike, print alike, pass the same blocks and go on alike.
 use Rattle.std.proofs.Common.{◌≡◌, inl, inr, refl, sym, ap, ap₂, ◌∙◌, subst, ℕ, ◌<◌, ◌^◌, Bool, true, false, List, [], ◌∷◌, All, is_some, slice_set}
 use Rattle.std.proofs.lemmas.List.{map-set}
-use Rattle.std.specs.Prelude.{ℤ, Option, Some, None, option_map, slice_get, unwrap_or}
+use Rattle.std.specs.Prelude.{ℤ, Option, Some, None, IfSome, IsTrue, option_map, slice_get, unwrap_or}
 use Rattle.std.proofs.lemmas.List.Elements.{All-head, All-tail}
 use Rattle.kin_motion.specs.declared.keep.Keep.{Keep}
 use Rattle.kin_motion.specs.Boxes.{points_in}
 use Rattle.kin_motion.specs.Chains.{IsHullCycle}
 use Rattle.kin_motion.specs.ClosestPairs.{IsClosest}
 use Rattle.kin_motion.specs.Live.{IsLiveCount}
+use Rattle.kin_motion.specs.Nearest.{IsNearest}
 use Rattle.kin_motion.specs.Plans.{is_begun}
 use Rattle.kin_motion.specs.Scene.{Scene}
 use Rattle.kin_legs.specs.Joined.{with_leg}
@@ -18,12 +19,12 @@ use Rattle.kin_legs.proofs.LeftLaws.{past_legs_dont_matter}
 use Rattle.kin_legs.proofs.SchedulingLaws.{follows_too_fast_left, leg_from_left, left_extended, may_follow_left}
 use Rattle.kin_legs.proofs.ShownLaws.{alike_journals}
 use Rattle.kin_num.proofs.MomentLaws.{never}
-use Rattle.kin_script.specs.declared.command.Command.TheVariants.{Order, Extreme, Hull, Closest, Inside, Live}
+use Rattle.kin_script.specs.declared.command.Command.TheVariants.{Order, Extreme, Hull, Closest, Inside, Nearest, Live}
 use Rattle.kin_script.specs.Changes.{IsRefusedLeg, IsRefusedTurn}
 use Rattle.kin_script.specs.Printed.{list_line}
 use Rattle.kin_script.specs.Questions.{IsOrderLine, IsExtremeLine, IsReplyLine}
 use Rattle.kin_status.proofs.Vocabulary.{same_Some, IsCanonical, IsEarlier, Quadratic, Moment, Shape, Course, Plan, ArePaths, IsPath, lasting, left_of, motion_in_force, plan_of, plans_left, Block, IsJournal, Next, IsNext, block, leg, nothing, comes_at, PointChange, ChangesTo, IsChangeInRange, IsRefusedChange, enters, leaves, restarts, turns, schedules}
-use Rattle.kin_status.proofs.Vocabulary.{Deed, asks, changes, deed_of, goes_on, goes_to, IsDeedInRange, IsCommandInRange, IsProvided, IsAllowed, IsNamedRoot, IsRefused, LeadsTo, State, IsAlike, IsOnPaths, just_at, state_scene, state_setting, state_view, IsPassedText, Prints, Step, Text, Ending, Command, Refusal, Past, deed_in_range, Passes, PassesInTurn}
+use Rattle.kin_status.proofs.Vocabulary.{Deed, asks, changes, deed_of, goes_on, goes_to, IsDeedInRange, IsCommandInRange, IsPresent, IsProvided, must_be_live, IsAllowed, IsNamedRoot, IsRefused, LeadsTo, State, IsAlike, IsOnPaths, just_at, state_scene, state_setting, state_view, IsPassedText, Prints, Step, Text, Ending, Command, Refusal, Past, deed_in_range, Passes, PassesInTurn}
 use Rattle.kin_status.proofs.Determined.{next_canonical, stays}
 use Rattle.kin_status.proofs.NamedRoots.{named_root_of}
 use Rattle.kin_status.proofs.OnPaths.{IsPathIfSome, stays_on_paths}
@@ -110,6 +111,7 @@ provided_by_keeps s t (Extreme k) e h = (h.0, h.1, ap (λ (ks : List Keep). slic
 provided_by_keeps s t Hull e h = (h.0, ap (λ (ks : List Keep). slice_get ks h.0) (sym e) ∙ h.1)
 provided_by_keeps s t Closest e h = (h.0, ap (λ (ks : List Keep). slice_get ks h.0) (sym e) ∙ h.1)
 provided_by_keeps s t (Inside r) e h = (h.0, ap (λ (ks : List Keep). slice_get ks h.0) (sym e) ∙ h.1)
+provided_by_keeps s t (Nearest n) e h = (h.0, ap (λ (ks : List Keep). slice_get ks h.0) (sym e) ∙ h.1)
 provided_by_keeps s t Live e h = tt
 provided_by_keeps s t question e h = absurd h
 
@@ -123,12 +125,23 @@ not_before_now s nothing canonical is = never s.moment canonical
 abbrev with_plans : State → List (Option Plan) → State
 with_plans s qs = record s { plans = qs }
 
+-- the number that must be live is live in both
+present_with : (s : State) (qs : List (Option Plan)) → IsOnPaths s → ArePaths qs → plans_left s.moment s.plans ≡ plans_left s.moment qs → (q : Command) → IsPresent s q → IsPresent (with_plans s qs) q
+present_with s qs on others same q present = at (must_be_live q) present
+  where
+    at : (o : Option ℕ) → IfSome o (λ n. IsTrue (is_some (plan_of s.plans n))) → IfSome o (λ n. IsTrue (is_some (plan_of qs n)))
+    at None live = tt
+    at (Some n) live = sym (same_liveness s.moment (plan_of s.plans n) (plan_of qs n) (plan_alike s.moment on.canonical s.plans qs on.paths others same n)) ∙ live
+
 refused_with : (s : State) (qs : List (Option Plan)) → IsOnPaths s → ArePaths qs → plans_left s.moment s.plans ≡ plans_left s.moment qs → (d : Deed) (r : Refusal) → IsRefused s d r → IsRefused (with_plans s qs) d r
 refused_with s qs on others same (changes n c) r h =
     refused_change_alike s.moment on.canonical (plan_of s.plans n) (plan_of qs n) (on.paths.each n) (others.each n) (plan_alike s.moment on.canonical s.plans qs on.paths others same n) c r h
 refused_with s qs on others same (goes_to upper p) r h = h
 refused_with s qs on others same goes_on r h = h
-refused_with s qs on others same (asks q) r h = (h.0, λ provided. h.1 (provided_by_keeps (with_plans s qs) s q refl provided))
+refused_with s qs on others same (asks q) r (inl h) = inl (h.0, λ provided. h.1 (provided_by_keeps (with_plans s qs) s q refl provided))
+refused_with s qs on others same (asks q) r (inr h) =
+    let back : IsPresent (with_plans s qs) q → IsPresent s q = present_with (with_plans s qs) s.plans (record { paths = others; canonical = on.canonical }) on.paths (sym same) q in
+    inr (h.0, provided_by_keeps s (with_plans s qs) q refl h.1, λ present. h.2 (back present))
 
 module _ (s : State) (qs : List (Option Plan)) (on : IsOnPaths s) (others : ArePaths qs) (same : plans_left s.moment s.plans ≡ plans_left s.moment qs) where
   abbrev other_state : State
@@ -162,6 +175,7 @@ module _ (s : State) (qs : List (Option Plan)) (on : IsOnPaths s) (others : AreP
       by_question Hull h = (h.0, subst (λ (v : Scene). IsHullCycle v h.0) seen h.1, h.2)
       by_question Closest h = (h.0, subst (λ (v : Scene). IsClosest v h.0) seen h.1, h.2)
       by_question (Inside r) h = subst (λ (ms : List (Option Course)). text ≡ list_line (points_in ms s.moment r)) (force_alike s.moment on.canonical s.plans qs on.paths others same s.moment on.canonical now) h
+      by_question (Nearest n) h = (h.0, subst (λ (v : Scene). IsNearest v n h.0) seen h.1, h.2)
       by_question Live h = (h.0, subst (λ (v : Scene). IsLiveCount s.size s.keeps v h.0) seen h.1, h.2)
       by_question question h = absurd h
 

@@ -3,7 +3,7 @@ use Rattle.std.proofs.Common.{rules, ◌≡◌, inl, inr, ℕ, zero, suc, ◌+�
 use lib.IntN.{neg_ℤ}
 use Rattle.std.proofs.lemmas.Nat.Gcd.{IsGcd-from_zero, IsGcd-from_mod}
 use Rattle.kin_status.proofs.Vocabulary.{Appends, Appends-trans, ints, same_Some, line, sign_at_instant, IsEarlier, After, At, Shape, above_fraction, less_asym, start_canonical, plan_of, AppendsFront, asks}
-use Rattle.kin_status.proofs.Vocabulary.{deed_of, IsGenerated, insertion, insertions, one_of_each, questions, IsProvided, IsNamedRoot, State, just_at, Ending, Text, Command, Script, IsDemoText}
+use Rattle.kin_status.proofs.Vocabulary.{Deed, deed_of, IsGenerated, insertion, insertions, generated_keeps, questions, answerable_allowed, IsAnswerable, IsRefused, LeadsTo, IsNamedRoot, State, just_at, Ending, Text, Command, Script, IsDemoText}
 use Rattle.kin_status.proofs.Vocabulary.{OneDemoText, WritesDemo, start_of, status_of_stop, PassesInTurn, IsCutOfText, IsFrontOfEach, HasTallied, tally_line, IsFront, Wrote, Tally, Stop, Fault, NoMemory}
 use Rattle.kin_num.specs.declared.instant.Shape.TheVariants.{Ratio}
 use Rattle.kin_num.proofs.FractionOrder.{fraction_itself, line_at_fraction}
@@ -16,10 +16,10 @@ use Rattle.kin_status.proofs.Playing.{Line, one_in_turn}
 use Rattle.kin_status.proofs.Tallying.{tallied_from_nothing}
 
 -- ---- the points enter
--- no number from the first on is live, one of each kind is kept, and it is the instant 0
+-- no number from the first on is live, what a generated script keeps is kept, and it is the instant 0
 record IsAwaiting (first : ℕ) (s : State) : Type 0 where
   free : (number : ℕ) → first ≤ number → is_some (plan_of s.plans number) ≡ false
-  keeps : s.keeps ≡ one_of_each
+  keeps : s.keeps ≡ generated_keeps
   moment : s.moment ≡ just_at (Ratio (pos 0) (pos 1))
 
 -- what the commands of a suffix end in, from such a state
@@ -42,23 +42,27 @@ twenty_later w named (inl less) =
     let positive = ap (sign_at_instant (line (pos 0) (pos 1))) is ∙ line_at_fraction (pos 20) (pos 1) (pos 0) (pos 1) refl in
     less_asym w (Ratio (pos 0) (pos 1)) named.0.canonical.form start_canonical.form less (above_fraction (pos 0) (pos 1) start_canonical.form w named.0.canonical.form positive)
 
--- ---- the questions: what commands end in, where one of each kind is kept
+-- ---- the questions: what commands end in, where that is kept
 record EndWithKeeps (cs : List Line) : Type 0 where
-  ends : (s : State) (text : List ℕ) (ending : Ending) → s.keeps ≡ one_of_each → Text s cs text ending → ending ≡ None
+  ends : (s : State) (text : List ℕ) (ending : Ending) → s.keeps ≡ generated_keeps → Text s cs text ending → ending ≡ None
 
-asked_ends_well : (number : ℕ) (q : Command) (cs : List Line) → deed_of q ≡ asks q → ((s : State) → s.keeps ≡ one_of_each → IsProvided s q) → EndWithKeeps cs → EndWithKeeps ((number, q) ∷ cs)
-asked_ends_well number q cs is provided more = search (rules, arith, more.ends)
+asked_ends_well : (number : ℕ) (q : Command) (cs : List Line) → deed_of q ≡ asks q → ((s : State) → s.keeps ≡ generated_keeps → IsAnswerable s q) → EndWithKeeps cs → EndWithKeeps ((number, q) ∷ cs)
+asked_ends_well number q cs is has more = record { ends = ends }
+  where
+    ends : (s : State) (text : List ℕ) (ending : Ending) → s.keeps ≡ generated_keeps → Text s ((number, q) ∷ cs) text ending → ending ≡ None
+    ends s text ending keeps (inl e) = absurd (answerable_allowed s q (has s keeps) e.0 (subst (λ (d : Deed). IsRefused s d e.0) is e.1))
+    ends s text ending keeps (inr g) = more.ends g.2 g.1 ending (ap (λ (t : State). t.keeps) (subst (λ (d : Deed). LeadsTo s d g.2) is g.3.leads) ∙ keeps) g.4
 
 abbrev around : Rect
 around = record { x1 = neg_ℤ (pos 100); x2 = pos 100; y1 = neg_ℤ (pos 100); y2 = pos 100 }
 
 replies_end_well : (number : ℕ) → EndWithKeeps ((number + 1, Extreme 1) ∷ (number + 2, Hull) ∷ (number + 3, Closest) ∷ (number + 4, Inside around) ∷ (number + 5, Live) ∷ [])
 replies_end_well number =
-    asked_ends_well (number + 1) (Extreme 1) _ refl (λ s keeps. (pos 1, pos 1, rw keeps refl))
-    (asked_ends_well (number + 2) Hull _ refl (λ s keeps. (2, rw keeps refl))
-    (asked_ends_well (number + 3) Closest _ refl (λ s keeps. (3, rw keeps refl))
-    (asked_ends_well (number + 4) (Inside around) _ refl (λ s keeps. (4, rw keeps refl))
-    (asked_ends_well (number + 5) Live [] refl (λ s keeps. tt) (record { ends = λ s text ending keeps t. t.1 })))))
+    asked_ends_well (number + 1) (Extreme 1) _ refl (λ s keeps. ((pos 1, pos 1, rw keeps refl), tt))
+    (asked_ends_well (number + 2) Hull _ refl (λ s keeps. ((2, rw keeps refl), tt))
+    (asked_ends_well (number + 3) Closest _ refl (λ s keeps. ((3, rw keeps refl), tt))
+    (asked_ends_well (number + 4) (Inside around) _ refl (λ s keeps. ((4, rw keeps refl), tt))
+    (asked_ends_well (number + 5) Live [] refl (λ s keeps. (tt, tt)) (record { ends = λ s text ending keeps t. t.1 })))))
 
 questions_end_well : (count number : ℕ) → EndWell count (questions number)
 questions_end_well count number s text ending awaiting (inl (r, inl none, text_is, ending_is)) = absurd (omega (arith, ints, none.1))

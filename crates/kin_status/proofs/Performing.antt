@@ -1,7 +1,7 @@
 -- What came of a deed, from what came of its parts.
 use Rattle.std.proofs.Common.{◌≡◌, ◌≢◌, ℕ, Bool, List, ◌++◌, ◌∙◌, refl, sym, append-nil, subst, Result, Ok, Err, OnOk, OnErr, [], Option, slice_set}
 use Rattle.kin_status.proofs.Vocabulary.{IsCanonical, IsEarlier, Quadratic, Shape, Plan, plan_of, PointChange, ChangesTo, asks, changes, goes_to, PutsFront, IsAllowed, IsNamedRoot, IsAlike, State, just_at, IsNextText, IsPassedText, Prints, Step}
-use Rattle.kin_status.proofs.Vocabulary.{Command, one_reply_line, BreaksOff, IsFrontOfEach, IsReply, Performs, PutsLine, Replies, GainsSome, Printer, printer, Halt, Broken, Refused, Stop, Fault, NoMemory}
+use Rattle.kin_status.proofs.Vocabulary.{Command, answerable_allowed, one_reply_line, BreaksOff, IsFrontOfEach, IsReply, Performs, PutsLine, Replies, GainsSome, Printer, printer, Halt, Broken, Refused, Stop, Fault, NoMemory}
 use Rattle.kin_print.specs.declared.reply.Reply.{Reply}
 use Rattle.kin_print.specs.Replies.{reply_line}
 use Rattle.kin_status.proofs.Determined.{goes_allowed}
@@ -27,7 +27,7 @@ module _ (s : State) (upper : Bool) (z : Quadratic) (w : Shape) (named : IsNamed
 module _ (s : State) (q : Command) (before now : List ℕ) (E : Type 0) where
   -- without a reply nothing is put
   pub no_reply : (halt : Halt) → IsReply s q (Err halt) → now ≡ before → Replies {E = E} s q (Err halt) before now
-  no_reply (Refused r) is same = (is.0, is.1, same)
+  no_reply (Refused r) is same = (is, same)
   no_reply (Broken NoMemory) is same = (is, ([], same ∙ sym (append-nil before), λ text line. front_nil text))
   no_reply (Broken Fault) is same = absurd is
 
@@ -40,9 +40,9 @@ no_fault s q halt is e = cc
 
 -- ---- to a question
 pub replied : {E : Type 0} (s : State) (q : Command) (result : Result E Halt) (held : Bytes) (before now : List ℕ) → Replies s q result before now → Performs s (asks q) result (printer held before) (printer held now) s
-replied s q (Ok x) held before now a = record { text = a.1.0; gained = gains_put held before now a.1.0 a.1.1; is = (s, record { allowed = λ r h. h.1 a.0; prints = a.1.2; leads = refl }, alike_itself s) }
-replied s q (Err (Refused r)) held before now a = ((a.0, a.1), (λ i. printer held (a.2 i)), refl)
-replied s q (Err (Broken NoMemory)) held before now a = ((λ r h. h.1 a.0), record { text = a.1.0; gained = gains_put held before now a.1.0 a.1.1; is = a.1.2 })
+replied s q (Ok x) held before now a = record { text = a.1.0; gained = gains_put held before now a.1.0 a.1.1; is = (s, record { allowed = answerable_allowed s q a.0; prints = a.1.2; leads = refl }, alike_itself s) }
+replied s q (Err (Refused r)) held before now a = (a.0, (λ i. printer held (a.1 i)), refl)
+replied s q (Err (Broken NoMemory)) held before now a = (answerable_allowed s q a.0, record { text = a.1.0; gained = gains_put held before now a.1.0 a.1.1; is = a.1.2 })
 replied s q (Err (Broken Fault)) held before now a = absurd a
 
 -- ---- what comes next has one text alone: what was put of it is what was put of each

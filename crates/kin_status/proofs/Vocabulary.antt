@@ -37,11 +37,11 @@ pub use Rattle.kin_legs.specs.Planned.{ArePlannable}
 pub use Rattle.kin_print.proofs.Fronts.{front_at, front_behind, front_first}
 pub use Rattle.kin_script.specs.Changes.{PointChange, ChangesTo, IsChangeInRange, IsRefusedChange, enters, leaves, restarts, turns, schedules}
 pub use Rattle.kin_script.specs.Deeds.{Deed, asks, changes, deed_of, goes_on, goes_to}
-pub use Rattle.kin_script.specs.Generated.{IsGenerated, IsLeastSize, insertion, insertions, one_of_each, questions}
+pub use Rattle.kin_script.specs.Generated.{IsGenerated, IsLeastSize, insertion, insertions, generated_keeps, questions}
 pub use Rattle.kin_script.specs.Grammar.{script_of}
 pub use Rattle.kin_script.specs.Printed.{PutsFront}
 pub use Rattle.kin_script.specs.PrintedJournal.{block_lines, failure_line, journal_lines}
-pub use Rattle.kin_script.specs.Questions.{IsProvided}
+pub use Rattle.kin_script.specs.Questions.{IsAnswerable, IsPresent, IsProvided, must_be_live}
 pub use Rattle.kin_script.specs.Ranges.{IsAskedFor, IsCommandInRange, IsDeedInRange, IsRatioInRange, IsWithin}
 pub use Rattle.kin_script.specs.Replay.{HasNoRoot, IsAllowed, IsNamedRoot, IsRefused, IsRootOf, LeadsTo}
 pub use Rattle.kin_script.specs.Alike.{IsAlike, IsOnPaths}
@@ -49,9 +49,9 @@ pub use Rattle.kin_script.specs.States.{State, start, state_scene, state_setting
 pub use Rattle.kin_script.specs.Text.{Ending, IsNextText, IsPassedText, next_lines, Prints, Step, Text, bad_line, refused_line}
 pub use Rattle.kin_script.specs.declared.command.Command.{Command}
 pub use Rattle.kin_script.specs.declared.refusal.Refusal.{Refusal}
-pub use Rattle.kin_script.specs.declared.refusal.Refusal.TheVariants.{Absent, NoRoot, NotKept, NotWhole, OutOfBounds, Past, Planned, Taken}
+pub use Rattle.kin_script.specs.declared.refusal.Refusal.TheVariants.{Absent, NoRoot, NotWhole, OutOfBounds, Past, Planned, Taken}
 pub use Rattle.kin_script.specs.declared.script.Script.{Script}
-pub use Rattle.kin_script.proofs.Questions.{deed_in_range, has_line, one_reply_line, small_keep}
+pub use Rattle.kin_script.proofs.Questions.{answerable_allowed, deed_in_range, has_line, one_refused_question, one_reply_line, small_keep}
 pub use Rattle.kin_status.specs.Demo.{DemoTextsExist, IsDemoText, OneDemoText, WritesDemo, demo_line, failures_in, start_of}
 pub use Rattle.kin_status.specs.Headline.{Answers, IsAnswer, IsBrokenOff, IsCut, IsTextOf, OneAnswer, Outcome, TakesWhole, TextsExist, status_of_stop}
 pub use Rattle.kin_status.specs.Passed.{Passes, PassesInTurn, block_of_next, printed_if}

@@ -1,9 +1,8 @@
 -- What came of one command, and of several.
 use Rattle.std.specs.Prelude.{◌≡◌, ℕ, List, ◌++◌, Result, Ok, Err}
 use Rattle.kin_script.specs.declared.command.Command.{Command}
-use Rattle.kin_script.specs.declared.refusal.Refusal.TheVariants.{NotKept}
 use Rattle.kin_script.specs.Deeds.{Deed}
-use Rattle.kin_script.specs.Questions.{IsProvided, IsReplyLine}
+use Rattle.kin_script.specs.Questions.{IsAnswerable, IsRefusedQuestion, IsReplyLine}
 use Rattle.kin_script.specs.Replay.{IsRefused, IsAllowed}
 use Rattle.kin_script.specs.Alike.{IsAlike}
 use Rattle.kin_script.specs.States.{State}
@@ -25,18 +24,18 @@ abbrev pub PutsLine : {E : Type 0} → (List ℕ → Type 0) → Result (Unit {0
 PutsLine IsLine (Ok x) before now = (text : List ℕ) × (now ≡ before ++ text) × IsLine text
 PutsLine IsLine (Err e) before now = (front : List ℕ) × (now ≡ before ++ front) × IsFrontOfEach IsLine front
 
--- a reply that makes the line of a question; or what it asks for is not kept; or memory ran out
+-- a reply that makes the line of a question; or the question is refused; or memory ran out
 abbrev pub IsReply : State → Command → Result Reply Halt → Type 0
-IsReply s q (Ok reply) = IsProvided s q × IsReplyLine s q (reply_line reply)
-IsReply s q (Err (Refused r)) = (r ≡ NotKept) × ¬ (IsProvided s q)
-IsReply s q (Err (Broken NoMemory)) = IsProvided s q
+IsReply s q (Ok reply) = IsAnswerable s q × IsReplyLine s q (reply_line reply)
+IsReply s q (Err (Refused r)) = IsRefusedQuestion s q r
+IsReply s q (Err (Broken NoMemory)) = IsAnswerable s q
 IsReply s q (Err (Broken Fault)) = ⊥
 
--- the line of a question was appended to what was there; or what it asks for is not kept, and nothing was appended; or memory ran out at a prefix of its line
+-- the line of a question was appended to what was there; or the question is refused, and nothing was appended; or memory ran out at a prefix of its line
 abbrev pub Replies : {E : Type 0} → State → Command → Result E Halt → List ℕ → List ℕ → Type 0
-Replies s q (Ok x) before now = IsProvided s q × ((text : List ℕ) × (now ≡ before ++ text) × IsReplyLine s q text)
-Replies s q (Err (Refused r)) before now = (r ≡ NotKept) × ¬ (IsProvided s q) × (now ≡ before)
-Replies s q (Err (Broken NoMemory)) before now = IsProvided s q × ((front : List ℕ) × (now ≡ before ++ front) × IsFrontOfEach (IsReplyLine s q) front)
+Replies s q (Ok x) before now = IsAnswerable s q × ((text : List ℕ) × (now ≡ before ++ text) × IsReplyLine s q text)
+Replies s q (Err (Refused r)) before now = IsRefusedQuestion s q r × (now ≡ before)
+Replies s q (Err (Broken NoMemory)) before now = IsAnswerable s q × ((front : List ℕ) × (now ≡ before ++ front) × IsFrontOfEach (IsReplyLine s q) front)
 Replies s q (Err (Broken Fault)) before now = ⊥
 
 -- a run was broken off after such a text: at want of memory all of it is written or gathered, and at a fault only a prefix may have been written

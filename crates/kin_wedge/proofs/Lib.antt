@@ -39,5 +39,7 @@ pub mod Told
 pub mod Readiness
 pub mod Resettled
 pub mod OrdersAsk
+pub mod EightAsk
+pub mod NoMembers
 pub mod Led
 pub mod EmptyOctants

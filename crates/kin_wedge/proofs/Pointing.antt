@@ -1,7 +1,7 @@
 -- Slots that point at slots, as their callers see them.
 use Rattle.std.proofs.Common.{◌≡◌, refl, sym, ap, ◌∙◌, subst, arith, List, ◌∷◌, ℕ, zero, suc, ◌<◌, ◌≤◌, ◌^◌, replicate, get_or, length, Some, None, Option, option_map}
-use Rattle.std.specs.Prelude.{slice_get}
-use Rattle.std.proofs.lemmas.List.{length-replicate, length-set}
+use Rattle.std.specs.Prelude.{slice_get, MatchOption}
+use Rattle.std.proofs.lemmas.List.{length-map, length-replicate, length-set}
 use Rattle.std.proofs.lemmas.Option.{slice_get-map, slice_get-get_or, same_Some}
 use Rattle.kin_wedge.specs.declared.thread.Thread.{Thread}
 use Rattle.kin_motion.specs.Sets.{ListsExactly}
@@ -85,3 +85,18 @@ module _ (ts : List Thread) (t : AreThreads ts) (q word : ℕ) (first : named wo
 
   pub walk_exact : ListsExactly (walk (length ts) (web ts) (named word)) (λ s. PointsAt (web ts) s q)
   walk_exact = subst (λ (o : Option ℕ). ListsExactly (walk (length ts) (web ts) o) (λ s. PointsAt (web ts) s q)) (sym first) (walk_lists (web ts) t.threaded q (length ts) (let m = room ts in omega (arith, m)))
+
+-- a slot that points at another points at one of the slots
+pub target_within : (ts : List Thread) → IsThreaded (web ts) → (slot : ℕ) (t : Thread) (answer : Option ℕ) → slot < length (web ts).targets → t ≡ get_or ts slot t → answer ≡ named t.target
+    → MatchOption answer (Unit {0}) (λ target. target < length (web ts).targets)
+target_within ts threaded slot t answer low at_slot told = at answer seen
+  where
+    seen : slice_get (web ts).targets slot ≡ Some answer
+    seen =
+        slice_get-map (λ (u : Thread). named u.target) ts slot
+        ∙ ap (option_map (λ (u : Thread). named u.target)) (slice_get-get_or ts slot t (let e = length-map ts (λ (u : Thread). named u.target) in omega (arith, e, low)) ∙ ap (λ (u : Thread). Some u) (sym at_slot))
+        ∙ ap (λ (a : Option ℕ). Some a) (sym told)
+
+    at : (a : Option ℕ) → slice_get (web ts).targets slot ≡ Some a → MatchOption a (Unit {0}) (λ target. target < length (web ts).targets)
+    at None e = tt
+    at (Some target) e = threaded.within slot target e

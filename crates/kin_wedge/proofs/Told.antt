@@ -5,6 +5,7 @@ use Rattle.std.proofs.lemmas.Nat.{pow-add}
 use Rattle.std.proofs.lemmas.Option.{slice_get_within, get_or_from_slice_get, slice_get-get_or}
 use Rattle.kin_motion.specs.Octants.{ListsChanged}
 use Rattle.kin_motion.specs.Sets.{ListsExactly}
+use Rattle.kin_motion.proofs.NodeLaws.{held_slot}
 use Rattle.kin_wedge.specs.Passages.{AreChanged}
 use Rattle.kin_wedge.specs.Wedging.{candidate_at}
 
@@ -18,6 +19,10 @@ module _ (size : ℕ) (candidates : List (Option ℕ)) (slots : length candidate
 
   apex_within : (p w n : ℕ) → n ≡ 2 ^ size → 8 * p + w < 8 * n → p < 2 ^ size
   apex_within p w n e h = omega (arith, e, h)
+
+  -- only slots of numbers below 2^size hold something
+  pub hit_room : (c w apex : ℕ) → candidate_at candidates apex w ≡ Some c → apex < 2 ^ size
+  hit_room c w apex e = let l = slice_get_within candidates (8 * apex + w) _ (held_slot candidates (8 * apex + w) c e) in apex_within apex w (2 ^ size) refl (omega (arith, l, slots))
 
   pub hits_told : (c w : ℕ) (apexes : List ℕ) → w < 8 → ListsExactly apexes (λ p. slice_get candidates (8 * p + w) ≡ Some (Some c)) → ListsExactly apexes (λ p. (p < 2 ^ size) × (candidate_at candidates p w ≡ Some c))
   hits_told c w apexes low h = record {

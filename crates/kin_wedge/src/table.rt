@@ -1,6 +1,6 @@
 //! The candidates, and the apexes that each number is the candidate of.
 
-ghost use Rattle.std.specs.Prelude.{◌≡◌, ℕ, ◌+◌, ◌*◌, ◌^◌, ◌<◌, ◌≤◌, Option, Some, None, true, length, replicate, slice_get, slice_set, IfOk};
+ghost use Rattle.std.specs.Prelude.{◌≡◌, ℕ, ◌+◌, ◌*◌, ◌^◌, ◌<◌, ◌≤◌, Option, Some, None, true, length, replicate, slice_get, slice_set, IfOk, MatchOption};
 ghost use Rattle.kin_motion.specs.Sets.{ListsExactly};
 
 use crate::hits::Hits;
@@ -32,7 +32,8 @@ impl Table {
     #[inline(always)]
     pub fn candidate(&self, slot: u32) -> Option<u32>
         requires { slot < length self.now }
-        ensures { slice_get self.now slot ≡ Some result }
+        ensures value { slice_get self.now slot ≡ Some result }
+        ensures within { MatchOption result (Unit {0}) (λ c. 8 * c < length self.now) }
     {
         match self.threads.target(slot) {
             Some(target) => Some(target / 8),

@@ -1,7 +1,7 @@
 //! Slots, each of which points at a slot or at none. Those that point at one slot are threaded through the slots, so
 //! that no list on the heap is made for it.
 
-ghost use Rattle.std.specs.Prelude.{◌≡◌, ℕ, ◌<◌, ◌≤◌, ◌^◌, Some, None, length, replicate, slice_get, slice_set, IfOk};
+ghost use Rattle.std.specs.Prelude.{◌≡◌, ℕ, ◌<◌, ◌≤◌, ◌^◌, Some, None, length, replicate, slice_get, slice_set, IfOk, MatchOption};
 ghost use Rattle.kin_motion.specs.Sets.{ListsExactly};
 ghost use Rattle.kin_wedge.specs.Threads.{named, vacant_thread, web};
 
@@ -42,7 +42,8 @@ impl Threads {
     #[inline(always)]
     pub fn target(&self, slot: u32) -> Option<u32>
         requires { slot < length self.now }
-        ensures { slice_get self.now slot ≡ Some result }
+        ensures value { slice_get self.now slot ≡ Some result }
+        ensures within { MatchOption result (Unit {0}) (λ target. target < length self.now) }
     {
         named(self.slots[slot as usize].target)
     }

@@ -1,6 +1,6 @@
 //! The eight orders with their candidates.
 
-ghost use Rattle.std.specs.Prelude.{◌≡◌, ◌*◌, ◌≤◌, ◌<◌, ◌^◌, [], Some, None, true, false, replicate, slice_get, IfOk, OnOk, OnErr, MatchOption};
+ghost use Rattle.std.specs.Prelude.{◌≡◌, ℕ, ◌*◌, ◌≤◌, ◌<◌, ◌^◌, [], Some, None, true, false, replicate, slice_get, IfOk, OnOk, OnErr, MatchOption};
 ghost use Rattle.kin_motion.specs.Kinetics.{ListsFailing, HasChanged};
 ghost use Rattle.kin_motion.specs.Numbers.{is_in, IsIn};
 ghost use Rattle.kin_motion.specs.Octants.{Octant, octants, octant_members, IsCandidate, ListsChanged};
@@ -93,6 +93,7 @@ impl Wedges {
         requires apex { apex < 2 ^ self.now.size }
         requires octant { octant < 8 }
         ensures told { result ≡ candidate_told self.now apex octant }
+        ensures within { MatchOption result (Unit {0}) (λ c. c < 2 ^ self.now.size) }
         ensures settled { (s : Scene) (o : Octant) → IsReal s → IsSettledWedging self.now s → IsIn apex s.live → slice_get octants octant ≡ Some o → MatchOption result (octant_members s o apex ≡ []) (IsCandidate s o apex) }
     {
         self.candidates.table.candidate(8 * apex + octant)
@@ -101,7 +102,8 @@ impl Wedges {
     /// The apexes whose candidate in an octant a number is, each once, in no order.
     pub fn hits(&self, no: u32, octant: u32) -> Hits<'_>
         requires { octant < 8 }
-        ensures { ListsExactly result (λ apex. (apex < 2 ^ self.now.size) × (candidate_told self.now apex octant ≡ Some no)) }
+        ensures listed { ListsExactly result (λ apex. (apex < 2 ^ self.now.size) × (candidate_told self.now apex octant ≡ Some no)) }
+        ensures room { (apex : ℕ) → candidate_told self.now apex octant ≡ Some no → apex < 2 ^ self.now.size }
     {
         self.candidates.table.hits(no, octant)
     }

@@ -4,7 +4,7 @@ use Rattle.std.specs.Prelude.{◌↔◌, Contains, Option, Some, slice_get}
 use Rattle.std.proofs.lemmas.List.Elements.{All-contains, Contains-get_or}
 use Rattle.kin_motion.specs.declared.fact.Placed.{Placed}
 use Rattle.kin_motion.specs.declared.keep.Keep.{Keep}
-use Rattle.kin_motion.specs.declared.keep.Keep.TheVariants.{Order, Extreme, Hull, Closest, Range}
+use Rattle.kin_motion.specs.declared.keep.Keep.TheVariants.{Order, Extreme, Hull, Closest, Range, Nearest}
 use Rattle.kin_motion.specs.Chains.{IsHullCycle, cycle_of}
 use Rattle.kin_motion.specs.ClosestFacts.{IsClosestFact, closest_facts}
 use Rattle.kin_motion.specs.ClosestPairs.{IsClosest, closest_of}
@@ -18,6 +18,7 @@ use Rattle.kin_motion.specs.Sets.{ListsExactly}
 use Rattle.kin_motion.proofs.ClosestFactLaws.{order_facts_agree, closest_facts_agree}
 use Rattle.kin_motion.proofs.ClosestLaws.{closest_proved}
 use Rattle.kin_motion.proofs.DeterminedExtremes.{extreme_is_determined}
+use Rattle.kin_motion.proofs.DeterminedWedges.{fact_goes, fact_comes}
 use Rattle.kin_motion.proofs.ExtremeFactLaws.{extreme_facts_agree}
 use Rattle.kin_motion.proofs.HullFactLaws.{hull_facts_agree}
 use Rattle.kin_motion.proofs.MotionScenes.{live_fits, real_at}
@@ -75,6 +76,7 @@ module _ (size : ℕ) (keeps : List Keep) (v w : Scene) (cs : List Certificate) 
       same_listed (extreme_facts size v dx dy) (IsExtremeFact size v dx dy) (IsExtremeFact size w dx dy) (extreme_facts_agree size v dx dy h.real) (extreme_there dx dy (extreme_of v dx dy) (extreme_proved v dx dy h.real) hold).1
   same_facts Hull hold = same_listed (hull_facts size v) (IsHullFact size v) (IsHullFact size w) (hull_facts_agree size v h.real h.fits) (hull_there (cycle_of v) (cycle_proved v h.real) hold).1
   same_facts Closest hold = same_listed (closest_facts size v) (IsClosestFact size v) (IsClosestFact size w) (closest_facts_agree size v h.real) (closest_there (closest_of v) (closest_proved v h.real) hold).1
+  same_facts Nearest hold = λ p. (fact_goes v w h.real h.real_there h.same hold p, fact_comes v w h.real h.real_there h.same hold p)
   same_facts Range hold = λ p. (to p, from p)
     where
       by_x : (p : Placed) → IsOrderFact v (pos 1) (pos 0) 0 p ↔ IsOrderFact w (pos 1) (pos 0) 0 p

@@ -19,11 +19,15 @@ use Rattle.kin_closest.specs.ClosingLaws.{closing_exact}
 use Rattle.kin_hull.specs.HullLaws as hull_laws
 use Rattle.kin_hull.specs.HullLaws.{hull_exact}
 use Rattle.kin_hull.specs.Hulls as hull
+use Rattle.kin_nearest.specs.Nearing as nearing
+use Rattle.kin_nearest.specs.NearingLaws.{nearing_exact}
 use Rattle.kin_range.specs.Ranging as ranging
 use Rattle.kin_range.specs.RangingLaws as ranging_laws
 use Rattle.kin_range.specs.RangingLaws.{range_exact}
+use Rattle.kin_wedge.specs.Wedging as wedging
+use Rattle.kin_wedge.specs.WedgingLaws as wedging_laws
 use Rattle.kin_world.specs.declared.structure.Structure.{Structure}
-use Rattle.kin_world.specs.declared.structure.Structure.TheVariants.{Order, Extreme, Hull, Closest, Range}
+use Rattle.kin_world.specs.declared.structure.Structure.TheVariants.{Order, Extreme, Hull, Closest, Range, Nearest}
 
 -- its live facts, each in its part
 abbrev pub placed_facts : Structure → List Placed
@@ -32,6 +36,7 @@ placed_facts (Extreme t) = t.facts
 placed_facts (Hull k) = hull.facts_of k
 placed_facts (Closest k) = closing.facts_of k
 placed_facts (Range r) = ranging.facts_of r
+placed_facts (Nearest k) = k.facts
 
 -- it is of the kind, the direction and the size of a keep
 abbrev pub IsFor : ℕ → Keep → Structure → Type 0
@@ -40,6 +45,7 @@ IsFor size keep (Extreme t) = points.IsTournamentFor t size keep
 IsFor size keep (Hull k) = hull.IsHullFor k size keep
 IsFor size keep (Closest k) = closing.IsClosingFor k size keep
 IsFor size keep (Range r) = ranging.IsRangingFor r size keep
+IsFor size keep (Nearest k) = nearing.IsNearingFor k size keep
 
 -- no mark waits
 abbrev pub IsAtRest : Structure → Type 0
@@ -48,6 +54,7 @@ IsAtRest (Extreme t) = tournament.IsAtRest t
 IsAtRest (Hull k) = hull.IsHullAtRest k
 IsAtRest (Closest k) = closing.IsClosingAtRest k
 IsAtRest (Range r) = ranging.IsRangingAtRest r
+IsAtRest (Nearest k) = wedging.IsWedgingAtRest k
 
 -- its members are these numbers, once its mark is carried out
 abbrev pub HasMembers : List ℕ → Structure → Type 0
@@ -56,6 +63,7 @@ HasMembers live (Extreme t) = points.HasPoints t live
 HasMembers live (Hull k) = hull.HasMembers k live
 HasMembers live (Closest k) = closing.HasMembers k live
 HasMembers live (Range r) = ranging.HasMembers r live
+HasMembers live (Nearest k) = nearing.HasMembers k live
 
 -- its content and its facts are the definition's in the scene
 abbrev pub IsSettledIn : Scene → Structure → Type 0
@@ -64,6 +72,7 @@ IsSettledIn s (Extreme t) = points.IsSettledAlong t s
 IsSettledIn s (Hull k) = hull.IsSettledKinHull k s
 IsSettledIn s (Closest k) = closing.IsSettledClosing k s
 IsSettledIn s (Range r) = ranging.IsSettledRanging r s
+IsSettledIn s (Nearest k) = wedging.IsSettledWedging k s
 
 -- settled over the live numbers it has the facts of its keep, and these alone determine it
 pub record IsKinetic (st : Structure) : Type 0 where
@@ -77,3 +86,4 @@ kinetic (Extreme t) = record { exact = points_exact t; determined = λ v w rest.
 kinetic (Hull k) = record { exact = hull_exact k; determined = λ v w rest real settled same real'. hull_laws.determined_lem k v w rest real settled same real' tt }
 kinetic (Closest k) = record { exact = closing_exact k; determined = λ v w rest real settled same real'. closing_laws.determined_lem k v w rest real settled same real' tt }
 kinetic (Range r) = record { exact = range_exact r; determined = λ v w rest real settled same real'. ranging_laws.determined_lem r v w rest real settled same real' tt }
+kinetic (Nearest k) = record { exact = nearing_exact k; determined = λ v w rest real settled same real'. wedging_laws.determined_lem k v w rest real settled same real' tt }

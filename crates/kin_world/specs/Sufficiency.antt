@@ -13,7 +13,8 @@ use Rattle.kin_motion.specs.Orders.{IsOrder}
 use Rattle.kin_motion.specs.Scene.{Scene, IsReal, Holds}
 use Rattle.kin_world.specs.Worlds.{World, world_scene}
 
--- each kept order, extreme point, hull and closest pair of the one scene is that of the other
+-- each kept order, extreme point, hull and closest pair of the one scene is that of the other; points in rectangles and nearest points needn't be: no fact is
+-- about a border, and the facts of nearest neighbours determine the candidates, but not the nearest
 pub record HaveSameAnswers (keeps : List Keep) (v w : Scene) : Type 0 where
   pub order : (n : ℕ) (dx dy : ℤ) (xs : List ℕ) → slice_get keeps n ≡ Some (Order dx dy) → IsOrder v dx dy xs → IsOrder w dx dy xs
   pub extreme : (n : ℕ) (dx dy : ℤ) (point : Option ℕ) → slice_get keeps n ≡ Some (Extreme dx dy) → IsExtremePoint v dx dy point → IsExtremePoint w dx dy point

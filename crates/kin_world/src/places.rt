@@ -1,6 +1,6 @@
 //! The place of a keep among others.
 
-ghost use Rattle.std.specs.Prelude.{◌≡◌, ◌≢◌, ◌≤◌, ℕ, Some, IfSome, IfNone, length, slice_get};
+ghost use Rattle.std.specs.Prelude.{◌≡◌, ◌≢◌, ◌<◌, ◌^◌, ℕ, Some, IfSome, IfNone, length, slice_get};
 
 use kin_motion::Keep;
 
@@ -19,7 +19,7 @@ pub(crate) fn find(keep: &Keep, keeps: &[Keep]) -> Option<usize>
 
 /// A place of a keep that is among these.
 pub(crate) fn place_of(keep: &Keep, keeps: &[Keep]) -> u32
-    requires few { length keeps.now ≤ 19 }
+    requires few { length keeps.now < 2 ^ 32 }
     requires kept { (k : ℕ) × (slice_get keeps.now k ≡ Some keep.now) }
     ensures { slice_get keeps.now result ≡ Some keep.now }
 {

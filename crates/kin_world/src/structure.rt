@@ -5,26 +5,30 @@
 
 ghost use Rattle.std.specs.Prelude.{◌≡◌, ◌≤◌, ◌<◌, ◌^◌, ℕ, ℤ, List, [], Contains, IfOk, OnOk};
 ghost use Rattle.kin_motion.specs.declared.keep.Keep.{Keep as Kind};
-ghost use Rattle.kin_motion.specs.declared.keep.Keep.TheVariants.{Order as KeepOrder, Extreme as KeepExtreme, Hull as KeepHull, Closest as KeepClosest, Range as KeepRange};
+ghost use Rattle.kin_motion.specs.declared.keep.Keep.TheVariants.{Order as KeepOrder, Extreme as KeepExtreme, Hull as KeepHull, Closest as KeepClosest, Range as KeepRange, Nearest as KeepNearest};
 ghost use Rattle.kin_motion.specs.Boxes.{IsRectInRange, points_in};
 ghost use Rattle.kin_motion.specs.Chains.{IsHullCycle};
 ghost use Rattle.kin_motion.specs.ClosestPairs.{IsClosest};
 ghost use Rattle.kin_motion.specs.Extremes.{IsExtremePoint};
+ghost use Rattle.kin_motion.specs.Nearest.{IsNearest};
 ghost use Rattle.kin_motion.specs.Orders.{IsOrder};
 ghost use Rattle.kin_motion.specs.Kinetics.{AllHold, HasChanged};
 ghost use Rattle.kin_motion.specs.Live.{IsSmallKeep};
-ghost use Rattle.kin_motion.specs.Numbers.{HasEntered};
+ghost use Rattle.kin_motion.specs.Numbers.{HasEntered, IsIn};
 ghost use Rattle.kin_motion.specs.Sets.{ListsExactly};
 ghost use Rattle.kin_motion.specs.Scene.{Scene, IsReal, scene_at};
 ghost use Rattle.kin_motion.specs.Spending.{AreInStep, HasRisenWithin, MayAsk};
 ghost use Rattle.kin_world.specs.Kinds.{placed_facts, IsFor, IsAtRest, HasMembers, IsSettledIn};
 ghost use Rattle.kin_world.specs.Structures.{AreFailing, AreLiveAfter, HoldBut, HoldFor, IsKept, marked};
 
+use crate::counter::{Work, uncounted};
 use kin_closest::KinClosest;
+use kin_fail::Now;
 use kin_hull::KinHull;
 use kin_list::KinList;
 use kin_motion::kept::{Kept, enter, leave, repair};
 use kin_motion::{Delta, Keep, Motions, Placed, Rect, Signs};
+use kin_nearest::KinNearest;
 use kin_num::{Moment, NoMemory, Steps};
 use kin_range::KinRange;
 use kin_tourney::{Along, Tourney};
@@ -39,6 +43,7 @@ pub enum Structure {
     Hull(KinHull),
     Closest(KinClosest),
     Range(KinRange),
+    Nearest(KinNearest),
 }
 
 /// A number that has become live, or that isn't live any more.
@@ -67,6 +72,7 @@ impl Structure {
             Keep::Hull => Ok(Structure::Hull(KinHull::vacant(alloc, keep, size)?)),
             Keep::Closest => Ok(Structure::Closest(KinClosest::vacant(alloc, keep, size)?)),
             Keep::Range => Ok(Structure::Range(KinRange::vacant(alloc, keep, size)?)),
+            Keep::Nearest => Ok(Structure::Nearest(KinNearest::vacant(alloc, keep, size)?)),
         }
     }
 
@@ -96,6 +102,7 @@ impl Structure {
             Structure::Hull(hull) => repair_all(hull, now, failed, out, steps),
             Structure::Closest(pairs) => repair_all(pairs, now, failed, out, steps),
             Structure::Range(lists) => repair_all(lists, now, failed, out, steps),
+            Structure::Nearest(wedges) => repair_all(wedges, now, failed, out, steps),
         }
     }
 
@@ -152,6 +159,7 @@ impl Structure {
             Structure::Hull(hull) => enter(hull, entering, now, out, steps),
             Structure::Closest(pairs) => enter(pairs, entering, now, out, steps),
             Structure::Range(lists) => enter(lists, entering, now, out, steps),
+            Structure::Nearest(wedges) => enter(wedges, entering, now, out, steps),
         }
     }
 
@@ -181,6 +189,7 @@ impl Structure {
             Structure::Hull(hull) => let_go(hull, leaving, now, out, steps),
             Structure::Closest(pairs) => let_go(pairs, leaving, now, out, steps),
             Structure::Range(lists) => let_go(lists, leaving, now, out, steps),
+            Structure::Nearest(wedges) => let_go(wedges, leaving, now, out, steps),
         }
     }
 
@@ -243,6 +252,54 @@ impl Structure {
             Structure::Range(lists) => lists.inside(motions, now, rect),
             _ => unreachable!(),
         }
+    }
+
+    /// The nearest other point of a live number, of equally near ones the least, or `None` where no other is live.
+    /// Its steps aren't counted.
+    pub fn nearest(&self, motions: &Motions, now: &Moment, no: u32) -> Option<u32>
+        requires kept { (size : ℕ) × IsKept size KeepNearest (scene_at motions.now now.now) self.now }
+        requires live { IsIn no (scene_at motions.now now.now).live }
+        ensures { IsNearest (scene_at motions.now now.now) no result }
+    {
+        match self {
+            Structure::Nearest(wedges) => uncounted(NearestTo {
+                wedges,
+                motions,
+                now,
+                no,
+            }),
+            _ => unreachable!(),
+        }
+    }
+}
+
+/// A question for the nearest other point of a number.
+#[derive(Clone, Copy)]
+struct NearestTo<'a> {
+    wedges: &'a KinNearest,
+    motions: &'a Motions,
+    now: &'a Moment,
+    no: u32,
+}
+
+impl Work for NearestTo<'_> {
+    ghost use Rattle.kin_motion.specs.Nearest.{IsNearest};
+    ghost use Rattle.kin_motion.specs.Numbers.{IsIn};
+    ghost use Rattle.kin_motion.specs.Scene.{IsReal, scene_at};
+    ghost use Rattle.kin_wedge.specs.Wedging.{IsSettledWedging};
+
+    type Outcome = Option<u32>;
+
+    ghost can_run = { λ work. let s = scene_at work.motions.now work.now.now in IsReal s × IsSettledWedging work.wedges.now s × IsIn work.no s.live };
+
+    ghost run_gives = { λ work found. IsNearest (scene_at work.motions.now work.now.now) work.no found };
+
+    fn run<L: Ledger>(self, steps: &mut Steps<L>) -> Option<u32> {
+        let now = Now {
+            motions: self.motions,
+            moment: self.now,
+        };
+        self.wedges.nearest(&now, self.no, steps)
     }
 }
 

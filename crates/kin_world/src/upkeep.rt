@@ -287,7 +287,7 @@ fn lists_of(keep: &Keep) -> u32 {
     match *keep {
         Keep::Order { .. } => 1,
         Keep::Range => 2,
-        Keep::Closest => 8,
+        Keep::Closest | Keep::Nearest => 8,
         Keep::Extreme { .. } | Keep::Hull => 0,
     }
 }
@@ -299,6 +299,6 @@ fn nodes_of(keep: &Keep, size: u32) -> u32
     match *keep {
         Keep::Extreme { .. } => 1 << size,
         Keep::Closest => 8 << size,
-        Keep::Order { .. } | Keep::Range | Keep::Hull => 0,
+        Keep::Order { .. } | Keep::Range | Keep::Nearest | Keep::Hull => 0,
     }
 }

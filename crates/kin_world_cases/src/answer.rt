@@ -51,6 +51,14 @@ fn has_inside(world: &World, s: u32, rect: &Rect, numbers: &[u32]) -> Result<boo
     Ok(world.inside(rect)?.as_slice() == numbers)
 }
 
+/// Nearest neighbours are kept, the number is live, and this is its nearest other point.
+fn has_nearest(world: &World, s: u32, no: u32, number: Option<u32>) -> bool {
+    let Some(Keep::Nearest) = world.keep(s) else {
+        return false;
+    };
+    world.is_whole() && world.motion(no).is_some() && world.nearest(no) == number
+}
+
 fn is_small_border(n: i32) -> bool
     ensures { IsTrue result → unsigned_abs n ≤ 2 ^ 24 }
 {
@@ -85,6 +93,7 @@ pub fn answers(world: &World, call: &Call) -> Result<bool, NoMemory> {
         Call::Hull(s, cycle) => has_hull(world, s, cycle),
         Call::Closest(s, pair) => Ok(has_closest(world, s, pair)),
         Call::Inside(s, rect, numbers) => has_inside(world, s, &rect, numbers),
+        Call::Nearest(s, no, number) => Ok(has_nearest(world, s, no, number)),
         _ => Ok(false),
     }
 }

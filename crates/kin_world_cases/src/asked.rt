@@ -164,6 +164,28 @@ const ONE_POINT: Script = (
     ],
 );
 
+/// A point comes to two others and passes the one. Where it meets the other, that one leaves.
+const NEAREST: Script = (
+    2,
+    &[Keep::Nearest],
+    &[
+        Call::Insert(0, [0, 0, 0, 0]),
+        Call::Nearest(0, 0, None),
+        Call::Insert(1, [4, 0, -2, 0]),
+        Call::Insert(2, [1, 0, 0, 0]),
+        Call::Nearest(0, 0, Some(2)),
+        Call::Nearest(0, 2, Some(0)),
+        Call::Moves((1, Phase::At)),
+        Call::Nearest(0, 2, Some(0)),
+        Call::Runs((2, Phase::At)),
+        Call::Nearest(0, 0, Some(1)),
+        Call::Nearest(0, 1, Some(0)),
+        Call::Nearest(0, 2, Some(0)),
+        Call::Remove(0),
+        Call::Nearest(0, 1, Some(2)),
+    ],
+);
+
 const AROUND: Rect = Rect {
     x1: -9,
     x2: 9,
@@ -226,7 +248,7 @@ const LEFT_AT_A_MEETING: Script = (
     ],
 );
 
-const ASKED: [Script; 9] = [
+const ASKED: [Script; 10] = [
     COINCIDING,
     ONE_MOTION_TWICE,
     SQUARE,
@@ -234,6 +256,7 @@ const ASKED: [Script; 9] = [
     COLLINEAR,
     BOXED,
     ONE_POINT,
+    NEAREST,
     LEAVING,
     LEFT_AT_A_MEETING,
 ];

@@ -54,6 +54,8 @@ pub enum Call {
     Closest(u32, Option<(u32, u32)>),
     /// The points in a rectangle, by a structure that is kept.
     Inside(u32, Rect, &'static [u32]),
+    /// The nearest other point of a live number, by a structure that is kept.
+    Nearest(u32, u32, Option<u32>),
 }
 
 /// The size, what is kept, and the calls.

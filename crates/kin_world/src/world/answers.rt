@@ -1,5 +1,6 @@
-//! What a world answers of each kind of structure that it keeps. The live facts imply each answer but that of a rectangle:
-//! clause `suffices`.
+//! What a world answers of each kind of structure that it keeps. The live facts imply each answer but two: clause
+//! `suffices`. No fact is about the border of a rectangle, and the facts of nearest neighbours determine the candidates of
+//! each point, but not the nearest one.
 
 ghost use Rattle.std.specs.Prelude.{◌≡◌, ℕ, ℤ, Some, slice_get, IsTrue, IfOk};
 ghost use Rattle.kin_motion.specs.declared.keep.Keep.{Keep as Kind};
@@ -7,7 +8,9 @@ ghost use Rattle.kin_motion.specs.declared.keep.Keep.TheVariants as keep;
 ghost use Rattle.kin_motion.specs.Boxes.{IsRectInRange, points_in};
 ghost use Rattle.kin_motion.specs.Chains.{IsHullCycle};
 ghost use Rattle.kin_motion.specs.ClosestPairs.{IsClosest};
+ghost use Rattle.kin_motion.specs.Course.{is_live};
 ghost use Rattle.kin_motion.specs.Extremes.{IsExtremePoint};
+ghost use Rattle.kin_motion.specs.Nearest.{IsNearest};
 ghost use Rattle.kin_motion.specs.Orders.{IsOrder};
 ghost use Rattle.kin_motion.specs.Scene.{Scene};
 ghost use Rattle.kin_world.specs.Kinds.{IsAtRest};
@@ -80,7 +83,20 @@ impl World {
         lists.inside(&self.upkeep.motions, &self.upkeep.moment, rect)
     }
 
-    // The place of a keep. There are at most 19.
+    /// The nearest other point of a live number, or `None` exactly where no other number is live. Of equally near ones it
+    /// is the least. Takes no counter and no memory. It is meant to ask a few signs for each point whose candidate the
+    /// number is, and one for each lesser point at the place of such a point; no clause says so.
+    pub fn nearest(&self, no: u32) -> Option<u32>
+        requires whole { IsTrue self.now.whole }
+        requires kept { (k : ℕ) × (slice_get self.now.keeps k ≡ Some keep.Nearest) }
+        requires live { IsTrue (is_live self.now.motions no) }
+        ensures nearest { IsNearest (world_scene self.now) no result }
+    {
+        let wedges = self.structure(self.place_of(&Keep::Nearest));
+        wedges.nearest(&self.upkeep.motions, &self.upkeep.moment, no)
+    }
+
+    // The place of a keep.
     fn place_of(&self, keep: &Keep) -> u32
         requires whole { IsTrue self.now.whole }
         requires kept { (k : ℕ) × (slice_get self.now.keeps k ≡ Some keep.now) }

@@ -9,3 +9,6 @@ returns-then-eq-clause-links c =
     let signs : c.in-Some.old.sign ≡ c.args.link.sign = search rules in
     let same : c.in-Some.old ≡ c.args.link = λ t. record { right = rights t; sign = signs t } in
     sym (set_same c.args.row.now.links c.args.no (Some c.args.link) (c.in-Some.ensures ∙ ap (λ (l : Link). Some (Some l)) same))
+
+pub returns-clause-tells : goal.returns-clause-tells
+returns-clause-tells c = search rules

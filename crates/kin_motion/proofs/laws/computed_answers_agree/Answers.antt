@@ -1,6 +1,8 @@
 use Rattle.kin_motion.proofs.Proved.{order_proved, extreme_proved, chain_proved, cycle_proved}
 use Rattle.kin_motion.proofs.ClosestLaws.{closest_proved}
 use Rattle.kin_motion.proofs.CandidateLaws.{candidate_agrees}
+use Rattle.kin_motion.proofs.NearestLaws.{nearest_proved}
+use Rattle.kin_motion.proofs.FarthestLaws.{farthest_proved}
 use Rattle.kin_motion.proofs.laws.computed_answers_agree.Goals as goal
 
 pub returns-clause-order : goal.returns-clause-order
@@ -20,3 +22,9 @@ returns-clause-closest c = closest_proved
 
 pub returns-clause-candidate : goal.returns-clause-candidate
 returns-clause-candidate c = candidate_agrees
+
+pub returns-clause-nearest : goal.returns-clause-nearest
+returns-clause-nearest c = nearest_proved
+
+pub returns-clause-farthest : goal.returns-clause-farthest
+returns-clause-farthest c = farthest_proved

@@ -10,4 +10,4 @@ returns-in-Some-Extreme c =
     let dy = c.in-Some-Extreme.field-0-1 in
     let kept = sym c.keep.ensures ∙ c.in-Some-Extreme.is ∙ ap (λ (k : Keep). Some k) c.in-Some-Extreme.field-0-is in
     let is = seen_alike c.args.world.now c.requires (λ s. IsExtremePoint s dx dy c.extreme.result) (c.extreme.ensures.extreme dx dy kept) in
-    record { reply = λ journal. ((dx, dy, kept), record { dx = dx; dy = dy; kept = kept; point = c.extreme.result; extreme = is journal; line = refl }) }
+    record { reply = λ journal. (((dx, dy, kept), tt), record { dx = dx; dy = dy; kept = kept; point = c.extreme.result; extreme = is journal; line = refl }) }

@@ -7,4 +7,4 @@ pub returns : goal.returns
 returns c =
     let numbers = c.in_ok-hull.field-0.items in
     let is = seen_alike c.args.world.now c.requires (λ s. IsHullCycle s numbers) c.in_ok-hull.ensures.hull in
-    record { reply = λ journal. (c.keeps.ensures.0 c.if-not-keeps.false, (numbers, is journal, refl)) }
+    record { reply = λ journal. ((c.keeps.ensures.0 c.if-not-keeps.false, tt), (numbers, is journal, refl)) }

@@ -9,4 +9,4 @@ pub returns : goal.returns
 returns c =
     let w = c.args.world.now in
     let same = c.in_ok-inside.ensures.inside ∙ ap (λ (ms : List (Option Course)). points_in ms w.moment c.args.rect.now) (in_force w c.requires.whole) in
-    record { reply = λ journal. (c.keeps.ensures.0 c.if-not-keeps.false, ap list_line same) }
+    record { reply = λ journal. ((c.keeps.ensures.0 c.if-not-keeps.false, tt), ap list_line same) }

@@ -7,4 +7,4 @@ pub returns : goal.returns
 returns c =
     let w = c.args.world.now in
     let is = seen_alike w c.requires (λ s. ListsLive w.size w.keeps s w.live) c.requires.live in
-    record { reply = λ journal. (tt, (_, (w.live, is journal, sym c.live.ensures.count), refl)) }
+    record { reply = λ journal. ((tt, tt), (_, (w.live, is journal, sym c.live.ensures.count), refl)) }

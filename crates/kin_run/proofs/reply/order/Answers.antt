@@ -11,4 +11,4 @@ returns-in_ok-order-in-Some-Order c =
     let numbers = c.in_ok-order-in-Some-Order.field-0.items in
     let kept = sym c.keep.ensures ∙ c.in-Some-Order.is ∙ ap (λ (k : Keep). Some k) c.in-Some-Order.field-0-is in
     let is = seen_alike c.args.world.now c.requires (λ s. IsOrder s dx dy numbers) (c.in_ok-order-in-Some-Order.ensures.order dx dy kept) in
-    record { reply = λ journal. ((dx, dy, kept), record { dx = dx; dy = dy; kept = kept; order = numbers; ordered = is journal; line = refl }) }
+    record { reply = λ journal. (((dx, dy, kept), tt), record { dx = dx; dy = dy; kept = kept; order = numbers; ordered = is journal; line = refl }) }

@@ -17,10 +17,10 @@ put-requires-clause-candidate c = λ k e.
 pub returns-else-ne-clause-renewed : goal.returns-else-ne-clause-renewed
 returns-else-ne-clause-renewed c = λ o old e f.
     let here = same_octant (c.args.touch.slot % 8) (octant_seen c.orders_of-around.result) o c.orders_of-around.ensures.octant e in
-    let was : c.candidate-old.result ≡ old = same_Some _ _ (sym c.candidate-old.ensures ∙ f) in
+    let was : c.candidate-old.result ≡ old = same_Some _ _ (sym c.candidate-old.ensures.value ∙ f) in
     let same : c.candidate-old.result ≡ c.renewed-new.result = search rules in (
       c.renewed-new.result,
-      set_as_it_is c.args.table.now c.args.touch.slot c.renewed-new.result (c.candidate-old.ensures ∙ ap (λ (x : Option ℕ). Some x) same),
+      set_as_it_is c.args.table.now c.args.touch.slot c.renewed-new.result (c.candidate-old.ensures.value ∙ ap (λ (x : Option ℕ). Some x) same),
       subst (λ (x : Octant). IsRenewed (rows_of c.args.orders.now.lists.items) x (c.args.touch.slot / 8) old c.args.touch.offer c.renewed-new.result) here
           (subst (λ (x : Option ℕ). IsRenewed (rows_of c.args.orders.now.lists.items) (octant_seen c.orders_of-around.result) (c.args.touch.slot / 8) x c.args.touch.offer c.renewed-new.result) was c.renewed-new.ensures),
     )
@@ -28,4 +28,4 @@ returns-else-ne-clause-renewed c = λ o old e f.
 pub returns-else-ne-clause-written : goal.returns-else-ne-clause-written
 returns-else-ne-clause-written c =
     let same : c.candidate-old.result ≡ c.renewed-new.result = search rules in
-    (c.renewed-new.result, set_as_it_is c.args.table.now c.args.touch.slot c.renewed-new.result (c.candidate-old.ensures ∙ ap (λ (x : Option ℕ). Some x) same))
+    (c.renewed-new.result, set_as_it_is c.args.table.now c.args.touch.slot c.renewed-new.result (c.candidate-old.ensures.value ∙ ap (λ (x : Option ℕ). Some x) same))

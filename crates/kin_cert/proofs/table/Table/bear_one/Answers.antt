@@ -4,7 +4,7 @@ use Rattle.kin_motion.specs.Scene.{scene_at}
 use Rattle.kin_cert.specs.Entries.{Entry}
 use Rattle.kin_cert.specs.Facts.{Facts}
 use Rattle.kin_cert.specs.Layout.{live_in, held, fresh, timed, HasBorn}
-use Rattle.kin_cert.specs.Names.{numbers_at, IsListed}
+use Rattle.kin_cert.specs.Names.{IsListed}
 use Rattle.kin_cert.proofs.Schedules.{Moments}
 use Rattle.kin_cert.proofs.Naming.{renamed, still-named, same-facts}
 use Rattle.kin_cert.proofs.Slots.{live-count}
@@ -23,7 +23,7 @@ invariant_of-self-in_err-note g c =
     let o = held c.args.structure c.args.placed.now in
     record {
       table = put-table c.self.inside.roll c.put_in.new.self c.self.inside.schedule c.in_ok-id.id o c.self.invariant.table c.in_ok-id.ensures.vacant c.in_ok-id.ensures.slot;
-      named = renamed c.self.inside.names c.note.new.self c.self.inside.roll c.put_in.new.self c.in_ok-id.id (numbers_at (Some (fresh o))) (Some (fresh o)) c.self.invariant.named c.in_ok-id.ensures.slot c.note.ensures refl;
+      named = renamed c.self.inside.names c.note.new.self c.self.inside.roll c.put_in.new.self c.in_ok-id.id (Some (fresh o)) c.self.invariant.named c.in_ok-id.ensures.slot c.note.ensures;
     }
 
 pub invariant_of-self-in_err-time : goal.invariant_of-self-in_err-time
@@ -33,7 +33,7 @@ invariant_of-self-in_err-time g c =
     (subst (λ (slots : List (Option Entry)). IsListed slots c.self.inside.schedule c.note.new.self) (sym c.in_err-time.ensures.roll)
     (record {
       table = put-table c.self.inside.roll c.put_in.new.self c.self.inside.schedule c.in_ok-id.id o c.self.invariant.table c.in_ok-id.ensures.vacant c.in_ok-id.ensures.slot;
-      named = renamed c.self.inside.names c.note.new.self c.self.inside.roll c.put_in.new.self c.in_ok-id.id (numbers_at (Some (fresh o))) (Some (fresh o)) c.self.invariant.named c.in_ok-id.ensures.slot c.note.ensures refl;
+      named = renamed c.self.inside.names c.note.new.self c.self.inside.roll c.put_in.new.self c.in_ok-id.id (Some (fresh o)) c.self.invariant.named c.in_ok-id.ensures.slot c.note.ensures;
     }))
 
 pub invariant_of-self-2 : goal.invariant_of-self-2
@@ -41,7 +41,7 @@ invariant_of-self-2 g c =
     let o = held c.args.structure c.args.placed.now in
     let scene = scene_at c.args.motions.now in
     let table = put-table c.self.inside.roll c.put_in.new.self c.self.inside.schedule c.in_ok-id.id o c.self.invariant.table c.in_ok-id.ensures.vacant c.in_ok-id.ensures.slot in
-    let named = renamed c.self.inside.names c.note.new.self c.self.inside.roll c.put_in.new.self c.in_ok-id.id (numbers_at (Some (fresh o))) (Some (fresh o)) c.self.invariant.named c.in_ok-id.ensures.slot c.note.ensures refl in
+    let named = renamed c.self.inside.names c.note.new.self c.self.inside.roll c.put_in.new.self c.in_ok-id.id (Some (fresh o)) c.self.invariant.named c.in_ok-id.ensures.slot c.note.ensures in
     let t = c.in_ok-time.ensures.ok o c.in_ok-id.ensures.slot.changed refl in
     let slot = timed-slot scene c.args.now.now o c.in_ok-id.id c.put_in.new.self c.time.new.roll c.self.inside.schedule c.time.new.schedule table c.in_ok-id.ensures.slot.changed t in
     record {

@@ -29,7 +29,7 @@ invariant_of-self g c =
     subst (λ (xs : List (Option Entry)). HasSlot c.self.inside.roll xs c.take_out-vacancy.result.id None) (sym c.take_out-vacancy.ensures.slots) (has-slot c.self.inside.roll c.take_out-vacancy.result.id k.entry None k.there) in
     record {
       table = unqueued-table c.self.inside.roll c.take_out-vacancy.new.self c.self.inside.schedule c.unqueue.new.schedule c.take_out-vacancy.result.id None c.self.invariant.table slot refl c.unqueue.ensures.rest;
-      named = renamed c.self.inside.names c.forget.new.self c.self.inside.roll c.take_out-vacancy.new.self c.take_out-vacancy.result.id [] None c.self.invariant.named slot c.forget.ensures refl;
+      named = renamed c.self.inside.names c.note.new.self c.self.inside.roll c.take_out-vacancy.new.self c.take_out-vacancy.result.id None c.self.invariant.named slot c.note.ensures;
     }
 
 pub returns-clause-rest : goal.returns-clause-rest

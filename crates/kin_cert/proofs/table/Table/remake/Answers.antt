@@ -14,9 +14,12 @@ use Rattle.kin_cert.proofs.table.Table.remake.Goals as goal
 pub time_each-requires-clause-may : goal.time_each-requires-clause-may
 time_each-requires-clause-may g c =
     let roll = c.self.inside.roll in
-    may-remake roll c.args.number c.slots_of-slots.result.now (live_of c.args.motions.now) (scene_at c.args.motions.now c.args.now.now) (marks-of c.gather.new.self roll c.args.number c.slots_of-slots.result.now c.gather.ensures.named c.slots_of-slots.ensures)
+    may-remake roll c.args.number c.slots_of-slots.result.now (live_of c.args.motions.now) (scene_at c.args.motions.now c.args.now.now) (marks-of c.gather.new.self roll c.args.number c.slots_of-slots.result.now c.gather.ensures.named c.in_ok-gather.ensures.ok c.slots_of-slots.ensures)
     (λ l there names. c.requires.askable l (subst (λ (t : Facts). Contains t.live l) c.self.view_is there) names)
     (λ l there names. c.requires.holds l (subst (λ (t : Facts). Contains t.live l) c.self.view_is there) names)
+
+pub invariant_of-self-in_err-time_each : goal.invariant_of-self-in_err-time_each
+invariant_of-self-in_err-time_each g c = record { table = c.time_each.ensures.table; named = still-named c.gather.new.self c.self.inside.roll c.time_each.new.roll c.gather.ensures.named c.time_each.ensures.facts }
 
 pub invariant_of-self-2 : goal.invariant_of-self-2
 invariant_of-self-2 g c = record { table = c.time_each.ensures.table; named = still-named c.gather.new.self c.self.inside.roll c.time_each.new.roll c.gather.ensures.named c.time_each.ensures.facts }
@@ -26,7 +29,7 @@ returns-clause-remade g c =
     let roll = c.self.inside.roll in
     let made = c.saturating_add-self-inside.result in
     subst (λ (t : Facts). HasRemade c.args.number (scene_at c.args.motions.now) c.args.now.now t (record { live = live_in c.time_each.new.roll; made = made })) c.self.view_is
-    (remade-all (scene_at c.args.motions.now) c.args.now.now c.args.number c.slots_of-slots.result.now roll c.time_each.new.roll (marks-of c.gather.new.self roll c.args.number c.slots_of-slots.result.now c.gather.ensures.named c.slots_of-slots.ensures)
+    (remade-all (scene_at c.args.motions.now) c.args.now.now c.args.number c.slots_of-slots.result.now roll c.time_each.new.roll (marks-of c.gather.new.self roll c.args.number c.slots_of-slots.result.now c.gather.ensures.named c.in_ok-gather.ensures.ok c.slots_of-slots.ensures)
     c.in_ok-time_each.ensures.renewed c.self.inside.made made c.saturating_add-self-inside.ensures)
 
 pub returns-clause-once : goal.returns-clause-once
@@ -35,6 +38,6 @@ returns-clause-once g c = table-once c.time_each.new.roll c.len.ensures.once
 pub returns-clause-cost : goal.returns-clause-cost
 returns-clause-cost g c =
     let roll = c.self.inside.roll in
-    let count = marks-count c.args.number c.slots_of-slots.result.now roll (marks-of c.gather.new.self roll c.args.number c.slots_of-slots.result.now c.gather.ensures.named c.slots_of-slots.ensures) in
+    let count = marks-count c.args.number c.slots_of-slots.result.now roll (marks-of c.gather.new.self roll c.args.number c.slots_of-slots.result.now c.gather.ensures.named c.in_ok-gather.ensures.ok c.slots_of-slots.ensures) in
     subst (λ (t : Facts). TakesAtMost (length t.live) (λ r. count_by (names_number c.args.number) t.live * (2 * r + 1)) c.args.steps.now c.time_each.new.steps) c.self.view_is
     (subst (λ (n : ℕ). TakesAtMost (length (live_in c.self.inside.roll)) (λ r. n * (2 * r + 1)) c.args.steps.now c.time_each.new.steps) count c.in_ok-time_each.ensures.cost)

@@ -5,7 +5,7 @@ use Rattle.kin_cert.specs.Cost.{is_ungiven}
 use Rattle.kin_cert.specs.Facts.{Facts}
 use Rattle.kin_fail.specs.Rank.{owned_rank}
 use Rattle.kin_cert.specs.Layout.{live_in, held, fresh, timed, queued_at, HasReplaced}
-use Rattle.kin_cert.specs.Names.{numbers_at, IsListed}
+use Rattle.kin_cert.specs.Names.{IsListed}
 use Rattle.kin_cert.proofs.Schedules.{Moments}
 use Rattle.kin_cert.proofs.Naming.{renamed, still-named, same-facts}
 use Rattle.kin_cert.proofs.Tables.{unqueued-table, timed-slot, timed-table}
@@ -34,7 +34,7 @@ invariant_of-self-in_err-note g c =
     let id = c.in-Some.vacancy.id in
     let slot = taken-slot c.self.inside.roll c.take_over.new.self (owned_rank (held c.args.structure c.args.dropped.now)) o c.in-Some.vacancy c.in-Some.ensures.taken in
     let table = unqueued-table c.self.inside.roll c.take_over.new.self c.self.inside.schedule c.unqueue.new.schedule id (Some (fresh o)) c.self.invariant.table slot refl c.unqueue.ensures.rest in
-    let named = renamed c.self.inside.names c.note.new.self c.self.inside.roll c.take_over.new.self id (numbers_at (Some (fresh o))) (Some (fresh o)) c.self.invariant.named slot c.note.ensures refl in
+    let named = renamed c.self.inside.names c.note.new.self c.self.inside.roll c.take_over.new.self id (Some (fresh o)) c.self.invariant.named slot c.note.ensures in
     record { table = table; named = named }
 
 pub invariant_of-self-in_err-time : goal.invariant_of-self-in_err-time
@@ -43,7 +43,7 @@ invariant_of-self-in_err-time g c =
     let id = c.in-Some.vacancy.id in
     let slot = taken-slot c.self.inside.roll c.take_over.new.self (owned_rank (held c.args.structure c.args.dropped.now)) o c.in-Some.vacancy c.in-Some.ensures.taken in
     let table = unqueued-table c.self.inside.roll c.take_over.new.self c.self.inside.schedule c.unqueue.new.schedule id (Some (fresh o)) c.self.invariant.table slot refl c.unqueue.ensures.rest in
-    let named = renamed c.self.inside.names c.note.new.self c.self.inside.roll c.take_over.new.self id (numbers_at (Some (fresh o))) (Some (fresh o)) c.self.invariant.named slot c.note.ensures refl in
+    let named = renamed c.self.inside.names c.note.new.self c.self.inside.roll c.take_over.new.self id (Some (fresh o)) c.self.invariant.named slot c.note.ensures in
     subst (λ (m : Moments). IsListed c.time.new.roll m c.note.new.self) (sym c.in_err-time.ensures.schedule)
     (subst (λ (slots : List (Option Entry)). IsListed slots c.unqueue.new.schedule c.note.new.self) (sym c.in_err-time.ensures.roll) (record { table = table; named = named }))
 
@@ -53,7 +53,7 @@ invariant_of-self-2 g c =
     let id = c.in-Some.vacancy.id in
     let slot = taken-slot c.self.inside.roll c.take_over.new.self (owned_rank (held c.args.structure c.args.dropped.now)) o c.in-Some.vacancy c.in-Some.ensures.taken in
     let table = unqueued-table c.self.inside.roll c.take_over.new.self c.self.inside.schedule c.unqueue.new.schedule id (Some (fresh o)) c.self.invariant.table slot refl c.unqueue.ensures.rest in
-    let named = renamed c.self.inside.names c.note.new.self c.self.inside.roll c.take_over.new.self id (numbers_at (Some (fresh o))) (Some (fresh o)) c.self.invariant.named slot c.note.ensures refl in
+    let named = renamed c.self.inside.names c.note.new.self c.self.inside.roll c.take_over.new.self id (Some (fresh o)) c.self.invariant.named slot c.note.ensures in
     let scene = scene_at c.args.motions.now in
     let t = c.in_ok-time.ensures.ok o slot.changed refl in
     let later = timed-slot scene c.args.now.now o id c.take_over.new.self c.time.new.roll c.unqueue.new.schedule c.time.new.schedule table slot.changed t in

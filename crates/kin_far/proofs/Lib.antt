@@ -1,0 +1,9 @@
+pub mod Lengths
+pub mod FarSteps
+pub mod FarPoints
+pub mod SweepWalk
+pub mod FarCells
+pub mod BestCells
+pub mod SettledDiameters
+pub mod DeterminedSweeps
+pub mod DeterminedDiameters

@@ -1,0 +1,2 @@
+pub mod FarCells
+pub mod Diameters

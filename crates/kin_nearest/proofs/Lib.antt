@@ -1,0 +1,4 @@
+pub mod Stepping
+pub mod Choosing
+pub mod Searching
+pub mod Leaving

@@ -1,0 +1,4 @@
+pub mod Nearing
+pub mod NearingLaws
+pub mod Walks
+pub mod Searches
