@@ -1,4 +1,5 @@
 pub mod Stepping
+pub mod Ending
 pub mod Choosing
 pub mod Searching
 pub mod Leaving

@@ -17,11 +17,11 @@ use Rattle.kin_motion.proofs.NearestLaws.{nearest_proved}
 use Rattle.kin_motion.proofs.RealLaws.{real_line_laws}
 use Rattle.kin_motion.proofs.SetLaws.{exactly_none, exactly_both, exactly_in_words, exactly_mapped}
 use Rattle.kin_wedge.specs.Wedging.{Wedging, candidate_told, IsSettledWedging}
-use Rattle.kin_near.specs.Hits.{IsWayDown, IsHitFor}
+use Rattle.kin_near.specs.Hits.{IsHitFor}
 use Rattle.kin_near.proofs.Hits.{hits_suffice}
 use Rattle.kin_near.proofs.WaysDown.{of_member}
 use Rattle.kin_nearest.specs.Nearing.{count_lesser_there, MayNearestAsk}
-use Rattle.kin_nearest.specs.Searches.{IsHitIn, IsOther, IsKept, IsReached, MayOctantAsk}
+use Rattle.kin_nearest.specs.Searches.{IsHitIn, IsEnd, IsKept, IsReached, MayOctantAsk}
 
 -- the most signs for a hit from this apex
 abbrev cost : Scene → ℕ → ℕ
@@ -29,7 +29,7 @@ cost s h = 4 + count_lesser_there s h
 
 -- the hits in an octant are reached, but for those that are left
 pub record IsSearched (k : Wedging) (s : Scene) (p w : ℕ) (first : Option ℕ) (before : ℕ) (best : Option ℕ) (now : ℕ) (left : List ℕ) : Type 0 where
-  pub other : IsOther s p best
+  pub end : IsEnd s p best
   pub kept : (h : ℕ) → IsReached s p first h → IsReached s p best h
   pub done : (h : ℕ) → IsHitIn k p w h → Contains left h ⊎ IsReached s p best h
   pub hits : (h : ℕ) → Contains left h → IsHitIn k p w h
@@ -39,7 +39,7 @@ pub record IsSearched (k : Wedging) (s : Scene) (p w : ℕ) (first : Option ℕ)
 
 -- the hits in the octants below one are reached
 pub record AreSearched (k : Wedging) (s : Scene) (p w before : ℕ) (best : Option ℕ) (now : ℕ) : Type 0 where
-  pub other : IsOther s p best
+  pub end : IsEnd s p best
   pub done : (v h : ℕ) → v < w → candidate_told k h v ≡ Some p → IsReached s p best h
   pub hits : List (ℕ × ℕ)
   pub exactly : ListsExactly hits (λ h. (h.0 < 2 ^ k.size) × (h.1 < w) × (candidate_told k h.0 h.1 ≡ Some p))
@@ -66,9 +66,9 @@ module _ (k : Wedging) (s : Scene) (real : IsReal s) (settled : IsSettledWedging
 
   -- ---- the hits in an octant
   module _ (w : ℕ) (first : Option ℕ) (before : ℕ) where
-    pub search_begun : (apexes left : List ℕ) → left ≡ apexes → ListsExactly apexes (IsHitIn k p w) → IsOther s p first → IsSearched k s p w first before first before left
-    search_begun apexes left e exactly other = subst (IsSearched k s p w first before first before) (sym e) (record {
-      other = other;
+    pub search_begun : (apexes left : List ℕ) → left ≡ apexes → ListsExactly apexes (IsHitIn k p w) → IsEnd s p first → IsSearched k s p w first before first before left
+    search_begun apexes left e exactly end = subst (IsSearched k s p w first before first before) (sym e) (record {
+      end = end;
       kept = λ h r. r;
       done = λ h hit. inl ((exactly.each h).1 hit);
       hits = λ h. (exactly.each h).0;
@@ -81,16 +81,16 @@ module _ (k : Wedging) (s : Scene) (real : IsReal s) (settled : IsSettledWedging
       pub hit_here : IsHitIn k p w apex
       hit_here = a.hits apex (subst (λ (xs : List ℕ). Contains xs apex) (sym e) (contains_head apex rest))
 
-      pub search_on : (end chosen walked then : ℕ) → IsWayDown s p apex end → walked ≤ now + count_lesser_there s apex + 1 → IsOther s p (Some chosen) → IsKept s p end chosen → MatchOption best (Unit {0}) (λ b. IsKept s p b chosen) → then ≤ walked + 1
+      pub search_on : (chosen then : ℕ) → IsEnd s p (Some chosen) → IsReached s p (Some chosen) apex → MatchOption best (Unit {0}) (λ b. IsKept s p b chosen) → then ≤ now + count_lesser_there s apex + 2
           → IsSearched k s p w first before (Some chosen) then rest
-      search_on end chosen walked then way walk other with_end with_best choice = record {
-        other = other;
+      search_on chosen then end reached with_best few = record {
+        end = end;
         kept = λ h r. still h best with_best (a.kept h r);
         done = λ h hit. at h (a.done h hit);
         hits = λ h c. a.hits h (subst (λ (xs : List ℕ). Contains xs h) (sym e) (contains_tail apex h rest c));
         apexes = a.apexes;
         exactly = a.exactly;
-        asked = let asked = a.asked in let sum = ap (sum_by (cost s)) e ∙ sum_by-cons (cost s) apex rest in omega (arith, asked, sum, walk, choice);
+        asked = let asked = a.asked in let sum = ap (sum_by (cost s)) e ∙ sum_by-cons (cost s) apex rest in omega (arith, asked, sum, few);
       }
         where
           still : (h : ℕ) (b : Option ℕ) → MatchOption b (Unit {0}) (λ c. IsKept s p c chosen) → IsReached s p b h → IsReached s p (Some chosen) h
@@ -98,7 +98,7 @@ module _ (k : Wedging) (s : Scene) (real : IsReal s) (settled : IsSettledWedging
           still h (Some b) t (f, down, r) = (f, down, λ near. t (subst (IsNearestTo s p) (sym (r near)) near) ∙ r near)
 
           here : (h : ℕ) → (apex ≡ h) ⊎ Contains rest h → Contains rest h ⊎ IsReached s p (Some chosen) h
-          here h (inl same) = inr (subst (IsReached s p (Some chosen)) same (end, way, with_end))
+          here h (inl same) = inr (subst (IsReached s p (Some chosen)) same reached)
           here h (inr there) = inl there
 
           at : (h : ℕ) → Contains left h ⊎ IsReached s p best h → Contains rest h ⊎ IsReached s p (Some chosen) h
@@ -122,7 +122,7 @@ module _ (k : Wedging) (s : Scene) (real : IsReal s) (settled : IsSettledWedging
   -- ---- all hits
   pub none_searched : (before : ℕ) → AreSearched k s p 0 before None before
   none_searched before = record {
-    other = tt;
+    end = tt;
     done = λ v h low. absurd (omega (arith, low));
     hits = [];
     exactly = exactly_none _ (λ h f. let low = f.1 in omega (arith, low));
@@ -147,10 +147,10 @@ module _ (k : Wedging) (s : Scene) (real : IsReal s) (settled : IsSettledWedging
       let rest = same_sum w xs in
       omega (arith, a, b, rest)
 
-  pub more_searched : (w before : ℕ) (best : Option ℕ) (now : ℕ) (next : Option ℕ) (then : ℕ) → AreSearched k s p w before best now → IsOther s p next → ((h : ℕ) → candidate_told k h w ≡ Some p → IsReached s p next h) → ((h : ℕ) → IsReached s p best h → IsReached s p next h)
+  pub more_searched : (w before : ℕ) (best : Option ℕ) (now : ℕ) (next : Option ℕ) (then : ℕ) → AreSearched k s p w before best now → IsEnd s p next → ((h : ℕ) → candidate_told k h w ≡ Some p → IsReached s p next h) → ((h : ℕ) → IsReached s p best h → IsReached s p next h)
       → HasRisenWithin (MayOctantAsk k s p w) now then → AreSearched k s p (w + 1) before next then
-  more_searched w before best now next then a other reached kept (n, may, risen) = record {
-    other = other;
+  more_searched w before best now next then a end reached kept (n, may, risen) = record {
+    end = end;
     done = λ v h low hit. at v h (cases_eq v w) low hit;
     hits = a.hits ++ map (in_octant w) may.apexes;
     exactly =
@@ -203,16 +203,16 @@ module _ (k : Wedging) (s : Scene) (real : IsReal s) (settled : IsSettledWedging
     pub nearest_found : IsNearest s p best
     nearest_found = at (nearest_of s p) (nearest_proved s p real)
       where
-        alone : (b : Option ℕ) → IsOther s p b → ((j : ℕ) → IsIn j s.live → j ≡ p) → IsNearest s p b
+        alone : (b : Option ℕ) → IsEnd s p b → ((j : ℕ) → IsIn j s.live → j ≡ p) → IsNearest s p b
         alone None o one = one
-        alone (Some b) o one = absurd (o.1 (one b o.0))
+        alone (Some b) o one = absurd (o.other (one b o.live))
 
         is : (q : ℕ) (b : Option ℕ) → IsNearestTo s p q → MatchOption b ⊥ (λ c. c ≡ q) → IsNearest s p b
         is q None near r = absurd r
         is q (Some b) near r = subst (IsNearestTo s p) (sym r) near
 
         at : (answer : Option ℕ) → IsNearest s p answer → IsNearest s p best
-        at None one = alone best a.other one
+        at None one = alone best a.end one
         at (Some q) near = is q best near (nearest_reached q near)
 
     pub all_asked : HasRisenWithin (MayNearestAsk k s p) before now

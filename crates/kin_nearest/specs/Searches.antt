@@ -1,7 +1,6 @@
 -- What a search among the hits of a point has found.
-use Rattle.std.specs.Prelude.{◌≡◌, ◌≢◌, ℕ, ◌+◌, ◌^◌, ◌<◌, ◌≤◌, List, sum_by, Option, Some, MatchOption}
+use Rattle.std.specs.Prelude.{◌≡◌, ℕ, ◌+◌, ◌^◌, ◌<◌, ◌≤◌, List, sum_by, Option, Some, MatchOption}
 use Rattle.kin_motion.specs.Nearest.{IsNearestTo}
-use Rattle.kin_motion.specs.Numbers.{IsIn}
 use Rattle.kin_motion.specs.Scene.{Scene}
 use Rattle.kin_motion.specs.Sets.{ListsExactly}
 use Rattle.kin_near.specs.Hits.{IsWayDown}
@@ -12,9 +11,9 @@ use Rattle.kin_nearest.specs.Nearing.{count_lesser_there}
 abbrev pub IsHitIn : Wedging → ℕ → ℕ → ℕ → Type 0
 IsHitIn k p w h = (h < 2 ^ k.size) × (candidate_told k h w ≡ Some p)
 
--- the best, if there is one, is a live number other than p
-abbrev pub IsOther : Scene → ℕ → Option ℕ → Type 0
-IsOther s p best = MatchOption best (Unit {0}) (λ b. IsIn b s.live × (b ≢ p))
+-- the best, if there is one, is the end of a way down for p: from it no step leads down
+abbrev pub IsEnd : Scene → ℕ → Option ℕ → Type 0
+IsEnd s p best = MatchOption best (Unit {0}) (λ b. IsWayDown s p b b)
 
 -- a isn't passed over: if it is the nearest other point of p, then b is a
 abbrev pub IsKept : Scene → ℕ → ℕ → ℕ → Type 0

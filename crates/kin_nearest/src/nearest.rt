@@ -74,9 +74,9 @@ impl KinNearest {
     /// The nearest other point of a member at the moment `now`; of equally near ones it is the least. `None` comes
     /// exactly where there is no other. The structure is settled there, as it is while its facts hold.
     ///
-    /// It asks no sign of a point that neither has the member as its candidate nor is at the place of one that has it.
-    /// Over all apexes and octants whose candidate the member is, it asks at most 4 signs, and one more for each lesser
-    /// point at the apex's place. It takes no memory.
+    /// Besides the member, it asks signs only of points that have it as their candidate, of the points at their places,
+    /// and of the candidates of all these in octant 4. Over all apexes and octants whose candidate the member is, it asks
+    /// at most 4 signs, and one more for each lesser point at the apex's place. It takes no memory.
     pub fn nearest<O: Signs, L: Ledger>(
         &self,
         now: &O,

@@ -152,6 +152,7 @@ fn empty_lists(alloc: Global, count: usize) -> Result<Vec<Vec<u32>>, NoMemory>
 /// Puts an item after all others. Answers its place.
 pub(crate) fn append(list: &mut Vec<u32>, item: u32) -> Result<u32, NoMemory>
     ensures ok { IfOk result (λ place. (place ≡ length list.old.items) × (list.new.items ≡ list.old.items ++ item ∷ [])) }
+    ensures few { OnOk result (length list.new.items ≤ 2 ^ 32) }
     ensures err { OnErr result (list.new.items ≡ list.old.items) }
 {
     let place = u32::try_from(list.len()).map_err(|_| NoMemory)?;

@@ -8,7 +8,7 @@ loop-octant-init g c = none_searched c.args.wedges.now (g.O.Signs.scene c.args.n
 pub loop-octant-preserved : goal.loop-octant-preserved
 loop-octant-preserved g c =
     more_searched c.args.wedges.now (g.O.Signs.scene c.args.now.now) c.requires.real c.requires.settled c.args.no c.loop-octant.octant c.args.steps.now c.loop-octant.best c.loop-octant.steps c.best_with-best.result c.best_with-best.new.steps c.loop-octant.invariant
-    c.best_with-best.ensures.other c.best_with-best.ensures.hits c.best_with-best.ensures.kept c.best_with-best.ensures.tests
+    c.best_with-best.ensures.end c.best_with-best.ensures.hits c.best_with-best.ensures.kept c.best_with-best.ensures.tests
 
 pub returns-clause-nearest : goal.returns-clause-nearest
 returns-clause-nearest g c =

@@ -5,27 +5,27 @@ pub loop-apex-init : goal.loop-apex-init
 loop-apex-init g c =
     search_begun c.args.wedges.now (g.O.Signs.scene c.args.now.now) c.requires.real c.requires.settled c.args.no c.args.octant c.args.best c.args.steps.now c.hits-apex-items.result _ c.into_iter-apex-iterator.ensures.into_iter_gives c.hits-apex-items.ensures.listed c.requires.best
 
-pub walk_down-end-requires-clause-live : goal.walk_down-end-requires-clause-live
-walk_down-end-requires-clause-live g c =
+pub better_of-requires-clause-live : goal.better_of-requires-clause-live
+better_of-requires-clause-live g c =
     hit_live c.args.wedges.now (g.O.Signs.scene c.args.now.now) c.requires.real c.requires.settled c.args.no c.args.octant c.in-Some.apex c.requires.octant
     (hit_here c.args.wedges.now (g.O.Signs.scene c.args.now.now) c.requires.real c.requires.settled c.args.no c.args.octant c.args.best c.args.steps.now c.loop-apex.best c.loop-apex.steps c.loop-apex.apex-iterator _ c.in-Some.apex c.in-Some.ensures.steps c.loop-apex.invariant)
 
-pub walk_down-end-requires-clause-other : goal.walk_down-end-requires-clause-other
-walk_down-end-requires-clause-other g c =
+pub better_of-requires-clause-other : goal.better_of-requires-clause-other
+better_of-requires-clause-other g c =
     hit_other c.args.wedges.now (g.O.Signs.scene c.args.now.now) c.requires.real c.requires.settled c.args.no c.args.octant c.in-Some.apex c.requires.octant
     (hit_here c.args.wedges.now (g.O.Signs.scene c.args.now.now) c.requires.real c.requires.settled c.args.no c.args.octant c.args.best c.args.steps.now c.loop-apex.best c.loop-apex.steps c.loop-apex.apex-iterator _ c.in-Some.apex c.in-Some.ensures.steps c.loop-apex.invariant)
 
-pub walk_down-end-requires-clause-room : goal.walk_down-end-requires-clause-room
-walk_down-end-requires-clause-room g c =
+pub better_of-requires-clause-room : goal.better_of-requires-clause-room
+better_of-requires-clause-room g c =
     (hit_here c.args.wedges.now (g.O.Signs.scene c.args.now.now) c.requires.real c.requires.settled c.args.no c.args.octant c.args.best c.args.steps.now c.loop-apex.best c.loop-apex.steps c.loop-apex.apex-iterator _ c.in-Some.apex c.in-Some.ensures.steps c.loop-apex.invariant).0
 
 pub loop-apex-preserved : goal.loop-apex-preserved
 loop-apex-preserved g c =
     search_on c.args.wedges.now (g.O.Signs.scene c.args.now.now) c.requires.real c.requires.settled c.args.no c.args.octant c.args.best c.args.steps.now c.loop-apex.best c.loop-apex.steps c.loop-apex.apex-iterator _ c.in-Some.apex c.in-Some.ensures.steps c.loop-apex.invariant
-    c.walk_down-end.result c.nearer_of.result c.walk_down-end.new.steps c.nearer_of.new.steps c.walk_down-end.ensures.way c.walk_down-end.ensures.tests c.nearer_of.ensures.other c.nearer_of.ensures.one c.nearer_of.ensures.best c.nearer_of.ensures.tests
+    c.better_of.result c.better_of.new.steps c.better_of.ensures.end c.better_of.ensures.reached c.better_of.ensures.best c.better_of.ensures.tests
 
-pub returns-clause-other : goal.returns-clause-other
-returns-clause-other g c = c.loop-apex.invariant.other
+pub returns-clause-end : goal.returns-clause-end
+returns-clause-end g c = c.loop-apex.invariant.end
 
 pub returns-clause-hits : goal.returns-clause-hits
 returns-clause-hits g c = λ h told.
