@@ -1,35 +1,21 @@
 -- Once all slots hold their candidates, the tournament may settle.
-use Rattle.std.proofs.Common.{◌≡◌, ◌≢◌, refl, sym, ◌∙◌, subst, List, [], ◌∷◌, ℕ, false}
+use Rattle.std.proofs.Common.{◌≡◌, sym, ◌∙◌, [], ◌∷◌, ℕ}
 use Rattle.std.specs.Prelude.{Option, Some, slice_get, IsTrue}
 use Rattle.std.proofs.lemmas.List.Elements.{All-nil, All-cons}
-use Rattle.kin_motion.specs.declared.form.Form.{Form}
-use Rattle.kin_motion.specs.declared.form.Form.TheVariants.{Line, Turn, Slope, Dist}
 use Rattle.kin_motion.specs.Agreements.{FitsSize}
-use Rattle.kin_motion.specs.Forms.{names, IsAskable}
 use Rattle.kin_motion.specs.Numbers.{IsIn}
 use Rattle.kin_motion.specs.Scene.{Scene, IsReal}
 use Rattle.kin_motion.specs.Octants.{AreCandidates}
 use Rattle.kin_motion.specs.ClosestPairs.{Near}
 use Rattle.kin_motion.specs.ClosestFacts.{AreNearSlots}
 use Rattle.kin_motion.proofs.NodeLaws.{held_slot}
-use Rattle.kin_motion.proofs.Members.{not_in_cons}
 use Rattle.kin_motion.proofs.NearLaws.{own-slot}
 use Rattle.kin_tourney.specs.Tournament.{Tournament, IsReady}
+pub use Rattle.kin_pairs.proofs.LiveNames.{names_live}
 use Rattle.kin_near.specs.BestPairs.{HoldCandidates}
-use Rattle.kin_closest.specs.DistanceKey.{pair_names}
+use Rattle.kin_pairs.specs.PairKeys.{pair_names}
 use Rattle.kin_near.proofs.BestPairs.{ArePoints, points}
 use Rattle.kin_near.proofs.SettledPairs.{are_near}
-
--- a form that may be asked for names no number that isn't live
-module _ (live : List ℕ) (i : ℕ) (absent : ¬ (IsIn i live)) where
-  other : {n : ℕ} → IsIn n live → i ≢ n
-  other k e = absent (subst (λ m. IsIn m live) (sym e) k)
-
-  pub names_live : (f : Form) → IsAskable live f → names f i ≡ false
-  names_live (Line dx dy off a b) h = not_in_cons i a (b ∷ []) (other h.i_live) (not_in_cons i b [] (other h.j_live) refl)
-  names_live (Turn a b c) h = not_in_cons i a (b ∷ c ∷ []) (other h.0) (not_in_cons i b (c ∷ []) (other h.1) (not_in_cons i c [] (other h.2) refl))
-  names_live (Slope a b c d) h = not_in_cons i a (b ∷ c ∷ d ∷ []) (other h.0) (not_in_cons i b (c ∷ d ∷ []) (other h.1) (not_in_cons i c (d ∷ []) (other h.2) (not_in_cons i d [] (other h.3) refl)))
-  names_live (Dist a b c d) h = not_in_cons i a (b ∷ c ∷ d ∷ []) (other h.0) (not_in_cons i b (c ∷ d ∷ []) (other h.1) (not_in_cons i c (d ∷ []) (other h.2) (not_in_cons i d [] (other h.3) refl)))
 
 module _ {K : Type 0} (size : ℕ) (s : Scene) (real : IsReal s) (fits : FitsSize size s) (candidate : ℕ → ℕ → Option ℕ) (told : AreCandidates size s candidate) (u : Tournament K Near) (held : HoldCandidates size candidate u.slots) where
   filled : AreNearSlots size s u.slots

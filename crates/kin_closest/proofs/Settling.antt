@@ -29,15 +29,16 @@ use Rattle.kin_tourney.specs.PointLaws.{mark_none}
 use Rattle.kin_wedge.specs.Wedging.{Wedging, candidate_told, members_of, IsSettledWedging}
 use Rattle.kin_near.specs.BestPairs.{HoldCandidates}
 use Rattle.kin_near.proofs.SettledPairs.{wedge_part}
-use Rattle.kin_closest.specs.declared.distance.Distance.{Distance}
+use Rattle.kin_pairs.specs.declared.distance.Distance.{Distance}
 use Rattle.kin_closest.specs.Closing.{Closing, facts_of, IsSettledClosing, IsReadyClosing, AreJoined}
 use Rattle.kin_closest.specs.ClosingLaws.{closest_settled}
-use Rattle.kin_closest.specs.DistanceKey.{pair_names}
-use Rattle.kin_closest.specs.Sorting.{is_of_order, is_of_pair, taken_back}
+use Rattle.kin_pairs.specs.PairKeys.{pair_names}
+use Rattle.kin_pairs.specs.Sorting.{is_before, is_beyond, taken_back}
 use Rattle.kin_closest.specs.Told.{AreLow, AreTold}
-use Rattle.kin_closest.proofs.Joining.{joined, facts_low}
-use Rattle.kin_closest.proofs.Readiness.{ready, names_live}
-use Rattle.kin_closest.proofs.Splitting.{orders_failing, pairs_covered}
+use Rattle.kin_pairs.proofs.Joining.{joined, facts_low}
+use Rattle.kin_pairs.proofs.LiveNames.{names_live}
+use Rattle.kin_pairs.proofs.Splitting.{others_failing, pairs_covered}
+use Rattle.kin_closest.proofs.Readiness.{ready}
 use Rattle.kin_closest.proofs.Telling.{held_after}
 
 -- who stays or enters is below the size
@@ -85,8 +86,8 @@ module _ {old : Closing} {s : Scene} {failed : List Placed} (call : IsCalled old
   orders_low : (p : Placed) → Contains old.wedges.facts p → p.part < 8
   orders_low p c = wedge_part call.known.seen p ((call.known.settled.octants.wedges.exact.each p).0 c)
 
-  pub orders_told : ListsFailing old.wedges.facts (names_leaving old.wedges.mark) s (filter is_of_order failed)
-  orders_told = orders_failing (names_leaving old.wedges.mark) s old.wedges.facts old.pairs.facts failed orders_low call.failing
+  pub orders_told : ListsFailing old.wedges.facts (names_leaving old.wedges.mark) s (filter (is_before 8) failed)
+  orders_told = others_failing 8 (names_leaving old.wedges.mark) s old.wedges.facts old.pairs.facts failed orders_low call.failing
 
   fits : FitsSize old.wedges.size s
   fits = marked_low old.wedges.mark (members_of old.wedges) s.live (2 ^ old.wedges.size) call.may.members (λ i m. call.known.settled.fits i (sym ((call.known.settled.octants.ordered.order 0 (omega arith)).all.same i) ∙ m)) call.known.entering
@@ -129,30 +130,30 @@ module _ {old : Closing} {s : Scene} {failed : List Placed} (call : IsCalled old
       pub pairs_ready : IsReady pair_names u s
       pairs_ready = ready old.wedges.size s call.real fits (candidate_told new) octants_here.wedges.candidates u held (ap (λ (t : Tournament Distance Near). t.whole) told.same ∙ call.known.rest.whole)
 
-      pub pairs_told : CoversAskable u.facts s (map taken_back (filter is_of_pair failed))
+      pub pairs_told : CoversAskable u.facts s (map (taken_back 8) (filter (is_beyond 8) failed))
       pairs_told =
-          subst (λ fs. CoversAskable fs s (map taken_back (filter is_of_pair failed))) (sym same_facts)
-          (pairs_covered (names_leaving old.wedges.mark) s old.wedges.facts old.pairs.facts failed orders_low call.failing
+          subst (λ fs. CoversAskable fs s (map (taken_back 8) (filter (is_beyond 8) failed))) (sym same_facts)
+          (pairs_covered 8 (names_leaving old.wedges.mark) s old.wedges.facts old.pairs.facts failed orders_low call.failing
           (λ x c live. none_leaving old.wedges.mark (members_of old.wedges) s.live x call.may.members (λ i absent. names_live s.live i absent x.fact.form live)))
 
       pub pairs_small : u.size ≤ 15
       pairs_small = let e : u.size ≡ old.wedges.size + 3 = same_size ∙ call.known.settled.size in let k = call.known.small in omega (arith, e, k)
 
       pub pairs_low : (p : Placed) → Contains u.facts p → p.part < 2 ^ 15
-      pairs_low p c = facts_low old.pairs call.known.seen call.known.settled.pairs (let e = call.known.settled.size in let k = call.known.small in omega (arith, e, k)) p (subst (λ fs. Contains fs p) same_facts c)
+      pairs_low p c = facts_low pair_names distance_key old.pairs call.known.seen call.known.settled.pairs (let e = call.known.settled.size in let k = call.known.small in omega (arith, e, k)) p (subst (λ fs. Contains fs p) same_facts c)
 
       -- the marks and the failed facts that were told
-      pub tests_few : (picked : List Placed) (mid after : ℕ) → picked ≡ map taken_back (filter is_of_pair failed) → after ≤ mid + u.size * (mark_count u.marked + length picked)
-          → after ≤ mid + (old.wedges.size + 3) * (length new.changed + length (filter is_of_pair failed))
-      tests_few picked mid after e h = enough (subst (λ n. after ≤ mid + n * (mark_count u.marked + length picked)) (same_size ∙ call.known.settled.size) h) (ap length e ∙ length-map (filter is_of_pair failed) taken_back) marks
+      pub tests_few : (picked : List Placed) (mid after : ℕ) → picked ≡ map (taken_back 8) (filter (is_beyond 8) failed) → after ≤ mid + u.size * (mark_count u.marked + length picked)
+          → after ≤ mid + (old.wedges.size + 3) * (length new.changed + length (filter (is_beyond 8) failed))
+      tests_few picked mid after e h = enough (subst (λ n. after ≤ mid + n * (mark_count u.marked + length picked)) (same_size ∙ call.known.settled.size) h) (ap length e ∙ length-map (filter (is_beyond 8) failed) (taken_back 8)) marks
         where
           marks : mark_count u.marked ≤ length new.changed
           marks = let k = told.few in let z = mark_none old.pairs.marked call.known.rest.unmarked in omega (arith, k, z)
 
-          enough : after ≤ mid + (old.wedges.size + 3) * (mark_count u.marked + length picked) → length picked ≡ length (filter is_of_pair failed) → mark_count u.marked ≤ length new.changed
-              → after ≤ mid + (old.wedges.size + 3) * (length new.changed + length (filter is_of_pair failed))
+          enough : after ≤ mid + (old.wedges.size + 3) * (mark_count u.marked + length picked) → length picked ≡ length (filter (is_beyond 8) failed) → mark_count u.marked ≤ length new.changed
+              → after ≤ mid + (old.wedges.size + 3) * (length new.changed + length (filter (is_beyond 8) failed))
           enough h e m =
-              let k = mul-le (old.wedges.size + 3) (mark_count u.marked + length picked) (old.wedges.size + 3) (length new.changed + length (filter is_of_pair failed)) (omega arith) (omega (arith, e, m)) in
+              let k = mul-le (old.wedges.size + 3) (mark_count u.marked + length picked) (old.wedges.size + 3) (length new.changed + length (filter (is_beyond 8) failed)) (omega arith) (omega (arith, e, m)) in
               omega (arith, h, k)
 
       -- the tournament has settled
@@ -188,5 +189,5 @@ module _ {old : Closing} {s : Scene} {failed : List Placed} (call : IsCalled old
 
         pub changed_now : (out mid out' : Change) → HasChanged old.wedges.facts new.facts out mid → HasChanged (map (moved_by 8) u.facts) (map (moved_by 8) v.facts) mid out' → HasChanged (facts_of old) (new.facts ++ map (moved_by 8) v.facts) out out'
         changed_now out mid out' first second =
-            joined old.wedges.facts new.facts old.pairs.facts v.facts out mid out' orders_low (λ p c. wedge_part s p ((octants.wedges.exact.each p).0 c)) first
+            joined 8 old.wedges.facts new.facts old.pairs.facts v.facts out mid out' orders_low (λ p c. wedge_part s p ((octants.wedges.exact.each p).0 c)) first
             (subst (λ (fs : List Placed). HasChanged (map (moved_by 8) fs) (map (moved_by 8) v.facts) mid out') same_facts second)

@@ -24,9 +24,9 @@ use Rattle.kin_tourney.specs.Tournament.{Tournament, IsAtRest, IsSettled, winner
 use Rattle.kin_wedge.specs.Wedging.{Wedging, candidate_told}
 use Rattle.kin_wedge.proofs.NoMembers.{HasNoMembers, candidate_none, no_wedge_fact, settled_without}
 use Rattle.kin_near.specs.BestPairs.{HoldCandidates}
-use Rattle.kin_closest.specs.declared.distance.Distance.{Distance}
+use Rattle.kin_pairs.specs.declared.distance.Distance.{Distance}
 use Rattle.kin_closest.specs.Closing.{Closing, facts_of, pair_told, IsSettledClosing, AreJoined}
-use Rattle.kin_closest.specs.DistanceKey.{pair_names}
+use Rattle.kin_pairs.specs.PairKeys.{pair_names}
 
 -- the eight orders and the tournament of a structure without members
 pub record AreNone (wedges : Wedging) (pairs : Tournament Distance Near) : Type 0 where

@@ -17,10 +17,10 @@ use Rattle.kin_list.specs.Listing.{HasMarked}
 use Rattle.kin_tourney.specs.Tournament.{Tournament, IsAtRest, IsSettled, winner_at}
 use Rattle.kin_wedge.specs.Costs.{AreFewBelow}
 use Rattle.kin_wedge.specs.Wedging.{Wedging, candidate_told, members_of, IsReadyWedging, IsWedgingAtRest, IsSettledWedging}
-use Rattle.kin_closest.specs.declared.distance.Distance.{Distance}
+use Rattle.kin_pairs.specs.declared.distance.Distance.{Distance}
 use Rattle.kin_near.specs.BestPairs.{HoldCandidates}
-use Rattle.kin_closest.specs.DistanceKey.{pair_names}
-use Rattle.kin_closest.specs.Sorting.{is_of_pair}
+use Rattle.kin_pairs.specs.PairKeys.{pair_names}
+use Rattle.kin_pairs.specs.Sorting.{is_beyond}
 
 -- the eight orders with their candidates, the tournament of pairs, and false after want of memory
 pub record Closing : Type 0 where
@@ -71,7 +71,7 @@ pub record AreFewTests (old new : Closing) (failed : List Placed) (out : Change)
   pub reported : HasChanged old.wedges.facts new.wedges.facts out orders_out
   pub orders : AreFewBelow 8 old.wedges.mark old.wedges.orders new.wedges.orders out orders_out before mid
   pub changed : ListsChanged old.wedges.size (candidate_told old.wedges) (candidate_told new.wedges) new.wedges.changed
-  pub pairs : after ≤ mid + (old.wedges.size + 3) * (length new.wedges.changed + length (filter is_of_pair failed))
+  pub pairs : after ≤ mid + (old.wedges.size + 3) * (length new.wedges.changed + length (filter (is_beyond 8) failed))
 
 -- ---- as the structure of a keep
 -- the closest pair is kept

@@ -19,7 +19,7 @@ use Rattle.kin_tourney.specs.Tournament.{IsSettled, winner_at}
 use Rattle.kin_wedge.specs.Wedging.{IsSettledWedging, candidate_told, members_of}
 use Rattle.kin_wedge.specs.WedgingLaws.{determined_lem as wedges_determined}
 use Rattle.kin_near.specs.BestPairs.{HoldCandidates}
-use Rattle.kin_closest.specs.DistanceKey.{pair_names, distance_total, distance_transitive}
+use Rattle.kin_pairs.specs.PairKeys.{pair_names, distance_total, distance_transitive}
 use Rattle.kin_closest.specs.Closing.{Closing, facts_of, pair_told, IsSettledClosing, IsClosingAtRest, IsReadyClosing, IsClosingFor, HasMembers, StaysClosing}
 use Rattle.kin_near.proofs.SettledPairs.{closest_is_settled}
 

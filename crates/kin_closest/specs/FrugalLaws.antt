@@ -24,31 +24,31 @@ use Rattle.kin_near.specs.BestPairs.{HoldCandidates}
 use Rattle.kin_near.proofs.ChangedPairs.{changed_pairs}
 use Rattle.kin_near.proofs.SettledPairs.{wedge_part}
 use Rattle.kin_closest.specs.Closing.{Closing, facts_of, IsSettledClosing, IsClosingAtRest, HasMembers, IsClosingFor, FollowsClosing, AreFewTests}
-use Rattle.kin_closest.specs.Sorting.{is_of_pair}
+use Rattle.kin_pairs.specs.Sorting.{is_beyond}
 
 -- at rest it follows the scene in which it was settled
 pub closing_follows_scene : (k : Closing) (s : Scene) (live : List ℕ) → IsClosingAtRest k → HasMembers k s.live → IsSettledClosing k s → s.live ≡ live → FollowsClosing k s live
 closing_follows_scene k s live rest members settled same = record { settled = settled; led = subst (λ (mark : Mark). LeadsTo mark s.live live) (sym rest.rest) same }
 
 -- ---- the facts of the tournament
-beyond_orders : (p : Placed) → 8 ≤ p.part → is_of_pair p ≡ true
+beyond_orders : (p : Placed) → 8 ≤ p.part → is_beyond 8 p ≡ true
 beyond_orders p high = grind (arith, nat_tests, high)
 
-pair_of : (size : ℕ) (s : Scene) (p : Placed) → is_of_pair p ≡ true → IsClosestFact size s p → IsPairFact size s p
+pair_of : (size : ℕ) (s : Scene) (p : Placed) → is_beyond 8 p ≡ true → IsClosestFact size s p → IsPairFact size s p
 pair_of size s p test (inl wedge) = absurd (let low = wedge_part s p wedge in grind (arith, nat_tests, low, test))
 pair_of size s p test (inr pair) = pair
 
 -- those of the failed facts that are of the tournament are its facts that have failed
 pairs_failed : (k : Closing) (v w : Scene) (failed : List Placed) → IsReal v → FollowsClosing k v w.live → ListsFailing (facts_of k) (names_leaving k.wedges.mark) w failed
-    → ListsExactly (filter is_of_pair failed) (HasFailed (IsPairFact k.wedges.size v) v w)
-pairs_failed k v w failed real follows failing = record { once = distinct_filter is_of_pair failed failing.once; each = λ p. (to p, from p) }
+    → ListsExactly (filter (is_beyond 8) failed) (HasFailed (IsPairFact k.wedges.size v) v w)
+pairs_failed k v w failed real follows failing = record { once = distinct_filter (is_beyond 8) failed failing.once; each = λ p. (to p, from p) }
   where
     facts : ListsExactly (facts_of k) (IsClosestFact k.wedges.size v)
     facts = follows.settled.closest.exact
 
-    to : (p : Placed) → Contains (filter is_of_pair failed) p → HasFailed (IsPairFact k.wedges.size v) v w p
+    to : (p : Placed) → Contains (filter (is_beyond 8) failed) p → HasFailed (IsPairFact k.wedges.size v) v w p
     to p c =
-        let there = filter-sound is_of_pair failed p c in
+        let there = filter-sound (is_beyond 8) failed p c in
         let fails = (failing.each p).0 there.0 in
         record {
           was = pair_of k.wedges.size v p there.1 ((facts.each p).0 fails.0);
@@ -56,10 +56,10 @@ pairs_failed k v w failed real follows failing = record { once = distinct_filter
           fails = fails.2;
         }
 
-    from : (p : Placed) → HasFailed (IsPairFact k.wedges.size v) v w p → Contains (filter is_of_pair failed) p
+    from : (p : Placed) → HasFailed (IsPairFact k.wedges.size v) v w p → Contains (filter (is_beyond 8) failed) p
     from p h =
         let unspared = staying_unspared k.wedges.mark v.live w.live p follows.led h.stays in
-        filter-complete is_of_pair failed p ((failing.each p).1 ((facts.each p).1 (inr h.was), unspared, h.fails)) (beyond_orders p (pair_part k.wedges.size v real p h.was))
+        filter-complete (is_beyond 8) failed p ((failing.each p).1 ((facts.each p).1 (inr h.was), unspared, h.fails)) (beyond_orders p (pair_part k.wedges.size v real p h.was))
 
 module _ (old new : Closing) (v w : Scene) (real : IsReal v) (real' : IsReal w) (same : new.wedges.size ≡ old.wedges.size) (follows : FollowsClosing old v w.live) (settled : IsSettledClosing new w) where
   -- the slots that have another candidate hold another pair
@@ -80,8 +80,8 @@ module _ (old new : Closing) (v w : Scene) (real : IsReal v) (real' : IsReal w) 
       let orders = orders_within out few.orders_out before few.mid few.reported few.orders in
       let tested = few.pairs in
       let ordered = orders.2 in (
-        orders.0 + (old.wedges.size + 3) * (length new.wedges.changed + length (filter is_of_pair failed)),
-        record { in_orders = orders.0; orders = orders.1; slots = new.wedges.changed; other = slots_changed few.changed; failed = filter is_of_pair failed; exactly = pairs_failed old v w failed real follows failing; bound = omega arith },
+        orders.0 + (old.wedges.size + 3) * (length new.wedges.changed + length (filter (is_beyond 8) failed)),
+        record { in_orders = orders.0; orders = orders.1; slots = new.wedges.changed; other = slots_changed few.changed; failed = filter (is_beyond 8) failed; exactly = pairs_failed old v w failed real follows failing; bound = omega arith },
         omega (arith, tested, ordered),
       )
 

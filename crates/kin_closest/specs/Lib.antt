@@ -1,6 +1,3 @@
-pub mod Briefs
-pub mod DistanceKey
-pub mod Sorting
 pub mod Told
 pub mod Closing
 pub mod ClosingLaws

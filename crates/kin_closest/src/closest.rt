@@ -10,19 +10,21 @@ ghost use Rattle.kin_list.specs.Listing.{names_leaving};
 ghost use Rattle.kin_wedge.specs.Wedging.{members_of};
 ghost use Rattle.kin_closest.specs.Closing.{IsClosingAtRest, IsReadyClosing, IsSettledClosing, AreFewTests, facts_of};
 
-use crate::distance::Distance;
-use crate::mail::Mail;
 use crate::pairs::tell_all;
 use kin_motion::fact::{Delta, Placed};
 use kin_motion::kinetic::Kinetic;
 use kin_motion::signs::Signs;
 use kin_num::memory::NoMemory;
 use kin_num::steps::Steps;
+use kin_pairs::{Distance, Mail};
 use kin_tourney::Tourney;
 use kin_wedge::Wedges;
 use std::alloc::Global;
 use std::marker::Model;
 use std::sync::ledger::Ledger;
+
+/// The orders have the parts 0 to 7, and the nodes of the tournament those after.
+const ORDERS: u32 = 8;
 
 /// The closest pair of moving points: the best of all pairs of a point and its candidate in an octant,
 /// by a tournament over the slots `8 * apex + octant`.
@@ -141,11 +143,12 @@ impl Kinetic for KinClosest {
         ensures same { OnOk result (self.new.wedges.size ≡ self.old.wedges.size) }
     {
         self.whole = false;
-        self.mail.sort(failed)?;
+        self.mail.sort(ORDERS, failed)?;
         self.wedges
-            .settle(now, self.mail.orders(failed), out, steps)?;
+            .settle(now, self.mail.others(ORDERS, failed), out, steps)?;
         tell_all(&mut self.pairs, &self.wedges);
-        self.mail.settle_pairs(&mut self.pairs, now, out, steps)?;
+        self.mail
+            .settle_pairs(ORDERS, &mut self.pairs, now, out, steps)?;
         self.whole = true;
         Ok(())
     }

@@ -11,9 +11,5 @@
 pub use closest::KinClosest;
 
 pub mod closest;
-pub mod distance;
 mod kept;
-mod mail;
-pub mod pair;
 mod pairs;
-mod sorting;

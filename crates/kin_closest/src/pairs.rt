@@ -5,8 +5,7 @@ ghost use Rattle.kin_motion.specs.ClosestFacts.{near_of};
 ghost use Rattle.kin_wedge.specs.Wedging.{candidate_told};
 ghost use Rattle.kin_closest.specs.Told.{AreLow, AreTold};
 
-use crate::distance::Distance;
-use crate::pair::Pair;
+use kin_pairs::{Distance, Pair};
 use kin_tourney::Tourney;
 use kin_wedge::Wedges;
 

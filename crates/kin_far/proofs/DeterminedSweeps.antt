@@ -22,7 +22,7 @@ use Rattle.kin_far.specs.Diameters.{SweepIsDetermined}
 use Rattle.kin_motion.proofs.SweepLaws.{chain_reversed, back_reversed}
 
 -- the breakpoints of a lower chain fall from right to left
-fall_back : (s : Scene) → HasSlopeLaws s → (xs : List ℕ) → Falls (reflected s) xs → IsChain (λ e f. falls s f e) (breakpoints_of B xs)
+pub fall_back : (s : Scene) → HasSlopeLaws s → (xs : List ℕ) → Falls (reflected s) xs → IsChain (λ e f. falls s f e) (breakpoints_of B xs)
 fall_back s slopes [] f = tt
 fall_back s slopes (i ∷ []) f = tt
 fall_back s slopes (i ∷ j ∷ []) f = tt

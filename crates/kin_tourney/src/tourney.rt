@@ -66,6 +66,14 @@ impl<K: Keyed> Tourney<K> {
         })
     }
 
+    /// What a slot holds, also where it is marked.
+    pub fn item(&self, slot: u32) -> Option<K::Item>
+        requires { slot < 2 ^ self.now.size }
+        ensures { result ≡ item_in self.now.slots slot }
+    {
+        self.tree.item(slot)
+    }
+
     /// Marks a slot, which holds this item from now on. Of several marks the last one counts.
     pub fn set(&mut self, slot: u32, item: K::Item)
         requires { slot < 2 ^ self.old.size }

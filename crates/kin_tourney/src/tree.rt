@@ -3,6 +3,7 @@
 ghost use Rattle.std.specs.Prelude.{◌≡◌, ◌≢◌, ◌⊎◌, ℕ, ◌+◌, ◌*◌, ◌/◌, ◌^◌, ◌<◌, ◌≤◌, ◌↔◌, true, false, length, replicate, slice_set, slice_index_or, IsTrue, IfOk, IfSome, Some};
 ghost use Rattle.kin_motion.specs.declared.fact.Placed.{Placed as Put};
 ghost use Rattle.kin_motion.specs.Scene.{Scene};
+ghost use Rattle.kin_motion.specs.Tournaments.{item_in};
 ghost use Rattle.kin_tourney.specs.declared.doubt.Doubt.TheVariants.{Below};
 ghost use Rattle.kin_tourney.specs.Standings.{Standings, IsTree, named_at, entry_at, doubt_in};
 ghost use Rattle.kin_tourney.specs.Tournament.{mark_in};
@@ -75,6 +76,14 @@ impl<K: Keyed> Tree<K> {
         ensures { result ≡ length self.now.items }
     {
         self.items.len()
+    }
+
+    /// What a slot holds.
+    pub fn item(&self, slot: u32) -> Option<K::Item>
+        requires { slot < length self.now.items }
+        ensures { result ≡ item_in self.now.items slot }
+    {
+        self.items[slot as usize]
     }
 
     /// The slot that a node names: of its best item, or its own at a leaf.

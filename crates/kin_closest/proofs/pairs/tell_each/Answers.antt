@@ -6,7 +6,7 @@ use Rattle.kin_motion.specs.ClosestPairs.{Near}
 use Rattle.kin_motion.specs.ClosestFacts.{near_of}
 use Rattle.kin_tourney.specs.Tournament.{Tournament}
 use Rattle.kin_wedge.specs.Wedging.{candidate_told}
-use Rattle.kin_closest.specs.declared.distance.Distance.{Distance}
+use Rattle.kin_pairs.specs.declared.distance.Distance.{Distance}
 use Rattle.kin_closest.proofs.Telling.{some_low, told_more}
 use Rattle.kin_closest.proofs.pairs.tell_each.Goals as goal
 

@@ -11,7 +11,7 @@ use Rattle.kin_closest.proofs.closest.KinClosestKinetic.settle.Goals as goal
 pub settle-requires-clause-failing : goal.settle-requires-clause-failing
 settle-requires-clause-failing g c =
     let w = c.self.inside.wedges in
-    subst (λ (fs : List Placed). ListsFailing w.facts (names_leaving w.mark) (g.O.Signs.scene c.args.now.now) fs) (sym c.orders.ensures) (orders_told (called c.self.view_is c.self.invariant c.requires.real c.requires.ready c.requires.failing))
+    subst (λ (fs : List Placed). ListsFailing w.facts (names_leaving w.mark) (g.O.Signs.scene c.args.now.now) fs) (sym c.others.ensures) (orders_told (called c.self.view_is c.self.invariant c.requires.real c.requires.ready c.requires.failing))
 
 pub tell_all-requires-clause-within : goal.tell_all-requires-clause-within
 tell_all-requires-clause-within g c = within (called c.self.view_is c.self.invariant c.requires.real c.requires.ready c.requires.failing) c.settle.ensures.same c.in_ok-settle.ensures.settled c.in_ok-settle.ensures.changed
@@ -58,5 +58,5 @@ returns-clause-tests g c =
       reported = c.in_ok-settle.ensures.delta;
       orders = c.in_ok-settle.ensures.tests;
       changed = c.in_ok-settle.ensures.changed;
-      pairs = tests_few (called c.self.view_is c.self.invariant c.requires.real c.requires.ready c.requires.failing) c.settle.ensures.same c.in_ok-settle.ensures.settled c.in_ok-settle.ensures.changed c.tell_all.ensures c.sort.new.self.pairs.items c.settle.new.steps c.settle_pairs.new.steps c.in_ok-sort.ensures.pairs c.in_ok-settle_pairs.ensures.cost;
+      pairs = tests_few (called c.self.view_is c.self.invariant c.requires.real c.requires.ready c.requires.failing) c.settle.ensures.same c.in_ok-settle.ensures.settled c.in_ok-settle.ensures.changed c.tell_all.ensures c.sort.new.self.pairs c.settle.new.steps c.settle_pairs.new.steps c.in_ok-sort.ensures.pairs c.in_ok-settle_pairs.ensures.cost;
     })

@@ -1,5 +1,0 @@
-use Rattle.kin_closest.proofs.Moving.{AreMoved}
-use Rattle.kin_closest.proofs.sorting.move_from.Given as goal
-
-abbrev pub invariant-loop-k : goal.invariant-loop-k
-invariant-loop-k l = AreMoved l.from l.fn.facts.items l.facts.items l.k

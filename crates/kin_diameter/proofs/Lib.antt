@@ -1,0 +1,11 @@
+pub mod SweptPoints
+pub mod NextBreakpoints
+pub mod Merges
+pub mod MergedSweeps
+pub mod ListChanges
+pub mod Placing
+pub mod Telling
+pub mod Seating
+pub mod MarkedSlots
+pub mod Settling
+pub mod Vacancy

@@ -1,0 +1,12 @@
+use Rattle.std.proofs.Common.{sym, subst, ◌<◌}
+use Rattle.kin_diameter.proofs.Placing.{cell_within, freed_next, freed_all}
+use Rattle.kin_diameter.proofs.places.free_all.Goals as goal
+
+pub bounds-places-slot : goal.bounds-places-slot
+bounds-places-slot c = subst (λ m. c.slot.result < m) (sym c.loop-cell.invariant.room) (cell_within _ c.args.cells.now c.loop-cell.cell-index _ c.cell-item.result c.requires.within c.loop-cell-test.true c.cell-item.is c.slot.ensures)
+
+pub loop-cell-preserved : goal.loop-cell-preserved
+loop-cell-preserved c = freed_next c.args.cells.now c.args.places.now c.loop-cell.places c.loop-cell.cell-index c.slot.result c.cell-item.result c.requires.within c.loop-cell-test.true c.cell-item.is c.slot.ensures c.loop-cell.invariant
+
+pub returns-clause-free : goal.returns-clause-free
+returns-clause-free c = freed_all c.args.cells.now c.args.places.now c.loop-cell.places c.loop-cell.cell-index c.loop-cell-test.false c.loop-cell.invariant
