@@ -1,0 +1,4 @@
+pub mod OneMoreKept
+pub mod Arriving
+pub mod Coming
+pub mod Plans
