@@ -10,7 +10,7 @@ use Rattle.kin_tracker.specs.declared.refusal.Refusal.TheVariants.{Lost, Past, N
 use Rattle.kin_tracker.specs.declared.time.Event.{Event}
 use Rattle.kin_tracker.specs.declared.time.Event.TheVariants.{Failures, Leg, Nothing}
 use Rattle.kin_tracker.specs.Trackers.{IsHere, IsLost}
-use Rattle.kin_world.specs.Worlds.{World, IsWhole, HasGoneTo, IsBusyWithin, world_plans, world_view}
+use Rattle.kin_world.specs.Worlds.{World, IsWhole, HasGoneTo, IsBusyWithin, IsNextMoment, world_plans, world_view}
 
 -- ---- to a moment that isn't before now
 
@@ -35,10 +35,10 @@ pub record HasArrived (m : Moment) (old new : World) : Type 0 where
 
 -- ---- to what comes next
 
--- why the tracker doesn't go on
+-- why the tracker doesn't go on: memory is wanting only where something comes
 abbrev pub IsRefusedStep : World → Refusal → Type 0
 IsRefusedStep w Lost = IsLost w
-IsRefusedStep w NoMemory = IsHere w
+IsRefusedStep w NoMemory = IsHere w × ((moment : Moment) × IsNextMoment (world_view w) moment)
 IsRefusedStep w _ = ⊥
 
 -- it is the event that comes next, and the tracker has gone to its moment

@@ -30,7 +30,7 @@ pub fn motion(x: i32, y: i32, u: i32, v: i32) -> Result<Motion, Refusal>
     Ok(Motion::new(x, y, u, v))
 }
 
-/// The moment at the instant `n / d`, in lowest terms or not, where `n` is less than 2^31 in size and `d` is in 1..2^31.
+/// The moment at the instant `n / d`, in lowest terms or not, where `n` is less than 2^31 in size and `d` is in 1..2^31 - 1.
 pub fn fraction(n: i64, d: i64) -> Result<Moment, Refusal>
     ensures found { IfOk result (IsAtFraction n d) }
     ensures refused { IfErr result (IsRefusedFraction n d) }

@@ -20,7 +20,7 @@ pub enum Refusal {
     Taken,
     /// No point of this number is there.
     Absent,
-    /// The polynomial has no such root.
+    /// The polynomial has no root, or every instant is one.
     NoRoot,
     /// The asked moment is before now, or the leg would begin now or before.
     Past,
