@@ -8,7 +8,7 @@ use Rattle.kin_motion.specs.Merges.{Half.{A, B}, Breakpoint, own_of, breakpoints
 use Rattle.kin_motion.specs.Numbers.{IsChain}
 use Rattle.kin_motion.specs.Scene.{Scene, IsReal, placed_at, reflected}
 use Rattle.kin_motion.specs.Sets.{AreDistinct}
-use Rattle.kin_motion.specs.Sweeps.{breakpoints_back, IsSweep}
+use Rattle.kin_motion.specs.Sweeps.{breakpoints_back, AreChains, IsSweep}
 use Rattle.kin_motion.proofs.MergeLaws.{upper_falls}
 use Rattle.kin_motion.proofs.RealLaws.{real_turn_laws}
 use Rattle.kin_motion.proofs.ReflectedLaws.{reflected-real}
@@ -17,7 +17,6 @@ use Rattle.kin_motion.proofs.SlopeLaws.{real_slope_laws}
 use Rattle.kin_motion.proofs.SweepLaws.{chain_reversed, back_reversed, in_order}
 use Rattle.kin_motion.proofs.SweepSlopes.{slopes_once}
 use Rattle.kin_chain.proofs.InPlace.{falls, breakpoints_fall, in_place_falls}
-use Rattle.kin_far.specs.Diameters.{AreChains}
 use Rattle.kin_far.proofs.DeterminedSweeps.{fall_back}
 use Rattle.kin_diameter.specs.declared.merge.Placing.{Placing}
 use Rattle.kin_diameter.specs.declared.slope.Slope.{Slope as Kept}

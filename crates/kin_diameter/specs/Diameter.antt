@@ -11,13 +11,12 @@ use Rattle.kin_motion.specs.Numbers.{IsIn}
 use Rattle.kin_motion.specs.Parts.{moved_by}
 use Rattle.kin_motion.specs.Scene.{Scene, placed_at}
 use Rattle.kin_motion.specs.Sets.{ListsExactly}
-use Rattle.kin_motion.specs.Sweeps.{IsSwept, cell_pairs, AreCellSlots, two_in}
+use Rattle.kin_motion.specs.Sweeps.{AreChains, IsSwept, cell_pairs, AreCellSlots, two_in}
 use Rattle.kin_motion.specs.Tournaments.{item_in}
 use Rattle.kin_tourney.specs.Tournament.{Tournament, IsAtRest, IsSettled, winner_at}
 use Rattle.kin_pairs.specs.declared.farness.Farness.{Farness}
 use Rattle.kin_pairs.specs.PairKeys.{pair_names}
 use Rattle.kin_pairs.specs.Sorting.{is_beyond}
-use Rattle.kin_far.specs.Diameters.{AreChains}
 use Rattle.kin_diameter.specs.Seats.{AreSeated}
 
 -- It is for the numbers below 2^size. Both chains as they were given last; the sweep that was settled last and its slopes as facts; the tournament of its cells;

@@ -5,8 +5,7 @@ ghost use Rattle.kin_motion.specs.Agreements.{FitsSize};
 ghost use Rattle.kin_motion.specs.Merges.{Half.{A, B}, breakpoints_of};
 ghost use Rattle.kin_motion.specs.Scene.{IsReal};
 ghost use Rattle.kin_motion.specs.Sets.{AreDistinct};
-ghost use Rattle.kin_motion.specs.Sweeps.{breakpoints_back, IsSweep};
-ghost use Rattle.kin_far.specs.Diameters.{AreChains};
+ghost use Rattle.kin_motion.specs.Sweeps.{breakpoints_back, AreChains, IsSweep};
 ghost use Rattle.kin_diameter.specs.Merging.{AreAmong, AreSlopesOf, IsNext, left_of, first_placed, facts_between};
 ghost use Rattle.kin_diameter.specs.Seen.{half_of, seen, slope_fact};
 

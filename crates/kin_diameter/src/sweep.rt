@@ -5,8 +5,7 @@ ghost use Rattle.kin_motion.specs.Agreements.{FitsSize};
 ghost use Rattle.kin_motion.specs.Kinetics.{HasChanged};
 ghost use Rattle.kin_motion.specs.Merges.{slopes_from};
 ghost use Rattle.kin_motion.specs.Scene.{IsReal, placed_at};
-ghost use Rattle.kin_motion.specs.Sweeps.{IsSweep};
-ghost use Rattle.kin_far.specs.Diameters.{AreChains};
+ghost use Rattle.kin_motion.specs.Sweeps.{AreChains, IsSweep};
 ghost use Rattle.kin_diameter.specs.Seen.{seen};
 
 use crate::breakpoint::Breakpoint;

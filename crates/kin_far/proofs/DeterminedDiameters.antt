@@ -15,7 +15,7 @@ use Rattle.kin_motion.specs.Merges.{Breakpoint, slopes_from}
 use Rattle.kin_motion.specs.Numbers.{IsIn}
 use Rattle.kin_motion.specs.Parts.{moved_by}
 use Rattle.kin_motion.specs.Scene.{Scene, IsReal, Holds, placed_at}
-use Rattle.kin_motion.specs.Sweeps.{IsSwept, sweep_of, cell_pairs, cell_slots, two_in}
+use Rattle.kin_motion.specs.Sweeps.{AreChains, IsSwept, sweep_of, cell_pairs, cell_slots, two_in}
 use Rattle.kin_motion.specs.Tournaments.{best_of, items_under, tournament_facts}
 use Rattle.kin_motion.proofs.DistanceLaws.{real_distance_laws}
 use Rattle.kin_motion.proofs.CellSlots.{cells_fill}
@@ -26,7 +26,7 @@ use Rattle.kin_motion.proofs.PlayedTournaments.{tournament_is_determined}
 use Rattle.kin_motion.proofs.SetLaws.{contains_mapped, exactly_in_words}
 use Rattle.kin_motion.proofs.SweepLaws.{one_sweep}
 use Rattle.kin_motion.proofs.Winners.{winner_agrees}
-use Rattle.kin_far.specs.Diameters.{AreChains, DiameterIsDetermined}
+use Rattle.kin_far.specs.Diameters.{DiameterIsDetermined}
 use Rattle.kin_far.proofs.DeterminedSweeps.{held_signs, sweep_is_determined}
 use Rattle.kin_far.proofs.SettledDiameters.{diameter_is_settled}
 

@@ -2,7 +2,6 @@
 use Rattle.std.specs.Prelude.{ℕ, ◌+◌, List, ◌++◌, map, reverse, Option}
 use Rattle.kin_motion.specs.declared.fact.Placed.{Placed}
 use Rattle.kin_motion.specs.Agreements.{FitsSize}
-use Rattle.kin_motion.specs.Chains.{IsUpperChain, IsLowerChain}
 use Rattle.kin_motion.specs.ClosestPairs.{Near}
 use Rattle.kin_motion.specs.Contents.{IsSettledTournament, IsSettledDiameter}
 use Rattle.kin_motion.specs.DiameterFacts.{IsDiameterFact}
@@ -12,7 +11,7 @@ use Rattle.kin_motion.specs.Merges.{Breakpoint, slopes_from}
 use Rattle.kin_motion.specs.Parts.{moved_by}
 use Rattle.kin_motion.specs.Scene.{Scene, IsReal, placed_at}
 use Rattle.kin_motion.specs.Sets.{ListsExactly}
-use Rattle.kin_motion.specs.Sweeps.{IsSwept, cell_pairs, AreCellSlots, two_in}
+use Rattle.kin_motion.specs.Sweeps.{AreChains, IsSwept, cell_pairs, AreCellSlots, two_in}
 
 -- where the tournament of the cells of the sweep is settled, so is the farthest pair
 abbrev pub DiameterIsSettled : Type 0
@@ -21,10 +20,6 @@ DiameterIsSettled =
     → IsReal s → FitsSize size s → IsSwept s upper lower es → AreCellSlots size (cell_pairs upper (reverse lower) es) slots
     → IsSettledTournament s farness_key (size + 1) slots winner pairs
     → IsSettledDiameter s size (two_in (winner 1)) (map (placed_at s 0) (slopes_from es) ++ map (moved_by 1) pairs)
-
--- both chains are those of all live numbers
-abbrev pub AreChains : Scene → List ℕ → List ℕ → Type 0
-AreChains s upper lower = IsUpperChain s s.live upper × IsLowerChain s s.live lower
 
 -- where both chains are those of another scene too, and the slopes along their sweep have their signs there, it is their sweep there
 abbrev pub SweepIsDetermined : Type 0

@@ -1,5 +1,5 @@
 -- Every live fact may be asked for.
-use Rattle.std.proofs.Common.{◌≡◌, ◌⊎◌, inl, inr, refl, sym, ap, ◌∙◌, subst, List, [], ◌∷◌, ℕ, zero, suc, ◌+◌, ◌*◌, ◌/◌, ◌%◌, ◌≤◌, Bool, true, false, cond, map, ℤ, pos, unsigned_abs, min, max, arith}
+use Rattle.std.proofs.Common.{◌≡◌, ◌⊎◌, inl, inr, refl, sym, ap, ◌∙◌, subst, List, [], ◌∷◌, ℕ, zero, suc, ◌+◌, ◌*◌, ◌/◌, ◌%◌, ◌≤◌, Bool, true, false, cond, map, ℤ, pos, unsigned_abs, arith}
 use Rattle.std.specs.Prelude.{Option, Some, None, Contains, slice_get}
 use Rattle.std.proofs.Math.Nat.{div-add-mod}
 use Rattle.std.proofs.lemmas.Nat.{mod_below}
@@ -9,16 +9,16 @@ use Rattle.kin_motion.specs.declared.form.Form.{Form}
 use Rattle.kin_motion.specs.declared.form.Form.TheVariants.{Line, Dist}
 use Rattle.kin_motion.specs.declared.fact.Placed.{Placed}
 use Rattle.kin_motion.specs.declared.keep.Keep.{Keep}
-use Rattle.kin_motion.specs.declared.keep.Keep.TheVariants.{Order, Extreme, Hull, Closest, Range, Nearest}
+use Rattle.kin_motion.specs.declared.keep.Keep.TheVariants.{Order, Extreme, Hull, Closest, Range, Nearest, Diameter}
 use Rattle.kin_motion.specs.Forms.{IsAskable}
 use Rattle.kin_motion.specs.Numbers.{is_in, IsIn}
 use Rattle.kin_motion.specs.Scene.{Scene, placed_at}
 use Rattle.kin_motion.specs.Orders.{neighbour_forms, IsOrderFact}
-use Rattle.kin_motion.specs.Tournaments.{Key, item_in, IsNodeFact}
+use Rattle.kin_motion.specs.Tournaments.{item_in}
 use Rattle.kin_motion.specs.Extremes.{slot_of_point, point_slots, along_key, IsExtremeFact}
 use Rattle.kin_motion.specs.Octants.{Octant, is_in_octant, IsCandidate, Direction, eight_directions}
 use Rattle.kin_motion.specs.ClosestPairs.{Near, distance_key}
-use Rattle.kin_motion.specs.ClosestFacts.{near, HoldsNear, AreNearSlots, IsWedgeFact, IsClosestFact}
+use Rattle.kin_motion.specs.ClosestFacts.{HoldsNear, AreNearSlots, IsWedgeFact, IsClosestFact}
 use Rattle.kin_motion.specs.Merges.{IsHullFact}
 use Rattle.kin_motion.specs.Live.{IsKeepFact, IsSmallKeep}
 use Rattle.kin_motion.specs.Theorems.{LiveFactsAreAskable}
@@ -28,6 +28,8 @@ use Rattle.kin_motion.proofs.NearLaws.{octant_at}
 use Rattle.kin_motion.proofs.AskableMerges.{AllLive, node_form_askable}
 use Rattle.kin_motion.proofs.Members.{in_head, in_tail}
 use Rattle.kin_motion.proofs.NodeLaws.{held_slot}
+use Rattle.kin_motion.proofs.AskableNodes.{AreTwoLive, near_live, node_fact_askable}
+use Rattle.kin_motion.proofs.AskableSweeps.{diameter_fact_askable}
 
 -- ---- orders
 neighbours_askable : (live : List ℕ) (dx dy : ℤ) → unsigned_abs dx ≤ 16 → unsigned_abs dy ≤ 16 → (xs : List ℕ) → AllLive live xs → (f : Form) → Contains (neighbour_forms dx dy xs) f → IsAskable live f
@@ -56,14 +58,6 @@ order_fact_askable s dx dy part x_small y_small p f =
     subst (IsAskable s.live) form (neighbours_askable s.live dx dy x_small y_small f.order (λ i e. sym (f.ordered.all.same i) ∙ e) m.0 m.1)
 
 -- ---- tournaments
--- where the form of the items of two slots may be asked for, the fact of a node may be
-pub node_fact_askable : {Item : Type 0} (s : Scene) (key : Key Item) (size : ℕ) (slots : List (Option Item))
-    → ((i j : ℕ) (a b : Item) → item_in slots i ≡ Some a → item_in slots j ≡ Some b → IsAskable s.live (key.form a b))
-    → (p : Placed) → IsNodeFact s key size slots p → IsAskable s.live p.fact.form
-node_fact_askable {Item} s key size slots each p f =
-    let form : key.form f.left f.right ≡ p.fact.form = sym (ap (λ (q : Placed). q.fact.form) f.fact) in
-    subst (IsAskable s.live) form (each f.left_best.slot f.right_best.slot f.left f.right f.left_best.held f.right_best.held)
-
 -- what a slot of points holds is live
 held_live : (live xs : List ℕ) (n i : ℕ) → item_in (map (slot_of_point live) xs) n ≡ Some i → IsIn i live
 held_live live [] n i e = absurd cc
@@ -84,29 +78,12 @@ extreme_fact_askable size s dx dy x_small y_small = node_fact_askable s (along_k
 })
 
 -- ---- the closest pair
-AreLive : List ℕ → Near → Type 0
-AreLive live n = IsIn n.i live × IsIn n.j live
-
-near_live : (live : List ℕ) (slot p c : ℕ) → IsIn p live → IsIn c live → AreLive live (near slot p c)
-unfolding AreLive
-near_live live slot p c x y = (of_two (min p c) (least p c), of_two (max p c) (most p c))
-  where
-    least : (p c : ℕ) → (min p c ≡ p) ⊎ (min p c ≡ c)
-    least p c = grind arith
-
-    most : (p c : ℕ) → (max p c ≡ p) ⊎ (max p c ≡ c)
-    most p c = grind arith
-
-    of_two : (k : ℕ) → (k ≡ p) ⊎ (k ≡ c) → IsIn k live
-    of_two k (inl e) = subst (λ i. IsIn i live) (sym e) x
-    of_two k (inr e) = subst (λ i. IsIn i live) (sym e) y
-
-pair_live : (size : ℕ) (s : Scene) (slots : List (Option Near)) → AreNearSlots size s slots → (n : ℕ) (a : Near) → item_in slots n ≡ Some a → AreLive s.live a
+pair_live : (size : ℕ) (s : Scene) (slots : List (Option Near)) → AreNearSlots size s slots → (n : ℕ) (a : Near) → item_in slots n ≡ Some a → AreTwoLive s.live a
 pair_live size s slots filled n a e =
     let o = octant_at (n % 8) (mod_below n 8 (omega arith)) in
     let held : slice_get slots (8 * (n / 8) + n % 8) ≡ Some (Some a) = ap (slice_get slots) (div-add-mod n 8) ∙ held_slot slots n a e in
     let k : HoldsNear s o.0 (n / 8) (8 * (n / 8) + n % 8) (Some a) = filled.each (n / 8) (n % 8) o.0 (Some a) o.1 held in
-    subst (AreLive s.live) (sym k.3) (near_live s.live _ (n / 8) k.0 k.1 (member o.0 (n / 8) k.0 k.2))
+    subst (AreTwoLive s.live) (sym k.3) (near_live s.live (8 * (n / 8) + n % 8) (n / 8) k.0 k.1 (member o.0 (n / 8) k.0 k.2))
   where
     member : (o : Octant) (p c : ℕ) → IsCandidate s o p c → IsIn c s.live
     member o p c h = (and_parts (is_in c s.live) (is_in_octant s o p c) (sym (kept-members (is_in_octant s o p) s.live c) ∙ h.member)).0
@@ -129,13 +106,12 @@ wedge_fact_askable : (s : Scene) (p : Placed) → IsWedgeFact s p → IsAskable 
 wedge_fact_askable s p w = let d = small_direction p.part w.way w.known in order_fact_askable s w.way.dx w.way.dy p.part d.0 d.1 p w.fact
 
 closest_fact_askable : (size : ℕ) (s : Scene) (p : Placed) → IsClosestFact size s p → IsAskable s.live p.fact.form
-unfolding AreLive
 closest_fact_askable size s p (inl w) = wedge_fact_askable s p w
 closest_fact_askable size s p (inr f) =
     subst (IsAskable s.live) (sym (ap (λ (q : Placed). q.fact.form) f.placed))
     (node_fact_askable s distance_key (size + 3) f.slots (λ i j a b x y. pairs a b (pair_live size s f.slots f.filled i a x) (pair_live size s f.slots f.filled j b y)) f.node f.fact)
   where
-    pairs : (a b : Near) → AreLive s.live a → AreLive s.live b → IsAskable s.live (Dist a.i a.j b.i b.j)
+    pairs : (a b : Near) → AreTwoLive s.live a → AreTwoLive s.live b → IsAskable s.live (Dist a.i a.j b.i b.j)
     pairs a b x y = (x.0, x.1, y.0, y.1)
 
 -- ---- the hull
@@ -152,6 +128,7 @@ keep_fact_askable size s Closest p small f = closest_fact_askable size s p f
 keep_fact_askable size s Range p small (inl f) = order_fact_askable s (pos 1) (pos 0) 0 (omega arith) (omega arith) p f
 keep_fact_askable size s Range p small (inr f) = order_fact_askable s (pos 0) (pos 1) 1 (omega arith) (omega arith) p f
 keep_fact_askable size s Nearest p small f = wedge_fact_askable s p f
+keep_fact_askable size s Diameter p small f = diameter_fact_askable size s p f
 
 pub live_facts_are_askable : LiveFactsAreAskable
 live_facts_are_askable size keeps s c small f =

@@ -23,16 +23,16 @@ abbrev pub AllLive : List ℕ → List ℕ → Type 0
 AllLive live xs = (i : ℕ) → is_in i xs ≡ true → IsIn i live
 
 module _ (live : List ℕ) where
-  first_live : (i : ℕ) (xs : List ℕ) → AllLive live (i ∷ xs) → IsIn i live
+  pub first_live : (i : ℕ) (xs : List ℕ) → AllLive live (i ∷ xs) → IsIn i live
   first_live i xs known = known i (in_head i xs)
 
-  rest_live : (i : ℕ) (xs : List ℕ) → AllLive live (i ∷ xs) → AllLive live xs
+  pub rest_live : (i : ℕ) (xs : List ℕ) → AllLive live (i ∷ xs) → AllLive live xs
   rest_live i xs known j e = known j (in_tail j i xs e)
 
-  abbrev AreLive : Breakpoint → Type 0
+  abbrev pub AreLive : Breakpoint → Type 0
   AreLive e = IsIn e.left live × IsIn e.right live
 
-  breakpoints_live : (h : Half) (xs : List ℕ) → AllLive live xs → (e : Breakpoint) → Contains (breakpoints_of h xs) e → AreLive e
+  pub breakpoints_live : (h : Half) (xs : List ℕ) → AllLive live xs → (e : Breakpoint) → Contains (breakpoints_of h xs) e → AreLive e
   breakpoints_live h [] known e c = absurd (contains_none e c)
   breakpoints_live h (i ∷ []) known e c = absurd (contains_none e c)
   breakpoints_live h (i ∷ j ∷ xs) known e c = at (contains_cases (record { half = h; left = i; right = j }) e (breakpoints_of h (j ∷ xs)) c) (breakpoints_live h (j ∷ xs) (rest_live i (j ∷ xs) known) e)
@@ -77,7 +77,7 @@ module _ (live : List ℕ) where
       at true c = absurd (contains_none g c)
       at false c = only (contains_cases (slope_form e f) g [] c)
 
-  slopes_askable : (es : List Breakpoint) → ((e : Breakpoint) → Contains es e → AreLive e) → (g : Form) → Contains (slopes_from es) g → IsAskable live g
+  pub slopes_askable : (es : List Breakpoint) → ((e : Breakpoint) → Contains es e → AreLive e) → (g : Form) → Contains (slopes_from es) g → IsAskable live g
   slopes_askable [] known g c = absurd (contains_none g c)
   slopes_askable (e ∷ []) known g c = absurd (contains_none g c)
   slopes_askable (e ∷ f ∷ es) known g c =
@@ -146,7 +146,7 @@ module _ (live : List ℕ) where
 under_live : (size : ℕ) (s : Scene) (v : ℕ) → AllLive s.live (points_under size s v)
 under_live size s v i e = (and_parts (is_in i s.live) (is_under size v i) (sym (kept-members (is_under size v) s.live i) ∙ e)).0
 
-chain_live : (live : List ℕ) (s : Scene) (set xs : List ℕ) → IsUpperChain s set xs → AllLive live set → AllLive live xs
+pub chain_live : (live : List ℕ) (s : Scene) (set xs : List ℕ) → IsUpperChain s set xs → AllLive live set → AllLive live xs
 chain_live live s set xs chain known i e = known i (chain_within s set xs chain i e)
 
 -- a form of the merge of two sets of live numbers may be asked for

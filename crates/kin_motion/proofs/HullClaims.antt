@@ -20,6 +20,8 @@ use Rattle.kin_motion.specs.Merges.{IsNodeForm, node_forms, IsTreeFact, hull_fac
 use Rattle.kin_motion.specs.Octants.{octants, candidate_of, IsCandidateAnswer, AreCandidates}
 use Rattle.kin_motion.specs.ClosestPairs.{closest_of}
 use Rattle.kin_motion.specs.ClosestFacts.{closest_facts, wedge_facts}
+use Rattle.kin_motion.specs.DiameterFacts.{diameter_facts}
+use Rattle.kin_motion.specs.Farthest.{farthest_of}
 use Rattle.kin_motion.specs.Agreements.{FitsSize}
 use Rattle.kin_motion.specs.Contents.{IsWinner}
 use Rattle.kin_motion.proofs.Winners.{winner_agrees}
@@ -31,6 +33,8 @@ use Rattle.kin_motion.proofs.ClaimLaws.{chain_is_strict, chain_has_least}
 use Rattle.kin_motion.proofs.AgreementLaws.{kept-members}
 use Rattle.kin_motion.proofs.CandidateLaws.{candidate_agrees}
 use Rattle.kin_motion.proofs.ClosestLaws.{closest_proved}
+use Rattle.kin_motion.proofs.FarthestLaws.{farthest_proved}
+use Rattle.kin_motion.proofs.DiameterFactLaws.{diameter_facts_agree}
 use Rattle.kin_motion.proofs.BestLaws.{farther-otherwise}
 use Rattle.kin_motion.proofs.ExtremeFactLaws.{held_number, extreme_facts_agree, farther-through, farther-never}
 use Rattle.kin_motion.proofs.ClosestFactLaws.{order_facts_agree, closest_facts_agree, part_of_order, wedge_exact}
@@ -140,6 +144,7 @@ settled_states_exist size s real fits = record {
   hull = (cycle_of s, hull_facts size s, record { is_cycle = cycle_proved s real; exact = hull_facts_agree size s real fits });
   wedges = (candidate_told s, wedge_facts s, record { candidates = candidates_told size s real; exact = wedge_exact s real });
   closest = (closest_of s, closest_facts size s, record { pair = closest_proved s real; exact = closest_facts_agree size s real });
+  diameter = (farthest_of s, diameter_facts size s, record { pair = farthest_proved s real; exact = diameter_facts_agree size s real });
   range = (
     order_of s (pos 1) (pos 0),
     order_of s (pos 0) (pos 1),

@@ -1,123 +1,270 @@
--- Keeps counted by kind.
-use Rattle.std.proofs.Common.{◌≡◌, ◌⊎◌, inl, inr, ℤ, ◌∙◌, refl, sym, ap, arith, ℕ, suc, ◌+◌, ◌≤◌, length, Bool, true, cond, List, [], ◌∷◌, ◌++◌}
-use Rattle.std.specs.Prelude.{◌&&◌, nat_le, nat_lt, IsTrue, count_by}
+-- Keeps counted by group, and what comes before what.
+use Rattle.std.proofs.Common.{◌≡◌, ◌⊎◌, inl, inr, ◌∙◌, refl, sym, ap, subst, arith, ℕ, zero, suc, ◌+◌, ◌≤◌, ◌<◌, length, Bool, true, false, cond, List, [], ◌∷◌, ◌++◌, Some, append_assoc, append-nil}
+use Rattle.std.specs.Prelude.{◌&&◌, nat_eq, nat_le, nat_lt, Contains, slice_get, take}
+use Rattle.std.specs.List.{list_all}
+use Rattle.std.proofs.lemmas.Bool.{and_parts, and_from}
 use Rattle.std.proofs.lemmas.Bool.Decides.{nat_tests}
 use Rattle.std.proofs.lemmas.List.Sums.{sum_by-append}
+use Rattle.kin_algebra.proofs.Members.{contains_none, contains_head, contains_tail, contains_cases, contains_from_get}
 use Rattle.kin_motion.specs.declared.keep.Keep.{Keep}
-use Rattle.kin_motion.specs.declared.keep.Keep.TheVariants.{Order, Extreme, Hull, Closest, Range, Nearest}
-use Rattle.kin_motion.specs.Keeps.{is_along, is_alike, are_few}
+use Rattle.kin_motion.specs.declared.keep.Keep.TheVariants.{Order, Extreme, Hull, Closest, Range, Nearest, Diameter}
+use Rattle.kin_motion.specs.Keeps.{group, limit, count_of, are_few, needs, have_kind, follow, may_keep}
 
--- how many of its kind may be kept
-abbrev pub most_of : Keep → ℕ
-most_of (Order dx dy) = 16
-most_of (Extreme dx dy) = 16
-most_of _ = 1
+-- two tests that pass together are the same
+same_test : (a b : Bool) → (a ≡ true → b ≡ true) → (b ≡ true → a ≡ true) → a ≡ b
+same_test true b to from = sym (to refl)
+same_test false true to from = from refl
+same_test false false to from = refl
 
--- the five tests of how many there are
-few : ℕ → ℕ → ℕ → ℕ → ℕ → Bool
-few a h c r n = nat_le a 16 && nat_le h 1 && nat_le c 1 && nat_le r 1 && nat_le n 1
-
--- with one keep more, it is counted where it is of the kind
-count_with : (is_of : Keep → Bool) (keeps : List Keep) (k : Keep) → count_by is_of (keeps ++ k ∷ []) ≡ count_by is_of keeps + cond (is_of k) 1 0
-count_with is_of keeps k = sum_by-append (λ x. cond (is_of x) 1 0) keeps (k ∷ []) ∙ ap (λ n. count_by is_of keeps + n) (omega arith)
-
-few_with : (keeps : List Keep) (k : Keep) → are_few (keeps ++ k ∷ []) ≡
-    few (count_by is_along keeps + cond (is_along k) 1 0) (count_by (is_alike Hull) keeps + cond (is_alike Hull k) 1 0)
-    (count_by (is_alike Closest) keeps + cond (is_alike Closest k) 1 0) (count_by (is_alike Range) keeps + cond (is_alike Range k) 1 0)
-    (count_by (is_alike Nearest) keeps + cond (is_alike Nearest k) 1 0)
-unfolding few
-few_with keeps k =
-    let a = count_with is_along keeps k in
-    let h = count_with (is_alike Hull) keeps k in
-    let c = count_with (is_alike Closest) keeps k in
-    let r = count_with (is_alike Range) keeps k in
-    let n = count_with (is_alike Nearest) keeps k in
-    λ t. few (a t) (h t) (c t) (r t) (n t)
-
-module _ (a h c r n : ℕ) (now : few a h c r n ≡ true) where
-  one_along : nat_lt a 16 ≡ few (a + 1) (h + 0) (c + 0) (r + 0) (n + 0)
-  unfolding few
-  one_along = grind (arith, nat_tests, now)
-
-  one_hull : nat_lt h 1 ≡ few (a + 0) (h + 1) (c + 0) (r + 0) (n + 0)
-  unfolding few
-  one_hull = grind (arith, nat_tests, now)
-
-  one_closest : nat_lt c 1 ≡ few (a + 0) (h + 0) (c + 1) (r + 0) (n + 0)
-  unfolding few
-  one_closest = grind (arith, nat_tests, now)
-
-  one_range : nat_lt r 1 ≡ few (a + 0) (h + 0) (c + 0) (r + 1) (n + 0)
-  unfolding few
-  one_range = grind (arith, nat_tests, now)
-
-  one_nearest : nat_lt n 1 ≡ few (a + 0) (h + 0) (c + 0) (r + 0) (n + 1)
-  unfolding few
-  one_nearest = grind (arith, nat_tests, now)
-
--- there is room for one more exactly where fewer than the most are there
-room_for : (keeps : List Keep) (k : Keep) → are_few keeps ≡ true → nat_lt (count_by (is_alike k) keeps) (most_of k) ≡
-    few (count_by is_along keeps + cond (is_along k) 1 0) (count_by (is_alike Hull) keeps + cond (is_alike Hull k) 1 0)
-    (count_by (is_alike Closest) keeps + cond (is_alike Closest k) 1 0) (count_by (is_alike Range) keeps + cond (is_alike Range k) 1 0)
-    (count_by (is_alike Nearest) keeps + cond (is_alike Nearest k) 1 0)
-unfolding few
-room_for keeps (Order dx dy) now = one_along (count_by is_along keeps) (count_by (is_alike Hull) keeps) (count_by (is_alike Closest) keeps) (count_by (is_alike Range) keeps) (count_by (is_alike Nearest) keeps) now
-room_for keeps (Extreme dx dy) now = one_along (count_by is_along keeps) (count_by (is_alike Hull) keeps) (count_by (is_alike Closest) keeps) (count_by (is_alike Range) keeps) (count_by (is_alike Nearest) keeps) now
-room_for keeps Hull now = one_hull (count_by is_along keeps) (count_by (is_alike Hull) keeps) (count_by (is_alike Closest) keeps) (count_by (is_alike Range) keeps) (count_by (is_alike Nearest) keeps) now
-room_for keeps Closest now = one_closest (count_by is_along keeps) (count_by (is_alike Hull) keeps) (count_by (is_alike Closest) keeps) (count_by (is_alike Range) keeps) (count_by (is_alike Nearest) keeps) now
-room_for keeps Range now = one_range (count_by is_along keeps) (count_by (is_alike Hull) keeps) (count_by (is_alike Closest) keeps) (count_by (is_alike Range) keeps) (count_by (is_alike Nearest) keeps) now
-room_for keeps Nearest now = one_nearest (count_by is_along keeps) (count_by (is_alike Hull) keeps) (count_by (is_alike Closest) keeps) (count_by (is_alike Range) keeps) (count_by (is_alike Nearest) keeps) now
-
-pub has_room : (keeps : List Keep) (k : Keep) (n : ℕ) → IsTrue (are_few keeps) → n ≡ count_by (is_alike k) keeps → nat_lt n (most_of k) ≡ are_few (keeps ++ k ∷ [])
-has_room keeps k n now e = ap (λ m. nat_lt m (most_of k)) e ∙ room_for keeps k now ∙ sym (few_with keeps k)
-
--- the most of a kind, where the kind is known
-pub most_along : (k : Keep) → ((dx : ℤ) × (dy : ℤ) × (k ≡ Order dx dy)) ⊎ ((dx : ℤ) × (dy : ℤ) × (k ≡ Extreme dx dy)) → most_of k ≡ 16
-most_along k (inl e) = ap most_of e.2
-most_along k (inr e) = ap most_of e.2
-
-pub most_alone : (k : Keep) → (k ≡ Hull) ⊎ ((k ≡ Closest) ⊎ ((k ≡ Range) ⊎ (k ≡ Nearest))) → most_of k ≡ 1
-most_alone k (inl e) = ap most_of e
-most_alone k (inr (inl e)) = ap most_of e
-most_alone k (inr (inr (inl e))) = ap most_of e
-most_alone k (inr (inr (inr e))) = ap most_of e
-
--- with fewer keeps there are few as well
-pub few_before : (keeps more : List Keep) → are_few (keeps ++ more) ≡ true → are_few keeps ≡ true
-unfolding few
-few_before keeps more now =
-    let at = λ (is_of : Keep → Bool). sum_by-append (λ x. cond (is_of x) 1 0) keeps more in
-    fewer (count_by is_along keeps) (count_by (is_alike Hull) keeps) (count_by (is_alike Closest) keeps) (count_by (is_alike Range) keeps) (count_by (is_alike Nearest) keeps)
-    (count_by is_along more) (count_by (is_alike Hull) more) (count_by (is_alike Closest) more) (count_by (is_alike Range) more) (count_by (is_alike Nearest) more)
-    (sym (λ t. few (at is_along t) (at (is_alike Hull) t) (at (is_alike Closest) t) (at (is_alike Range) t) (at (is_alike Nearest) t)) ∙ now)
+each_passes : {A : Type 0} (test : A → Bool) (xs : List A) → list_all test xs ≡ true → (x : A) → Contains xs x → test x ≡ true
+each_passes test [] e x there = absurd (contains_none x there)
+each_passes test (y ∷ ys) e x there = at (contains_cases y x ys there) (each_passes test ys (and_parts _ _ e).1 x)
   where
-    fewer : (a h c r n a' h' c' r' n' : ℕ) → few (a + a') (h + h') (c + c') (r + r') (n + n') ≡ true → few a h c r n ≡ true
-    fewer a h c r n a' h' c' r' n' e = grind (arith, nat_tests, e)
+    at : (y ≡ x) ⊎ Contains ys x → (Contains ys x → test x ≡ true) → test x ≡ true
+    at (inl same) rest = subst (λ z. test z ≡ true) same (and_parts _ _ e).0
+    at (inr later) rest = rest later
 
--- every keep is of one of the kinds
-all_counted : (keeps : List Keep) → count_by is_along keeps + count_by (is_alike Hull) keeps + count_by (is_alike Closest) keeps + count_by (is_alike Range) keeps + count_by (is_alike Nearest) keeps ≡ length keeps
+all_pass : {A : Type 0} (test : A → Bool) (xs : List A) → ((x : A) → Contains xs x → test x ≡ true) → list_all test xs ≡ true
+all_pass test [] each = refl
+all_pass test (x ∷ xs) each = and_from _ _ (each x (contains_head x xs)) (all_pass test xs (λ y there. each y (contains_tail x y xs there)))
+
+-- ---- counts
+count_both : (g : ℕ) (keeps more : List Keep) → count_of g (keeps ++ more) ≡ count_of g keeps + count_of g more
+count_both g keeps more = sum_by-append (λ x. cond (nat_eq (group x) g) 1 0) keeps more
+
+count_with : (g : ℕ) (keeps : List Keep) (k : Keep) → count_of g (keeps ++ k ∷ []) ≡ count_of g keeps + cond (nat_eq (group k) g) 1 0
+count_with g keeps k = count_both g keeps (k ∷ []) ∙ ap (λ n. count_of g keeps + n) (omega arith)
+
+count_first : (g : ℕ) (k : Keep) (keeps : List Keep) → count_of g (k ∷ keeps) ≡ cond (nat_eq (group k) g) 1 0 + count_of g keeps
+count_first g k keeps = count_both g (k ∷ []) keeps ∙ ap (λ n. n + count_of g keeps) (omega arith)
+
+pub is_of : (a b : ℕ) → a ≡ b → nat_eq a b ≡ true
+is_of a b e = grind (arith, nat_tests, e)
+
+pub is_not_of : (a b : ℕ) → ¬ (a ≡ b) → nat_eq a b ≡ false
+is_not_of a b apart = grind (arith, nat_tests, apart)
+
+of_own : (g : ℕ) → nat_eq g g ≡ true
+of_own g = is_of g g refl
+
+-- where one is counted, one is there
+counted : (g : ℕ) (keeps : List Keep) → (count_of g keeps ≡ 0) ⊎ ((n : ℕ) × (k : Keep) × (slice_get keeps n ≡ Some k) × (group k ≡ g))
+counted g [] = inl refl
+counted g (k ∷ keeps) = at (nat_eq (group k) g) refl (counted g keeps)
+  where
+    at : (b : Bool) → nat_eq (group k) g ≡ b → (count_of g keeps ≡ 0) ⊎ ((n : ℕ) × (x : Keep) × (slice_get keeps n ≡ Some x) × (group x ≡ g))
+        → (count_of g (k ∷ keeps) ≡ 0) ⊎ ((n : ℕ) × (x : Keep) × (slice_get (k ∷ keeps) n ≡ Some x) × (group x ≡ g))
+    at true e rest = inr (zero, k, refl, grind (arith, nat_tests, e))
+    at false e (inl none) = let first = count_first g k keeps in let not = ap (λ b. cond b 1 0 + count_of g keeps) e in inl (omega (arith, first, not, none))
+    at false e (inr (n, x, there, of)) = inr (suc n, x, there, of)
+
+-- and where one is there it is counted
+one_counted : (keeps : List Keep) (n : ℕ) (k : Keep) → slice_get keeps n ≡ Some k → 1 ≤ count_of (group k) keeps
+one_counted [] n k e = absurd cc
+one_counted (x ∷ keeps) zero k e =
+    let same : x ≡ k = cc in
+    let first = count_first (group k) x keeps in
+    let own : nat_eq (group x) (group k) ≡ true = ap (λ y. nat_eq (group y) (group k)) same ∙ of_own (group k) in
+    let more = ap (λ b. cond b 1 0 + count_of (group k) keeps) own in
+    omega (arith, first, more)
+one_counted (x ∷ keeps) (suc n) k e =
+    let first = count_first (group k) x keeps in
+    let rest = one_counted keeps n k e in
+    omega (arith, first, rest)
+
+two_counted : (keeps : List Keep) (m n : ℕ) (k x : Keep) → m < n → slice_get keeps m ≡ Some k → slice_get keeps n ≡ Some x → group x ≡ group k → 2 ≤ count_of (group k) keeps
+two_counted [] m n k x less here there same = absurd cc
+two_counted (y ∷ keeps) m zero k x less here there same = absurd (omega (arith, less))
+two_counted (y ∷ keeps) zero (suc n) k x less here there same =
+    let is : y ≡ k = cc in
+    let first = count_first (group k) y keeps in
+    let own : nat_eq (group y) (group k) ≡ true = ap (λ z. nat_eq (group z) (group k)) is ∙ of_own (group k) in
+    let more = ap (λ b. cond b 1 0 + count_of (group k) keeps) own in
+    let rest = one_counted keeps n x there in
+    let alike = ap (λ g. count_of g keeps) same in
+    omega (arith, first, more, rest, alike)
+two_counted (y ∷ keeps) (suc m) (suc n) k x less here there same =
+    let first = count_first (group k) y keeps in
+    let rest = two_counted keeps m n k x (omega (arith, less)) here there same in
+    omega (arith, first, rest)
+
+-- ---- few
+few_of : (keeps : List Keep) → are_few keeps ≡ true → (k : Keep) → Contains keeps k → count_of (group k) keeps ≤ limit (group k)
+few_of keeps few k there = let e = each_passes (λ x. nat_le (count_of (group x) keeps) (limit (group x))) keeps few k there in grind (arith, nat_tests, e)
+
+few_from : (keeps : List Keep) → ((k : Keep) → Contains keeps k → count_of (group k) keeps ≤ limit (group k)) → are_few keeps ≡ true
+few_from keeps each = all_pass (λ x. nat_le (count_of (group x) keeps) (limit (group x))) keeps (λ k there. let e = each k there in grind (arith, nat_tests, e))
+
+few_of_group : (keeps : List Keep) → are_few keeps ≡ true → (g : ℕ) → count_of g keeps ≤ limit g
+few_of_group keeps few g = at (counted g keeps)
+  where
+    at : (count_of g keeps ≡ 0) ⊎ ((n : ℕ) × (k : Keep) × (slice_get keeps n ≡ Some k) × (group k ≡ g)) → count_of g keeps ≤ limit g
+    at (inl none) = omega (arith, none)
+    at (inr (n, k, there, of)) = subst (λ h. count_of h keeps ≤ limit h) of (few_of keeps few k (contains_from_get keeps n k there))
+
+-- with one more there are few exactly where there were fewer than the limit
+few_with : (keeps : List Keep) (k : Keep) → are_few keeps ≡ true → nat_lt (count_of (group k) keeps) (limit (group k)) ≡ are_few (keeps ++ k ∷ [])
+few_with keeps k few = same_test _ _ to from
+  where
+    own : count_of (group k) (keeps ++ k ∷ []) ≡ count_of (group k) keeps + 1
+    own = count_with (group k) keeps k ∙ ap (λ b. count_of (group k) keeps + cond b 1 0) (of_own (group k))
+
+    to : nat_lt (count_of (group k) keeps) (limit (group k)) ≡ true → are_few (keeps ++ k ∷ []) ≡ true
+    to room = few_from (keeps ++ k ∷ []) (λ x there. at x (nat_eq (group k) (group x)) refl)
+      where
+        at : (x : Keep) (b : Bool) → nat_eq (group k) (group x) ≡ b → count_of (group x) (keeps ++ k ∷ []) ≤ limit (group x)
+        at x true e =
+            let same : group k ≡ group x = grind (arith, nat_tests, e) in
+            let less : count_of (group k) keeps < limit (group k) = grind (arith, nat_tests, room) in
+            subst (λ g. count_of g (keeps ++ k ∷ []) ≤ limit g) same (omega (arith, own, less))
+        at x false e =
+            let with = count_with (group x) keeps k in
+            let not = ap (λ b. count_of (group x) keeps + cond b 1 0) e in
+            let before = few_of_group keeps few (group x) in
+            omega (arith, with, not, before)
+
+    from : are_few (keeps ++ k ∷ []) ≡ true → nat_lt (count_of (group k) keeps) (limit (group k)) ≡ true
+    from now = let most = few_of_group (keeps ++ k ∷ []) now (group k) in let e = own in grind (arith, nat_tests, most, e)
+
+-- ---- what comes before what
+follow_with : (before keeps : List Keep) (k : Keep) → follow before (keeps ++ k ∷ []) ≡ (follow before keeps && have_kind (before ++ keeps) (needs k))
+follow_with before [] k = and_comes (have_kind before (needs k)) ∙ ap (λ ks. have_kind ks (needs k)) (sym (append-nil before))
+  where
+    and_comes : (b : Bool) → b && true ≡ b
+    and_comes true = refl
+    and_comes false = refl
+follow_with before (x ∷ keeps) k =
+    ap (λ b. have_kind before (needs x) && b) (follow_with (before ++ x ∷ []) keeps k ∙ ap (λ ks. follow (before ++ x ∷ []) keeps && have_kind ks (needs k)) (append_assoc before (x ∷ []) keeps))
+    ∙ both (have_kind before (needs x)) (follow (before ++ x ∷ []) keeps) (have_kind (before ++ x ∷ keeps) (needs k))
+  where
+    both : (a b c : Bool) → (a && (b && c)) ≡ ((a && b) && c)
+    both true b c = refl
+    both false b c = refl
+
+follow_before : (before keeps more : List Keep) → follow before (keeps ++ more) ≡ true → follow before keeps ≡ true
+follow_before before [] more e = refl
+follow_before before (x ∷ keeps) more e = and_from _ _ (and_parts _ _ e).0 (follow_before (before ++ x ∷ []) keeps more (and_parts _ _ e).1)
+
+-- a world that keeps these may keep one more where what that is made of is there and there are fewer of its group than the limit
+may_keep_with : (keeps : List Keep) (k : Keep) → may_keep keeps ≡ true → (have_kind keeps (needs k) && nat_lt (count_of (group k) keeps) (limit (group k))) ≡ may_keep (keeps ++ k ∷ [])
+may_keep_with keeps k now =
+    turned (have_kind keeps (needs k)) (nat_lt (count_of (group k) keeps) (limit (group k)))
+    ∙ (λ t. few_with keeps k few t && last t)
+  where
+    few : are_few keeps ≡ true
+    few = (and_parts (are_few keeps) (follow [] keeps) now).0
+
+    turned : (a b : Bool) → (a && b) ≡ (b && a)
+    turned true true = refl
+    turned true false = refl
+    turned false true = refl
+    turned false false = refl
+
+    last : have_kind keeps (needs k) ≡ follow [] (keeps ++ k ∷ [])
+    last = sym (follow_with [] keeps k ∙ ap (λ b. b && have_kind keeps (needs k)) (and_parts (are_few keeps) (follow [] keeps) now).1)
+
+-- so it is where what that is made of is there, by the two numbers
+pub may_keep_by_count : (keeps : List Keep) (k : Keep) (n most : ℕ) → may_keep keeps ≡ true → have_kind keeps (needs k) ≡ true → n ≡ count_of (group k) keeps → most ≡ limit (group k)
+    → nat_lt n most ≡ may_keep (keeps ++ k ∷ [])
+may_keep_by_count keeps k n most now there e f =
+    (λ t. nat_lt (e t) (f t)) ∙ sym (ap (λ b. b && nat_lt (count_of (group k) keeps) (limit (group k))) there) ∙ may_keep_with keeps k now
+
+-- and it may not where that isn't there
+pub may_not_keep : (keeps : List Keep) (k : Keep) → may_keep keeps ≡ true → have_kind keeps (needs k) ≡ false → false ≡ may_keep (keeps ++ k ∷ [])
+may_not_keep keeps k now missing = sym (ap (λ b. b && nat_lt (count_of (group k) keeps) (limit (group k))) missing) ∙ may_keep_with keeps k now
+
+-- a world may keep the first of those that it may keep
+pub first_kept : (keeps more : List Keep) → may_keep (keeps ++ more) ≡ true → may_keep keeps ≡ true
+first_kept keeps more now = and_from _ _ (few_from keeps fewer) (follow_before [] keeps more (and_parts _ _ now).1)
+  where
+    fewer : (k : Keep) → Contains keeps k → count_of (group k) keeps ≤ limit (group k)
+    fewer k there = let all = few_of_group (keeps ++ more) (and_parts _ _ now).0 (group k) in let sum = count_both (group k) keeps more in omega (arith, all, sum)
+
+-- where it may not keep the first of these it may not keep them all
+pub not_all_kept : (first more keeps : List Keep) (b : Bool) → first ++ more ≡ keeps → b ≡ may_keep first → b ≡ false → false ≡ may_keep keeps
+not_all_kept first more keeps true whole e missing = absurd cc
+not_all_kept first more keeps false whole e missing = at (may_keep keeps) refl
+  where
+    at : (b : Bool) → may_keep keeps ≡ b → false ≡ b
+    at false f = refl
+    at true f = e ∙ first_kept first more (ap may_keep whole ∙ f)
+
+-- every keep is of one of the groups
+all_counted : (keeps : List Keep) → count_of 0 keeps + count_of 1 keeps + count_of 2 keeps + count_of 3 keeps + count_of 4 keeps + count_of 5 keeps ≡ length keeps
 all_counted [] = refl
 all_counted (k ∷ keeps) =
-    let a = first is_along in
-    let h = first (is_alike Hull) in
-    let c = first (is_alike Closest) in
-    let r = first (is_alike Range) in
-    let n = first (is_alike Nearest) in
-    (λ t. a t + h t + c t + r t + n t) ∙ at k (count_by is_along keeps) (count_by (is_alike Hull) keeps) (count_by (is_alike Closest) keeps) (count_by (is_alike Range) keeps) (count_by (is_alike Nearest) keeps) (length keeps) (all_counted keeps)
+    (λ t. count_first 0 k keeps t + count_first 1 k keeps t + count_first 2 k keeps t + count_first 3 k keeps t + count_first 4 k keeps t + count_first 5 k keeps t)
+    ∙ at k (count_of 0 keeps) (count_of 1 keeps) (count_of 2 keeps) (count_of 3 keeps) (count_of 4 keeps) (count_of 5 keeps) (length keeps) (all_counted keeps)
   where
-    first : (is_of : Keep → Bool) → count_by is_of (k ∷ keeps) ≡ (0 + cond (is_of k) 1 0) + count_by is_of keeps
-    first is_of = sum_by-append (λ x. cond (is_of x) 1 0) (k ∷ []) keeps
+    of : ℕ → Keep → ℕ
+    of g x = cond (nat_eq (group x) g) 1 0
 
-    at : (k : Keep) (a h c r n m : ℕ) → a + h + c + r + n ≡ m → ((0 + cond (is_along k) 1 0) + a) + ((0 + cond (is_alike Hull k) 1 0) + h) + ((0 + cond (is_alike Closest k) 1 0) + c) + ((0 + cond (is_alike Range k) 1 0) + r) + ((0 + cond (is_alike Nearest k) 1 0) + n) ≡ suc m
-    at (Order dx dy) a h c r n m e = omega (arith, e)
-    at (Extreme dx dy) a h c r n m e = omega (arith, e)
-    at Hull a h c r n m e = omega (arith, e)
-    at Closest a h c r n m e = omega (arith, e)
-    at Range a h c r n m e = omega (arith, e)
-    at Nearest a h c r n m e = omega (arith, e)
+    at : (x : Keep) (a h c r n d m : ℕ) → a + h + c + r + n + d ≡ m
+        → (cond (nat_eq (group x) 0) 1 0 + a) + (cond (nat_eq (group x) 1) 1 0 + h) + (cond (nat_eq (group x) 2) 1 0 + c) + (cond (nat_eq (group x) 3) 1 0 + r)
+        + (cond (nat_eq (group x) 4) 1 0 + n) + (cond (nat_eq (group x) 5) 1 0 + d) ≡ suc m
+    at (Order dx dy) a h c r n d m e = omega (arith, e)
+    at (Extreme dx dy) a h c r n d m e = omega (arith, e)
+    at Hull a h c r n d m e = omega (arith, e)
+    at Closest a h c r n d m e = omega (arith, e)
+    at Range a h c r n d m e = omega (arith, e)
+    at Nearest a h c r n d m e = omega (arith, e)
+    at Diameter a h c r n d m e = omega (arith, e)
 
-pub few_at_most : (keeps : List Keep) → are_few keeps ≡ true → length keeps ≤ 20
-few_at_most keeps now = at (count_by is_along keeps) (count_by (is_alike Hull) keeps) (count_by (is_alike Closest) keeps) (count_by (is_alike Range) keeps) (count_by (is_alike Nearest) keeps) now (all_counted keeps)
+pub few_at_most : (keeps : List Keep) → may_keep keeps ≡ true → length keeps ≤ 21
+few_at_most keeps now =
+    let few = few_of_group keeps (and_parts _ _ now).0 in
+    let a = few 0 in
+    let h = few 1 in
+    let c = few 2 in
+    let r = few 3 in
+    let n = few 4 in
+    let d = few 5 in
+    let sum = all_counted keeps in
+    omega (arith, a, h, c, r, n, d, sum)
+
+-- ---- the hull of a farthest pair
+-- there is one hull at most
+pub one_hull : (keeps : List Keep) → may_keep keeps ≡ true → (m n : ℕ) → slice_get keeps m ≡ Some Hull → slice_get keeps n ≡ Some Hull → m ≡ n
+one_hull keeps now m n here there =
+    let few = few_of_group keeps (and_parts _ _ now).0 1 in
+    let less : ¬ (m < n) = λ l. let two = two_counted keeps m n Hull Hull l here there refl in omega (arith, two, few) in
+    let more : ¬ (n < m) = λ l. let two = two_counted keeps n m Hull Hull l there here refl in omega (arith, two, few) in
+    neither less more
   where
-    at : (a h c r n : ℕ) → nat_le a 16 && nat_le h 1 && nat_le c 1 && nat_le r 1 && nat_le n 1 ≡ true → a + h + c + r + n ≡ length keeps → length keeps ≤ 20
-    at a h c r n e f = grind (arith, nat_tests, e, f)
+    neither : ¬ (m < n) → ¬ (n < m) → m ≡ n
+    neither less more = grind (arith, less, more)
+
+-- what a farthest pair is made of is counted before it
+hull_counted : (before keeps : List Keep) (n : ℕ) → follow before keeps ≡ true → slice_get keeps n ≡ Some Diameter → 1 ≤ count_of 1 (before ++ take n keeps)
+hull_counted before [] n e there = absurd cc
+hull_counted before (x ∷ keeps) zero e there =
+    let same : x ≡ Diameter = cc in
+    let there : nat_lt 0 (count_of 1 before) ≡ true = subst (λ k. have_kind before (needs k) ≡ true) same (and_parts _ _ e).0 in
+    subst (λ ks. 1 ≤ count_of 1 ks) (sym (append-nil before)) (grind (arith, nat_tests, there))
+hull_counted before (x ∷ keeps) (suc n) e there =
+    subst (λ ks. 1 ≤ count_of 1 ks) (append_assoc before (x ∷ []) (take n keeps)) (hull_counted (before ++ x ∷ []) keeps n (and_parts _ _ e).1 there)
+
+get_taken : {A : Type 0} (xs : List A) (n m : ℕ) (x : A) → slice_get (take n xs) m ≡ Some x → (m < n) × (slice_get xs m ≡ Some x)
+get_taken [] zero m x e = absurd cc
+get_taken [] (suc n) m x e = absurd cc
+get_taken (y ∷ ys) zero m x e = absurd cc
+get_taken (y ∷ ys) (suc n) zero x e = (omega arith, e)
+get_taken (y ∷ ys) (suc n) (suc m) x e = let h = get_taken ys n m x e in let less = h.0 in (omega (arith, less), h.1)
+
+-- a hull comes before a farthest pair
+pub hull_before : (keeps : List Keep) → may_keep keeps ≡ true → (n : ℕ) → slice_get keeps n ≡ Some Diameter → (m : ℕ) × (m < n) × (slice_get keeps m ≡ Some Hull)
+hull_before keeps now n there = at (counted 1 (take n keeps)) (hull_counted [] keeps n (and_parts _ _ now).1 there)
+  where
+    is_hull : (k : Keep) → group k ≡ 1 → k ≡ Hull
+    is_hull (Order dx dy) e = absurd (omega (arith, e))
+    is_hull (Extreme dx dy) e = absurd (omega (arith, e))
+    is_hull Hull e = refl
+    is_hull Closest e = absurd (omega (arith, e))
+    is_hull Range e = absurd (omega (arith, e))
+    is_hull Nearest e = absurd (omega (arith, e))
+    is_hull Diameter e = absurd (omega (arith, e))
+
+    at : (count_of 1 (take n keeps) ≡ 0) ⊎ ((m : ℕ) × (k : Keep) × (slice_get (take n keeps) m ≡ Some k) × (group k ≡ 1)) → 1 ≤ count_of 1 (take n keeps)
+        → (m : ℕ) × (m < n) × (slice_get keeps m ≡ Some Hull)
+    at (inl none) some = absurd (omega (arith, none, some))
+    at (inr (m, k, taken, of)) some = let h = get_taken keeps n m k taken in (m, h.0, h.1 ∙ ap (λ x. Some x) (is_hull k of))

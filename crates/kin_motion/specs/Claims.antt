@@ -13,7 +13,7 @@ use Rattle.kin_motion.specs.Boxes.{points_in}
 use Rattle.kin_motion.specs.Chains.{IsUpperChain, IsHullCycle}
 use Rattle.kin_motion.specs.Extremes.{along_key, point_slots}
 use Rattle.kin_motion.specs.Agreements.{FitsSize}
-use Rattle.kin_motion.specs.Contents.{IsSettledList, IsSettledTournament, IsSettledTree, IsSettledHull, IsSettledWedges, IsSettledClosest, IsSettledRange}
+use Rattle.kin_motion.specs.Contents.{IsSettledList, IsSettledTournament, IsSettledTree, IsSettledHull, IsSettledWedges, IsSettledClosest, IsSettledDiameter, IsSettledRange}
 
 -- a rectangle whose sides are the wrong way round has no point
 abbrev pub WrongRectIsEmpty : Type 0
@@ -43,6 +43,7 @@ pub record CanBeSettled (size : ℕ) (s : Scene) : Type 0 where
   pub hull : (cycle : List ℕ) × (facts : List Placed) × IsSettledHull s size cycle facts
   pub wedges : (candidate : ℕ → ℕ → Option ℕ) × (facts : List Placed) × IsSettledWedges s size candidate facts
   pub closest : (pair : Option (ℕ × ℕ)) × (facts : List Placed) × IsSettledClosest s size pair facts
+  pub diameter : (pair : Option (ℕ × ℕ)) × (facts : List Placed) × IsSettledDiameter s size pair facts
   pub range : (by_x by_y : List ℕ) × (facts : List Placed) × IsSettledRange s by_x by_y facts
 
 -- the settled states of the definitions exist

@@ -1,21 +1,25 @@
 -- What a repair may ask: how many signs each kept structure may ask between a scene before and a scene now, by its keep and the two scenes. It is meant for scenes with the same live numbers, or of which one has one number more (`follows` of `Kept`).
-use Rattle.std.specs.Prelude.{◌≡◌, ◌≢◌, ℕ, ◌+◌, ◌*◌, ◌^◌, ◌≤◌, pos, List, [], ◌∷◌, length, sum_by, Some, slice_get, IsTrue, ◌⊎◌}
+use Rattle.std.specs.Prelude.{◌≡◌, ◌≢◌, ℕ, ◌+◌, ◌*◌, ◌^◌, ◌≤◌, pos, List, [], ◌∷◌, length, reverse, sum_by, Option, Some, slice_get, IsTrue, ◌⊎◌}
 use Rattle.kin_motion.specs.declared.fact.Placed.{Placed}
 use Rattle.kin_motion.specs.declared.keep.Keep.{Keep}
-use Rattle.kin_motion.specs.declared.keep.Keep.TheVariants.{Order, Extreme, Hull, Closest, Range, Nearest}
+use Rattle.kin_motion.specs.declared.keep.Keep.TheVariants.{Order, Extreme, Hull, Closest, Range, Nearest, Diameter}
 use Rattle.kin_motion.specs.Agreements.{FitsSize}
 use Rattle.kin_motion.specs.Records.{moved_pairs}
 use Rattle.kin_motion.specs.ClosestFacts.{IsPairFact, near_slots}
+use Rattle.kin_motion.specs.ClosestPairs.{Near}
 use Rattle.kin_motion.specs.Deltas.{Change}
+use Rattle.kin_motion.specs.DiameterFacts.{IsCellFact, IsDiameterFact}
 use Rattle.kin_motion.specs.Extremes.{IsExtremeFact}
 use Rattle.kin_motion.specs.Forms.{names}
 use Rattle.kin_motion.specs.KeptOrder.{KeptHullKeepsOrder}
-use Rattle.kin_motion.specs.Merges.{IsHullFact}
+use Rattle.kin_motion.specs.Merges.{Breakpoint, IsHullFact}
 use Rattle.kin_motion.specs.Numbers.{IsIn, HasEntered}
 use Rattle.kin_motion.specs.Octants.{Direction, direction, eight_directions}
 use Rattle.kin_motion.specs.Orders.{order_of, IsOrderFact}
 use Rattle.kin_motion.specs.Scene.{Scene, IsReal, Holds}
 use Rattle.kin_motion.specs.Sets.{ListsExactly}
+use Rattle.kin_motion.specs.Sweeps.{IsSwept, AreChains, cell_pairs, AreCellSlots}
+use Rattle.kin_motion.specs.Tournaments.{item_in}
 
 -- what the bound requires of the two scenes: both are real, the live numbers have slots, and the chains of a kept hull keep their order
 pub record AreInStep (size : ℕ) (keep : Keep) (v w : Scene) : Type 0 where
@@ -90,6 +94,30 @@ pub record MayHullAsk (size : ℕ) (v w : Scene) (asked : ℕ) : Type 0 where
   pub changed : AreChanged (IsHullFact size v) (IsHullFact size w) change
   pub bound : asked ≤ 5 * length change.born + length change.dropped
 
+-- ---- farthest pairs
+-- the sweep of both chains of a scene, and the pairs of its cells in their slots
+pub record AreCells (size : ℕ) (s : Scene) (breakpoints : List Breakpoint) (slots : List (Option Near)) : Type 0 where
+  pub upper : List ℕ
+  pub lower : List ℕ
+  pub swept : IsSwept s upper lower breakpoints
+  pub filled : AreCellSlots size (cell_pairs upper (reverse lower) breakpoints) slots
+
+-- a farthest pair may ask one sign for each breakpoint of the sweep now, and size + 1 for each slot whose pair changed and for each failed fact of its
+-- tournament; but none where the same numbers are live, both chains are as before, and all its facts hold
+pub record MayDiameterAsk (size : ℕ) (v w : Scene) (asked : ℕ) : Type 0 where
+  pub breakpoints_before : List Breakpoint
+  pub slots_before : List (Option Near)
+  pub before : AreCells size v breakpoints_before slots_before
+  pub breakpoints : List Breakpoint
+  pub slots : List (Option Near)
+  pub after : AreCells size w breakpoints slots
+  pub changed : List ℕ
+  pub other : ListsExactly changed (λ k. item_in slots_before k ≢ item_in slots k)
+  pub failed : List Placed
+  pub exactly : ListsExactly failed (HasFailed (IsCellFact size v) v w)
+  pub bound : asked ≤ length breakpoints + (size + 1) * (length changed + length failed)
+  pub quiet : (upper lower : List ℕ) → v.live ≡ w.live → AreChains v upper lower → AreChains w upper lower → ((p : Placed) → IsDiameterFact size v p → Holds w p.fact) → asked ≡ 0
+
 -- ---- all kinds
 -- so many signs a structure may ask, by its kind
 abbrev pub MayAsk : ℕ → Keep → Scene → Scene → ℕ → Type 0
@@ -99,6 +127,7 @@ MayAsk size Hull v w asked = MayHullAsk size v w asked
 MayAsk size Closest v w asked = MayClosestAsk size v w asked
 MayAsk size Range v w asked = MayOrdersAsk (direction (pos 1) (pos 0) ∷ direction (pos 0) (pos 1) ∷ []) v w asked
 MayAsk size Nearest v w asked = MayOrdersAsk eight_directions v w asked
+MayAsk size Diameter v w asked = MayDiameterAsk size v w asked
 
 -- the count has risen by at most a number that may be asked
 abbrev pub HasRisenWithin : (ℕ → Type 0) → ℕ → ℕ → Type 0

@@ -26,6 +26,10 @@ pub record IsSweep (s : Scene) (upper lower : List ℕ) (es : List Breakpoint) :
 abbrev pub sweep_of : Scene → List ℕ → List ℕ → List Breakpoint
 sweep_of s upper lower = merged s (breakpoints_of A upper) (breakpoints_back lower)
 
+-- both chains, each from left to right, are those of all live numbers
+abbrev pub AreChains : Scene → List ℕ → List ℕ → Type 0
+AreChains s upper lower = IsUpperChain s s.live upper × IsLowerChain s s.live lower
+
 -- the upper and the lower chain of all live numbers, both from left to right, and their sweep
 pub record IsSwept (s : Scene) (upper lower : List ℕ) (es : List Breakpoint) : Type 0 where
   pub upper_chain : IsUpperChain s s.live upper

@@ -162,9 +162,9 @@ pub fn computed_facts_agree()
 {}
 
 /// In a real scene with n live numbers, all with slots, an order or an extreme point has at most n - 1
-/// facts, a range twice and nearest neighbours eight times as many, a closest pair 16n, and a hull 4n
-/// times the size; without live numbers there are none. So all kept structures together have at most
-/// the sum. A farthest pair has at most 4 facts for each live number but one.
+/// facts, a range twice, a farthest pair four and nearest neighbours eight times as many, a closest pair
+/// 16n, and a hull 4n times the size; without live numbers there are none. So all kept structures
+/// together have at most the sum. The facts of a farthest pair are as few without slots.
 pub fn few_facts_are_live()
     ensures structure { FewFacts }
     ensures diameter { FewDiameterFacts }
