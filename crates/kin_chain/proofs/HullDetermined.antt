@@ -9,6 +9,7 @@ use Rattle.kin_motion.specs.Chains.{IsUpperChain, IsHullCycle}
 use Rattle.kin_motion.specs.Kinetics.{HaveSameLive}
 use Rattle.kin_motion.specs.Merges.{points_under, IsTreeFact, IsUpperFact, IsLowerFact, IsHullFact}
 use Rattle.kin_motion.specs.Numbers.{IsIn}
+use Rattle.kin_motion.specs.Sweeps.{AreChains}
 use Rattle.kin_motion.specs.Scene.{Scene, IsReal, Holds, placed_at, reflected}
 use Rattle.kin_motion.specs.ReflectedFacts.{reflected_fact}
 use Rattle.kin_motion.proofs.HullClaims.{settled_states_exist}
@@ -86,6 +87,13 @@ module _ (size : ℕ) (v w : Scene) (real : IsReal v) (real' : IsReal w) (fits :
     upper_chain = same_top size v w real real' fits same upper_stays c.upper c.upper_chain;
     joined = c.joined;
   }
+
+  -- both chains are those of the other scene, too
+  pub same_chains : (upper lower : List ℕ) → AreChains v upper lower → AreChains w upper lower
+  same_chains upper lower c = (
+    same_top size v w real real' fits same upper_stays upper c.0,
+    same_top size (reflected v) (reflected w) (reflected-real v real) (reflected-real w real') fits same lower_stays lower c.1,
+  )
 
   same_hull_facts : (p : Placed) → IsHullFact size v p ↔ IsHullFact size w p
   same_hull_facts p = (to, from)

@@ -9,3 +9,4 @@ pub mod Seating
 pub mod MarkedSlots
 pub mod Settling
 pub mod Vacancy
+pub mod Asking

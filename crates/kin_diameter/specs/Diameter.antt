@@ -1,6 +1,8 @@
 -- What a kinetic farthest pair means to its callers.
 use Rattle.std.specs.Prelude.{◌≡◌, ◌≢◌, ℕ, ◌+◌, ◌*◌, ◌^◌, ◌<◌, ◌≤◌, ◌++◌, List, length, filter, map, reverse, Bool, false, Contains, Option, Some, None, IsTrue}
 use Rattle.kin_motion.specs.declared.fact.Placed.{Placed}
+use Rattle.kin_motion.specs.declared.keep.Keep.{Keep}
+use Rattle.kin_motion.specs.declared.keep.Keep.TheVariants as keep
 use Rattle.kin_motion.specs.Agreements.{FitsSize}
 use Rattle.kin_motion.specs.ClosestPairs.{Near}
 use Rattle.kin_motion.specs.Contents.{IsSettledDiameter}
@@ -91,3 +93,8 @@ pub record AreFewTests (old new : Diameter) (failed : List Placed) (before after
   pub changed : List ℕ
   pub other : ListsExactly changed (λ i. item_in old.cells.slots i ≢ item_in new.cells.slots i)
   pub bound : after ≤ before + length new.breakpoints + (old.size + 1) * (length changed + length (filter (is_beyond 1) failed))
+
+-- ---- as the structure of a keep
+-- it is for the numbers below 2^size
+abbrev pub IsDiameterFor : Diameter → ℕ → Keep → Type 0
+IsDiameterFor k size kept = (kept ≡ keep.Diameter) × (k.size ≡ size)

@@ -5,20 +5,24 @@ use Rattle.std.proofs.lemmas.List.Elements.{All-head, All-tail, All-cons, All-ni
 use Rattle.kin_algebra.proofs.Members.{contains_head, contains_tail}
 use Rattle.kin_motion.specs.declared.fact.Placed.{Placed}
 use Rattle.kin_motion.specs.declared.form.Form.{Form}
+use Rattle.kin_motion.specs.declared.keep.Keep.{Keep}
 use Rattle.kin_motion.specs.Contents.{IsSettledDiameter, IsSettledTournament}
+use Rattle.kin_motion.specs.DiameterFacts.{IsDiameterFact}
 use Rattle.kin_motion.specs.Farthest.{farness_key}
 use Rattle.kin_motion.specs.Kinetics.{HaveSameLive, AllHold}
+use Rattle.kin_motion.specs.Live.{IsKeepFact}
 use Rattle.kin_motion.specs.Merges.{slopes_from}
 use Rattle.kin_motion.specs.Numbers.{IsIn}
 use Rattle.kin_motion.specs.Parts.{moved_by}
 use Rattle.kin_motion.specs.Scene.{Scene, IsReal, Holds, placed_at}
+use Rattle.kin_motion.specs.Sets.{ListsExactly}
 use Rattle.kin_motion.specs.Sweeps.{IsSwept, cell_pairs, AreCellSlots}
 use Rattle.kin_tourney.specs.Determined.{determined_law}
 use Rattle.kin_tourney.specs.Tournament.{IsSettled, winner_at}
 use Rattle.kin_pairs.specs.PairKeys.{pair_names, farness_total, farness_transitive}
 use Rattle.kin_far.proofs.DeterminedSweeps.{held_signs, sweep_is_determined}
 use Rattle.kin_far.proofs.SettledDiameters.{diameter_is_settled}
-use Rattle.kin_diameter.specs.Diameter.{Diameter, facts_of, pair_told, IsSettledKinDiameter, IsDiameterAtRest, IsGrounded}
+use Rattle.kin_diameter.specs.Diameter.{Diameter, facts_of, pair_told, IsSettledKinDiameter, IsDiameterAtRest, IsDiameterFor, IsGrounded}
 
 -- what holds of all facts holds of the first ones, and of those after them
 first_hold : (s : Scene) (xs ys : List Placed) → AllHold s (xs ++ ys) → AllHold s xs
@@ -85,3 +89,9 @@ determined_lem k v w rest real before same real' chains hold = record {
     cells =
         determined_law pair_names farness_key farness_total farness_transitive k.cells v w real before.cells same real'
         (moved_hold w k.slopes k.cells.facts hold)
+
+-- ---- as the structure of a keep
+pub diameter_exact : (k : Diameter) (size : ℕ) (keep : Keep) (s : Scene) → IsDiameterFor k size keep → IsSettledKinDiameter k s → ListsExactly (facts_of k) (IsKeepFact size s keep)
+diameter_exact k size keep s kind settled =
+    subst (λ (q : Keep). ListsExactly (facts_of k) (IsKeepFact size s q)) (sym kind.0)
+    (subst (λ n. ListsExactly (facts_of k) (IsDiameterFact n s)) kind.1 settled.farthest.exact)

@@ -1,6 +1,6 @@
 //! The farthest pair as its callers see it.
 
-ghost use Rattle.std.specs.Prelude.{◌≡◌, ◌≤◌, ◌<◌, ◌^◌, [], None, Some, false, IfOk, IsTrue, OnOk, OnErr};
+ghost use Rattle.std.specs.Prelude.{◌≡◌, ◌≤◌, ◌<◌, ◌^◌, ◌↔◌, [], None, Some, false, IfOk, IsTrue, OnOk, OnErr};
 ghost use Rattle.kin_motion.specs.Farthest.{IsFarthest};
 ghost use Rattle.kin_motion.specs.Kinetics.{ListsFailing, HasChanged};
 ghost use Rattle.kin_motion.specs.Scene.{Scene, IsReal};
@@ -82,6 +82,13 @@ impl KinDiameter {
             leaving: None,
             whole: true,
         })
+    }
+
+    /// Whether these are the chains that it was given last. Compares them number by number.
+    pub fn has_chains(&self, upper: &[u32], lower: &[u32]) -> bool
+        ensures { IsTrue result ↔ ((self.now.upper ≡ upper.now) × (self.now.lower ≡ lower.now)) }
+    {
+        self.upper.as_slice() == upper && self.lower.as_slice() == lower
     }
 
     /// Gives it both chains of the hull, each from left to right. It may settle in scenes of which they are

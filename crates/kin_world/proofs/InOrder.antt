@@ -42,7 +42,7 @@ module _ {is_fine : ℕ → Keep → Structure → Type 0} {s : Stage} (o : IsIn
   -- the motions, the moment and the failure moments may become others, where the certificates stay
   pub retimed : {is_fine' : ℕ → Keep → Structure → Type 0} (motions : List (Option Course)) (m : Moment) (table : Facts) → length motions ≡ length s.motions → AreSlow motions → IsCanonical m.at
       → NoneAlike table.live → table.made ≤ 2 ^ 64 - 1 → HaveSameCertificates s.table.live table.live
-      → ((j : ℕ) (keep : Keep) (st : Structure) → slice_get s.structures j ≡ Some st → IsInPlace is_fine s.table.live j keep st → is_fine' j keep st)
+      → ((j : ℕ) (keep : Keep) (st : Structure) → slice_get s.keeps j ≡ Some keep → slice_get s.structures j ≡ Some st → IsInPlace is_fine s.table.live j keep st → is_fine' j keep st)
       → ((l : LiveFact) → Contains table.live l → IsTimedOrFailed (scene_at motions) m l) → IsInOrder is_fine' (record s { motions = motions; moment = m; table = table })
   retimed {is_fine'} motions m table room slow canonical once counted same finer timely = search (rules, each, owned)
     where
@@ -50,7 +50,7 @@ module _ {is_fine : ℕ → Keep → Structure → Type 0} {s : Stage} (o : IsIn
       each j keep st kept there =
           let was = o.each j keep st kept there in
           record {
-            fine = finer j keep st there was;
+            fine = finer j keep st kept there was;
             tabled = λ p. (
               λ there. let l = (was.tabled p).0 there in let k = same.stay l.0 l.1 in (k.0, k.1, k.2 ∙ l.2),
               λ l. let k = same.only l.0 l.1 in (was.tabled p).1 (k.0, k.1, k.2 ∙ l.2),
@@ -62,12 +62,12 @@ module _ {is_fine : ℕ → Keep → Structure → Type 0} {s : Stage} (o : IsIn
 
   -- the motions and the moment alone
   pub seen_anew : {is_fine' : ℕ → Keep → Structure → Type 0} (motions : List (Option Course)) (m : Moment) → length motions ≡ length s.motions → AreSlow motions → IsCanonical m.at
-      → ((j : ℕ) (keep : Keep) (st : Structure) → slice_get s.structures j ≡ Some st → IsInPlace is_fine s.table.live j keep st → is_fine' j keep st)
+      → ((j : ℕ) (keep : Keep) (st : Structure) → slice_get s.keeps j ≡ Some keep → slice_get s.structures j ≡ Some st → IsInPlace is_fine s.table.live j keep st → is_fine' j keep st)
       → ((l : LiveFact) → Contains s.table.live l → IsTimedOrFailed (scene_at motions) m l) → IsInOrder is_fine' (record s { motions = motions; moment = m })
   seen_anew motions m room slow canonical finer timely = retimed motions m s.table room slow canonical o.once o.counted (record { stay = λ l there. (l, there, refl); only = λ l there. (l, there, refl) }) finer timely
 
   -- what is fine in one sense is fine in another
-  pub restated : {is_fine' : ℕ → Keep → Structure → Type 0} → ((j : ℕ) (keep : Keep) (st : Structure) → slice_get s.structures j ≡ Some st → IsInPlace is_fine s.table.live j keep st → is_fine' j keep st) → IsInOrder is_fine' s
+  pub restated : {is_fine' : ℕ → Keep → Structure → Type 0} → ((j : ℕ) (keep : Keep) (st : Structure) → slice_get s.keeps j ≡ Some keep → slice_get s.structures j ≡ Some st → IsInPlace is_fine s.table.live j keep st → is_fine' j keep st) → IsInOrder is_fine' s
   restated finer = seen_anew s.motions s.moment refl o.fit.slow o.canonical finer o.timely
 
   -- the change of a structure that is settled now may be told

@@ -1,6 +1,6 @@
 -- Where a leap lands, all is as a repair needs it.
 use Rattle.kin_world.proofs.Vocabulary.{ap, ◌≡◌, inl, inr, refl, sym, ◌∙◌, subst, true, false, pos, List, Option, cases_Bool, All-contains, IsCanonical, IsEarlier, Moment, never, through, Course, FailsFirst, HoldsAt, scene_at, Form, Dist, Line}
-use Rattle.kin_world.proofs.Vocabulary.{Slope, Turn, Facts, NoneAlike, HasGivenOut, IsLeastFailure, Owned, HasLanded, HasSameFrame, HasSettled, IsBeyond, IsLanding, IsSound, IsUnderRepair, Stage, is_line}
+use Rattle.kin_world.proofs.Vocabulary.{Slope, Turn, Facts, NoneAlike, HasGivenOut, IsLeastFailure, Owned, HasLanded, HasSameFrame, HasSettled, IsBeyond, IsLanding, IsSound, IsUnderRepair, Stage, is_line, sight}
 use Rattle.kin_instant.proofs.Crossing.{at_it, just_after}
 use Rattle.kin_motion.specs.Forms.{polynomial_of}
 use Rattle.kin_cert.proofs.JustAfter.{follows, next_or_later, fails_not_just_after, line_fails_on}
@@ -55,7 +55,7 @@ module _ {s : Stage} (sound : IsSound s) (table : Facts) {given : List Owned} (o
         before : IsEarlier s.moment (at_it due.at)
         before = subst (IsEarlier s.moment) there_at first.later_is_later
 
-  pub landing_under_repair : IsLanding (scene_at s.motions) due limit given m → NoneAlike table.live → table.made ≡ s.table.made → IsUnderRepair (record s { moment = m; table = table })
+  pub landing_under_repair : IsLanding (scene_at s.motions) due limit given m → NoneAlike table.live → table.made ≡ s.table.made → IsUnderRepair 0 (sight s) (record s { moment = m; table = table })
   landing_under_repair (inl is) once made = rw is (taken_under_repair sound table out due least once made)
   landing_under_repair (inr beyond) once made = reached_under_repair sound table out m (reached beyond) once made
 

@@ -4,7 +4,9 @@ pub mod InOrder
 pub mod SoundLaws
 pub mod TakeLaws
 pub mod LeapLaws
+pub mod Splits
 pub mod RepairLaws
+pub mod FarthestLaws
 pub mod Certificates
 pub mod MailLaws
 pub mod OneMore
@@ -21,6 +23,7 @@ pub mod HullSights
 pub mod ChainOrder
 pub mod Sufficiency
 pub mod PaidLaws
+pub mod Becoming
 pub mod Frugal
 pub mod NextStops
 pub mod CrossingLaws

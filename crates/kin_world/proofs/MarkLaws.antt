@@ -2,6 +2,7 @@
 use Rattle.kin_world.proofs.Vocabulary.{rules, ◌≡◌, inl, inr, refl, sym, ap, ◌∙◌, arith, ℕ, ◌<◌, ◌≤◌, ◌^◌, ◌⊎◌, true, false, List, length, slice_set, Option, Some, None, is_some, slice_get, Contains, get_or-set_same, set-set, set-get_or}
 use Rattle.kin_world.proofs.Vocabulary.{All-contains, slice_get_within, AreSlow, Course, is_live, live_of, motion_of, IsAskable, IsSmallKeep, owned_by, Holds, Scene, scene_at, Placed, Keep, Facts, LiveFact, IsTimed, placed_facts, AreLiveAfter}
 use Rattle.kin_world.proofs.Vocabulary.{HoldFor, IsSettledFor, HasGoneOn, HasGoneOver, HasOneMore, HasUpdated, IsCarriedOut, IsInOrder, IsInPlace, IsMarked, IsSound, Stage, sight, with_marked, Structure}
+use Rattle.std.specs.Prelude.{take}
 use Rattle.std.proofs.lemmas.List.{get_or_past}
 use Rattle.kin_motion.proofs.MotionLaws.{slow-clear}
 use Rattle.kin_world.specs.declared.structure.Mark.{Mark}
@@ -10,6 +11,9 @@ use Rattle.kin_world.proofs.InOrder.{all_hold, by_age, owner, replaced, restated
 use Rattle.kin_world.proofs.OneMore.{one_more, same_room, sign_alike, timed_same}
 use Rattle.kin_world.proofs.SoundLaws.{live_askable}
 use Rattle.kin_world.proofs.StructureLaws.{settled_holds, settled_askable}
+use Rattle.kin_world.specs.Structures.{MayCarryOut}
+use Rattle.kin_world.proofs.Vocabulary.{subst, get_within}
+use Rattle.kin_world.proofs.RepairLaws.{needs_met}
 
 -- a number that is live has a motion
 pub motion_there : (o : Option Course) → is_some o ≡ true → (c : Course) × (o ≡ Some c)
@@ -26,7 +30,7 @@ pub may_insert : {s : Stage} (sound : IsSound s) (entering : ℕ) (c : Course) (
 may_insert {s} sound entering c motions free low written slow =
     let one : HasOneMore entering s.motions motions = record { free = free; motion = c; is = written } in
     let in_order : IsInOrder (HasGoneOver s.size 0 (sight s) (scene_at motions s.moment)) (record s { motions = motions }) =
-    seen_anew sound.in_order motions s.moment (same_room one) slow sound.in_order.canonical (λ j keep st there was. record { done = λ less. absurd (omega (arith, less)); ahead = λ more. was.fine })
+    seen_anew sound.in_order motions s.moment (same_room one) slow sound.in_order.canonical (λ j keep st kept there was. record { done = λ less. absurd (omega (arith, less)); ahead = λ more. was.fine })
     (λ l there. timely_from_timed (scene_at motions) s.moment l ((timed_same one s.moment l (live_askable sound l there)).0 (timed sound.in_order sound.none_waits l there))) in
     search rules
 
@@ -37,7 +41,7 @@ may_remove {s} sound leaving motions live low written =
     let had = motion_there (motion_of s.motions leaving) live in
     let back : slice_set (slice_set s.motions leaving None) leaving (Some had.0) ≡ s.motions = set-set s.motions leaving None (Some had.0) ∙ rw (← had.1) (set-get_or s.motions leaving None) in
     record {
-      in_order = restated sound.in_order (λ j keep st there was. record { done = λ less. absurd (omega (arith, less)); ahead = λ more. was.fine });
+      in_order = restated sound.in_order (λ j keep st kept there was. record { done = λ less. absurd (omega (arith, less)); ahead = λ more. was.fine });
       none_waits = sound.none_waits;
       room = low;
       changed = record { free = rw written (ap is_some (get_or-set_same s.motions leaving None None (rw sound.in_order.fit.room low))); motion = had.0; is = rw written (sym back) };
@@ -58,6 +62,21 @@ hold_for (Leaves n) {k} {before} {s} h keep st place kept = record {
       sym (sign_alike h.changed s.moment p.fact.form unnamed)
       ∙ All-contains (λ (q : Placed). Holds (scene_at before s.moment) q.fact) (placed_facts st) p (settled_holds s.size keep (scene_at before s.moment) st (place.fine.ahead (omega arith))) there;
 }
+
+-- so it may carry the mark out
+pub may_carry_out : (mark : Mark) {k : ℕ} {before : List (Option Course)} {s : Stage} → IsMarked mark k before s → (st : Structure) → k < length s.structures → slice_get s.structures k ≡ Some st
+    → MayCarryOut mark (sight s) (take k s.structures) st
+may_carry_out mark {k} {before} {s} h st within here =
+    let keep = get_within s.keeps k (subst (λ n. k < n) h.in_order.count within) in
+    let place = h.in_order.each k keep.0 st keep.1 here in
+    let was = place.fine.ahead (omega arith) in
+    record {
+      rest = was.rest;
+      room = (s.size, keep.0, was.kind, h.room);
+      was = (scene_at before s.moment, was.members, was.settled, live_after mark h);
+      needs = needs_met h.in_order keep.0 st keep.1 was.kind;
+      hold = hold_for mark h keep.0 st place keep.1;
+    }
 
 -- a form of a settled structure that is kept may be asked for
 asked_of : {size : ℕ} {keep : Keep} {scene : Scene} {st : Structure} (p : Placed) → IsSmallKeep keep → IsSettledFor size keep scene st → Contains (placed_facts st) p → IsAskable scene.live p.fact.form
@@ -100,8 +119,8 @@ carried_on mark {k} {s} one {keep} st {after} {table} r = record {
 
 -- where all structures have gone over, each is settled
 all_over : (k : ℕ) (before now : Scene) (s : Stage) → length s.structures ≤ k
-    → (j : ℕ) (keep : Keep) (st : Structure) → slice_get s.structures j ≡ Some st → IsInPlace (HasGoneOver s.size k before now) s.table.live j keep st → IsSettledFor s.size keep now st
-all_over k before now s all j keep st there was = let low : j < length s.structures = slice_get_within s.structures j st there in was.fine.done (omega (arith, low, all))
+    → (j : ℕ) (keep : Keep) (st : Structure) → slice_get s.keeps j ≡ Some keep → slice_get s.structures j ≡ Some st → IsInPlace (HasGoneOver s.size k before now) s.table.live j keep st → IsSettledFor s.size keep now st
+all_over k before now s all j keep st kept there was = let low : j < length s.structures = slice_get_within s.structures j st there in was.fine.done (omega (arith, low, all))
 
 pub carried_out_all : (mark : Mark) {k : ℕ} {s : Stage} → IsCarriedOut mark k s → length s.structures ≤ k → IsSound s
 carried_out_all (Enters n) {k} {s} (before, h) all = record { in_order = restated h.in_order (all_over k (scene_at before s.moment) (sight s) s all); none_waits = h.none_waits }

@@ -6,11 +6,13 @@ use Rattle.kin_world.proofs.Vocabulary.{NoneFailsUntil, IsTimed, certificates_of
 use Rattle.kin_world.proofs.Vocabulary.{rules, slice_get-get_or, AreAhead, AreFollowed, Holds, IsNextBlock, IsSound, IsAtEase, Leg, Planning, Stage, meaning, setting, sight, without, HasInserted, Facts, HasMade, HasRemoved, IsWhole, with_facts_of, Structure}
 use Rattle.kin_fail.specs.Laws.{IsProper}
 use Rattle.kin_motion.specs.Agreements.{FitsSize}
+use Rattle.kin_motion.specs.declared.keep.Keep.TheVariants.{Hull}
+use Rattle.kin_world.proofs.Vocabulary.{owned_by}
 use Rattle.kin_motion.proofs.LiveFactLaws.{live_facts_agree}
 use Rattle.kin_fail.proofs.JournalExistence.{least_block}
 use Rattle.kin_world.proofs.Certificates.{at_its}
 use Rattle.kin_world.proofs.InOrder.{facts_hold, owner, seen_anew, timed, timely_from_timed}
-use Rattle.kin_world.proofs.StructureLaws.{settled_askable, settled_facts, settled_from_hold, settled_where_hold}
+use Rattle.kin_world.proofs.StructureLaws.{grounded_where, settled_askable, settled_facts, settled_where_hold}
 
 -- no owner has a form twice, so no certificate stands twice
 certificates_distinct : (live : List LiveFact) → NoneAlike live → AreDistinct (certificates_of live)
@@ -132,11 +134,19 @@ module _ {s : Stage} (sound : IsSound s) where
       | inr (inr same) ↦ subst (λ (x : Moment). IsTimed (scene_at s.motions) x l) same (timed_here l there)
     ]
 
+    -- and holds until then
+    hold_later : (h : ℕ) (p : Placed) → IsLiveFact s.size s.keeps (sight s) (owned_by h p) → Holds (scene_at s.motions limit) p.fact
+    hold_later h p live =
+        let l = contains_mapped (λ (k : LiveFact). k.certificate) s.table.live (owned_by h p) ((lists_live.each (owned_by h p)).1 live) in
+        subst (λ (c : Certificate). Holds (scene_at s.motions limit) c.placed.fact) (sym l.2) (timed_holds (scene_at s.motions) limit canonical l.0 (timed_later l.0 l.1))
+
     -- until something fails all structures stay settled, and all failure moments stay the first
     pub sound_later : IsSound (record s { moment = limit })
     sound_later = record {
       in_order = seen_anew sound.in_order s.motions limit refl sound.in_order.fit.slow canonical
-          (λ j keep st there was. settled_from_hold s.size keep (scene_at s.motions limit) st (settled_where_hold s.size keep (sight s) (scene_at s.motions limit) st real (real_at s.motions limit canonical) was.fine refl)
+          (λ j keep st kept there was. settled_where_hold s.size keep (sight s) (scene_at s.motions limit) st real (real_at s.motions limit canonical) was.fine refl
+          (grounded_where s.size s.keeps (sight s) (scene_at s.motions limit) real (real_at s.motions limit canonical) fits refl sound.in_order.fit.keepable.few j keep st kept was.fine
+          (λ pair h is at p fact. hold_later h p (record { keep = Hull; kept = at; fact = fact })))
           (facts_hold (scene_at s.motions limit) s.table.live j (placed_facts st) was.tabled (λ l live. timed_holds (scene_at s.motions) limit canonical l (timed_later l live))))
           (λ l there. timely_from_timed (scene_at s.motions) limit l (timed_later l there));
       none_waits = sound.none_waits;

@@ -1,13 +1,13 @@
 -- What fails at the least failure moment is taken out, and all else is seen from there.
-use Rattle.kin_world.proofs.Vocabulary.{◌≡◌, ◌≢◌, inl, inr, refl, sym, ap, ◌∙◌, subst, false, List, map, Some, Contains, ◌↔◌, true, All, ℤ, Option, Contains-permutation, IsPermutation-sym, IsCanonical, IsEarlier}
-use Rattle.kin_world.proofs.Vocabulary.{Moment, total, live_of, IsAskable, Block, IsNextBlock, seen_in, Certificate, FailsFirst, HoldsAt, scene_at, real_at, exactly_in_words, Facts, LiveFact, NoneAlike, certificate_of, IsFirstFailure, HasGivenOut}
+use Rattle.kin_world.proofs.Vocabulary.{◌≡◌, ◌≢◌, inl, inr, refl, sym, ap, ◌∙◌, subst, arith, false, List, map, Some, Contains, ◌↔◌, true, All, ℤ, Option, Contains-permutation, IsPermutation-sym, IsCanonical, IsEarlier}
+use Rattle.kin_world.proofs.Vocabulary.{Moment, total, live_of, IsAskable, Block, IsNextBlock, seen_in, Certificate, FailsFirst, HoldsAt, scene_at, exactly_in_words, Facts, LiveFact, NoneAlike, certificate_of, IsFirstFailure, HasGivenOut}
 use Rattle.kin_world.proofs.Vocabulary.{HasTaken, IsLeastFailure, certificate_rank, is_taken_before, IsTimed, Owned, later_start, next_block, AreWaiting, HasSettled, IsSound, IsUnderRepair, Stage, setting, sight}
 use Rattle.kin_motion.proofs.JournalLaws.{never_less_rank, less_rank_through}
 use Rattle.kin_motion.proofs.ListChains.{chain_distinct}
 use Rattle.kin_world.proofs.Certificates.{HaveSameCertificates, same_listed}
 use Rattle.kin_world.proofs.InOrder.{retimed, timed}
 use Rattle.kin_world.proofs.SoundLaws.{failure_at, in_time, least_fails, live_askable, one_least, real}
-use Rattle.kin_world.proofs.StructureLaws.{all_from_each, settled_where_hold}
+use Rattle.kin_world.proofs.StructureLaws.{all_from_each}
 use Rattle.std.proofs.lemmas.List.Sorted.{IsPermutation-refl}
 
 -- what was taken out in the journal's order is as good as what was given out in any
@@ -76,11 +76,12 @@ module _ {s : Stage} (sound : IsSound s) (table : Facts) {given : List Owned} (o
   given_askable =
       all_from_each given (λ o there. let l = (given_each o).0 there in subst (λ (c : Certificate). IsAskable (live_of s.motions) c.placed.fact.form) l.3 (live_askable sound l.0 l.1))
 
-  pub reached_under_repair : (m : Moment) → IsReached m → NoneAlike table.live → table.made ≡ s.table.made → IsUnderRepair (record s { moment = m; table = table })
+  pub reached_under_repair : (m : Moment) → IsReached m → NoneAlike table.live → table.made ≡ s.table.made → IsUnderRepair 0 (sight s) (record s { moment = m; table = table })
   reached_under_repair m reached once made =
-      retimed sound.in_order s.motions m table refl sound.in_order.fit.slow reached.canonical once (rw made sound.in_order.counted) same_facts
-      (λ j keep st there was. settled_where_hold s.size keep (sight s) (scene_at s.motions m) st (real sound) (real_at s.motions m reached.canonical) was.fine refl)
-      (λ l there. record { timed = timed_after l there; failed = λ waits. let was = has.only l there in rw was.2.certificate (reached.failed was.0 was.1 (was.2.waits.0 waits)) })
+      let o = retimed sound.in_order s.motions m table refl sound.in_order.fit.slow reached.canonical once (rw made sound.in_order.counted) same_facts
+      (λ j keep st kept there was. record { done = λ less. absurd (omega (arith, less)); ahead = λ more. was.fine })
+      (λ l there. record { timed = timed_after l there; failed = λ waits. let was = has.only l there in rw was.2.certificate (reached.failed was.0 was.1 (was.2.waits.0 waits)) }) in
+      record { in_order = o; real = real sound; same_live = refl }
     where
       timed_after : (l : LiveFact) → Contains table.live l → l.waits ≡ false → IsTimed (scene_at s.motions) m l
       timed_after l there not =
@@ -97,7 +98,7 @@ module _ {s : Stage} (sound : IsSound s) (table : Facts) {given : List Owned} (o
     pub at_moment : has.moment ≡ m
     at_moment = one_least sound has.moment m has.least least
 
-    pub taken_under_repair : NoneAlike table.live → table.made ≡ s.table.made → IsUnderRepair (record s { moment = m; table = table })
+    pub taken_under_repair : NoneAlike table.live → table.made ≡ s.table.made → IsUnderRepair 0 (sight s) (record s { moment = m; table = table })
     taken_under_repair once made = rw (← at_moment) (reached_under_repair has.moment at_once once made)
 
     -- they are the next block

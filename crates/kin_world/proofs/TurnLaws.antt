@@ -84,7 +84,7 @@ module _ {s : Stage} (sound : IsSound s) (n : ℕ) (motion : Course) (may : MayT
     pub sound_turned : IsSound (record s { motions = motions; table = table })
     sound_turned = record {
       in_order = retimed sound.in_order motions s.moment table (ap length written ∙ length-set s.motions n (Some motion)) slow sound.in_order.canonical once (omega (arith, remade.made)) same
-          (λ j keep st there place. subst (λ (x : Scene). IsSettledFor s.size keep x st) (sym same_sight) place.fine)
+          (λ j keep st kept there place. subst (λ (x : Scene). IsSettledFor s.size keep x st) (sym same_sight) place.fine)
           (λ l there. timely_from_timed (scene_at motions) s.moment l (timed_now l there));
       none_waits = λ l there. (timed_now l there).waits_not;
     }

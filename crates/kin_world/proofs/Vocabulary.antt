@@ -31,7 +31,7 @@ pub use Rattle.kin_motion.specs.declared.fact.Placed.{Placed}
 pub use Rattle.kin_motion.specs.declared.form.Form.{Form}
 pub use Rattle.kin_motion.specs.declared.form.Form.TheVariants.{Dist, Line, Slope, Turn}
 pub use Rattle.kin_motion.specs.declared.keep.Keep.{Keep}
-pub use Rattle.kin_motion.proofs.KeepLaws.{few_at_most}
+pub use Rattle.kin_motion.proofs.KeepLaws.{few_at_most, hull_before, one_hull}
 pub use Rattle.kin_motion.proofs.MotionScenes.{live_fits, real_at}
 pub use Rattle.kin_motion.proofs.SetLaws.{contains_map, contains_mapped, distinct_cons, distinct_filter, distinct_mapped_on, distinct_none, exactly_both, exactly_in_words, exactly_none, filter-complete, filter-sound}
 pub use Rattle.kin_turn.specs.declared.turned.TurnError.TheVariants.{NotWhole, OutOfBounds}
@@ -43,12 +43,12 @@ pub use Rattle.kin_cert.specs.Taken.{HasGivenOut, HasTaken, IsLeastFailure, None
 pub use Rattle.kin_cert.specs.Told.{HasFactsOf, IsTimed, MayTell, certificates_of, nothing}
 pub use Rattle.kin_fail.specs.declared.owned.Owned.{Owned}
 pub use Rattle.kin_cert.proofs.NextLaws.{IsInTime, earlier_still, fails_first, hold_before_least, later_start, next_block, nothing_fails, nothing_until, timed_holds}
-pub use Rattle.kin_world.specs.Kinds.{HasMembers, kinetic, placed_facts}
+pub use Rattle.kin_world.specs.Kinds.{HasMembers, IsGroundedIn, kinetic, placed_facts}
 pub use Rattle.kin_world.specs.Costs.{IsRepairCost, IsTurnCost}
 pub use Rattle.kin_world.specs.Paid.{HavePaid}
-pub use Rattle.kin_world.specs.Structures.{AreLiveAfter, AreVacant, HoldFor, IsSettledFor, IsSettledWhereAllHold, IsVacant}
-pub use Rattle.kin_world.specs.Upkeep.{AreLeft, AreTold, AreWaiting, HasComeTo, HasGoneOn, HasGoneOver, HasLanded, HasOneMore, HasRepaired, HasSameFrame, HasSettled, HasTakenUp, HasTimedNew, HasUpdated, IsBeyond, IsCarriedOut, IsDueWithin, IsFit}
-pub use Rattle.kin_world.specs.Upkeep.{IsInOrder, IsInPlace, IsLanding, IsMarked, IsRepairing, IsSound, IsTimedOrFailed, IsUnderRepair, ListsWaiting, MayTakeUp, Stage, is_line, meaning, setting, sight}
+pub use Rattle.kin_world.specs.Structures.{AreLiveAfter, AreVacant, HoldFor, HasHull, HasNeeds, IsSettledFor, IsVacant}
+pub use Rattle.kin_world.specs.Upkeep.{AreBoxed, AreLeft, AreWaiting, HasComeTo, HasGoneOn, HasGoneOver, HasLanded, HasOneMore, HasSameFrame, HasSettled, HasTakenUp, HasTimedNew, HasUpdated, IsBeyond, IsCarriedOut, IsDueWithin, IsFit}
+pub use Rattle.kin_world.specs.Upkeep.{IsIdle, IsInOrder, IsInPlace, IsLanding, IsMarked, IsRepaired, IsRepairing, IsSound, IsTimedOrFailed, IsUnderRepair, ListsWaiting, MayTakeUp, Stage, is_line, meaning, setting, sight}
 pub use Rattle.kin_world.specs.Upkeep.{stage_of, with_marked}
 pub use Rattle.kin_legs.specs.declared.leg.Leg.{Leg}
 pub use Rattle.kin_legs.specs.Joined.{AreAhead, AreFollowed, begins_at, piece_of, plans_of}

@@ -16,6 +16,9 @@ use Rattle.kin_tourney.specs.Tournament as tournament
 use Rattle.kin_closest.specs.Closing as closing
 use Rattle.kin_closest.specs.ClosingLaws as closing_laws
 use Rattle.kin_closest.specs.ClosingLaws.{closing_exact}
+use Rattle.kin_diameter.specs.Diameter as diameter
+use Rattle.kin_diameter.specs.DiameterLaws as diameter_laws
+use Rattle.kin_diameter.specs.DiameterLaws.{diameter_exact}
 use Rattle.kin_hull.specs.HullLaws as hull_laws
 use Rattle.kin_hull.specs.HullLaws.{hull_exact}
 use Rattle.kin_hull.specs.Hulls as hull
@@ -27,7 +30,7 @@ use Rattle.kin_range.specs.RangingLaws.{range_exact}
 use Rattle.kin_wedge.specs.Wedging as wedging
 use Rattle.kin_wedge.specs.WedgingLaws as wedging_laws
 use Rattle.kin_world.specs.declared.structure.Structure.{Structure}
-use Rattle.kin_world.specs.declared.structure.Structure.TheVariants.{Order, Extreme, Hull, Closest, Range, Nearest}
+use Rattle.kin_world.specs.declared.structure.Structure.TheVariants.{Order, Extreme, Hull, Closest, Range, Nearest, Diameter}
 
 -- its live facts, each in its part
 abbrev pub placed_facts : Structure → List Placed
@@ -37,6 +40,7 @@ placed_facts (Hull k) = hull.facts_of k
 placed_facts (Closest k) = closing.facts_of k
 placed_facts (Range r) = ranging.facts_of r
 placed_facts (Nearest k) = k.facts
+placed_facts (Diameter k) = diameter.facts_of k
 
 -- it is of the kind, the direction and the size of a keep
 abbrev pub IsFor : ℕ → Keep → Structure → Type 0
@@ -46,6 +50,7 @@ IsFor size keep (Hull k) = hull.IsHullFor k size keep
 IsFor size keep (Closest k) = closing.IsClosingFor k size keep
 IsFor size keep (Range r) = ranging.IsRangingFor r size keep
 IsFor size keep (Nearest k) = nearing.IsNearingFor k size keep
+IsFor size keep (Diameter k) = diameter.IsDiameterFor k size keep
 
 -- no mark waits
 abbrev pub IsAtRest : Structure → Type 0
@@ -55,8 +60,9 @@ IsAtRest (Hull k) = hull.IsHullAtRest k
 IsAtRest (Closest k) = closing.IsClosingAtRest k
 IsAtRest (Range r) = ranging.IsRangingAtRest r
 IsAtRest (Nearest k) = wedging.IsWedgingAtRest k
+IsAtRest (Diameter k) = diameter.IsDiameterAtRest k
 
--- its members are these numbers, once its mark is carried out
+-- its members are these numbers, once its mark is carried out; a farthest pair has none but those of its hull
 abbrev pub HasMembers : List ℕ → Structure → Type 0
 HasMembers live (Order k) = list.HasMembers k live
 HasMembers live (Extreme t) = points.HasPoints t live
@@ -64,6 +70,7 @@ HasMembers live (Hull k) = hull.HasMembers k live
 HasMembers live (Closest k) = closing.HasMembers k live
 HasMembers live (Range r) = ranging.HasMembers r live
 HasMembers live (Nearest k) = nearing.HasMembers k live
+HasMembers live (Diameter k) = Unit {0}
 
 -- its content and its facts are the definition's in the scene
 abbrev pub IsSettledIn : Scene → Structure → Type 0
@@ -73,17 +80,29 @@ IsSettledIn s (Hull k) = hull.IsSettledKinHull k s
 IsSettledIn s (Closest k) = closing.IsSettledClosing k s
 IsSettledIn s (Range r) = ranging.IsSettledRanging r s
 IsSettledIn s (Nearest k) = wedging.IsSettledWedging k s
+IsSettledIn s (Diameter k) = diameter.IsSettledKinDiameter k s
 
--- settled over the live numbers it has the facts of its keep, and these alone determine it
+-- what it is made of is that of the scene: of a farthest pair both chains are, and the others are made of nothing
+abbrev pub IsGroundedIn : Scene → Structure → Type 0
+IsGroundedIn s (Order k) = Unit {0}
+IsGroundedIn s (Extreme t) = Unit {0}
+IsGroundedIn s (Hull k) = Unit {0}
+IsGroundedIn s (Closest k) = Unit {0}
+IsGroundedIn s (Range r) = Unit {0}
+IsGroundedIn s (Nearest k) = Unit {0}
+IsGroundedIn s (Diameter k) = diameter.IsGrounded k s
+
+-- settled over the live numbers it has the facts of its keep, and these determine it, with what it is made of
 pub record IsKinetic (st : Structure) : Type 0 where
   pub exact : (size : ℕ) (keep : Keep) (s : Scene) → IsFor size keep st → HasMembers s.live st → IsSettledIn s st → ListsExactly (placed_facts st) (IsKeepFact size s keep)
-  pub determined : (v w : Scene) → IsAtRest st → IsReal v → IsSettledIn v st → HaveSameLive v w → IsReal w → AllHold w (placed_facts st) → IsSettledIn w st
+  pub determined : (v w : Scene) → IsAtRest st → IsReal v → IsSettledIn v st → HaveSameLive v w → IsReal w → IsGroundedIn w st → AllHold w (placed_facts st) → IsSettledIn w st
 
 -- each kind obeys these laws
 pub kinetic : (st : Structure) → IsKinetic st
-kinetic (Order k) = record { exact = list_exact k; determined = λ v w rest real settled same real'. listing_laws.determined_lem k v w rest real settled same real' tt }
-kinetic (Extreme t) = record { exact = points_exact t; determined = λ v w rest. points_determined t v w }
-kinetic (Hull k) = record { exact = hull_exact k; determined = λ v w rest real settled same real'. hull_laws.determined_lem k v w rest real settled same real' tt }
-kinetic (Closest k) = record { exact = closing_exact k; determined = λ v w rest real settled same real'. closing_laws.determined_lem k v w rest real settled same real' tt }
-kinetic (Range r) = record { exact = range_exact r; determined = λ v w rest real settled same real'. ranging_laws.determined_lem r v w rest real settled same real' tt }
-kinetic (Nearest k) = record { exact = nearing_exact k; determined = λ v w rest real settled same real'. wedging_laws.determined_lem k v w rest real settled same real' tt }
+kinetic (Order k) = record { exact = list_exact k; determined = λ v w rest real settled same real' ground. listing_laws.determined_lem k v w rest real settled same real' tt }
+kinetic (Extreme t) = record { exact = points_exact t; determined = λ v w rest real settled same real' ground. points_determined t v w real settled same real' }
+kinetic (Hull k) = record { exact = hull_exact k; determined = λ v w rest real settled same real' ground. hull_laws.determined_lem k v w rest real settled same real' tt }
+kinetic (Closest k) = record { exact = closing_exact k; determined = λ v w rest real settled same real' ground. closing_laws.determined_lem k v w rest real settled same real' tt }
+kinetic (Range r) = record { exact = range_exact r; determined = λ v w rest real settled same real' ground. ranging_laws.determined_lem r v w rest real settled same real' tt }
+kinetic (Nearest k) = record { exact = nearing_exact k; determined = λ v w rest real settled same real' ground. wedging_laws.determined_lem k v w rest real settled same real' tt }
+kinetic (Diameter k) = record { exact = λ size keep s kind members. diameter_exact k size keep s kind; determined = diameter_laws.determined_lem k }

@@ -1,5 +1,5 @@
 -- All that a world is made of, in one piece: what is true of it between two calls, and while it is repaired. No public clause of the world cites this module.
-use Rattle.std.specs.Prelude.{◌≡◌, ◌≢◌, ℕ, ◌+◌, ◌<◌, ◌≤◌, ◌^◌, ◌-◌, ◌⊎◌, min, true, false, Bool, List, length, slice_get, slice_set, Option, Some, count_by, Contains, ◌↔◌, IsTrue}
+use Rattle.std.specs.Prelude.{◌≡◌, ◌≢◌, ℕ, ◌+◌, ◌<◌, ◌≤◌, ◌^◌, ◌-◌, ◌⊎◌, min, true, false, Bool, List, [], length, slice_get, slice_set, Option, Some, count_by, Contains, ◌↔◌, IsTrue}
 use Rattle.std.specs.List.{All}
 use Rattle.kin_num.specs.declared.instant.Moment.{Moment}
 use Rattle.kin_num.specs.declared.instant.Phase.TheVariants.{At, After}
@@ -9,13 +9,14 @@ use Rattle.kin_motion.specs.declared.fact.Placed.{Placed}
 use Rattle.kin_motion.specs.declared.form.Form.{Form}
 use Rattle.kin_motion.specs.declared.form.Form.TheVariants.{Line, Turn, Slope, Dist}
 use Rattle.kin_motion.specs.declared.keep.Keep.{Keep}
+use Rattle.kin_motion.specs.declared.keep.Keep.TheVariants.{Hull}
 use Rattle.kin_motion.specs.Course.{Course, AreSlow, IsSlow, is_live, motion_of}
 use Rattle.kin_motion.specs.Deltas.{Change}
 use Rattle.kin_motion.specs.Journal.{Setting, setting_of}
-use Rattle.kin_motion.specs.Kinetics.{HasChanged}
-use Rattle.kin_motion.specs.Live.{Certificate, owned_by}
+use Rattle.kin_motion.specs.Kinetics.{HasChanged, HaveSameLive}
+use Rattle.kin_motion.specs.Live.{Certificate, IsKeepFact, owned_by}
 use Rattle.kin_motion.specs.Moments.{HoldsAt}
-use Rattle.kin_motion.specs.Scene.{Scene, scene_at}
+use Rattle.kin_motion.specs.Scene.{Scene, IsReal, Holds, scene_at}
 use Rattle.kin_motion.specs.Sets.{AreDistinct, ListsExactly}
 use Rattle.kin_motion.specs.Turning.{TurnsTo}
 use Rattle.kin_fail.specs.declared.owned.Owned.{Owned}
@@ -28,9 +29,11 @@ use Rattle.kin_legs.specs.declared.leg.Leg.{Leg}
 use Rattle.kin_world.specs.declared.structure.Mark.{Mark}
 use Rattle.kin_world.specs.declared.structure.Mark.TheVariants.{Enters, Leaves}
 use Rattle.kin_world.specs.declared.structure.Structure.{Structure}
+use Rattle.kin_world.specs.declared.structure.Structure.TheVariants.{Diameter}
 use Rattle.kin_world.specs.declared.upkeep.Upkeep.{Upkeep}
+use Rattle.kin_diameter.specs.Diameter.{Diameter as FarthestPair}
 use Rattle.kin_world.specs.Kinds.{placed_facts}
-use Rattle.kin_world.specs.Structures.{IsSettledFor, IsSettledWhereAllHold, marked}
+use Rattle.kin_world.specs.Structures.{IsSettledFor, marked}
 use Rattle.kin_world.specs.Worlds.{World, AreKeepable, is_about}
 
 -- what is kept, the structures in the same order, the table of their live facts, the motions, and the moment now
@@ -95,10 +98,6 @@ pub record IsSound (s : Stage) : Type 0 where
   pub in_order : IsInOrder (λ j keep st. IsSettledFor s.size keep (sight s) st) s
   pub none_waits : NoneWaits s.table.live
 
--- facts that fail now wait to be dropped, and every structure without one is settled
-abbrev pub IsUnderRepair : Stage → Type 0
-IsUnderRepair s = IsInOrder (λ j keep st. IsSettledWhereAllHold s.size keep (sight s) st) s
-
 -- the structures below k are settled in the scene now, and the others are as they were in the scene before
 pub record HasGoneOver (size k : ℕ) (before now : Scene) (j : ℕ) (keep : Keep) (st : Structure) : Type 0 where
   pub done : j < k → IsSettledFor size keep now st
@@ -142,10 +141,24 @@ pub record AreWaiting (live : List LiveFact) (taken : List Owned) : Type 0 where
   pub each : (l : LiveFact) → Contains live l → IsTrue l.waits → (o : Owned) × Contains taken o × (l.certificate ≡ certificate_of o)
   pub only : (o : Owned) → Contains taken o → (l : LiveFact) × Contains live l × IsTrue l.waits × (l.certificate ≡ certificate_of o)
 
--- each structure from k on has its waiting facts in its box, and no fact of those below waits
-pub record AreTold (k : ℕ) (s : Stage) (boxes : List (List Placed)) : Type 0 where
-  pub told : (j : ℕ) → k ≤ j → j < length s.structures → ListsWaiting j s.table.live (told_to boxes j)
-  pub none_below : (l : LiveFact) → Contains s.table.live l → l.certificate.structure < k → l.waits ≡ false
+-- structure after structure is repaired: the same numbers were live in the scene before, and facts that fail now wait to be dropped
+pub record IsUnderRepair (k : ℕ) (before : Scene) (s : Stage) : Type 0 where
+  pub in_order : IsInOrder (HasGoneOver s.size k before (sight s)) s
+  pub real : IsReal before
+  pub same_live : HaveSameLive before (sight s)
+
+-- in its box each structure has the facts that it had in the scene before and that fail now
+abbrev pub AreBoxed : Scene → Stage → List (List Placed) → Type 0
+AreBoxed before s boxes = (j : ℕ) (keep : Keep) → slice_get s.keeps j ≡ Some keep → ListsExactly (told_to boxes j) (λ p. IsKeepFact s.size before keep p × ¬ (Holds (sight s) p.fact))
+
+-- the structures below k are repaired
+abbrev pub IsRepaired : List (List Placed) → ℕ → Stage → Type 0
+IsRepaired boxes k s = (before : Scene) × IsUnderRepair k before s × AreBoxed before s boxes
+
+-- the structure k has nothing to repair: its box is empty, and so is that of the hull, if it is made of one
+pub record IsIdle (k : ℕ) (s : Stage) (boxes : List (List Placed)) : Type 0 where
+  pub own : told_to boxes k ≡ []
+  pub hull : (pair : FarthestPair) (h : ℕ) → slice_get s.structures k ≡ Some (Diameter pair) → slice_get s.keeps h ≡ Some Hull → told_to boxes h ≡ []
 
 -- some certificates are new, and as many failure moments were made
 pub record HasTimedNew (old new : Facts) : Type 0 where
@@ -167,13 +180,6 @@ pub record HasUpdated (k : ℕ) (now : Scene) (s : Stage) (keep : Keep) (st afte
   pub told : IsTold k change (scene_at s.motions) s.moment s.table.live table.live
   pub made : table.made ≡ min (s.table.made + length change.born) (2 ^ 64 - 1)
 
--- the structure k is repaired
-pub record HasRepaired (k : ℕ) (s t : Stage) : Type 0 where
-  pub repair : IsUnderRepair t
-  pub own : (l : LiveFact) → Contains t.table.live l → l.certificate.structure ≡ k → l.waits ≡ false
-  pub others : AreLeft k s.table.live t.table.live
-  pub made : HasTimedNew s.table t.table
-
 -- the structure k has gone over, after those below it
 pub record HasGoneOn (is_over : ℕ → Stage → Type 0) (k : ℕ) (s t : Stage) : Type 0 where
   pub next : is_over k s → is_over (k + 1) t
@@ -187,8 +193,7 @@ pub record HasComeTo (k : ℕ) (start now : Facts) : Type 0 where
 
 -- the structures below k are repaired, and nothing has changed of the others
 pub record IsRepairing (start s : Stage) (k : ℕ) (boxes : List (List Placed)) : Type 0 where
-  pub repair : IsUnderRepair s
-  pub told : AreTold k s boxes
+  pub repair : IsRepaired boxes k s
   pub come : HasComeTo k start.table s.table
   pub frame : HasSameFrame start s
 

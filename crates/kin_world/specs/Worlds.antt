@@ -11,7 +11,7 @@ use Rattle.kin_motion.specs.declared.keep.Keep.{Keep}
 use Rattle.kin_motion.specs.Course.{Course, IsSlow, AreSlow, motion_of}
 use Rattle.kin_motion.specs.Forms.{names}
 use Rattle.kin_motion.specs.Journal.{Setting, Block, IsNextBlock, IsJournal}
-use Rattle.kin_motion.specs.Keeps.{are_few}
+use Rattle.kin_motion.specs.Keeps.{may_keep}
 use Rattle.kin_motion.specs.Live.{Certificate, IsLiveFact, IsSmallKeep, ListsLive, live_facts}
 use Rattle.kin_motion.specs.Moments.{FailsFirst}
 use Rattle.kin_motion.specs.Numbers.{put_in}
@@ -58,9 +58,9 @@ world_scene w = scene_at w.motions w.moment
 abbrev pub certificate : ℕ → ℕ → Form → Sign → Certificate
 certificate structure part form sign = record { structure = structure; placed = record { part = part; fact = record { form = form; sign = sign } } }
 
--- a world may keep these: few enough, and each with a small direction
+-- a world may keep these: few enough, each farthest pair with a hull before it, and each with a small direction
 pub record AreKeepable (keeps : List Keep) : Type 0 where
-  pub few : IsTrue (are_few keeps)
+  pub few : IsTrue (may_keep keeps)
   pub small : (j : ℕ) (keep : Keep) → slice_get keeps j ≡ Some keep → IsSmallKeep keep
 
 -- the live facts are exactly those of the definition, over slow motions, at a canonical moment, and all legs are still to come

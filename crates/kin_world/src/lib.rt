@@ -25,8 +25,10 @@ pub use planning::LegError;
 pub use std::sync::ledger::Ledger;
 pub use world::World;
 
+mod among;
 pub mod counter;
 mod crossing;
+mod farthest;
 pub mod laws;
 mod places;
 pub mod planning;

@@ -5,24 +5,27 @@
 
 ghost use Rattle.std.specs.Prelude.{◌≡◌, ◌≤◌, ◌<◌, ◌^◌, ℕ, ℤ, List, [], Contains, IfOk, OnOk};
 ghost use Rattle.kin_motion.specs.declared.keep.Keep.{Keep as Kind};
-ghost use Rattle.kin_motion.specs.declared.keep.Keep.TheVariants.{Order as KeepOrder, Extreme as KeepExtreme, Hull as KeepHull, Closest as KeepClosest, Range as KeepRange, Nearest as KeepNearest};
+ghost use Rattle.kin_motion.specs.declared.keep.Keep.TheVariants.{Order as KeepOrder, Extreme as KeepExtreme, Hull as KeepHull, Closest as KeepClosest, Range as KeepRange, Nearest as KeepNearest, Diameter as KeepDiameter};
 ghost use Rattle.kin_motion.specs.Boxes.{IsRectInRange, points_in};
 ghost use Rattle.kin_motion.specs.Chains.{IsHullCycle};
 ghost use Rattle.kin_motion.specs.ClosestPairs.{IsClosest};
 ghost use Rattle.kin_motion.specs.Extremes.{IsExtremePoint};
+ghost use Rattle.kin_motion.specs.Farthest.{IsFarthest};
 ghost use Rattle.kin_motion.specs.Nearest.{IsNearest};
 ghost use Rattle.kin_motion.specs.Orders.{IsOrder};
-ghost use Rattle.kin_motion.specs.Kinetics.{AllHold, HasChanged};
+ghost use Rattle.kin_motion.specs.Kinetics.{AllHold, HasChanged, HaveSameLive};
 ghost use Rattle.kin_motion.specs.Live.{IsSmallKeep};
 ghost use Rattle.kin_motion.specs.Numbers.{HasEntered, IsIn};
 ghost use Rattle.kin_motion.specs.Sets.{ListsExactly};
 ghost use Rattle.kin_motion.specs.Scene.{Scene, IsReal, scene_at};
 ghost use Rattle.kin_motion.specs.Spending.{AreInStep, HasRisenWithin, MayAsk};
 ghost use Rattle.kin_world.specs.Kinds.{placed_facts, IsFor, IsAtRest, HasMembers, IsSettledIn};
-ghost use Rattle.kin_world.specs.Structures.{AreFailing, AreLiveAfter, HoldBut, HoldFor, IsKept, marked};
+ghost use Rattle.kin_world.specs.Structures.{AreFailing, AreLiveAfter, HasNeeds, HoldBut, HoldFor, IsKept, marked};
 
 use crate::counter::{Work, uncounted};
+use crate::farthest::{follow_hull, repair_pair};
 use kin_closest::KinClosest;
+use kin_diameter::KinDiameter;
 use kin_fail::Now;
 use kin_hull::KinHull;
 use kin_list::KinList;
@@ -44,6 +47,7 @@ pub enum Structure {
     Closest(KinClosest),
     Range(KinRange),
     Nearest(KinNearest),
+    Diameter(KinDiameter),
 }
 
 /// A number that has become live, or that isn't live any more.
@@ -73,13 +77,15 @@ impl Structure {
             Keep::Closest => Ok(Structure::Closest(KinClosest::vacant(alloc, keep, size)?)),
             Keep::Range => Ok(Structure::Range(KinRange::vacant(alloc, keep, size)?)),
             Keep::Nearest => Ok(Structure::Nearest(KinNearest::vacant(alloc, keep, size)?)),
+            Keep::Diameter => Ok(Structure::Diameter(KinDiameter::new(alloc, size)?)),
         }
     }
 
     /// Repairs everything that has failed at one moment together. `failed` lists exactly the facts
-    /// that don't hold now. `out` gains what changed.
+    /// that don't hold now, and the structures before it are repaired. `out` gains what changed.
     pub fn settle<O: Signs, L: Ledger>(
         &mut self,
+        before: &[Structure],
         now: &O,
         failed: &[Placed],
         out: &mut Delta,
@@ -88,6 +94,8 @@ impl Structure {
         requires real { IsReal (O.scene now.now) }
         requires rest { IsAtRest self.old }
         requires members { HasMembers (O.scene now.now).live self.old }
+        requires was { (v : Scene) × IsReal v × IsSettledIn v self.old × HaveSameLive v (O.scene now.now) }
+        requires needs { HasNeeds (O.scene now.now) before.now self.old }
         requires failing { AreFailing (placed_facts self.old) (O.scene now.now) failed.now }
         ensures kind { OnOk result ((size : ℕ) (keep : Kind) → IsFor size keep self.old → IsFor size keep self.new) }
         ensures rest { OnOk result (IsAtRest self.new) }
@@ -103,14 +111,17 @@ impl Structure {
             Structure::Closest(pairs) => repair_all(pairs, now, failed, out, steps),
             Structure::Range(lists) => repair_all(lists, now, failed, out, steps),
             Structure::Nearest(wedges) => repair_all(wedges, now, failed, out, steps),
+            Structure::Diameter(pair) => repair_pair(pair, before, now, failed, out, steps),
         }
     }
 
     /// Takes in a number that has become live, or lets go of one that isn't live any more. No fact
-    /// has failed, but for those that name a number that leaves. `out` gains what changed.
+    /// has failed, but for those that name a number that leaves, and the structures before it have
+    /// carried the mark out. `out` gains what changed.
     pub fn carry_out<O: Signs, L: Ledger>(
         &mut self,
         mark: Mark,
+        before: &[Structure],
         now: &O,
         out: &mut Delta,
         steps: &mut Steps<L>,
@@ -118,7 +129,8 @@ impl Structure {
         requires real { IsReal (O.scene now.now) }
         requires rest { IsAtRest self.old }
         requires room { (size : ℕ) × (keep : Kind) × IsFor size keep self.old × (marked mark < 2 ^ size) }
-        requires marked { (before : Scene) × HasMembers before.live self.old × IsSettledIn before self.old × AreLiveAfter mark before.live (O.scene now.now).live }
+        requires marked { (v : Scene) × HasMembers v.live self.old × IsSettledIn v self.old × AreLiveAfter mark v.live (O.scene now.now).live }
+        requires needs { HasNeeds (O.scene now.now) before.now self.old }
         requires hold { HoldFor mark (placed_facts self.old) (O.scene now.now) }
         ensures kind { OnOk result ((size : ℕ) (keep : Kind) → IsFor size keep self.old → IsFor size keep self.new) }
         ensures rest { OnOk result (IsAtRest self.new) }
@@ -128,8 +140,8 @@ impl Structure {
         ensures within { OnOk result ((size : ℕ) (keep : Kind) (v : Scene) → IsFor size keep self.old → AreInStep size keep v (O.scene now.now) → IsSettledIn v self.old → HasMembers v.live self.old → AreLiveAfter mark v.live (O.scene now.now).live → HasRisenWithin (MayAsk size keep v (O.scene now.now)) steps.old steps.new) }
     {
         match mark {
-            Mark::Enters(no) => self.enter(no, now, out, steps),
-            Mark::Leaves(no) => self.leave(no, now, out, steps),
+            Mark::Enters(no) => self.enter(no, before, now, out, steps),
+            Mark::Leaves(no) => self.leave(no, before, now, out, steps),
         }
     }
 
@@ -137,6 +149,7 @@ impl Structure {
     fn enter<O: Signs, L: Ledger>(
         &mut self,
         entering: u32,
+        before: &[Structure],
         now: &O,
         out: &mut Delta,
         steps: &mut Steps<L>,
@@ -144,7 +157,8 @@ impl Structure {
         requires real { IsReal (O.scene now.now) }
         requires rest { IsAtRest self.old }
         requires room { (size : ℕ) × (keep : Kind) × IsFor size keep self.old × (entering < 2 ^ size) }
-        requires entered { (before : List ℕ) × HasMembers before self.old × HasEntered entering before (O.scene now.now).live }
+        requires entered { (v : Scene) × HasMembers v.live self.old × IsSettledIn v self.old × HasEntered entering v.live (O.scene now.now).live }
+        requires needs { HasNeeds (O.scene now.now) before.now self.old }
         requires hold { AllHold (O.scene now.now) (placed_facts self.old) }
         ensures kind { OnOk result ((size : ℕ) (keep : Kind) → IsFor size keep self.old → IsFor size keep self.new) }
         ensures rest { OnOk result (IsAtRest self.new) }
@@ -160,6 +174,9 @@ impl Structure {
             Structure::Closest(pairs) => enter(pairs, entering, now, out, steps),
             Structure::Range(lists) => enter(lists, entering, now, out, steps),
             Structure::Nearest(wedges) => enter(wedges, entering, now, out, steps),
+            Structure::Diameter(pair) => {
+                follow_hull(pair, before, Mark::Enters(entering), now, out, steps)
+            }
         }
     }
 
@@ -167,6 +184,7 @@ impl Structure {
     fn leave<O: Signs, L: Ledger>(
         &mut self,
         leaving: u32,
+        before: &[Structure],
         now: &O,
         out: &mut Delta,
         steps: &mut Steps<L>,
@@ -174,7 +192,8 @@ impl Structure {
         requires real { IsReal (O.scene now.now) }
         requires rest { IsAtRest self.old }
         requires room { (size : ℕ) × (keep : Kind) × IsFor size keep self.old × (leaving < 2 ^ size) }
-        requires left { (before : Scene) × HasMembers before.live self.old × IsSettledIn before self.old × HasEntered leaving (O.scene now.now).live before.live }
+        requires left { (v : Scene) × HasMembers v.live self.old × IsSettledIn v self.old × HasEntered leaving (O.scene now.now).live v.live }
+        requires needs { HasNeeds (O.scene now.now) before.now self.old }
         requires hold { HoldBut leaving (placed_facts self.old) (O.scene now.now) }
         ensures kind { OnOk result ((size : ℕ) (keep : Kind) → IsFor size keep self.old → IsFor size keep self.new) }
         ensures rest { OnOk result (IsAtRest self.new) }
@@ -190,6 +209,9 @@ impl Structure {
             Structure::Closest(pairs) => let_go(pairs, leaving, now, out, steps),
             Structure::Range(lists) => let_go(lists, leaving, now, out, steps),
             Structure::Nearest(wedges) => let_go(wedges, leaving, now, out, steps),
+            Structure::Diameter(pair) => {
+                follow_hull(pair, before, Mark::Leaves(leaving), now, out, steps)
+            }
         }
     }
 
@@ -237,6 +259,19 @@ impl Structure {
     {
         match self {
             Structure::Closest(pairs) => pairs.closest(),
+            _ => None,
+        }
+    }
+
+    /// The farthest pair, the lesser number first, or `None` where no two points are at different
+    /// places or no farthest pair is kept. The structure is at rest, and the answer is that of the
+    /// scene in which it is kept. It is meant to search nothing; no clause says so.
+    pub fn farthest(&self) -> Option<(u32, u32)>
+        requires rest { IsAtRest self.now }
+        ensures { (size : ℕ) (s : Scene) → IsKept size KeepDiameter s self.now → IsFarthest s result }
+    {
+        match self {
+            Structure::Diameter(pair) => pair.farthest(),
             _ => None,
         }
     }

@@ -1,17 +1,18 @@
 //! All that a world is made of, in one piece, and its repair.
 
-ghost use Rattle.std.specs.Prelude.{◌≡◌, ◌<◌, ◌≤◌, ◌+◌, ◌*◌, ◌^◌, true, [], length, count_by, All, OnOk, IfOk};
+ghost use Rattle.std.specs.Prelude.{◌≡◌, ◌<◌, ◌≤◌, ◌+◌, ◌*◌, ◌^◌, true, [], length, count_by, All, IsTrue, OnOk, IfOk};
 ghost use Rattle.kin_motion.specs.Journal.{Block as Listed, IsNextBlock};
 ghost use Rattle.kin_motion.specs.Scene.{Scene};
-ghost use Rattle.kin_cert.specs.Mails.{told_to};
 ghost use Rattle.kin_cert.specs.Taken.{IsLeastFailure};
 ghost use Rattle.kin_cert.specs.Cost.{TakesAtMost};
 ghost use Rattle.kin_cert.specs.Remade.{names_number};
 ghost use Rattle.kin_world.specs.Paid.{HasPaid, HavePaid, IsSeenBefore, IsRepaid};
 ghost use Rattle.kin_world.specs.Structures.{AreLiveAfter, AreVacant};
 ghost use Rattle.kin_world.specs.Worlds.{AreKeepable, empty};
-ghost use Rattle.kin_world.specs.Upkeep.{stage_of, meaning, setting, sight, HasSameFrame, IsSound, IsUnderRepair, MayTakeUp, HasTakenUp, IsCarriedOut, ListsWaiting, AreWaiting, HasTimedNew, HasRepaired, HasGoneOn, HasSettled, AreTold};
+ghost use Rattle.kin_world.specs.Upkeep.{stage_of, meaning, setting, sight, HasSameFrame, IsSound, IsUnderRepair, MayTakeUp, HasTakenUp, IsCarriedOut, AreWaiting, HasGoneOn, HasSettled, IsIdle, IsRepaired};
 
+use crate::among::{carry_out_at, settle_at};
+use crate::places::place_of;
 use crate::structure::{Mark, Structure};
 use kin_cert::{Mail, Plan, Table};
 use kin_fail::failures::block_of;
@@ -75,35 +76,61 @@ impl Upkeep {
         })
     }
 
-    // Repairs the structure `k`, if it has failed facts.
+    // Whether the structure `k` has nothing to repair: no fact of it has failed, nor, if it is a farthest pair, one of
+    // the hull.
+    fn is_idle(&self, k: u32) -> bool
+        requires within { k < length self.now.structures.items }
+        requires boxes { length self.now.structures.items ≤ length self.now.mail }
+        requires repair { IsRepaired self.now.mail k (stage_of self.now) }
+        ensures { IsTrue result → IsIdle k (stage_of self.now) self.now.mail }
+    {
+        if !self.mail.told(k).is_empty() {
+            return false;
+        }
+        match self.structures[k as usize] {
+            Structure::Diameter(_) => {
+                let hull = place_of(&Keep::Hull, &self.keeps);
+                self.mail.told(hull).is_empty()
+            }
+            _ => true,
+        }
+    }
+
+    // Repairs the structure `k`, after those below it.
     fn repair<L: Ledger>(&mut self, k: u32, steps: &mut Steps<L>) -> Result<(), NoMemory>
         requires within { k < length self.old.structures.items }
-        requires told { k < length self.old.mail }
-        requires repair { IsUnderRepair (stage_of self.old) }
-        requires failed { ListsWaiting k self.old.table.live (told_to self.old.mail k) }
-        ensures repaired { OnOk result (HasRepaired k (stage_of self.old) (stage_of self.new)) }
+        requires boxes { length self.old.structures.items ≤ length self.old.mail }
+        requires repair { IsRepaired self.old.mail k (stage_of self.old) }
+        ensures goes_on { OnOk result (HasGoneOn (IsRepaired self.old.mail) k (stage_of self.old) (stage_of self.new)) }
         ensures frame { HasSameFrame (stage_of self.old) (stage_of self.new) }
         ensures mail { self.new.mail ≡ self.old.mail }
         ensures cost { OnOk result (HasPaid (λ live. live ≡ (sight (stage_of self.old)).live) k (stage_of self.old) (stage_of self.new) steps.old steps.new) }
     {
-        let failed = self.mail.told(k);
-        if failed.is_empty() {
+        if self.is_idle(k) {
             return Ok(());
         }
+        let failed = self.mail.told(k);
         let now = Now {
             motions: &self.motions,
             moment: &self.moment,
         };
         self.delta.clear();
-        self.structures[k as usize].settle(&now, failed, &mut self.delta, steps)?;
+        let place = k as usize;
+        settle_at(
+            &mut self.structures,
+            place,
+            &now,
+            failed,
+            &mut self.delta,
+            steps,
+        )?;
         self.table
             .tell(k, &self.delta, &self.motions, &self.moment, steps)
     }
 
-    // Repairs each structure that has failed facts.
+    // Repairs each structure that has failed facts, and a farthest pair after its hull.
     fn repair_told<L: Ledger>(&mut self, steps: &mut Steps<L>) -> Result<(), NoMemory>
-        requires repair { IsUnderRepair (stage_of self.old) }
-        requires told { AreTold 0 (stage_of self.old) self.old.mail }
+        requires repair { IsRepaired self.old.mail 0 (stage_of self.old) }
         requires boxes { length self.old.structures.items ≤ length self.old.mail }
         ensures settled { OnOk result (HasSettled self.old.table (stage_of self.new)) }
         ensures frame { HasSameFrame (stage_of self.old) (stage_of self.new) }
@@ -122,7 +149,7 @@ impl Upkeep {
         taken: &[Owned],
         steps: &mut Steps<L>,
     ) -> Result<(), NoMemory>
-        requires repair { IsUnderRepair (stage_of self.old) }
+        requires repair { (before : Scene) × IsUnderRepair 0 before (stage_of self.old) }
         requires waiting { AreWaiting self.old.table.live taken.now }
         ensures settled { OnOk result (HasSettled self.old.table (stage_of self.new)) }
         ensures frame { HasSameFrame (stage_of self.old) (stage_of self.new) }
@@ -235,7 +262,15 @@ impl Upkeep {
             moment: &self.moment,
         };
         self.delta.clear();
-        self.structures[k as usize].carry_out(mark, &now, &mut self.delta, steps)?;
+        let place = k as usize;
+        carry_out_at(
+            &mut self.structures,
+            place,
+            mark,
+            &now,
+            &mut self.delta,
+            steps,
+        )?;
         self.table
             .tell(k, &self.delta, &self.motions, &self.moment, steps)
     }
@@ -282,10 +317,11 @@ fn plan_of(alloc: Global, size: u32, keeps: &[Keep]) -> Result<Plan, NoMemory>
     Ok(plan)
 }
 
-// How many orders a keep has. Their facts are in its first parts, and each fact is known by its first number.
+// How many lists a keep has: orders, or the sweep of a farthest pair. Their facts are in its first parts, and each fact is
+// known by its first number.
 fn lists_of(keep: &Keep) -> u32 {
     match *keep {
-        Keep::Order { .. } => 1,
+        Keep::Order { .. } | Keep::Diameter => 1,
         Keep::Range => 2,
         Keep::Closest | Keep::Nearest => 8,
         Keep::Extreme { .. } | Keep::Hull => 0,
@@ -298,6 +334,7 @@ fn nodes_of(keep: &Keep, size: u32) -> u32
 {
     match *keep {
         Keep::Extreme { .. } => 1 << size,
+        Keep::Diameter => 2 << size,
         Keep::Closest => 8 << size,
         Keep::Order { .. } | Keep::Range | Keep::Nearest | Keep::Hull => 0,
     }

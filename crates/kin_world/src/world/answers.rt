@@ -10,6 +10,7 @@ ghost use Rattle.kin_motion.specs.Chains.{IsHullCycle};
 ghost use Rattle.kin_motion.specs.ClosestPairs.{IsClosest};
 ghost use Rattle.kin_motion.specs.Course.{is_live};
 ghost use Rattle.kin_motion.specs.Extremes.{IsExtremePoint};
+ghost use Rattle.kin_motion.specs.Farthest.{IsFarthest};
 ghost use Rattle.kin_motion.specs.Nearest.{IsNearest};
 ghost use Rattle.kin_motion.specs.Orders.{IsOrder};
 ghost use Rattle.kin_motion.specs.Scene.{Scene};
@@ -69,6 +70,18 @@ impl World {
         ensures suffices { (v : Scene) → LiveFactsHoldIn self.now v → IsClosest v result }
     {
         self.structure(self.place_of(&Keep::Closest)).closest()
+    }
+
+    /// The farthest pair, the lesser number first, or `None` exactly where no two live points are at
+    /// different places. Of equally far pairs it is the one with the least first number, then with the
+    /// least second one.
+    pub fn farthest(&self) -> Option<(u32, u32)>
+        requires whole { IsTrue self.now.whole }
+        requires kept { (k : ℕ) × (slice_get self.now.keeps k ≡ Some keep.Diameter) }
+        ensures farthest { IsFarthest (world_scene self.now) result }
+        ensures suffices { (v : Scene) → LiveFactsHoldIn self.now v → IsFarthest v result }
+    {
+        self.structure(self.place_of(&Keep::Diameter)).farthest()
     }
 
     /// The live numbers in a rectangle, its border included, rising. It is meant to look at

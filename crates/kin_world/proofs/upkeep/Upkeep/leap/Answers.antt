@@ -11,7 +11,12 @@ landing-self-requires g c = search (rules, arith, c.in_ok-give_failing.ensures.g
 
 pub repair_each-requires : goal.repair_each-requires
 repair_each-requires g c =
-    search (rules, arith, c.in_ok-give_failing.ensures.given, c.deref.ensures.value, c.landing-self.ensures, landing_under_repair, c.requires.sound, c.requires.failing, c.in_ok-give_failing.ensures.once, c.give_failing.ensures.made, c.deref-2.ensures.value, given_waiting)
+    let out = c.in_ok-give_failing.ensures.given in
+    let landing = rw c.deref.ensures.value at c.landing-self.ensures in
+    record {
+      repair = (_, landing_under_repair c.requires.sound c.give_failing.new.self out c.args.due.now c.args.limit.now c.requires.failing c.landing-self.result landing c.in_ok-give_failing.ensures.once c.give_failing.ensures.made);
+      waiting = rw c.deref-2.ensures.value (given_waiting c.requires.sound c.give_failing.new.self out);
+    }
 
 pub returns-clause-landed : goal.returns-clause-landed
 returns-clause-landed g c =

@@ -2,7 +2,7 @@ use Rattle.std.specs.Prelude.{◌*◌}
 use Rattle.kin_world.proofs.Vocabulary.{rules, ap, ◌+◌, ◌≡◌, length, map, refl, sym, ◌∙◌, length-map, length_permutation, Block, Failure, seen_in, scene_at, certificate_of, Owned, arith, subst, ℕ, stage_of}
 use Rattle.kin_world.specs.Paid.{IsRepaid}
 use Rattle.kin_world.proofs.Frugal.{block_frugal}
-use Rattle.kin_world.proofs.MailLaws.{told_first}
+use Rattle.kin_world.proofs.MailLaws.{boxed_first}
 use Rattle.kin_world.proofs.TakeLaws.{given_waiting, taken_under_repair, taken_block, settled_since}
 use Rattle.kin_world.proofs.upkeep.Upkeep.pass.Goals as goal
 
@@ -11,8 +11,8 @@ repair_told-requires g c =
     let structures : c.len-structures.result ≡ length c.args.self.now.structures.items = search rules in
     let posted = c.in_ok-count.ensures.posted in
     record {
-      repair = taken_under_repair c.requires.sound c.post_failing.new.self posted.out c.args.moment.now c.requires.failing c.in_ok-count.ensures.once c.post_failing.ensures.made;
-      told = told_first (given_waiting c.requires.sound c.post_failing.new.self posted.out) c.post_failing.new.mail (λ k within. posted.told k (rw structures within));
+      repair = boxed_first (taken_under_repair c.requires.sound c.post_failing.new.self posted.out c.args.moment.now c.requires.failing c.in_ok-count.ensures.once c.post_failing.ensures.made)
+          (given_waiting c.requires.sound c.post_failing.new.self posted.out) c.post_failing.new.mail (λ k within. posted.told k (rw structures within));
       boxes = rw structures at posted.reached;
     }
 

@@ -1,44 +1,44 @@
-use Rattle.kin_world.proofs.Vocabulary.{rules, ◌≡◌, sym, ◌∙◌, from_two, real_at, placed_facts, IsSettledFor, sight, stage_of, told_to}
-use Rattle.kin_world.proofs.InOrder.{standing_read, may_tell}
-use Rattle.kin_world.proofs.MailLaws.{none_told}
-use Rattle.kin_world.proofs.PaidLaws.{has_paid, has_paid_none}
-use Rattle.kin_world.proofs.RepairLaws.{given_leaves, repaired, waiting_fail}
+use Rattle.kin_world.proofs.Vocabulary.{arith, sym, ◌∙◌, subst, List, from_two, Structure, HasGoneOn, IsRepaired, stage_of}
+use Rattle.std.proofs.lemmas.List.{with_items_is}
+use Rattle.kin_world.proofs.Becoming.{keep_here, may_be_told, paid, place_here, settled_here, updated}
+use Rattle.kin_world.proofs.PaidLaws.{has_paid_none}
+use Rattle.kin_world.proofs.RepairLaws.{given_leaves, idle_on, may_settle, repaired}
 use Rattle.kin_world.proofs.upkeep.Upkeep.repair.Goals as goal
 
-pub settle-requires : goal.settle-requires
-settle-requires g c =
-    let s = standing_read c.requires.repair c.args.k c.index_mut.result.now c.requires.within c.index_mut.ensures.value in
-    search (rules, real_at, c.told-failed.ensures, waiting_fail c.requires.repair c.args.k (placed_facts c.index_mut.result.now) (told_to c.args.self.now.mail c.args.k) s.3.tabled c.requires.failed)
+pub returns-then-is_idle-clause-goes_on : goal.returns-then-is_idle-clause-goes_on
+returns-then-is_idle-clause-goes_on g c = idle_on c.args.self.now.mail c.requires.repair (c.is_idle.ensures c.if-is_idle.true)
 
-pub returns-then-is_empty-clause-repaired : goal.returns-then-is_empty-clause-repaired
-returns-then-is_empty-clause-repaired g c = none_told c.requires.repair c.args.k c.told-failed.result.now (sym c.is_empty.ensures ∙ c.if-is_empty.true) (rw c.told-failed.ensures c.requires.failed)
+pub returns-then-is_idle-clause-cost : goal.returns-then-is_idle-clause-cost
+returns-then-is_idle-clause-cost g c = has_paid_none _ c.args.k (stage_of c.args.self.now) c.args.steps.now
+
+pub settle_at-requires-clause-may : goal.settle_at-requires-clause-may
+settle_at-requires-clause-may g c = rw (c.deref_mut.ensures.value, c.told-failed.ensures) (λ st here. may_settle c.args.self.now.mail c.requires.repair st c.requires.within here)
 
 pub tell-requires : goal.tell-requires
 tell-requires g c =
-    let s = standing_read c.requires.repair c.args.k c.index_mut.result.now c.requires.within c.index_mut.ensures.value in
-    let e = c.in_ok-settle.ensures in
-    let settled : IsSettledFor c.args.self.now.size s.0 (sight (stage_of c.args.self.now)) c.settle.new.self = record { kind = (e.kind c.args.self.now.size s.0 s.3.fine.kind); rest = e.rest; members = e.members; settled = e.settled } in
-    may_tell c.requires.repair (sight (stage_of c.args.self.now)) c.args.k s.0 c.index_mut.result.now c.settle.new.self c.settle.new.out s.1 s.3 settled (rw c.clear.ensures at e.delta)
+    let order = c.requires.repair.1.in_order in
+    let changed = rw (c.clear.ensures, c.deref_mut.ensures.value) at c.in_ok-settle_at.ensures in
+    may_be_told (stage_of c.args.self.now) order changed c.requires.within ((place_here (stage_of c.args.self.now) order changed c.requires.within).fine.ahead (omega arith)).kind
 
-pub returns-clause-repaired : goal.returns-clause-repaired
-returns-clause-repaired g c =
-    let s = standing_read c.requires.repair c.args.k c.index_mut.result.now c.requires.within c.index_mut.ensures.value in
-    let e = c.in_ok-settle.ensures in
-    let settled : IsSettledFor c.args.self.now.size s.0 (sight (stage_of c.args.self.now)) c.settle.new.self = record { kind = (e.kind c.args.self.now.size s.0 s.3.fine.kind); rest = e.rest; members = e.members; settled = e.settled } in
-    from_two c.tell.result
-    (λ told made. repaired c.requires.repair c.args.k s.0 c.index_mut.result.now c.settle.new.self c.tell.new.self (record { kept = s.1; here = s.2; settled = settled; change = c.settle.new.out; changed = rw c.clear.ensures at e.delta; told = told; made = made }))
-    c.tell.ensures.told c.tell.ensures.made
-
-pub returns-then-is_empty-clause-cost : goal.returns-then-is_empty-clause-cost
-returns-then-is_empty-clause-cost g c = has_paid_none _ c.args.k (stage_of c.args.self.now) c.args.steps.now
+pub returns-clause-goes_on : goal.returns-clause-goes_on
+returns-clause-goes_on g c =
+    let order = c.requires.repair.1.in_order in
+    let changed = rw (c.clear.ensures, c.deref_mut.ensures.value) at c.in_ok-settle_at.ensures in
+    let kind = ((place_here (stage_of c.args.self.now) order changed c.requires.within).fine.ahead (omega arith)).kind in
+    rw (with_items_is c.args.self.now.structures c.settle_at.new.structures (c.settle_at.auto.structures ∙ c.deref_mut.ensures.len))
+    (from_two c.tell.result
+    (λ told made.
+    subst (λ (xs : List Structure). HasGoneOn (IsRepaired c.args.self.now.mail) c.args.k (stage_of c.args.self.now) (record (stage_of c.args.self.now) { structures = xs; table = c.tell.new.self })) (sym changed.written)
+    (repaired c.args.self.now.mail c.requires.repair (keep_here (stage_of c.args.self.now) order changed c.requires.within).0 changed.was changed.after c.tell.new.self (updated (stage_of c.args.self.now) order changed c.requires.within kind told made)))
+    c.tell.ensures.told c.tell.ensures.made)
 
 pub returns-clause-cost : goal.returns-clause-cost
 returns-clause-cost g c =
-    let s = standing_read c.requires.repair c.args.k c.index_mut.result.now c.requires.within c.index_mut.ensures.value in
-    let e = c.in_ok-settle.ensures in
-    let now = sight (stage_of c.args.self.now) in
-    let settled : IsSettledFor c.args.self.now.size s.0 now c.settle.new.self = record { kind = (e.kind c.args.self.now.size s.0 s.3.fine.kind); rest = e.rest; members = e.members; settled = e.settled } in
-    from_two c.tell.result
-    (λ told cost. has_paid (λ live. live ≡ now.live) c.settle.new.self c.tell.new.self c.requires.repair.once told s.3.tabled (rw c.clear.ensures at e.delta)
-    (λ l there waits own. given_leaves c.requires.repair s.0 c.settle.new.self settled l there waits) s.1 s.2 c.args.steps.now c.settle.new.steps c.tell.new.steps
-    (λ v live step. e.within c.args.self.now.size s.0 v step.settled.kind step.step step.settled.settled live) cost) c.tell.ensures.told c.tell.ensures.cost
+    let order = c.requires.repair.1.in_order in
+    let changed = rw (c.clear.ensures, c.deref_mut.ensures.value) at c.in_ok-settle_at.ensures in
+    let kind = ((place_here (stage_of c.args.self.now) order changed c.requires.within).fine.ahead (omega arith)).kind in
+    rw (with_items_is c.args.self.now.structures c.settle_at.new.structures (c.settle_at.auto.structures ∙ c.deref_mut.ensures.len))
+    (from_two c.tell.result
+    (λ told cost. paid (stage_of c.args.self.now) order changed c.requires.within kind told
+    (λ l there waits own. given_leaves order (keep_here (stage_of c.args.self.now) order changed c.requires.within).0 changed.after (settled_here (stage_of c.args.self.now) order changed c.requires.within kind) l there waits) c.tell.new.steps cost)
+    c.tell.ensures.told c.tell.ensures.cost)

@@ -1,4 +1,4 @@
-use Rattle.kin_world.proofs.Vocabulary.{rules, ◌≡◌, sym, ◌∙◌, ap, subst, arith, ℕ, length, length-map, Block, Failure, Owned, certificate_of, scene_at, seen_in, stage_of}
+use Rattle.kin_world.proofs.Vocabulary.{◌≡◌, sym, ◌∙◌, ap, subst, arith, ℕ, length, length-map, Block, Failure, Owned, certificate_of, scene_at, seen_in, stage_of}
 use Rattle.kin_world.specs.Paid.{IsRepaid}
 use Rattle.kin_world.proofs.Frugal.{block_frugal}
 use Rattle.kin_world.proofs.TakeLaws.{as_given, given_waiting, given_askable, taken_under_repair, taken_block, settled_since}
@@ -11,7 +11,10 @@ block_of-requires g c =
 pub repair_each-requires : goal.repair_each-requires
 repair_each-requires g c =
     let out = as_given c.in_ok-taken.ensures.taken in
-    search (rules, arith, taken_under_repair, c.requires.sound, c.requires.failing, c.in_ok-taken.ensures.once, c.take_failing.ensures.made, c.deref-2.ensures.value, given_waiting)
+    record {
+      repair = (_, taken_under_repair c.requires.sound c.take_failing.new.self out c.args.moment.now c.requires.failing c.in_ok-taken.ensures.once c.take_failing.ensures.made);
+      waiting = rw c.deref-2.ensures.value (given_waiting c.requires.sound c.take_failing.new.self out);
+    }
 
 pub returns-clause-next : goal.returns-clause-next
 returns-clause-next g c =
