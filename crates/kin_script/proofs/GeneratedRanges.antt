@@ -9,7 +9,7 @@ use Rattle.kin_motion.specs.declared.keep.Keep.{Keep}
 use Rattle.kin_motion.specs.Boxes.{IsRectInRange}
 use Rattle.kin_motion.specs.declared.keep.Keep.TheVariants as keep
 use Rattle.kin_motion.specs.Course.{IsSlow}
-use Rattle.kin_motion.specs.Keeps.{are_few}
+use Rattle.kin_motion.specs.Keeps.{may_keep}
 use Rattle.kin_script.specs.declared.command.Command.{Command}
 use Rattle.kin_script.specs.declared.command.Command.TheVariants.{AtRatio, Extreme, Hull, Closest, Inside, Live}
 use Rattle.kin_script.specs.declared.script.Script.{Script}
@@ -111,7 +111,7 @@ within : (seed count : ℕ) (s : Script) → count ≤ 2 ^ 10 → IsGenerated se
 within seed count s few g = record {
   size_low = g.size.low;
   size_high = omega (arith, g.size.least 10 (omega arith) few);
-  few_keeps = subst (λ (keeps : List Keep). IsTrue (are_few keeps)) (sym g.keeps) refl;
+  keepable = subst (λ (keeps : List Keep). IsTrue (may_keep keeps)) (sym g.keeps) refl;
   keeps = subst (All IsKeepInRange) (sym g.keeps) kept_in_range;
   commands = subst (All (InRange s.size)) (sym g.lines)
       (All-append (InRange s.size) (insertions seed count) (questions (8 + count)) (inserted_in_range s.size seed count g.size.room) (asked_in_range s.size (8 + count)));

@@ -1,6 +1,7 @@
 -- The table of the proofs of what may be kept and asked: numbers are in range; a question is refused for one cause, or it isn't and has one line.
 use Rattle.std.proofs.Common.{◌≡◌, ◌⊎◌, inl, inr, ℕ, Bool, true, false, List, [], ◌∷◌, length, Option, Some, None, refl, sym, ap, ◌∙◌, subst, arith}
-use Rattle.std.specs.Prelude.{ℤ, Contains, slice_get, is_some, IfSome, IsTrue}
+use Rattle.std.specs.Prelude.{ℤ, nat_eq, Contains, slice_get, is_some, IfSome, IsTrue}
+use Rattle.std.proofs.lemmas.Bool.Decides.{nat_tests}
 use Rattle.std.proofs.lemmas.Option.{same_Some}
 use Rattle.kin_algebra.proofs.Members.{contains_none, contains_head, contains_tail, contains_cases, contains_from_get, get_from_contains}
 use Rattle.kin_num.specs.Canonical.{IsCanonical}
@@ -12,13 +13,16 @@ use Rattle.kin_motion.specs.Boxes.{points_in}
 use Rattle.kin_motion.specs.Chains.{cycle_of}
 use Rattle.kin_motion.specs.ClosestPairs.{closest_of}
 use Rattle.kin_motion.specs.Extremes.{IsExtremePoint, extreme_of}
-use Rattle.kin_motion.specs.Keeps.{is_alike}
+use Rattle.kin_motion.specs.Farthest.{farthest_of}
+use Rattle.kin_motion.specs.Keeps.{group}
 use Rattle.kin_motion.specs.Live.{IsLiveFact, IsSmallKeep, live_facts}
 use Rattle.kin_motion.specs.Nearest.{nearest_of}
 use Rattle.kin_motion.specs.Orders.{IsOrder, order_of}
 use Rattle.kin_motion.specs.Plans.{Plan, motions_in_force}
 use Rattle.kin_motion.specs.Scene.{IsReal}
 use Rattle.kin_motion.proofs.ClosestLaws.{closest_proved}
+use Rattle.kin_motion.proofs.FarthestLaws.{farthest_proved, one_farthest}
+use Rattle.kin_motion.proofs.KeepLaws.{is_of}
 use Rattle.kin_motion.proofs.LiveFactLaws.{live_facts_agree}
 use Rattle.kin_motion.proofs.MotionScenes.{real_at}
 use Rattle.kin_motion.proofs.NearestLaws.{nearest_proved, one_nearest}
@@ -26,7 +30,7 @@ use Rattle.kin_motion.proofs.OneLaws.{one_extreme, one_closest, one_hull_cycle}
 use Rattle.kin_motion.proofs.Proved.{order_is_one, order_proved, extreme_proved, cycle_proved}
 use Rattle.kin_legs.specs.Paths.{plan_of}
 use Rattle.kin_script.specs.declared.command.Command.{Command}
-use Rattle.kin_script.specs.declared.command.Command.TheVariants.{Insert, Remove, Replace, Turn, Leg, AtRatio, AtRoot, Next, Order, Extreme, Hull, Closest, Live, Inside, Nearest}
+use Rattle.kin_script.specs.declared.command.Command.TheVariants.{Insert, Remove, Replace, Turn, Leg, AtRatio, AtRoot, Next, Order, Extreme, Hull, Closest, Live, Inside, Nearest, Farthest}
 use Rattle.kin_script.specs.declared.refusal.Refusal.{Refusal}
 use Rattle.kin_script.specs.declared.refusal.Refusal.TheVariants.{NotKept, Absent}
 use Rattle.kin_script.specs.Deeds.{asks, deed_of}
@@ -52,7 +56,8 @@ keep_range (kind ∷ ws) =
     (each_way _ _ _ _ (each_last _ keep.Hull ws tt)
     (each_way _ _ _ _ (each_last _ keep.Closest ws tt)
     (each_way _ _ _ _ (each_last _ keep.Range ws tt)
-    (each_way _ _ _ _ (each_last _ keep.Nearest ws tt) (each_none _))))))
+    (each_way _ _ _ _ (each_last _ keep.Nearest ws tt)
+    (each_way _ _ _ _ (each_last _ keep.Diameter ws tt) (each_none _)))))))
 
 -- a kept structure that a script can name has small numbers
 pub small_keep : (k : Keep) → IsKeepInRange k → IsSmallKeep k
@@ -62,34 +67,39 @@ small_keep keep.Hull h = tt
 small_keep keep.Closest h = tt
 small_keep keep.Range h = tt
 small_keep keep.Nearest h = tt
+small_keep keep.Diameter h = tt
 
-hull_alone : (x : Keep) → is_alike keep.Hull x ≡ true → x ≡ keep.Hull
+hull_alone : (x : Keep) → group x ≡ 1 → x ≡ keep.Hull
 hull_alone keep.Hull e = refl
 hull_alone other e = absurd cc
 
-closest_alone : (x : Keep) → is_alike keep.Closest x ≡ true → x ≡ keep.Closest
+closest_alone : (x : Keep) → group x ≡ 2 → x ≡ keep.Closest
 closest_alone keep.Closest e = refl
 closest_alone other e = absurd cc
 
-range_alone : (x : Keep) → is_alike keep.Range x ≡ true → x ≡ keep.Range
+range_alone : (x : Keep) → group x ≡ 3 → x ≡ keep.Range
 range_alone keep.Range e = refl
 range_alone other e = absurd cc
 
-nearest_alone : (x : Keep) → is_alike keep.Nearest x ≡ true → x ≡ keep.Nearest
+nearest_alone : (x : Keep) → group x ≡ 4 → x ≡ keep.Nearest
 nearest_alone keep.Nearest e = refl
 nearest_alone other e = absurd cc
 
--- a structure of this kind is among those that are kept, or none is
-kept_or_not : (kind : Keep) → ((x : Keep) → is_alike kind x ≡ true → x ≡ kind) → is_alike kind kind ≡ true → (keeps : List Keep) → ¬ (Contains keeps kind) ⊎ Contains keeps kind
-kept_or_not kind only own [] = inl (contains_none kind)
-kept_or_not kind only own (x ∷ xs) = at (is_alike kind x) refl (kept_or_not kind only own xs)
+diameter_alone : (x : Keep) → group x ≡ 5 → x ≡ keep.Diameter
+diameter_alone keep.Diameter e = refl
+diameter_alone other e = absurd cc
+
+-- a structure of this kind, which is alone in its group, is among those that are kept, or none is
+kept_or_not : (kind : Keep) → ((x : Keep) → group x ≡ group kind → x ≡ kind) → (keeps : List Keep) → ¬ (Contains keeps kind) ⊎ Contains keeps kind
+kept_or_not kind only [] = inl (contains_none kind)
+kept_or_not kind only (x ∷ xs) = at (nat_eq (group x) (group kind)) refl (kept_or_not kind only xs)
   where
-    another : is_alike kind x ≡ false → ¬ (Contains xs kind) → (x ≡ kind) ⊎ Contains xs kind → ⊥
-    another e none (inl same) = absurd (let clash : true ≡ false = sym own ∙ ap (is_alike kind) (sym same) ∙ e in cc)
+    another : nat_eq (group x) (group kind) ≡ false → ¬ (Contains xs kind) → (x ≡ kind) ⊎ Contains xs kind → ⊥
+    another e none (inl same) = absurd (let clash : true ≡ false = sym (is_of (group x) (group kind) (ap group same)) ∙ e in cc)
     another e none (inr some) = none some
 
-    at : (b : Bool) → is_alike kind x ≡ b → ¬ (Contains xs kind) ⊎ Contains xs kind → ¬ (Contains (x ∷ xs) kind) ⊎ Contains (x ∷ xs) kind
-    at true e rest = inr (subst (λ (y : Keep). Contains (y ∷ xs) kind) (sym (only x e)) (contains_head kind xs))
+    at : (b : Bool) → nat_eq (group x) (group kind) ≡ b → ¬ (Contains xs kind) ⊎ Contains xs kind → ¬ (Contains (x ∷ xs) kind) ⊎ Contains (x ∷ xs) kind
+    at true e rest = inr (subst (λ (y : Keep). Contains (y ∷ xs) kind) (sym (only x (grind (arith, nat_tests, e)))) (contains_head kind xs))
     at false e (inl none) = inl (λ h. another e none (contains_cases x kind xs h))
     at false e (inr some) = inr (contains_tail x kind xs some)
 
@@ -125,7 +135,8 @@ question_range size name ws =
     (each_way _ _ _ _ (each_last _ Closest ws tt)
     (each_way _ _ _ _ (box_range size ws)
     (each_way _ _ _ _ (nearest_range size ws)
-    (each_way _ _ _ _ (each_last _ Live ws tt) (each_none _)))))))
+    (each_way _ _ _ _ (each_last _ Farthest ws tt)
+    (each_way _ _ _ _ (each_last _ Live ws tt) (each_none _))))))))
 
 -- a question in its range is a command in its range
 pub question_in_range : (size : ℕ) (c : Command) → IsQuestionInRange size c → IsCommandInRange size c
@@ -220,6 +231,7 @@ module _ (s : State) (canonical : IsCanonical s.moment.at) where
   one_reply_line Closest x y a b = a.2 ∙ ap pair_line (one_closest (state_scene s) a.0 b.0 real a.1 b.1) ∙ sym b.2
   one_reply_line (Inside r) x y a b = a ∙ sym b
   one_reply_line (Nearest n) x y a b = a.2 ∙ ap one_line (one_nearest (state_scene s) n a.0 b.0 real a.1 b.1) ∙ sym b.2
+  one_reply_line Farthest x y a b = a.2 ∙ ap pair_line (one_farthest (state_scene s) a.0 b.0 real a.1 b.1) ∙ sym b.2
   one_reply_line Live x y a b = one_live_line x y a b
   one_reply_line question x y a b = absurd a
 
@@ -255,9 +267,9 @@ module _ (s : State) (canonical : IsCanonical s.moment.at) where
       at (Some n) = by_plan (plan_of s.plans n)
 
   -- where a structure of its kind is kept and its number is live a question has a line
-  by_kind : (q : Command) (kind : Keep) → ((x : Keep) → is_alike kind x ≡ true → x ≡ kind) → is_alike kind kind ≡ true
+  by_kind : (q : Command) (kind : Keep) → ((x : Keep) → group x ≡ group kind → x ≡ kind)
       → (IsProvided s q → HasKeep s kind) → (HasKeep s kind → IsProvided s q) → (text : List ℕ) → (IsPresent s q → IsReplyLine s q text) → HasLine q
-  by_kind q kind only own asked kept text line = at (kept_or_not kind only own s.keeps) (present_or_not q)
+  by_kind q kind only asked kept text line = at (kept_or_not kind only s.keeps) (present_or_not q)
     where
       at : ¬ (Contains s.keeps kind) ⊎ Contains s.keeps kind → ¬ (IsPresent s q) ⊎ IsPresent s q → HasLine q
       at (inl none) o = not_kept q (λ h. let k = asked h in none (contains_from_get s.keeps k.0 kind k.1))
@@ -272,9 +284,10 @@ module _ (s : State) (canonical : IsCanonical s.moment.at) where
   pub has_line : FitsSize s.size (state_scene s) → (q : Command) → HasLine q
   has_line fits (Order k) = order_line k (slice_get s.keeps k) refl
   has_line fits (Extreme k) = extreme_line k (slice_get s.keeps k) refl
-  has_line fits Hull = by_kind Hull keep.Hull hull_alone refl (λ h. h) (λ h. h) (list_line (cycle_of (state_scene s))) (λ present. (cycle_of (state_scene s), cycle_proved (state_scene s) real, refl))
-  has_line fits Closest = by_kind Closest keep.Closest closest_alone refl (λ h. h) (λ h. h) (pair_line (closest_of (state_scene s))) (λ present. (closest_of (state_scene s), closest_proved (state_scene s) real, refl))
-  has_line fits (Inside r) = by_kind (Inside r) keep.Range range_alone refl (λ h. h) (λ h. h) (list_line (points_in (motions_in_force s.plans s.moment) s.moment r)) (λ present. refl)
-  has_line fits (Nearest n) = by_kind (Nearest n) keep.Nearest nearest_alone refl (λ h. h) (λ h. h) (one_line (nearest_of (state_scene s) n)) (λ present. (nearest_of (state_scene s) n, nearest_proved (state_scene s) n real, refl))
+  has_line fits Hull = by_kind Hull keep.Hull hull_alone (λ h. h) (λ h. h) (list_line (cycle_of (state_scene s))) (λ present. (cycle_of (state_scene s), cycle_proved (state_scene s) real, refl))
+  has_line fits Closest = by_kind Closest keep.Closest closest_alone (λ h. h) (λ h. h) (pair_line (closest_of (state_scene s))) (λ present. (closest_of (state_scene s), closest_proved (state_scene s) real, refl))
+  has_line fits (Inside r) = by_kind (Inside r) keep.Range range_alone (λ h. h) (λ h. h) (list_line (points_in (motions_in_force s.plans s.moment) s.moment r)) (λ present. refl)
+  has_line fits (Nearest n) = by_kind (Nearest n) keep.Nearest nearest_alone (λ h. h) (λ h. h) (one_line (nearest_of (state_scene s) n)) (λ present. (nearest_of (state_scene s) n, nearest_proved (state_scene s) n real, refl))
+  has_line fits Farthest = by_kind Farthest keep.Diameter diameter_alone (λ h. h) (λ h. h) (pair_line (farthest_of (state_scene s))) (λ present. (farthest_of (state_scene s), farthest_proved (state_scene s) real, refl))
   has_line fits Live = live_line fits
   has_line fits other = not_kept other (λ h. h)

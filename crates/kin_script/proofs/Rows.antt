@@ -3,7 +3,7 @@ use Rattle.std.proofs.Common.{refl, [], ◌∷◌, pos, true, false}
 use Rattle.std.specs.Prelude.{codes}
 use lib.IntN.{neg_ℤ}
 use Rattle.kin_motion.specs.declared.keep.Keep.TheVariants as keep
-use Rattle.kin_script.specs.declared.command.Command.TheVariants.{Insert, Remove, Replace, Turn, Leg, AtRatio, AtRoot, Next, Order, Extreme, Nearest, Live}
+use Rattle.kin_script.specs.declared.command.Command.TheVariants.{Insert, Remove, Replace, Turn, Leg, AtRatio, AtRoot, Next, Order, Extreme, Nearest, Farthest, Live}
 use Rattle.kin_script.specs.Lines.{lines_of, words_of, pieces_of}
 use Rattle.kin_script.specs.Left.{numbered}
 use Rattle.kin_script.specs.Numbers.{digits_after, numeral_of, natural_of, integer_of, ratio_of}
@@ -75,6 +75,23 @@ NearestTwice = IsFirstOutside (codes "size 2\nkeep nearest\nkeep nearest\n") 3
 abbrev NearestOfTooGreatANumber : Type 0
 NearestOfTooGreatANumber = IsFirstOutside (codes "size 2\nkeep nearest\nnearest 4\n") 3
 
+-- a farthest pair is kept, once at most and after a hull
+abbrev FarthestAsked : Type 0
+FarthestAsked = IsScript
+    (codes "size 1\nkeep hull\nkeep closest\nkeep diameter\nfarthest\n")
+    (record {
+      size = 1;
+      keeps = keep.Hull ∷ keep.Closest ∷ keep.Diameter ∷ [];
+      journal = false;
+      lines = (5, Farthest) ∷ [];
+    })
+
+abbrev DiameterTwice : Type 0
+DiameterTwice = IsFirstOutside (codes "size 1\nkeep hull\nkeep diameter\nkeep diameter\n") 4
+
+abbrev DiameterBeforeItsHull : Type 0
+DiameterBeforeItsHull = IsFirstOutside (codes "size 1\nkeep diameter\nkeep hull\n") 2
+
 abbrev SecondJournalLine : Type 0
 SecondJournalLine = IsFirstOutside (codes "size 1\njournal on\njournal off\nlive\n") 3
 
@@ -91,6 +108,6 @@ abbrev WordsOnlyInComments : Type 0
 WordsOnlyInComments = IsFirstOutside (codes "# one\n\n  # two") 4
 
 -- all of it is so
-rows : Spelling × TooFar × Fraction × Root × Changed × HalfAVelocity × JournalOn × NearestAsked × NearestTwice × NearestOfTooGreatANumber × SecondJournalLine × EmptyInput × NumberOutOfRange × LateKeep × WordsOnlyInComments
+rows : Spelling × TooFar × Fraction × Root × Changed × HalfAVelocity × JournalOn × NearestAsked × NearestTwice × NearestOfTooGreatANumber × FarthestAsked × DiameterTwice × DiameterBeforeItsHull × SecondJournalLine × EmptyInput × NumberOutOfRange × LateKeep × WordsOnlyInComments
 unfolding script_of lines_of words_of pieces_of numbered commands_of behind_size script_of_lines command_of question_of insert_of remove_of replace_of turn_of leg_of instant_at side_at quadratic_at root_of at_of order_question_of extreme_question_of box_question_of nearest_question_of motion_at velocity_at number_at natural_at integer_at size_of direction_at keep_of journal_of header_line_of digits_after numeral_of natural_of integer_of ratio_of
-rows = (refl, refl, refl, refl, refl, refl, refl, refl, refl, refl, refl, refl, refl, refl, refl)
+rows = (refl, refl, refl, refl, refl, refl, refl, refl, refl, refl, refl, refl, refl, refl, refl, refl, refl, refl)

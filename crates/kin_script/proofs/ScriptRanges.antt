@@ -106,7 +106,7 @@ written_within ls s w =
     record {
       size_low = size.0;
       size_high = size.1;
-      few_keeps = w.few_keeps;
+      keepable = w.keepable;
       keeps = subst (All IsKeepInRange) (sym w.keeps) (keeps_range w.header w.header_lines w.header_says);
       commands = commands_range s.size w.commands s.lines w.commands_say;
     }

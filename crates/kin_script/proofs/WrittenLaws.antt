@@ -6,8 +6,8 @@ use Rattle.std.specs.Str.{bytes_eq}
 use Rattle.std.proofs.lemmas.Slice.Eq.{bytes_eq-Decides}
 use Rattle.std.proofs.lemmas.List.{append-nil}
 use Rattle.kin_motion.specs.declared.keep.Keep.{Keep}
-use Rattle.kin_motion.specs.Keeps.{are_few}
-use Rattle.kin_motion.proofs.KeepLaws.{few_before}
+use Rattle.kin_motion.specs.Keeps.{may_keep}
+use Rattle.kin_motion.proofs.KeepLaws.{first_kept}
 use Rattle.kin_script.specs.declared.command.Command.{Command}
 use Rattle.kin_script.specs.declared.script.Script.{Script}
 use Rattle.kin_script.specs.declared.line.HeaderLine.{HeaderLine}
@@ -71,7 +71,7 @@ pub record Parts (h : Header) (ls : List Numbered) (s : Script) : Type 0 where
   pub size : s.size ≡ h.size
   pub header_says : AllZip SaysHeaderLine header header_lines
   pub keeps : s.keeps ≡ h.keeps ++ keeps_of header_lines
-  pub few_keeps : IsTrue (are_few s.keeps)
+  pub keepable : IsTrue (may_keep s.keeps)
   pub journal : HasJournalLine (journal_lines h.journal ++ journals_of header_lines) s.journal
   pub commands_say : AllZip (SaysCommand h.size) commands s.lines
 
@@ -79,8 +79,8 @@ journal_stands : (journal : Option Bool) → HasJournalLine (journal_lines journ
 journal_stands None = refl
 journal_stands (Some on) = refl
 
-behind_header : (h : Header) (ls : List Numbered) (s : Script) → are_few h.keeps ≡ true → with_commands h ls ≡ Ok s → Parts h ls s
-behind_header h ls s few e = at (commands_of h.size ls) refl e
+behind_header : (h : Header) (ls : List Numbered) (s : Script) → may_keep h.keeps ≡ true → with_commands h ls ≡ Ok s → Parts h ls s
+behind_header h ls s may e = at (commands_of h.size ls) refl e
   where
     at : (read : Result Commands ℕ) → commands_of h.size ls ≡ read
         → (read >> λ cs. Ok (record { size = h.size; keeps = h.keeps; journal = unwrap_or h.journal false; lines = cs })) ≡ Ok s → Parts h ls s
@@ -95,7 +95,7 @@ behind_header h ls s few e = at (commands_of h.size ls) refl e
           size = refl;
           header_says = tt;
           keeps = sym (append-nil h.keeps);
-          few_keeps = few;
+          keepable = may;
           journal = journal_stands h.journal;
           commands_say = says h.size ls cs q;
         })
@@ -112,7 +112,7 @@ one_more h keeps journal l ls s x is p kept on = record {
   size = p.size;
   header_says = (is, p.header_says);
   keeps = kept;
-  few_keeps = p.few_keeps;
+  keepable = p.keepable;
   journal = on;
   commands_say = p.commands_say;
 }
@@ -127,27 +127,27 @@ journal_line : (h : Header) (l : Numbered) (ls : List Numbered) (s : Script) (on
 journal_line h l ls s on none is p = one_more h h.keeps (Some on) l ls s (header_line.Journal on) is p p.keeps (rw none p.journal)
 
 -- from the function to the relation
-parts_of : (h : Header) (ls : List Numbered) (s : Script) → are_few h.keeps ≡ true → behind_size h ls ≡ Ok s → Parts h ls s
+parts_of : (h : Header) (ls : List Numbered) (s : Script) → may_keep h.keeps ≡ true → behind_size h ls ≡ Ok s → Parts h ls s
 unfolding behind_size
-parts_of h [] s few e = behind_header h [] s few e
-parts_of h (l ∷ ls) s few e = at (header_line_of l.1) refl e (λ g. parts_of g ls s)
+parts_of h [] s may e = behind_header h [] s may e
+parts_of h (l ∷ ls) s may e = at (header_line_of l.1) refl e (λ g. parts_of g ls s)
   where
-    keeps : (k : Keep) (room : Bool) → are_few (h.keeps ++ k ∷ []) ≡ room → header_line_of l.1 ≡ Some (header_line.Keep k)
+    keeps : (k : Keep) (room : Bool) → may_keep (h.keeps ++ k ∷ []) ≡ room → header_line_of l.1 ≡ Some (header_line.Keep k)
         → (at_line l.0 (cond room (Some (record h { keeps = h.keeps ++ k ∷ [] })) None) >> λ g. behind_size g ls) ≡ Ok s
-        → ((g : Header) → are_few g.keeps ≡ true → behind_size g ls ≡ Ok s → Parts g ls s) → Parts h (l ∷ ls) s
+        → ((g : Header) → may_keep g.keeps ≡ true → behind_size g ls ≡ Ok s → Parts g ls s) → Parts h (l ∷ ls) s
     keeps k false q is e rest = absurd cc
     keeps k true q is e rest = keep_line h l ls s k is (rest (record h { keeps = h.keeps ++ k ∷ [] }) q e)
 
     journals : (on : Bool) (journal : Option Bool) → h.journal ≡ journal → header_line_of l.1 ≡ Some (header_line.Journal on)
         → (at_line l.0 (cond (is_some journal) None (Some (record h { journal = Some on }))) >> λ g. behind_size g ls) ≡ Ok s
-        → ((g : Header) → are_few g.keeps ≡ true → behind_size g ls ≡ Ok s → Parts g ls s) → Parts h (l ∷ ls) s
+        → ((g : Header) → may_keep g.keeps ≡ true → behind_size g ls ≡ Ok s → Parts g ls s) → Parts h (l ∷ ls) s
     journals on (Some b) q is e rest = absurd cc
-    journals on None q is e rest = journal_line h l ls s on q is (rest (record h { journal = Some on }) few e)
+    journals on None q is e rest = journal_line h l ls s on q is (rest (record h { journal = Some on }) may e)
 
     at : (o : Option HeaderLine) → header_line_of l.1 ≡ o → by_header_line o (λ x. at_line l.0 (with_header_line h x) >> λ g. behind_size g ls) (with_commands h (l ∷ ls)) ≡ Ok s
-        → ((g : Header) → are_few g.keeps ≡ true → behind_size g ls ≡ Ok s → Parts g ls s) → Parts h (l ∷ ls) s
-    at None is e rest = behind_header h (l ∷ ls) s few e
-    at (Some (header_line.Keep k)) is e rest = keeps k (are_few (h.keeps ++ k ∷ [])) refl is e rest
+        → ((g : Header) → may_keep g.keeps ≡ true → behind_size g ls ≡ Ok s → Parts g ls s) → Parts h (l ∷ ls) s
+    at None is e rest = behind_header h (l ∷ ls) s may e
+    at (Some (header_line.Keep k)) is e rest = keeps k (may_keep (h.keeps ++ k ∷ [])) refl is e rest
     at (Some (header_line.Journal on)) is e rest = journals on h.journal refl is e rest
 
 -- ---- from the relation to the function
@@ -189,8 +189,8 @@ journal_is : (journal : Option Bool) (on : Bool) → HasJournalLine (journal_lin
 journal_is None on j = j
 journal_is (Some b) on j = j
 
-room_for : (keeps more : List Keep) (k : Keep) → are_few (keeps ++ k ∷ more) ≡ true → are_few (keeps ++ k ∷ []) ≡ true
-room_for keeps more k few = few_before (keeps ++ k ∷ []) more (ap are_few (append_assoc keeps (k ∷ []) more) ∙ few)
+room_for : (keeps more : List Keep) (k : Keep) → may_keep (keeps ++ k ∷ more) ≡ true → may_keep (keeps ++ k ∷ []) ≡ true
+room_for keeps more k may = first_kept (keeps ++ k ∷ []) more (ap may_keep (append_assoc keeps (k ∷ []) more) ∙ may)
 
 no_journal_yet : (journal : Option Bool) (on later : Bool) (js : List Bool) → HasJournalLine (journal_lines journal ++ on ∷ js) later → journal ≡ None
 no_journal_yet None on later js j = refl
@@ -205,23 +205,23 @@ with_these : (h : Header) (ls : List Numbered) (s : Script) → s.size ≡ h.siz
 with_these h ls s size keeps journal e = rw e (ap (λ (t : Script). whole t) (assembled h s size keeps journal))
 
 written_behind : (h : Header) (header : List Numbered) (header_lines : List HeaderLine) (commands : List Numbered) (s : Script)
-    → AllZip SaysHeaderLine header header_lines → s.size ≡ h.size → s.keeps ≡ h.keeps ++ keeps_of header_lines → are_few s.keeps ≡ true
+    → AllZip SaysHeaderLine header header_lines → s.size ≡ h.size → s.keeps ≡ h.keeps ++ keeps_of header_lines → may_keep s.keeps ≡ true
     → HasJournalLine (journal_lines h.journal ++ journals_of header_lines) s.journal → AllZip (SaysCommand h.size) commands s.lines
     → behind_size h (header ++ commands) ≡ Ok s
 unfolding behind_size
-written_behind h [] [] commands s z size keeps few j says =
+written_behind h [] [] commands s z size keeps may j says =
     commands_alone h commands s.lines says
     ∙ with_these h commands s size (keeps ∙ append-nil h.keeps) (journal_is h.journal s.journal j) (said h.size commands s.lines says)
-written_behind h [] (x ∷ xs) commands s z size keeps few j says = absurd z
-written_behind h (l ∷ ls) [] commands s z size keeps few j says = absurd z
-written_behind h (l ∷ ls) (header_line.Keep k ∷ xs) commands s z size keeps few j says =
-    let room = room_for h.keeps (keeps_of xs) k (ap are_few (sym keeps) ∙ few) in
+written_behind h [] (x ∷ xs) commands s z size keeps may j says = absurd z
+written_behind h (l ∷ ls) [] commands s z size keeps may j says = absurd z
+written_behind h (l ∷ ls) (header_line.Keep k ∷ xs) commands s z size keeps may j says =
+    let room = room_for h.keeps (keeps_of xs) k (ap may_keep (sym keeps) ∙ may) in
     rw (z.0, room)
-    (written_behind (record h { keeps = h.keeps ++ k ∷ [] }) ls xs commands s z.1 size (keeps ∙ sym (append_assoc h.keeps (k ∷ []) (keeps_of xs))) few j says)
-written_behind h (l ∷ ls) (header_line.Journal on ∷ xs) commands s z size keeps few j says =
+    (written_behind (record h { keeps = h.keeps ++ k ∷ [] }) ls xs commands s z.1 size (keeps ∙ sym (append_assoc h.keeps (k ∷ []) (keeps_of xs))) may j says)
+written_behind h (l ∷ ls) (header_line.Journal on ∷ xs) commands s z size keeps may j says =
     let none = no_journal_yet h.journal on s.journal (journals_of xs) j in
     rw (z.0, none)
-    (written_behind (record h { journal = Some on }) ls xs commands s z.1 size keeps few (rw none at j) says)
+    (written_behind (record h { journal = Some on }) ls xs commands s z.1 size keeps may (rw none at j) says)
 
 -- ---- the whole script
 
@@ -246,7 +246,7 @@ is_written after (l ∷ ls) s e = at (size_of l.1) refl e
           size = is ∙ ap (λ (k : ℕ). found k) (sym p.size);
           header_says = p.header_says;
           keeps = p.keeps;
-          few_keeps = p.few_keeps;
+          keepable = p.keepable;
           journal = p.journal;
           commands_say = subst (λ (k : ℕ). AllZip (SaysCommand k) p.commands s.lines) (sym p.size) p.commands_say;
         }
@@ -255,4 +255,4 @@ pub written_is : (after : ℕ) (ls : List Numbered) (s : Script) → IsWritten l
 unfolding script_of_lines
 written_is after ls s w =
     rw (w.parts, w.size)
-    (written_behind (first_header s.size) w.header w.header_lines w.commands s w.header_says refl w.keeps w.few_keeps w.journal w.commands_say)
+    (written_behind (first_header s.size) w.header w.header_lines w.commands s w.header_says refl w.keeps w.keepable w.journal w.commands_say)

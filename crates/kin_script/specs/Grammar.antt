@@ -1,7 +1,7 @@
 -- Which bytes are a script, and which line is the first outside the grammar.
 use Rattle.std.specs.Prelude.{◌≡◌, ℕ, Bool, false, List, [], ◌∷◌, ◌++◌, Option, Some, None, is_some, unwrap_or, Result, Ok, Err, if◌then◌else◌}
 use Rattle.kin_motion.specs.declared.keep.Keep.{Keep}
-use Rattle.kin_motion.specs.Keeps.{are_few}
+use Rattle.kin_motion.specs.Keeps.{may_keep}
 use Rattle.kin_script.specs.declared.script.Script.{Script}
 use Rattle.kin_script.specs.declared.command.Command.{Command}
 use Rattle.kin_script.specs.declared.line.HeaderLine.{HeaderLine}
@@ -38,7 +38,7 @@ with_commands h ls = commands_of h.size ls >> λ cs. Ok (record { size = h.size;
 
 -- a further line of the header, where its place allows it
 abbrev pub with_header_line : Header → HeaderLine → Option Header
-with_header_line h (header_line.Keep k) = if are_few (h.keeps ++ k ∷ []) then Some (record h { keeps = h.keeps ++ k ∷ [] }) else None
+with_header_line h (header_line.Keep k) = if may_keep (h.keeps ++ k ∷ []) then Some (record h { keeps = h.keeps ++ k ∷ [] }) else None
 with_header_line h (header_line.Journal on) = if is_some h.journal then None else Some (record h { journal = Some on })
 
 -- by whether a line belongs to the header

@@ -9,6 +9,7 @@ use Rattle.kin_motion.specs.Boxes.{IsRectInRange, points_in}
 use Rattle.kin_motion.specs.Chains.{IsHullCycle}
 use Rattle.kin_motion.specs.ClosestPairs.{IsClosest}
 use Rattle.kin_motion.specs.Extremes.{IsExtremePoint}
+use Rattle.kin_motion.specs.Farthest.{IsFarthest}
 use Rattle.kin_motion.specs.Live.{IsLiveCount}
 use Rattle.kin_motion.specs.Nearest.{IsNearest}
 use Rattle.kin_motion.specs.Orders.{IsOrder}
@@ -16,7 +17,7 @@ use Rattle.kin_motion.specs.Plans.{motions_in_force}
 use Rattle.kin_motion.specs.Scene.{Scene}
 use Rattle.kin_legs.specs.Paths.{plan_of}
 use Rattle.kin_script.specs.declared.command.Command.{Command}
-use Rattle.kin_script.specs.declared.command.Command.TheVariants.{Order, Extreme, Hull, Closest, Inside, Nearest, Live}
+use Rattle.kin_script.specs.declared.command.Command.TheVariants.{Order, Extreme, Hull, Closest, Inside, Nearest, Farthest, Live}
 use Rattle.kin_script.specs.declared.refusal.Refusal.{Refusal}
 use Rattle.kin_script.specs.declared.refusal.Refusal.TheVariants.{NotKept, Absent}
 use Rattle.kin_script.specs.Lines.{Word}
@@ -28,7 +29,7 @@ use Rattle.kin_script.specs.Words.{natural_at, integer_at, number_at, direction_
 
 -- ---- what is kept
 
--- order DX DY, extreme DX DY, hull, closest, range, nearest
+-- order DX DY, extreme DX DY, hull, closest, range, nearest, diameter
 unfoldable pub keep_of : List Word → Option Keep
 keep_of [] = None
 keep_of (kind ∷ ws) =
@@ -38,6 +39,7 @@ keep_of (kind ∷ ws) =
     else if bytes_eq kind (codes "closest") then last keep.Closest ws
     else if bytes_eq kind (codes "range") then last keep.Range ws
     else if bytes_eq kind (codes "nearest") then last keep.Nearest ws
+    else if bytes_eq kind (codes "diameter") then last keep.Diameter ws
     else None
 
 -- both parts are in -16..16, and one is not 0
@@ -54,6 +56,7 @@ IsKeepInRange keep.Hull = Unit {0}
 IsKeepInRange keep.Closest = Unit {0}
 IsKeepInRange keep.Range = Unit {0}
 IsKeepInRange keep.Nearest = Unit {0}
+IsKeepInRange keep.Diameter = Unit {0}
 
 -- ---- what is asked
 
@@ -93,6 +96,7 @@ question_of size name ws =
     else if bytes_eq name (codes "closest") then last Closest ws
     else if bytes_eq name (codes "box") then box_question_of ws
     else if bytes_eq name (codes "nearest") then nearest_question_of size ws
+    else if bytes_eq name (codes "farthest") then last Farthest ws
     else if bytes_eq name (codes "live") then last Live ws
     else None
 
@@ -104,6 +108,7 @@ IsQuestionInRange size Hull = Unit {0}
 IsQuestionInRange size Closest = Unit {0}
 IsQuestionInRange size (Inside r) = IsRectInRange r
 IsQuestionInRange size (Nearest n) = n < 2 ^ size
+IsQuestionInRange size Farthest = Unit {0}
 IsQuestionInRange size Live = Unit {0}
 IsQuestionInRange size _ = ⊥
 
@@ -119,6 +124,7 @@ IsProvided s Hull = HasKeep s keep.Hull
 IsProvided s Closest = HasKeep s keep.Closest
 IsProvided s (Inside r) = HasKeep s keep.Range
 IsProvided s (Nearest n) = HasKeep s keep.Nearest
+IsProvided s Farthest = HasKeep s keep.Diameter
 IsProvided s Live = Unit {0}
 IsProvided s _ = ⊥
 
@@ -173,6 +179,10 @@ IsInsideLine s r text = text ≡ list_line (points_in (motions_in_force s.plans 
 abbrev pub IsNearestLine : State → ℕ → List ℕ → Type 0
 IsNearestLine s n text = (point : Option ℕ) × IsNearest (state_scene s) n point × (text ≡ one_line point)
 
+-- the line of the farthest pair
+abbrev pub IsFarthestLine : State → List ℕ → Type 0
+IsFarthestLine s text = (pair : Option (ℕ × ℕ)) × IsFarthest (state_scene s) pair × (text ≡ pair_line pair)
+
 -- the line with the number of live facts
 abbrev pub IsLiveLine : State → List ℕ → Type 0
 IsLiveLine s text = (n : ℕ) × IsLiveCount s.size s.keeps (state_scene s) n × (text ≡ count_line n)
@@ -185,5 +195,6 @@ IsReplyLine s Hull text = IsHullLine s text
 IsReplyLine s Closest text = IsClosestLine s text
 IsReplyLine s (Inside r) text = IsInsideLine s r text
 IsReplyLine s (Nearest n) text = IsNearestLine s n text
+IsReplyLine s Farthest text = IsFarthestLine s text
 IsReplyLine s Live text = IsLiveLine s text
 IsReplyLine s _ text = ⊥

@@ -3,7 +3,7 @@ use Rattle.std.specs.Prelude.{◌≡◌, ◌⊎◌, ℕ, ◌<◌, ◌≤◌, ◌
 use Rattle.kin_num.specs.Quadratic.{Quadratic}
 use Rattle.kin_num.specs.Instants.{line}
 use Rattle.kin_motion.specs.Course.{IsSlow}
-use Rattle.kin_motion.specs.Keeps.{are_few}
+use Rattle.kin_motion.specs.Keeps.{may_keep}
 use Rattle.kin_script.specs.declared.command.Command.{Command}
 use Rattle.kin_script.specs.declared.command.Command.TheVariants.{Insert, Remove, Replace, Turn, Leg, AtRatio, AtRoot, Next}
 use Rattle.kin_script.specs.declared.script.Script.{Script}
@@ -52,7 +52,7 @@ IsDeedInRange (asks question) = Unit {0}
 pub record IsWithin (s : Script) : Type 0 where
   pub size_low : 1 ≤ s.size
   pub size_high : s.size ≤ 12
-  pub few_keeps : IsTrue (are_few s.keeps)
+  pub keepable : IsTrue (may_keep s.keeps)
   pub keeps : All IsKeepInRange s.keeps
   pub commands : All (λ l. IsCommandInRange s.size l.1) s.lines
 

@@ -1,6 +1,6 @@
 -- How far the reader has come. Only its own functions cite this.
 use Rattle.std.specs.Prelude.{◌≡◌, ℕ, ◌≤◌, false, List, [], ◌∷◌, ◌++◌, IsTrue, unwrap_or, Result, Ok, Err}
-use Rattle.kin_motion.specs.Keeps.{are_few}
+use Rattle.kin_motion.specs.Keeps.{may_keep}
 use Rattle.kin_script.specs.declared.command.Command.{Command}
 use Rattle.kin_script.specs.declared.script.Script.{Script}
 use Rattle.kin_script.specs.declared.read.Draft.{Draft}
@@ -31,8 +31,8 @@ Continues (Ok x) before now = before ≡ now
 Continues (Err (BadLine n)) before now = before ≡ Err n
 Continues (Err NoMemory) before now = Unit {0}
 
--- the size is in its range, and no more is kept than may be
+-- the size is in its range, and what is kept may be
 pub record IsDraftInRange (d : Draft) : Type 0 where
   pub size_low : 1 ≤ d.size
   pub size_high : d.size ≤ 12
-  pub few_keeps : IsTrue (are_few d.keeps)
+  pub keepable : IsTrue (may_keep d.keeps)

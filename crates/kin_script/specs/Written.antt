@@ -2,7 +2,7 @@
 use Rattle.std.specs.Prelude.{◌≡◌, ◌⊎◌, ◌↔◌, ℕ, ◌+◌, Bool, false, List, [], ◌∷◌, ◌++◌, Some, length, IsTrue}
 use Rattle.std.specs.List.{AllZip}
 use Rattle.kin_motion.specs.declared.keep.Keep.{Keep}
-use Rattle.kin_motion.specs.Keeps.{are_few}
+use Rattle.kin_motion.specs.Keeps.{may_keep}
 use Rattle.kin_script.specs.declared.command.Command.{Command}
 use Rattle.kin_script.specs.declared.script.Script.{Script}
 use Rattle.kin_script.specs.declared.line.HeaderLine.{HeaderLine}
@@ -48,7 +48,7 @@ pub record IsWritten (lines : List Numbered) (s : Script) : Type 0 where
   pub size : size_of first.1 ≡ Some s.size
   pub header_says : AllZip SaysHeaderLine header header_lines
   pub keeps : s.keeps ≡ keeps_of header_lines
-  pub few_keeps : IsTrue (are_few s.keeps)
+  pub keepable : IsTrue (may_keep s.keeps)
   pub journal : HasJournalLine (journals_of header_lines) s.journal
   pub commands_say : AllZip (SaysCommand s.size) commands s.lines
 

@@ -34,6 +34,8 @@ pub enum Command {
     Inside { rect: Rect },
     /// The nearest other point of the point of this number.
     Nearest { no: u32 },
+    /// The farthest pair.
+    Farthest,
     /// How many facts are live.
     Live,
 }

@@ -178,6 +178,8 @@ fn question(size: u32, name: &[u8], words: &mut Words<'_>) -> Option<Command>
         inside(words)
     } else if name == b"nearest".as_slice() {
         nearest(size, words)
+    } else if name == b"farthest".as_slice() {
+        words.last(Command::Farthest)
     } else if name == b"live".as_slice() {
         words.last(Command::Live)
     } else {
@@ -258,6 +260,8 @@ fn keep(words: &mut Words<'_>) -> Option<Keep>
         words.last(Keep::Range)
     } else if kind == b"nearest".as_slice() {
         words.last(Keep::Nearest)
+    } else if kind == b"diameter".as_slice() {
+        words.last(Keep::Diameter)
     } else {
         None
     }

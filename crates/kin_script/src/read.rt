@@ -11,7 +11,7 @@ ghost use Rattle.kin_script.specs.Reading.{reads, header, finished, Continues, I
 use crate::line::{HeaderLine, command_of, header_line_of, size_of};
 use crate::lines::{Line, Lines};
 use crate::script::{Commands, Keeps, Script};
-use kin_motion::keep::has_room;
+use kin_motion::keep::may_keep_more;
 use std::alloc::{AllocError, Global};
 
 /// Why there is no script.
@@ -74,7 +74,7 @@ impl Draft {
     {
         match header_line {
             HeaderLine::Keep(keep) => {
-                if !has_room(self.keeps.as_slice(), &keep) {
+                if !may_keep_more(self.keeps.as_slice(), &keep) {
                     return Err(ReadError::BadLine(number));
                 }
                 self.keeps.push(keep)?;
