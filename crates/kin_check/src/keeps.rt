@@ -6,6 +6,7 @@ ghost use Rattle.kin_motion.specs.Agreements.{FitsSize};
 ghost use Rattle.kin_motion.specs.Live.{keep_facts, live_facts, owned_by, IsSmallKeep};
 
 use crate::closest::put_closest_facts;
+use crate::diameter::put_diameter_facts;
 use crate::extreme::put_extreme_facts;
 use crate::facts::{put_order_facts, put_range_facts, put_wedge_facts};
 use crate::hull::put_hull_facts;
@@ -82,6 +83,7 @@ pub fn put_keep_facts<O: Signs, L: Ledger>(
         Keep::Closest => put_closest_facts(alloc, now, size, live, facts, steps),
         Keep::Range => put_range_facts(alloc, now, live, facts, steps),
         Keep::Nearest => put_wedge_facts(alloc, now, live, facts, steps),
+        Keep::Diameter => put_diameter_facts(alloc, now, size, live, facts, steps),
     }
 }
 
