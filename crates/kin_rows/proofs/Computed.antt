@@ -11,6 +11,7 @@ use Rattle.kin_rows.specs.Boxes.{SlidingRow}
 use Rattle.kin_rows.specs.Passing.{PassingRow}
 use Rattle.kin_rows.specs.Extremes.{ExtremeRow}
 use Rattle.kin_rows.specs.NearestRows.{NearestRows}
+use Rattle.kin_rows.specs.FarthestRows.{FarthestRows}
 use Rattle.kin_rows.specs.Carriageways.{CarriagewaysRow}
 use Rattle.kin_rows.specs.Changes.{ChangeRows}
 use Rattle.kin_rows.specs.HullFactRows.{HullFactRows}
@@ -48,6 +49,10 @@ passing_row = search refl
 pub nearest_rows : NearestRows
 unfolding sign_of_form polynomial_of sign_at sign_at_instant
 nearest_rows = search refl
+
+pub farthest_rows : FarthestRows
+unfolding sign_of_form polynomial_of sign_at sign_at_instant
+farthest_rows = search refl
 
 pub extreme_row : ExtremeRow
 unfolding sign_of_form polynomial_of sign_at sign_at_instant

@@ -7,6 +7,7 @@ pub mod Square
 pub mod Boxes
 pub mod Passing
 pub mod NearestRows
+pub mod FarthestRows
 pub mod Extremes
 pub mod Carriageways
 pub mod Changes

@@ -6,6 +6,7 @@ ghost use Rattle.kin_rows.specs.Carriageways.{CarriagewaysRow};
 ghost use Rattle.kin_rows.specs.Changes.{ChangeRows};
 ghost use Rattle.kin_rows.specs.ClosestFactRows.{ClosestFactRows};
 ghost use Rattle.kin_rows.specs.Extremes.{ExtremeRow};
+ghost use Rattle.kin_rows.specs.FarthestRows.{FarthestRows};
 ghost use Rattle.kin_rows.specs.Generated.{GeneratedRows};
 ghost use Rattle.kin_rows.specs.HullFactRows.{HullFactRows};
 ghost use Rattle.kin_rows.specs.NearestRows.{NearestRows};
@@ -56,6 +57,11 @@ pub fn passing_row()
 /// The nearest other points of a unit square, of points of which one passes the others, and of points at one place.
 pub fn nearest_rows()
     ensures { NearestRows }
+{}
+
+/// The farthest pairs of a unit square, of points that come together and part again, and of ties.
+pub fn farthest_rows()
+    ensures { FarthestRows }
 {}
 
 /// Of two points that meet the lesser number is the extreme one.
