@@ -7,6 +7,7 @@ use Rattle.kin_motion.specs.declared.keep.Keep.{Keep}
 use Rattle.kin_motion.specs.Boxes.{points_in}
 use Rattle.kin_motion.specs.Chains.{IsHullCycle}
 use Rattle.kin_motion.specs.ClosestPairs.{IsClosest}
+use Rattle.kin_motion.specs.Farthest.{IsFarthest}
 use Rattle.kin_motion.specs.Live.{IsLiveCount}
 use Rattle.kin_motion.specs.Nearest.{IsNearest}
 use Rattle.kin_motion.specs.Plans.{is_begun}
@@ -19,7 +20,7 @@ use Rattle.kin_legs.proofs.LeftLaws.{past_legs_dont_matter}
 use Rattle.kin_legs.proofs.SchedulingLaws.{follows_too_fast_left, leg_from_left, left_extended, may_follow_left}
 use Rattle.kin_legs.proofs.ShownLaws.{alike_journals}
 use Rattle.kin_num.proofs.MomentLaws.{never}
-use Rattle.kin_script.specs.declared.command.Command.TheVariants.{Order, Extreme, Hull, Closest, Inside, Nearest, Live}
+use Rattle.kin_script.specs.declared.command.Command.TheVariants.{Order, Extreme, Hull, Closest, Inside, Nearest, Farthest, Live}
 use Rattle.kin_script.specs.Changes.{IsRefusedLeg, IsRefusedTurn}
 use Rattle.kin_script.specs.Printed.{list_line}
 use Rattle.kin_script.specs.Questions.{IsOrderLine, IsExtremeLine, IsReplyLine}
@@ -112,6 +113,7 @@ provided_by_keeps s t Hull e h = (h.0, ap (λ (ks : List Keep). slice_get ks h.0
 provided_by_keeps s t Closest e h = (h.0, ap (λ (ks : List Keep). slice_get ks h.0) (sym e) ∙ h.1)
 provided_by_keeps s t (Inside r) e h = (h.0, ap (λ (ks : List Keep). slice_get ks h.0) (sym e) ∙ h.1)
 provided_by_keeps s t (Nearest n) e h = (h.0, ap (λ (ks : List Keep). slice_get ks h.0) (sym e) ∙ h.1)
+provided_by_keeps s t Farthest e h = (h.0, ap (λ (ks : List Keep). slice_get ks h.0) (sym e) ∙ h.1)
 provided_by_keeps s t Live e h = tt
 provided_by_keeps s t question e h = absurd h
 
@@ -176,6 +178,7 @@ module _ (s : State) (qs : List (Option Plan)) (on : IsOnPaths s) (others : AreP
       by_question Closest h = (h.0, subst (λ (v : Scene). IsClosest v h.0) seen h.1, h.2)
       by_question (Inside r) h = subst (λ (ms : List (Option Course)). text ≡ list_line (points_in ms s.moment r)) (force_alike s.moment on.canonical s.plans qs on.paths others same s.moment on.canonical now) h
       by_question (Nearest n) h = (h.0, subst (λ (v : Scene). IsNearest v n h.0) seen h.1, h.2)
+      by_question Farthest h = (h.0, subst (λ (v : Scene). IsFarthest v h.0) seen h.1, h.2)
       by_question Live h = (h.0, subst (λ (v : Scene). IsLiveCount s.size s.keeps v h.0) seen h.1, h.2)
       by_question question h = absurd h
 
