@@ -12,11 +12,11 @@ use crate::ask::is_live;
 use crate::driver::Driver;
 use crate::failing::{after, failing_at};
 use crate::fault::Fault;
-use crate::spares::SparesNone;
+use crate::spares::{SparesNone, SparesOne};
 use crate::watch::{Tally, Watch};
 use kin_fail::Now;
 use kin_motion::keep::Keep;
-use kin_motion::kept::{Kept, enter};
+use kin_motion::kept::{Kept, enter, leave};
 use kin_motion::{Delta, Motion, Motions, Placed};
 use kin_nearest::KinNearest;
 use kin_num::{Moment, Steps};
@@ -75,15 +75,51 @@ impl<K: Kept> Driver<K> {
             report: out,
         })
     }
+
+    /// Lets go of a number that isn't live any more. There is none of its facts that fails and doesn't name it.
+    fn let_go<L: Ledger>(
+        self,
+        no: u32,
+        now: &Watch<'_>,
+        steps: &mut Steps<L>,
+    ) -> Result<Driver<K>, Fault>
+        requires rest { K.at_rest self }
+        requires room { (size : ℕ) × (keep : Kind) × K.is_for self size keep × (no < 2 ^ size) }
+        requires left { (before : Scene) × K.has_members self before.live × K.settled self before × HasEntered no (live_of now.now.motions.now) before.live }
+        ensures kind { IfOk result (λ k. (size : ℕ) (keep : Kind) → K.is_for self size keep → K.is_for k size keep) }
+        ensures rest { IfOk result (λ k. K.at_rest k) }
+        ensures members { IfOk result (λ k. K.has_members k (live_of now.now.motions.now)) }
+        ensures settled { IfOk result (λ k. K.settled k (scene_at now.now.motions.now now.now.moment.now)) }
+    {
+        let Driver {
+            alloc,
+            mut structure,
+            facts,
+            report: _,
+        } = self;
+        let failed = failing_at(alloc, &facts, now, &SparesOne { no: Some(no) })?;
+        if !failed.is_empty() {
+            return Err(Fault::NotReady);
+        }
+        let mut out = Delta::new(alloc);
+        leave(&mut structure, no, now, &mut out, steps)?;
+        let facts = after(alloc, &facts, &out)?;
+        Ok(Driver {
+            alloc,
+            structure,
+            facts,
+            report: out,
+        })
+    }
 }
 
 /// A structure over all live points, settled at a moment.
 #[derive(Drop)]
 pub struct Keeping<K: Kept> {
-    size: u32,
-    motions: Motions,
-    moment: Moment,
-    kept: Driver<K>,
+    pub(crate) size: u32,
+    pub(crate) motions: Motions,
+    pub(crate) moment: Moment,
+    pub(crate) kept: Driver<K>,
 }
 
 impl<K: Kept> Model for Keeping<K> {
@@ -138,6 +174,37 @@ impl<K: Kept> Keeping<K> {
             tally,
         };
         let kept = kept.take_in(no, &now, steps)?;
+        Ok(Keeping {
+            size,
+            motions,
+            moment,
+            kept,
+        })
+    }
+
+    /// A point leaves at the moment of the last call.
+    pub fn leave<L: Ledger>(
+        self,
+        no: u32,
+        tally: &Tally,
+        steps: &mut Steps<L>,
+    ) -> Result<Keeping<K>, Fault> {
+        let Keeping {
+            size,
+            mut motions,
+            moment,
+            kept,
+        } = self;
+        if no >= 1 << size || !is_live(&motions, no) {
+            return Err(Fault::NotLive);
+        }
+        motions.clear(no);
+        let now = Watch {
+            motions: &motions,
+            moment: &moment,
+            tally,
+        };
+        let kept = kept.let_go(no, &now, steps)?;
         Ok(Keeping {
             size,
             motions,

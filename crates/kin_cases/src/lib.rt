@@ -21,6 +21,7 @@ pub mod moments;
 pub mod octants;
 pub mod random;
 pub mod scene;
+pub mod spanning;
 pub mod spares;
 pub mod telling;
 pub mod watch;

@@ -81,6 +81,25 @@ impl Spares for SparesAbove<'_> {
     }
 }
 
+/// The facts that name a number are spared, if there is one.
+#[derive(Clone, Copy, Debug, PartialEq, Eq)]
+pub struct SparesOne {
+    pub no: Option<u32>,
+}
+
+impl Spares for SparesOne {
+    ghost use Rattle.kin_diameter.specs.Diameter.{names_leaving};
+
+    ghost is_spared = { λ s p. names_leaving s.no p };
+
+    fn spares(&self, fact: &Placed) -> bool {
+        match self.no {
+            Some(no) => fact.fact.form.names(no),
+            None => false,
+        }
+    }
+}
+
 /// The facts that name one of these numbers are spared.
 #[derive(Drop)]
 pub struct SparesNamed<'a> {
