@@ -77,6 +77,29 @@ fn a_hull_a_closest_pair_and_a_range_are_kept_once(rt: HostRuntime) -> Result<()
 }
 
 #[test]
+fn a_farthest_pair_is_kept_once_and_after_a_hull(rt: HostRuntime) -> Result<(), Fail> {
+    let rows: [(&[u8], u32); 12] = [
+        (b"size 1\nkeep hull\nkeep diameter", 0),
+        (
+            b"size 1\nkeep hull\nkeep closest\njournal on\nkeep diameter\nfarthest",
+            0,
+        ),
+        (b"size 1\nkeep diameter", 2),
+        (b"size 1\nkeep diameter\nkeep hull", 2),
+        (b"size 1\nkeep closest\nkeep diameter", 3),
+        (b"size 1\nkeep hull\nkeep diameter\nkeep diameter", 4),
+        (b"size 1\nkeep hull\nkeep diameter\nkeep hull", 4),
+        (b"size 1\nkeep hull\nkeep diameter 0", 3),
+        (b"size 1\nkeep hull\nkeep farthest", 3),
+        (b"size 1\nkeep hull\nfarthest\nkeep diameter", 4),
+        (b"size 1\nfarthest", 0),
+        (b"size 1\nfarthest 0", 2),
+    ];
+    are_outside(&rt, rt.alloc(), &rows)?;
+    Ok(())
+}
+
+#[test]
 fn sixteen_structures_are_kept_and_no_more(rt: HostRuntime) -> Result<(), Fail> {
     let mut bytes = Vec::from_slice(rt.alloc(), b"size 1\n")?;
     for _ in 0..8 {
@@ -84,8 +107,11 @@ fn sixteen_structures_are_kept_and_no_more(rt: HostRuntime) -> Result<(), Fail> 
     }
     let rows: [(&[u8], u32); 3] = [
         (b"", 0),
-        (b"keep hull\nkeep closest\nkeep range\n", 0),
-        (b"keep extreme 1 1\n", 21),
+        (
+            b"keep hull\nkeep closest\nkeep range\nkeep nearest\nkeep diameter\n",
+            0,
+        ),
+        (b"keep extreme 1 1\n", 23),
     ];
     for (more, line) in rows {
         bytes.extend_from_slice(more)?;

@@ -50,7 +50,7 @@ fn spelling_is_free_within_a_line(rt: HostRuntime) -> Result<(), Fail> {
 fn each_line_is_read(rt: HostRuntime) -> Result<(), Fail> {
     let bytes =
         b"size 12\nkeep order 0 -16\njournal off\nat 7\nat 14/6\nextreme 31\nhull\nclosest\n\
-        box -16777216 16777216 5 -0\nnext\nlive\n";
+        box -16777216 16777216 5 -0\nnext\nlive\nfarthest\n";
     let rect = Rect {
         x1: -16777216,
         x2: 16777216,
@@ -70,6 +70,7 @@ fn each_line_is_read(rt: HostRuntime) -> Result<(), Fail> {
             (9, Command::Inside { rect }),
             (10, Command::Next),
             (11, Command::Live),
+            (12, Command::Farthest),
         ],
     };
     says(&rt, rt.alloc(), bytes, &told)?;
