@@ -88,6 +88,17 @@ fn nearest(world: &World, no: u32) -> Result<Reply, Halt>
     Ok(Reply::One(world.nearest(no)))
 }
 
+/// The farthest pair.
+fn farthest(world: &World) -> Result<Reply, Halt>
+    requires { IsWhole world.now }
+    ensures { RepliesTo world.now asked.Farthest result }
+{
+    if !world.keeps(&Keep::Diameter) {
+        return Err(Halt::Refused(Refusal::NotKept));
+    }
+    Ok(Reply::Pair(world.farthest()))
+}
+
 /// How many facts are live.
 fn live(world: &World) -> Result<Reply, Halt>
     requires { IsWhole world.now }
@@ -111,6 +122,7 @@ fn reply_to(world: &World, command: &Command) -> Result<Reply, Halt>
         Command::Closest => closest(world),
         Command::Inside { rect } => inside(world, &rect),
         Command::Nearest { no } => nearest(world, no),
+        Command::Farthest => farthest(world),
         Command::Live => live(world),
         _ => Err(Halt::Refused(Refusal::NotKept)),
     }
