@@ -7,6 +7,7 @@ ghost use Rattle.kin_motion.specs.Chains.{IsHullCycle};
 ghost use Rattle.kin_motion.specs.ClosestPairs.{IsClosest};
 ghost use Rattle.kin_motion.specs.Course.{live_of, motion_of};
 ghost use Rattle.kin_motion.specs.FactCounts.{most_live};
+ghost use Rattle.kin_motion.specs.Farthest.{IsFarthest};
 ghost use Rattle.kin_motion.specs.Nearest.{IsNearest};
 ghost use Rattle.kin_motion.specs.Sizes.{step_limit};
 ghost use Rattle.kin_legs.specs.Nexts.{IsAtRest};
@@ -183,6 +184,21 @@ impl Tracker {
             return Err(Refusal::Absent);
         }
         Ok(self.world.nearest(no))
+    }
+
+    /// The farthest pair, the lesser number first, or `None` exactly where no two live numbers are at different places.
+    pub fn farthest(&self) -> Result<Option<(u32, u32)>, Refusal>
+        ensures farthest { IfOk result (IsFarthest (world_scene self.now)) }
+        ensures may { OnOk result (IsHere self.now × HasKeep self.now keep.Diameter) }
+        ensures refused { IfErr result (IsRefusedAnswer self.now (HasKeep self.now keep.Diameter)) }
+    {
+        if !self.world.is_whole() {
+            return Err(Refusal::Lost);
+        }
+        if !self.world.keeps(&Keep::Diameter) {
+            return Err(Refusal::NotKept);
+        }
+        Ok(self.world.farthest())
     }
 
     /// When two points come within a distance of at most 16384, from now on, if both keep their motions of now; `None`

@@ -6,7 +6,7 @@ ghost use Rattle.kin_tracker.specs.Keeping.{IsFirstBad};
 ghost use Rattle.kin_world.specs.Worlds.{AreKeepable};
 
 use kin_motion::Keep;
-use kin_motion::keep::has_room;
+use kin_motion::keep::may_keep_more;
 
 /// The place of the first structure that can't be kept with those before it.
 pub(crate) fn first_bad(keeps: &[Keep]) -> Option<usize>
@@ -26,7 +26,7 @@ fn can_add(keeps: &[Keep], keep: &Keep) -> bool
     ensures yes { IsTrue result → AreKeepable (keeps.now ++ keep.now ∷ []) }
     ensures no { IsFalse result → ¬ (AreKeepable (keeps.now ++ keep.now ∷ [])) }
 {
-    is_small(keep) && has_room(keeps, keep)
+    is_small(keep) && may_keep_more(keeps, keep)
 }
 
 /// Whether the direction, if it has one, is small.
@@ -37,7 +37,7 @@ fn is_small(keep: &Keep) -> bool
     match *keep {
         Keep::Order { dx, dy } => is_small_direction(dx, dy),
         Keep::Extreme { dx, dy } => is_small_direction(dx, dy),
-        Keep::Hull | Keep::Closest | Keep::Range | Keep::Nearest => true,
+        Keep::Hull | Keep::Closest | Keep::Range | Keep::Nearest | Keep::Diameter => true,
     }
 }
 
