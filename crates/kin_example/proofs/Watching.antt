@@ -11,7 +11,7 @@ use Rattle.kin_num.proofs.Grains.{moments_run_out}
 use Rattle.kin_motion.specs.declared.keep.Keep.{Keep}
 use Rattle.kin_motion.specs.declared.keep.Keep.TheVariants.{Closest, Range}
 use Rattle.kin_motion.specs.Journal.{Block}
-use Rattle.kin_motion.specs.Keeps.{are_few}
+use Rattle.kin_motion.specs.Keeps.{may_keep}
 use Rattle.kin_motion.specs.Live.{IsSmallKeep}
 use Rattle.kin_world.specs.Worlds.{World, IsWhole, AreKeepable, HasStepped, empty}
 use Rattle.kin_example.specs.Watched.{AreKept, IsWatched, CanGoOn, HasGoneOn}
@@ -27,9 +27,9 @@ each_small [] small k keep e = absurd cc
 each_small (first ∷ rest) small zero keep e = subst IsSmallKeep (same_Some _ _ e) small.0
 each_small (first ∷ rest) small (suc k) keep e = each_small rest small.1 k keep e
 
--- such keeps may be kept together, where they are few
-pub are_keepable : (keeps : List Keep) → IsTrue (are_few keeps) → AreSmall keeps → AreKeepable keeps
-are_keepable keeps few small = record { few = few; small = each_small keeps small }
+-- such keeps may be kept
+pub are_keepable : (keeps : List Keep) → IsTrue (may_keep keeps) → AreSmall keeps → AreKeepable keeps
+are_keepable keeps may small = record { few = may; small = each_small keeps small }
 
 -- what is kept stands in its places
 are_kept : AreKept (Closest ∷ Range ∷ [])
