@@ -59,6 +59,14 @@ fn has_nearest(world: &World, s: u32, no: u32, number: Option<u32>) -> bool {
     world.is_whole() && world.motion(no).is_some() && world.nearest(no) == number
 }
 
+/// A farthest pair is kept, and this is it.
+fn has_farthest(world: &World, s: u32, pair: Option<(u32, u32)>) -> bool {
+    let Some(Keep::Diameter) = world.keep(s) else {
+        return false;
+    };
+    world.is_whole() && world.farthest() == pair
+}
+
 fn is_small_border(n: i32) -> bool
     ensures { IsTrue result → unsigned_abs n ≤ 2 ^ 24 }
 {
@@ -94,6 +102,7 @@ pub fn answers(world: &World, call: &Call) -> Result<bool, NoMemory> {
         Call::Closest(s, pair) => Ok(has_closest(world, s, pair)),
         Call::Inside(s, rect, numbers) => has_inside(world, s, &rect, numbers),
         Call::Nearest(s, no, number) => Ok(has_nearest(world, s, no, number)),
+        Call::Farthest(s, pair) => Ok(has_farthest(world, s, pair)),
         _ => Ok(false),
     }
 }

@@ -8,7 +8,7 @@ use crate::answer::answers;
 use crate::change::{enters, is_replaced, leaves, plans, turns};
 use crate::script::{Call, Script};
 use kin_motion::Keep;
-use kin_motion::keep::are_few;
+use kin_motion::keep::may_keep;
 use kin_num::{NoMemory, Steps};
 use kin_world::World;
 use std::alloc::Global;
@@ -23,7 +23,7 @@ fn are_keepable(keeps: &[Keep]) -> bool
             return false;
         }
     }
-    are_few(keeps)
+    may_keep(keeps)
 }
 
 /// Whether a call has its answer.

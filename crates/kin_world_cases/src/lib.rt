@@ -12,6 +12,8 @@ mod asked;
 #[cfg(test)]
 mod change;
 #[cfg(test)]
+mod far;
+#[cfg(test)]
 mod follow;
 #[cfg(test)]
 mod leaping;

@@ -56,6 +56,8 @@ pub enum Call {
     Inside(u32, Rect, &'static [u32]),
     /// The nearest other point of a live number, by a structure that is kept.
     Nearest(u32, u32, Option<u32>),
+    /// The farthest pair, which a structure keeps.
+    Farthest(u32, Option<(u32, u32)>),
 }
 
 /// The size, what is kept, and the calls.
