@@ -10,6 +10,8 @@ mod bounds;
 #[cfg(test)]
 mod exits;
 #[cfg(test)]
+mod farthest;
+#[cfg(test)]
 mod faults;
 #[cfg(test)]
 mod generated;

@@ -25,7 +25,7 @@ const CROSSING: [Line; 10] = [
 ];
 
 /// A line of each kind.
-const KINDS: [Line; 27] = [
+const KINDS: [Line; 29] = [
     ("size 2 # four\n", "-----ooooooooo", ""),
     ("keep order 1 0\n", "-------------oo", ""),
     ("keep extreme 0 1\n", "---------------oo", ""),
@@ -33,6 +33,7 @@ const KINDS: [Line; 27] = [
     ("keep closest\n", "-----------oo", ""),
     ("keep range\n", "---------oo", ""),
     ("keep nearest\n", "-----------oo", ""),
+    ("keep diameter\n", "------------oo", ""),
     ("journal on\n", "---------oo", ""),
     ("\r\n", "oo", ""),
     ("insert 0 0 0 1 0\n", "---------------oo", ""),
@@ -41,7 +42,7 @@ const KINDS: [Line; 27] = [
     ("insert 1 2 9 0 0\n", "---------------oo", ""),
     ("at 1/2\n", "---o-oo", ""),
     ("insert\t3 4 6 0 0\n", "---------------oo", ""),
-    ("live\n", "---oo", "52\n"),
+    ("live\n", "---oo", "57\n"),
     ("turn 3 2 -2\n", "----------oo", ""),
     (
         "at root 1 0 -4 hi\n",
@@ -55,8 +56,9 @@ const KINDS: [Line; 27] = [
     ("leg 3 9 1 0\n", "----------oo", ""),
     ("box 0 3 -4 9\n", "-----------oo", "0 1\n"),
     ("nearest 1\n", "--------oo", "0\n"),
+    ("farthest\n", "-------oo", "1 3\n"),
     ("remove 3\n", "-------oo", ""),
-    ("live", "---o", "23\n"),
+    ("live", "---o", "26\n"),
 ];
 
 /// How a run ends, and its text.

@@ -3,6 +3,7 @@
 ghost use Rattle.std.specs.Prelude.{◌<◌};
 
 use crate::bounds::CORNERS;
+use crate::farthest::FARTHEST;
 use crate::kept::{CARRIAGEWAYS, CARRIAGEWAYS_TEXT, CHANGES, CLOSE, HULLS};
 use crate::legs::LEGS;
 use crate::nearest::{CROWD, CROWD_TEXT, NEAREST};
@@ -62,6 +63,13 @@ fn gives_the_texts_of_points_with_legs(rt: HostRuntime) -> Result<(), Fail> {
 #[test]
 fn gives_the_texts_of_nearest_points(rt: HostRuntime) -> Result<(), Fail> {
     let wrong = first_wrong(rt.alloc(), &NEAREST, 64, 100)?;
+    assert!(rt; wrong == None, "script {wrong:?}");
+    Ok(())
+}
+
+#[test]
+fn gives_the_texts_of_farthest_pairs(rt: HostRuntime) -> Result<(), Fail> {
+    let wrong = first_wrong(rt.alloc(), &FARTHEST, 64, 400)?;
     assert!(rt; wrong == None, "script {wrong:?}");
     Ok(())
 }
