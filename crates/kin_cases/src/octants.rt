@@ -193,7 +193,9 @@ impl Octants {
     }
 
     /// The slots whose candidate has changed last.
-    pub fn changed(&self) -> &[u32] {
-        self.wedges.structure.changed()
+    pub fn changed(&self) -> Result<Vec<u32>, Fault> {
+        let mut slots = Vec::new(self.wedges.alloc);
+        self.wedges.structure.list_changed(&mut slots)?;
+        Ok(slots)
     }
 }

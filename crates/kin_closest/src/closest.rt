@@ -35,6 +35,8 @@ pub struct KinClosest {
     wedges: Wedges,
     pairs: Tourney<Distance>,
     mail: Mail,
+    /// The slots that have another candidate. Reused.
+    changed: Vec<u32>,
     /// Whether no call that takes memory is under way and none has run out of it.
     whole: bool,
 }
@@ -65,6 +67,7 @@ impl KinClosest {
             wedges: Wedges::new(alloc, size)?,
             pairs: Tourney::new(alloc, Distance, size + 3)?,
             mail: Mail::new(alloc),
+            changed: Vec::new(alloc),
             whole: true,
         })
     }
@@ -146,7 +149,8 @@ impl Kinetic for KinClosest {
         self.mail.sort(ORDERS, failed)?;
         self.wedges
             .settle(now, self.mail.others(ORDERS, failed), out, steps)?;
-        tell_all(&mut self.pairs, &self.wedges);
+        self.wedges.list_changed(&mut self.changed)?;
+        tell_all(&mut self.pairs, &self.wedges, &self.changed);
         self.mail
             .settle_pairs(ORDERS, &mut self.pairs, now, out, steps)?;
         self.whole = true;

@@ -39,7 +39,8 @@ fn tell_each(pairs: &mut Tourney<Distance>, wedges: &Wedges, slots: &[u32])
 }
 
 /// Gives the pairs of their candidates to all slots whose candidate the last settle has changed.
-pub(crate) fn tell_all(pairs: &mut Tourney<Distance>, wedges: &Wedges)
+pub(crate) fn tell_all(pairs: &mut Tourney<Distance>, wedges: &Wedges, changed: &[u32])
+    requires changed { changed.now ≡ wedges.now.changed }
     requires size { pairs.old.size ≡ wedges.now.size + 3 }
     requires slots_room { length pairs.old.slots ≡ 2 ^ pairs.old.size }
     requires marks_room { length pairs.old.marked ≡ 2 ^ pairs.old.size }
@@ -48,5 +49,5 @@ pub(crate) fn tell_all(pairs: &mut Tourney<Distance>, wedges: &Wedges)
     requires low { AreLow wedges.now.size (candidate_told wedges.now) }
     ensures { AreTold (candidate_told wedges.now) wedges.now.changed (length wedges.now.changed) pairs.old pairs.new }
 {
-    tell_each(pairs, wedges, wedges.changed());
+    tell_each(pairs, wedges, changed);
 }

@@ -113,9 +113,8 @@ fn a_point_on_a_border_is_in_one_octant_by_its_number(rt: HostRuntime) -> Result
 /// What is seen of two points: of each its candidates, and the slots that have changed.
 type Told = (Around, Around, Vec<u32>);
 
-fn told(alloc: Global, octants: &Octants) -> Result<Told, Fault> {
-    let changed = Vec::from_slice(alloc, octants.changed())?;
-    Ok((around(octants, 0), around(octants, 1), changed))
+fn told(octants: &Octants) -> Result<Told, Fault> {
+    Ok((around(octants, 0), around(octants, 1), octants.changed()?))
 }
 
 /// Point 0 runs into point 1 at 5 and through it, and all eight orders exchange them just after 5.
@@ -130,10 +129,10 @@ fn meeting_by<L: Ledger>(alloc: Global, leaves: bool, blank: Blank) -> Result<[T
     let (three, _) = motions(alloc, "0 0 1 1, 5 5 0 0, 100 0 0 0")?;
     let octants = points(alloc, &three, &tally, &mut steps)?;
     let octants = octants.go(&at(5), &tally, &mut steps)?;
-    let meet = told(alloc, &octants)?;
+    let meet = told(&octants)?;
     let octants = if leaves { octants.leave(2)? } else { octants };
     let octants = octants.go(&after(5), &tally, &mut steps)?;
-    Ok([meet, told(alloc, &octants)?])
+    Ok([meet, told(&octants)?])
 }
 
 /// The same with a counter that is made here.

@@ -25,6 +25,7 @@ pub mod Posting
 pub mod Stepwise
 pub mod Vacancy
 pub mod Noting
+pub mod ChangedSlots
 pub mod AllRows
 pub mod Entering
 pub mod Departing

@@ -28,6 +28,11 @@ chain_from_increasing xs h = chain_from_neighbours nat_lt xs (λ p i j e f.
     let l : i < j = omega (arith, r, a, b) in
     grind (arith, nat_tests, l))
 
+pub rising_short : (xs : List ℕ) → length xs < 2 → IsChain nat_lt xs
+rising_short [] short = tt
+rising_short (x ∷ []) short = tt
+rising_short (x ∷ y ∷ ys) short = absurd (omega (arith, short))
+
 -- one slot more
 pub still_noted : (slots next : List ℕ) (x s : ℕ) → next ≡ slots ++ x ∷ [] → is_in s slots ≡ true → is_in s next ≡ true
 still_noted slots next x s e h = ap (is_in s) e ∙ is_in-push s x slots ∙ or_right (nat_eq s x) (is_in s slots) h

@@ -1,5 +1,7 @@
 -- From the orders before a settle to those after it.
-use Rattle.std.specs.Prelude.{◌≡◌, ◌≢◌, Contains, nat_lt, ℕ, ◌+◌, ◌*◌, ◌<◌, ◌≤◌, true, false, List, [], length, Option, Some, None, slice_get}
+use Rattle.std.specs.Prelude.{◌≡◌, ◌≢◌, ◌&&◌, not, Bool, Contains, nat_eq, nat_lt, ℕ, ◌+◌, ◌*◌, ◌<◌, ◌≤◌, true, false, List, [], length, filter, Option, Some, None, slice_get, slice_index_or}
+use Rattle.std.specs.List.{list_any, range_with_len}
+use Rattle.std.specs.Option.{option_eq}
 use Rattle.kin_motion.specs.Numbers.{is_in, IsChain}
 use Rattle.kin_motion.specs.Octants.{Octant, octants}
 use Rattle.kin_list.specs.declared.mark.Mark.{Mark}
@@ -69,6 +71,14 @@ pub record AreVacantRows (rows : List (List ℕ)) : Type 0 where
 pub record HasNoted (candidates : List (Option ℕ)) (ts : List Touch) (slots : List ℕ) : Type 0 where
   pub all : (t : Touch) → Contains ts t → slice_get candidates t.slot ≢ Some t.old → is_in t.slot slots ≡ true
   pub only : (s : ℕ) → is_in s slots ≡ true → (t : Touch) × Contains ts t × (t.slot ≡ s) × (slice_get candidates t.slot ≢ Some t.old)
+
+-- the slot of a touch has another candidate now
+abbrev pub has_changed : List (Option ℕ) → Touch → Bool
+has_changed candidates t = not (option_eq nat_eq (slice_index_or candidates t.slot None) t.old)
+
+-- the slots of the touches that have another candidate now, rising
+abbrev pub changed_slots : List (Option ℕ) → List Touch → List ℕ
+changed_slots candidates ts = filter (λ slot. list_any (λ t. nat_eq t.slot slot && has_changed candidates t) ts) (range_with_len 0 (length candidates))
 
 -- the slots, rising, at which the candidates differ
 pub record AreChanged (old new : List (Option ℕ)) (slots : List ℕ) : Type 0 where

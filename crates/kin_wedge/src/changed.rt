@@ -1,8 +1,8 @@
 //! The slots whose candidate has changed.
 
-ghost use Rattle.std.specs.Prelude.{◌≡◌, ◌≢◌, ◌⊎◌, ◌↔◌, ℕ, ◌<◌, Some, true, IsTrue, length, slice_get, Contains, OnOk, nat_lt};
-ghost use Rattle.kin_motion.specs.Numbers.{is_in, IsChain};
-ghost use Rattle.kin_wedge.specs.Passages.{HasNoted};
+ghost use Rattle.std.specs.Prelude.{◌≡◌, ◌≢◌, ◌⊎◌, ◌↔◌, ℕ, ◌<◌, Some, true, IsTrue, length, slice_get, Contains, OnOk};
+ghost use Rattle.kin_motion.specs.Numbers.{is_in};
+ghost use Rattle.kin_wedge.specs.Passages.{HasNoted, changed_slots};
 ghost use Rattle.kin_wedge.specs.declared.touch.Touch.{Touch as Touched};
 
 use crate::push::push;
@@ -51,8 +51,7 @@ pub fn list_changed(
     changed: &mut Vec<u32>,
 ) -> Result<(), NoMemory>
     requires slots { (t : Touched) → Contains touches.now t → t.slot < length table.now }
-    ensures noted { OnOk result (HasNoted table.now touches.now changed.new.items) }
-    ensures rising { OnOk result (IsChain nat_lt changed.new.items) }
+    ensures { OnOk result (changed.new.items ≡ changed_slots table.now touches.now) }
 {
     note_all(table, touches, changed)?;
     if changed.len() < 2 {

@@ -67,9 +67,10 @@ impl Touches {
     {
         let slot = 8 * apex + w;
         let old = table.candidate(slot);
-        self.all
-            .push(Touch { slot, old, offer })
-            .map_err(|_| NoMemory)
+        // Room comes before what it is for, so that the touch is written in its place.
+        self.all.reserve(1)?;
+        self.all.push_reserved(Touch { slot, old, offer });
+        Ok(())
     }
 
     /// Offers a number to the slot of an apex and an octant, where that is asked for.

@@ -36,12 +36,13 @@ pub struct Wedges {
 
 impl Model for Wedges {
     ghost use Rattle.kin_wedge.specs.Parts.{facts_from};
+    ghost use Rattle.kin_wedge.specs.Passages.{changed_slots};
     ghost use Rattle.kin_wedge.specs.Seen.{rows_of};
     ghost use Rattle.kin_wedge.specs.Wedging.{Wedging, AreWedges};
 
     ghost Value = { Wedging };
 
-    ghost view = { λ k. record { size = k.size; orders = rows_of k.orders.lists.items; facts = facts_from 0 k.orders.lists.items; candidates = k.candidates.table; changed = k.candidates.changed.items; mark = k.mark } };
+    ghost view = { λ k. record { size = k.size; orders = rows_of k.orders.lists.items; facts = facts_from 0 k.orders.lists.items; candidates = k.candidates.table; changed = changed_slots k.candidates.table k.candidates.touches.all.items; mark = k.mark } };
 
     ghost invariant = { λ k. AreWedges k.size k.mark k.orders.lists.items k.candidates.rows.rows.items k.candidates.table };
 }
@@ -108,12 +109,12 @@ impl Wedges {
         self.candidates.table.hits(no, octant)
     }
 
-    /// The slots whose candidate the last `settle` has changed, rising and each once. Slot
-    /// `8 * apex + octant` is that of an apex and an octant.
-    pub fn changed(&self) -> &[u32]
-        ensures { result.now ≡ self.now.changed }
+    /// Lists the slots whose candidate the last `settle` has changed, rising and each once. Slot
+    /// `8 * apex + octant` is that of an apex and an octant. What was in the list before is taken out.
+    pub fn list_changed(&self, slots: &mut Vec<u32>) -> Result<(), NoMemory>
+        ensures { OnOk result (slots.new.items ≡ self.now.changed) }
     {
-        &self.candidates.changed
+        self.candidates.list_changed(slots)
     }
 }
 

@@ -1,6 +1,7 @@
 use Rattle.std.proofs.Common.{◌∙◌, sym, ap, ap₂, subst, ◌<◌, ◌^◌}
 use Rattle.kin_motion.specs.Numbers.{is_in}
 use Rattle.kin_list.specs.declared.mark.Mark.TheVariants.{Rest, Enters}
+use Rattle.kin_wedge.specs.Passages.{changed_slots}
 use Rattle.kin_wedge.specs.Wedging.{Wedging, members_of}
 use Rattle.kin_wedge.proofs.Keeping.{wedging, kept_at, kept_with, marked_rows, marked_facts, member_as}
 use Rattle.kin_wedge.proofs.wedges.Wedges.insert.Goals as goal
@@ -26,5 +27,5 @@ returns-clause-ok c =
     let e = c.in_ok-insert.ensures in
     let old = c.self.inside.orders.lists.items in
     let new = c.insert.new.self.lists.items in
-    ap₂ (wedging c.self.inside.size c.self.inside.candidates.table c.self.inside.candidates.changed.items (Enters c.args.no)) (marked_rows (Enters c.args.no) old new e) (marked_facts (Enters c.args.no) 0 old new e)
+    ap₂ (wedging c.self.inside.size c.self.inside.candidates.table (changed_slots c.self.inside.candidates.table c.self.inside.candidates.touches.all.items) (Enters c.args.no)) (marked_rows (Enters c.args.no) old new e) (marked_facts (Enters c.args.no) 0 old new e)
     ∙ ap (λ (v : Wedging). record v { mark = Enters c.args.no }) c.self.view_is

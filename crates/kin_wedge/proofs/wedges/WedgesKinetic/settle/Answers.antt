@@ -4,6 +4,7 @@ use Rattle.kin_motion.specs.Kinetics.{ListsFailing}
 use Rattle.kin_motion.specs.Octants.{ListsChanged}
 use Rattle.kin_list.specs.Listing.{names_leaving}
 use Rattle.kin_wedge.specs.Costs.{AreFewBelow}
+use Rattle.kin_wedge.specs.Passages.{changed_slots}
 use Rattle.kin_wedge.specs.Seen.{rows_of}
 use Rattle.kin_wedge.specs.Wedging.{Wedging, candidate_at, candidate_told}
 use Rattle.kin_wedge.proofs.Resettled.{may_settle, kept, lists_ready, orders, rows_now, ranked_now, parted_now, alike_now, slots_now, passage, wedges_now, kept_now}
@@ -59,8 +60,8 @@ pub returns-clause-changed : goal.returns-clause-changed
 returns-clause-changed g c =
     let i = c.self.inside in
     let slots = c.self.invariant.slots in
-    subst (λ (v : Wedging). ListsChanged v.size (candidate_told v) (candidate_at c.follow.new.self.table) c.follow.new.self.changed.items) c.self.view_is
-    (changed_told i.size i.candidates.table c.follow.new.self.table c.follow.new.self.changed.items slots (c.follow.ensures.length ∙ slots) c.in_ok-follow.ensures.changed)
+    subst (λ (v : Wedging). ListsChanged v.size (candidate_told v) (candidate_at c.follow.new.self.table) (changed_slots c.follow.new.self.table c.follow.new.self.touches.all.items)) c.self.view_is
+    (changed_told i.size i.candidates.table c.follow.new.self.table (changed_slots c.follow.new.self.table c.follow.new.self.touches.all.items) slots (c.follow.ensures.length ∙ slots) c.in_ok-follow.ensures.changed)
 
 pub returns-clause-tests : goal.returns-clause-tests
 returns-clause-tests g c =
