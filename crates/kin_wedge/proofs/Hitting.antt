@@ -1,6 +1,7 @@
 -- Slots that point at slots of their octant, as candidates.
-use Rattle.std.proofs.Common.{◌≡◌, refl, sym, ap, ◌∙◌, subst, arith, List, ◌∷◌, ℕ, zero, suc, ◌+◌, ◌*◌, ◌/◌, ◌%◌, ◌^◌, ◌<◌, ◌≤◌, replicate, set, map, Some, None, Option, option_map}
-use Rattle.std.specs.Prelude.{slice_get, Contains}
+use Rattle.std.proofs.Common.{◌≡◌, refl, sym, ap, ◌∙◌, subst, arith, List, ◌∷◌, ℕ, zero, suc, ◌+◌, ◌*◌, ◌/◌, ◌%◌, ◌^◌, ◌<◌, ◌≤◌, replicate, set, map, cond, Bool, true, false, Some, None, Option, option_map}
+use Rattle.std.specs.Prelude.{nat_eq, nat_lt, slice_get, Contains}
+use Rattle.std.proofs.lemmas.Bool.{eq-eqb}
 use Rattle.std.proofs.Math.Nat.{div-add-mod}
 use Rattle.std.proofs.lemmas.List.{length-replicate, map-set}
 use Rattle.std.proofs.lemmas.Option.{slice_get-map, same_Some}
@@ -8,6 +9,7 @@ use Rattle.kin_algebra.proofs.Members.{contains_from_get}
 use Rattle.kin_motion.specs.Sets.{AreDistinct, ListsExactly}
 use Rattle.kin_motion.proofs.SetLaws.{contains_map, contains_mapped}
 use Rattle.kin_wedge.specs.Tables.{AreSlots, candidates_of, number_of}
+use Rattle.kin_wedge.specs.Threads.{named}
 use Rattle.kin_wedge.proofs.Pointing.{none_points}
 use Rattle.kin_wedge.proofs.Slots.{octant_again}
 
@@ -38,6 +40,20 @@ from_candidate : (o : Option (Option ℕ)) (c : ℕ) → option_map number_of o 
 from_candidate None c e = absurd cc
 from_candidate (Some None) c e = absurd (let f : None ≡ Some c = same_Some _ _ e in cc)
 from_candidate (Some (Some target)) c e = (target, refl, same_Some _ _ (same_Some _ _ e))
+
+read_word : (word slot : ℕ) → named word ≡ Some slot → word ≡ slot
+read_word word slot e = at (nat_lt word 65535) e
+  where
+    at : (b : Bool) → cond b (Some word) None ≡ Some slot → word ≡ slot
+    at true f = same_Some word slot f
+    at false f = absurd cc
+
+-- the word of a slot whose candidate a number is
+pub held_word : (targets : List (Option ℕ)) (slot c word : ℕ) → slice_get targets slot ≡ Some (named word) → slice_get (candidates_of targets) slot ≡ Some (Some c) → nat_eq (word / 8) c ≡ true
+held_word targets slot c word e f =
+    let t = from_candidate (slice_get targets slot) c (sym (slice_get-map number_of targets slot) ∙ f) in
+    let same : named word ≡ Some t.0 = same_Some _ _ (sym e ∙ t.1) in
+    eq-eqb (word / 8) c (ap (λ (n : ℕ). n / 8) (read_word word t.0 same) ∙ t.2)
 
 -- the apexes of the slots that point at the slot of a number and an octant are those whose candidate in the octant it is
 module _ (targets : List (Option ℕ)) (kept : AreSlots targets) (c w : ℕ) (low : w < 8) (slots : List ℕ) (exact : ListsExactly slots (λ slot. slice_get targets slot ≡ Some (Some (8 * c + w)))) where

@@ -163,6 +163,19 @@ impl Orders {
         }
     }
 
+    /// Whether q comes after p in an order as it is read. Both are members.
+    #[inline(always)]
+    pub fn member_follows(&self, reading: Reading, p: u32, q: u32) -> bool
+        requires rows { AreRows (rows_of self.now.lists.items) }
+        requires part { reading.part < 8 }
+        requires p { is_in p (row_of (rows_of self.now.lists.items) reading.part) ≡ true }
+        requires q { is_in q (row_of (rows_of self.now.lists.items) reading.part) ≡ true }
+        ensures { result ≡ stands_after (rows_of self.now.lists.items) (reading_seen reading) p q }
+    {
+        let place = self.place_of_member(reading.part, p);
+        self.member_comes_after(reading, place, q)
+    }
+
     /// Whether a member is in an octant of the number that has these places in the two orders which bound it.
     #[inline(always)]
     pub fn is_in_octant_of_places(

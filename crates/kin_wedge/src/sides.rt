@@ -119,6 +119,7 @@ impl Orders {
     #[inline(always)]
     pub fn octant_behind(&self, part: u32, apex: u32, no: u32) -> Option<u32>
         requires rows { AreRows (rows_of self.now.lists.items) }
+        requires alike { AreAlike (rows_of self.now.lists.items) }
         requires parted { AreParted (rows_of self.now.lists.items) }
         requires part { part < 4 }
         requires behind { stands_before (row_of (rows_of self.now.lists.items) part) apex no ≡ true }
@@ -127,9 +128,9 @@ impl Orders {
         ensures told { (w : ℕ) (o : Bounds) → slice_get octants w ≡ Some o → IsBoundedBy o part → is_in_wedge (rows_of self.now.lists.items) o apex no ≡ true → result ≡ Some w }
     {
         let (first, second) = bounded_by(forward(part));
-        if self.comes_after(orders_of(first).second, apex, no) {
+        if self.member_follows(orders_of(first).second, apex, no) {
             Some(first)
-        } else if self.comes_after(orders_of(second).first, apex, no) {
+        } else if self.member_follows(orders_of(second).first, apex, no) {
             Some(second)
         } else {
             None

@@ -43,14 +43,13 @@ impl Table {
 
     /// Whether a number is the candidate of a slot. A true answer promises nothing: a false one only
     /// saves work.
+    #[inline(always)]
     pub fn holds(&self, slot: u32, no: u32) -> bool
         requires { slot < length self.now }
         ensures { slice_get self.now slot ≡ Some (Some no) → result ≡ true }
     {
-        match self.candidate(slot) {
-            Some(candidate) => candidate == no,
-            None => false,
-        }
+        // The word of no slot needs no test: it is that of a number which is too great.
+        u32::from(self.threads.word(slot) / 8) == no
     }
 
     /// Takes the candidate of a slot away.

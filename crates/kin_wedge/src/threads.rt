@@ -48,6 +48,15 @@ impl Threads {
         named(self.slots[slot as usize].target)
     }
 
+    /// The word of the slot at which a slot points.
+    #[inline(always)]
+    pub fn word(&self, slot: u32) -> u16
+        requires { slot < length self.now }
+        ensures { slice_get self.now slot ≡ Some (named result) }
+    {
+        self.slots[slot as usize].target
+    }
+
     /// Lets a slot that points at none point at a slot.
     #[inline(always)]
     pub fn point(&mut self, slot: u32, target: u32)

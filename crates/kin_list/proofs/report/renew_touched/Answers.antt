@@ -1,11 +1,10 @@
-use Rattle.std.proofs.Common.{◌≡◌, refl, sym, ap, ap₂, ◌∙◌, subst, arith, List, length, length-set, set, Some, Option, get_or, inl}
+use Rattle.std.proofs.Common.{◌≡◌, refl, ap, ap₂, ◌∙◌, subst, arith, List, length, length-set, set, Some, Option, get_or, inl}
 use Rattle.std.specs.Prelude.{slice_get}
 use Rattle.std.proofs.lemmas.Option.{slice_get-get_or, slice_get_within}
 use Rattle.kin_motion.specs.declared.fact.Placed.{Placed}
 use Rattle.kin_motion.specs.Deltas.{Change}
 use Rattle.kin_list.specs.declared.link.Link.{Link}
 use Rattle.kin_list.specs.Links.{link_for, facts_from, IsTold}
-use Rattle.kin_list.specs.Telling.{IsToldIn}
 use Rattle.kin_list.proofs.ReportLaws.{renewed, renewed_each, renewed_done, renewed_others}
 use Rattle.kin_list.proofs.RowLaws.{get_from_is_in}
 use Rattle.kin_list.proofs.TellingLaws.{told_none}
@@ -24,12 +23,7 @@ loop-no-init c = record {
   each = λ i. inl refl;
   done = λ k i l. absurd (omega arith);
   others = λ i out. refl;
-  told =
-      let facts = facts_from c.args.along.dx c.args.along.dy 0 c.args.row.now.links in
-      let start : Change = record { dropped = c.args.dropped.now.items; born = c.args.born.now.items } in
-      subst (λ (now : Change). IsToldIn c.args.part facts facts start now) (sym (both c.args.dropped.now.items c.reserve.new.self.items c.args.born.now.items c.reserve-2.new.self.items (c.in_ok-reserve.ensures.items, c.in_ok-reserve-2.ensures.items))) (told_none c.args.part facts start);
-  dropped_room = let ok = c.in_ok-reserve.ensures.ok in omega (arith, ok);
-  born_room = let ok = c.in_ok-reserve-2.ensures.ok in omega (arith, ok);
+  told = told_none c.args.part (facts_from c.args.along.dx c.args.along.dy 0 c.args.row.now.links) (record { dropped = c.args.dropped.now.items; born = c.args.born.now.items });
 }
 
 pub loop-no-preserved : goal.loop-no-preserved
@@ -41,14 +35,14 @@ loop-no-preserved c =
     let after = c.renew.new.row.links in
     let target = link_for c.args.row.now.items c.args.row.now.signs in
     let here : link_for c.loop-no.row.items c.loop-no.row.signs no ≡ target no = ap₂ (λ xs ts. link_for xs ts no) c.loop-no.invariant.items c.loop-no.invariant.signs in
-    let written : after ≡ set now no (target no) = c.renew.ensures.links ∙ ap (set now no) here in
+    let written : after ≡ set now no (target no) = c.in_ok-renew.ensures.links ∙ ap (set now no) here in
     let tells : (old : Option Link) → slice_get now no ≡ Some old → IsTold c.args.part c.args.along.dx c.args.along.dy no old (target no) c.loop-no.dropped.items c.loop-no.born.items c.renew.new.dropped.items c.renew.new.born.items =
-    λ old h. subst (λ (n : Option Link). IsTold c.args.part c.args.along.dx c.args.along.dy no old n c.loop-no.dropped.items c.loop-no.born.items c.renew.new.dropped.items c.renew.new.born.items) here (c.renew.ensures.tells old h) in
+    λ old h. subst (λ (n : Option Link). IsTold c.args.part c.args.along.dx c.args.along.dy no old n c.loop-no.dropped.items c.loop-no.born.items c.renew.new.dropped.items c.renew.new.born.items) here (c.in_ok-renew.ensures.tells old h) in
     record {
       items = c.renew.ensures.same.0 ∙ c.loop-no.invariant.items;
       room = c.renew.ensures.same.1 ∙ c.loop-no.invariant.room;
       signs = c.renew.ensures.same.2 ∙ c.loop-no.invariant.signs;
-      same_length = ap length c.renew.ensures.links ∙ length-set now no _ ∙ c.loop-no.invariant.same_length;
+      same_length = ap length c.in_ok-renew.ensures.links ∙ length-set now no _ ∙ c.loop-no.invariant.same_length;
       each = renewed_each c.args.along.dx c.args.along.dy first now after no (target no) written target refl c.loop-no.invariant.each;
       done = renewed_done c.args.along.dx c.args.along.dy first now after no (target no) written target c.args.touched.now c.loop-no.no-index refl at c.loop-no.invariant.same_length c.loop-no.invariant.done;
       others = renewed_others c.args.along.dx c.args.along.dy first now after no (target no) written c.args.touched.now c.loop-no.no-index at c.loop-no.invariant.others;
@@ -58,8 +52,6 @@ loop-no-preserved c =
           (λ h. both c.loop-no.dropped.items c.renew.new.dropped.items c.loop-no.born.items c.renew.new.born.items ((tells (target no) h).same refl))
           (λ old h n. both _ c.renew.new.dropped.items _ c.renew.new.born.items ((tells old h).changed n))
           c.loop-no.invariant.told;
-      dropped_room = let fits = c.renew.ensures.dropped_fits in let room = c.loop-no.invariant.dropped_room in omega (arith, fits.0, fits.1, room);
-      born_room = let fits = c.renew.ensures.born_fits in let room = c.loop-no.invariant.born_room in omega (arith, fits.0, fits.1, room);
     }
 
 pub returns-clause-touched : goal.returns-clause-touched

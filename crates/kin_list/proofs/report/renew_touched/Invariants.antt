@@ -1,5 +1,5 @@
-use Rattle.std.proofs.Common.{◌≡◌, ℕ, ◌+◌, ◌<◌, ◌≤◌, Some, false, length}
-use Rattle.std.specs.Prelude.{slice_get, ◌⊎◌, vec_len, vec_capacity}
+use Rattle.std.proofs.Common.{◌≡◌, ℕ, ◌<◌, Some, false, length}
+use Rattle.std.specs.Prelude.{slice_get, ◌⊎◌}
 use Rattle.kin_motion.specs.Numbers.{is_in}
 use Rattle.kin_list.specs.Links.{link_for, facts_from}
 use Rattle.kin_list.specs.Telling.{IsToldIn}
@@ -15,6 +15,4 @@ invariant-loop-no l = record {
   done : (k i : ℕ) → k < l.no-index → slice_get l.touched k ≡ Some i → i < length l.initial.row.links → slice_get l.row.links i ≡ Some (link_for l.initial.row.items l.initial.row.signs i);
   others : (i : ℕ) → is_in i l.touched ≡ false → slice_get l.row.links i ≡ slice_get l.initial.row.links i;
   told : IsToldIn l.part (facts_from l.along.dx l.along.dy 0 l.initial.row.links) (facts_from l.along.dx l.along.dy 0 l.row.links) (record { dropped = l.fn.dropped.items; born = l.fn.born.items }) (record { dropped = l.dropped.items; born = l.born.items });
-  dropped_room : vec_len l.dropped + length l.touched ≤ vec_capacity l.dropped + l.no-index;
-  born_room : vec_len l.born + length l.touched ≤ vec_capacity l.born + l.no-index;
 }
