@@ -147,6 +147,17 @@ impl Orders {
         }
     }
 
+    /// Whether a member comes after p in an order as it is read.
+    #[inline(always)]
+    fn has_member_after(&self, reading: Reading, p: u32, member: u32) -> bool
+        requires rows { AreRows (rows_of self.now.lists.items) }
+        requires part { reading.part < 8 }
+        requires member { is_in member (row_of (rows_of self.now.lists.items) reading.part) ≡ true }
+        ensures { result ≡ stands_after (rows_of self.now.lists.items) (reading_seen reading) p member }
+    {
+        self.place_comes_after(reading, p, self.place_of_member(reading.part, member))
+    }
+
     /// Whether a member comes after the number that has this place, in an order as it is read.
     #[inline(always)]
     fn member_comes_after(&self, reading: Reading, place: usize, member: u32) -> bool
@@ -193,6 +204,19 @@ impl Orders {
     {
         self.member_comes_after(octant.first, first, member)
             && self.member_comes_after(octant.second, second, member)
+    }
+
+    /// Whether a member is in an octant of p.
+    #[inline(always)]
+    pub fn has_member(&self, octant: Octant, p: u32, member: u32) -> bool
+        requires rows { AreRows (rows_of self.now.lists.items) }
+        requires alike { AreAlike (rows_of self.now.lists.items) }
+        requires parts { IsOfEight (octant_seen octant) }
+        requires member { is_in member (row_of (rows_of self.now.lists.items) 0) ≡ true }
+        ensures { result ≡ is_in_wedge (rows_of self.now.lists.items) (octant_seen octant) p member }
+    {
+        self.has_member_after(octant.first, p, member)
+            && self.has_member_after(octant.second, p, member)
     }
 
     /// Whether q is in an octant of p.

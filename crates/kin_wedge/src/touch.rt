@@ -132,7 +132,7 @@ impl Touches {
         Ok(())
     }
 
-    /// Offers a number to the slots of an octant whose candidate another is and that it is in.
+    /// Offers a member to the slots of an octant whose candidate another is and that it is in.
     #[inline(always)]
     fn offer_in(
         &mut self,
@@ -143,6 +143,8 @@ impl Touches {
         no: u32,
     ) -> Result<(), NoMemory>
         requires rows { AreRows (rows_of orders.now.lists.items) }
+        requires alike { AreAlike (rows_of orders.now.lists.items) }
+        requires member { is_in no (row_of (rows_of orders.now.lists.items) 0) ≡ true }
         requires octant { w < 8 }
         requires small { length table.now < 2 ^ 32 }
         ensures offered { OnOk result (IsOfferedIn (rows_of orders.now.lists.items) table.now self.new.all.items w of no) }
@@ -150,7 +152,7 @@ impl Touches {
     {
         let octant = orders_of(w);
         for apex in table.hits(of, w) {
-            let wanted = orders.is_in_octant(octant, apex, no);
+            let wanted = orders.has_member(octant, apex, no);
             self.add_if(wanted, table, apex, w, no)?;
         }
         Ok(())
@@ -168,6 +170,7 @@ impl Touches {
         second: u32,
     ) -> Result<(), NoMemory>
         requires rows { AreRows (rows_of orders.now.lists.items) }
+        requires alike { AreAlike (rows_of orders.now.lists.items) }
         requires low { 4 ≤ part }
         requires high { part < 8 }
         requires behind { stands_before (row_of (rows_of orders.now.lists.items) part) first second ≡ true }

@@ -21,7 +21,7 @@ pub loop-apex-preserved : goal.loop-apex-preserved
 loop-apex-preserved c =
     offered_more c.args.table.now c.args.w c.args.of (λ apex. is_in_wedge (rows_of c.args.orders.now.lists.items) (octant_seen c.orders_of-octant.result) apex c.args.no ≡ true) (Some c.args.no) c.args.self.now.all.items
     c.loop-apex.self.all.items c.loop-apex.apex-iterator c.next.new.self c.in-Some.apex c.in-Some.ensures.steps c.loop-apex.invariant c.add_if.new.self.all.items
-    (λ h. c.in_ok-add_if.ensures.offered (c.is_in_octant-wanted.ensures ∙ h)) c.in_ok-add_if.ensures.touched
+    (λ h. c.in_ok-add_if.ensures.offered (c.has_member-wanted.ensures ∙ h)) c.in_ok-add_if.ensures.touched
 
 pub returns-clause-offered : goal.returns-clause-offered
 returns-clause-offered c = λ apex o e k h.
