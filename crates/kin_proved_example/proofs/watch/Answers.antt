@@ -1,6 +1,6 @@
 use Rattle.std.proofs.Common.{◌∙◌, sym}
-use Rattle.kin_example.proofs.Watching.{can_go_on}
-use Rattle.kin_example.proofs.watch.Goals as goal
+use Rattle.kin_proved_example.proofs.Watching.{can_go_on}
+use Rattle.kin_proved_example.proofs.watch.Goals as goal
 
 pub go_on-requires : goal.go_on-requires
 go_on-requires g c =

@@ -1,6 +1,6 @@
 use Rattle.std.proofs.Common.{refl, rules}
-use Rattle.kin_example.proofs.Watching.{are_keepable, starts}
-use Rattle.kin_example.proofs.RunWork.run.Goals as goal
+use Rattle.kin_proved_example.proofs.Watching.{are_keepable, starts}
+use Rattle.kin_proved_example.proofs.RunWork.run.Goals as goal
 
 pub new-requires-clause-keepable : goal.new-requires-clause-keepable
 new-requires-clause-keepable g c = are_keepable _ refl (search rules)

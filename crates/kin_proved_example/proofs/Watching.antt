@@ -14,7 +14,7 @@ use Rattle.kin_motion.specs.Journal.{Block}
 use Rattle.kin_motion.specs.Keeps.{may_keep}
 use Rattle.kin_motion.specs.Live.{IsSmallKeep}
 use Rattle.kin_world.specs.Worlds.{World, IsWhole, AreKeepable, HasStepped, empty}
-use Rattle.kin_example.specs.Watched.{AreKept, IsWatched, CanGoOn, HasGoneOn}
+use Rattle.kin_proved_example.specs.Watched.{AreKept, IsWatched, CanGoOn, HasGoneOn}
 
 -- ---- at the start
 -- each direction is small

@@ -1,6 +1,6 @@
 use Rattle.std.specs.Prelude.{◌≡◌, false, Result, Ok, Err, is_err, IfOk}
 use Rattle.std.proofs.Common.{◌∙◌, sym}
-use Rattle.kin_example.proofs.turn.Goals as goal
+use Rattle.kin_proved_example.proofs.turn.Goals as goal
 
 -- what isn't an `Err` has a value
 value_of : {A E : Type 0} (P : A → Type 0) (r : Result A E) → is_err r ≡ false → IfOk r P → (v : A) × P v
