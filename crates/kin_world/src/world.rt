@@ -69,8 +69,8 @@ impl Model for World {
 
 impl World {
     /// No points yet, at the instant 0. The size is from 1 to 12. Of the keeps at most 16 are orders
-    /// or extreme points, and at most one is of each other kind; each direction is small
-    /// (`AreKeepable`).
+    /// or extreme points, and at most one is of each other kind; each direction is small, and a
+    /// farthest pair has a hull before it (`AreKeepable`).
     pub fn new(alloc: Global, size: u32, keeps: &[Keep]) -> Result<World, NoMemory>
         requires low { 1 ≤ size }
         requires high { size ≤ 12 }
@@ -378,8 +378,8 @@ impl World {
 
     /// How many facts are live: at most `most_live`, the sum over the kept structures. Without live
     /// numbers there are none. With n of them each order and each extreme point has at most n - 1, a
-    /// range twice and nearest neighbours eight times as many, a closest pair 16n, and a hull 4n times
-    /// the size.
+    /// range twice, a farthest pair four and nearest neighbours eight times as many, a closest pair
+    /// 16n, and a hull 4n times the size.
     pub fn live(&self) -> usize
         requires { IsTrue self.now.whole }
         ensures count { result ≡ length self.now.live }
