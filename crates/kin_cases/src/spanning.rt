@@ -131,7 +131,7 @@ impl Keeping<KinHull> {
             moment: &self.moment,
             tally,
         };
-        let hull = &self.kept.structure;
+        let hull = self.kept.structure();
         pair.follow(hull.upper(), hull.lower(), leaving, &now, steps)
     }
 }
