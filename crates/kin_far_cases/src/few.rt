@@ -47,20 +47,39 @@ fn written_points<L: Ledger>(
     Ok(points)
 }
 
-/// Does what a line says, and gives what it tells.
-fn follow<'a, L: Ledger>(
+/// The number that leaves, where a line says so.
+fn leaving(line: &str) -> Option<u32> {
+    let text = line.trim().strip_prefix('-')?;
+    let (no, _) = text.split_once(':')?;
+    match no.parse::<u32>() {
+        Ok(no) => Some(no),
+        Err(_) => None,
+    }
+}
+
+/// Does what a line says.
+fn follow<L: Ledger>(
     points: Spanning,
-    line: &'a str,
+    line: &str,
     tally: &Tally,
     steps: &mut Steps<L>,
-) -> Result<(Spanning, &'a str), Fault> {
-    if let Some(text) = line.trim().strip_prefix('-') {
-        let (no, told) = text.split_once(':').ok_or(Fault::NotNew)?;
-        let no = no.parse::<u32>().map_err(|_| Fault::NotNew)?;
-        return Ok((points.leave(no, tally, steps)?, told));
+) -> Result<Spanning, Fault> {
+    if let Some(no) = leaving(line) {
+        return points.leave(no, tally, steps);
     }
-    let (moment, told) = told_at(line).ok_or(Fault::NotNew)?;
-    Ok((points.go(&moment, tally, steps)?, told))
+    let Some((moment, _)) = told_at(line) else {
+        return Err(Fault::NotNew);
+    };
+    points.go(&moment, tally, steps)
+}
+
+/// Whether the farthest pair and its number of facts are those of a line.
+fn are_told(alloc: Global, points: &Spanning, line: &str) -> Result<bool, Fault> {
+    let pair = numbers(alloc, points)?;
+    match line.split_once(':') {
+        Some((_, told)) => Ok(are_written(&pair, points.facts().len(), told)),
+        None => Ok(false),
+    }
 }
 
 impl Scene for Row {
@@ -72,12 +91,10 @@ impl Scene for Row {
         let tally = Tally::new();
         let mut points = written_points(alloc, self.points, &tally, steps)?;
         for line in self.told.split(';') {
-            let (next, told) = follow(points, line, &tally, steps)?;
-            let pair = numbers(alloc, &next)?;
-            if !are_written(&pair, next.facts().len(), told) || !agrees(alloc, &next, steps)? {
+            points = follow(points, line, &tally, steps)?;
+            if !are_told(alloc, &points, line)? || !agrees(alloc, &points, steps)? {
                 return Err(Fault::Differs);
             }
-            points = next;
         }
         Ok(tally.take())
     }
