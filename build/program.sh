@@ -1,13 +1,21 @@
-# What the program is made of, and whether that is what its sources are now.
-crate=$root/crates/kin_cmd
-program=$crate/out/kin_cmd
-# A line each for the rt that built the program and for the kit of that rt; then what crates.txt said, and the source folders.
-record=$crate/out/made_of
+# The two things that are built, the program and the library for C: what one is made of, and whether that is what its
+# sources are now.
+program=$root/crates/kin_cmd/out/kin_cmd
+library=$root/crates/kin_c/out/libkin_c.a
 
-# The lines of crates.txt on the program's crates, each after those of the crates that it uses, without the colon and
-# comments.
+# From here on all is about this one of the two, which is called so.
+aim_at() {
+    product=$1 called=$2
+    crate=${product%/out/*}
+    goal=${crate##*/}
+    # A line each for the rt that built it and for the kit of that rt; then what crates.txt said, and the source folders.
+    record=$crate/out/made_of
+}
+aim_at "$program" program
+
+# The lines of crates.txt on its crates, each after those of the crates that it uses, without the colon and comments.
 lines() {
-    awk '
+    awk -v goal="$goal" '
         function visit(name, words, last, i) {
             if (!(name in line) || seen[name]++) return
             last = split(line[name], words)
@@ -16,10 +24,10 @@ lines() {
         }
         { sub(/#.*/, ""); sub(/:/, " "); $1 = $1 }
         NF { line[$1] = $0 }
-        END { visit("kin_cmd") }' "$root/crates.txt"
+        END { visit(goal) }' "$root/crates.txt"
 }
 
-# The folders of the program's sources.
+# The folders of its sources.
 folders() {
     local name part
     for name in $(lines | cut -d ' ' -f 1); do
@@ -33,7 +41,7 @@ kit_of_rt() {
     command -v rt >/dev/null && rt version | head -n 1
 }
 
-kit_of_program() {
+kit_of_record() {
     [ -f "$record" ] && sed -n 2p "$record"
 }
 
@@ -42,12 +50,12 @@ mark_of_rt() {
     stat -c '%n %i %Z' -- "$(readlink -f "$(command -v rt)")" 2>/dev/null
 }
 
-# Whether the program was built by the kit that is found, if any, from the same lines of crates.txt and the same folders.
+# Whether it was built by the kit that is found, if any, from the same lines of crates.txt and the same folders.
 is_same_record() {
     local mark
     mark=$(mark_of_rt)
     [ "$(tail -n +3 "$record" 2>/dev/null)" = "$(lines && folders)" ] &&
-        { [ -z "$mark" ] || [ "$mark" = "$(head -n 1 "$record")" ] || [ "$(kit_of_rt)" = "$(kit_of_program)" ]; }
+        { [ -z "$mark" ] || [ "$mark" = "$(head -n 1 "$record")" ] || [ "$(kit_of_rt)" = "$(kit_of_record)" ]; }
 }
 
 # Whether nothing below these paths was written or put there after the file was written. A copy may keep the time of its
@@ -72,14 +80,14 @@ is_newest() {
     [ ${#sources[@]} -gt 0 ] && is_newer_than_all "$file" "${sources[@]}"
 }
 
-# Whether the program is made of what its sources, its lines of crates.txt and its kit are now. Where rt itself built it
-# there is no record of that program, so all of crates.txt and the file of rt count.
+# Whether it is made of what its sources, its lines of crates.txt and its kit are now. Where rt itself built it there is no
+# record of that, so all of crates.txt and the file of rt count.
 is_fresh() {
-    is_newest "$program" $(lines | cut -d ' ' -f 1) || return 1
-    if [ -f "$record" ] && ! [ "$program" -nt "$record" ]; then
+    is_newest "$product" $(lines | cut -d ' ' -f 1) || return 1
+    if [ -f "$record" ] && ! [ "$product" -nt "$record" ]; then
         is_same_record
     else
-        is_newer_than_all "$program" "$root/crates.txt" &&
-            { ! command -v rt >/dev/null || is_newer_than_all "$program" "$(readlink -f "$(command -v rt)")"; }
+        is_newer_than_all "$product" "$root/crates.txt" &&
+            { ! command -v rt >/dev/null || is_newer_than_all "$product" "$(readlink -f "$(command -v rt)")"; }
     fi
 }

@@ -1,4 +1,4 @@
-# Proves the program's crates, many side by side, and builds the program.
+# Proves the crates of the program or of the library, whichever is aimed at, many side by side, and builds it: the goal.
 #
 # `rt lib` locks the folders of its crate and of all crates below, so two crates over one base would wait for each other in
 # one tree. So there are lanes, trees below out/build/ with the sources as they were when the build began. In each lane one
@@ -6,12 +6,12 @@
 work=$crate/out/build
 log=$crate/out/build.log
 
-# The program's crates, each after those below it.
+# The goal's crates, each after those below it.
 names=()
-# Of a crate: all crates below it; how long it takes, in lines of code; the same for it and the longest way up to the program.
-declare -A below weight way
+# Of a crate: all crates below it; how long it takes, in lines of code; the same for it and the longest way up to the goal.
+declare -A below=() weight=() way=()
 # Of a crate: that it is proved; the process that proves it, since when, and in which lane.
-declare -A is_proved pid since lane
+declare -A is_proved=() pid=() since=() lane=()
 locks=()
 # When the build began, in seconds; nothing before it holds the locks.
 began=
@@ -64,14 +64,20 @@ are_proved() {
     done
 }
 
+# The crates of the program and of the library, as far as the record of either is still right.
+recorded() {
+    (aim_at "$program" program && is_same_record && lines)
+    (aim_at "$library" library && is_same_record && lines)
+}
+
 # Finds the crates whose library is newer than all that it is made of. This saves time and decides nothing:
-# rt looks at all libraries again, by their contents, when it builds the program.
+# rt looks at all libraries again, by their contents, when it builds the goal.
 find_proved() {
-    local name
-    is_same_record || return
+    local name known
+    known=" $(recorded | cut -d ' ' -f 1 | xargs) "
     for name in "${names[@]}"; do
-        [ "$name" != kin_cmd ] && are_proved ${below[$name]} && is_newest "$root/crates/$name/out/rlib/stamp" "$name" ${below[$name]} &&
-            is_proved[$name]=1
+        [ "$name" != "$goal" ] && [[ $known == *" $name "* ]] && are_proved ${below[$name]} &&
+            is_newest "$root/crates/$name/out/rlib/stamp" "$name" ${below[$name]} && is_proved[$name]=1
     done
 }
 
@@ -122,7 +128,7 @@ left() {
     echo $((way[$1] - $(least "${weight[$1]}" $((13 * ($(date +%s) - since[$1]))))))
 }
 
-# Begins with the proof of a crate, or with that of the program and its build. All waits for the crate whose way up is the
+# Begins with the proof of a crate, or with that of the goal and its build. All waits for the crate whose way up is the
 # longest, so it goes first, in up to four jobs. The one with the next longest way is often waited for together with it, so it
 # gets two, and goes second. The others get one each, since more jobs take more time of the processors in all.
 start() {
@@ -181,16 +187,16 @@ tell_failure() {
 }
 
 # Takes in what the process of a crate has left, which ended with this status. That of `rt run` is the program's own.
-# A library and the program are as old as their sources, of which some may have changed meanwhile.
+# All that is built is as old as its sources, of which some may have changed meanwhile.
 finish() {
-    local name=$1 out=$work/${lane[$1]}/crates/$1/out
+    local name=$1 out=$work/${lane[$1]}/crates/$1/out built=${product##*/}
     unset "pid[$name]"
     { echo "== $name" && cat "$work/$name.log"; } >>"$log"
-    if [ "$name" = kin_cmd ] && [ -x "$out/kin_cmd" ]; then
+    if [ "$name" = "$goal" ] && [ -e "$out/$built" ]; then
         rm -f "$record"
-        touch -r "$work/began" "$out/kin_cmd" "$work/made_of"
-        bring_back kin_cmd kin_cmd kin_cmd.o kin_cmd.stamp && mv "$work/made_of" "$record" || failed=1
-    elif [ "$name" != kin_cmd ] && [ "$2" -eq 0 ]; then
+        touch -r "$work/began" "$out/$built" "$work/made_of"
+        bring_back "$name" $(cd "$out" && echo "$built"*) && mv "$work/made_of" "$record" || failed=1
+    elif [ "$name" != "$goal" ] && [ "$2" -eq 0 ]; then
         touch -r "$work/began" "$out/rlib/stamp"
         bring_back "$name" rlib
     else
@@ -213,7 +219,7 @@ tell_minute() {
     say "still at work after $minute min, $ended of $total crates done"
 }
 
-# Proves crate after crate, until the program is built, or one has failed and those that were begun with have ended.
+# Proves crate after crate, until the goal is built, or one has failed and those that were begun with have ended.
 prove() {
     local name clock minute=0
     while :; do
@@ -229,7 +235,7 @@ prove() {
             finish "$name" $?
         done
     done
-    [ -z "$failed" ] && [ -n "${is_proved[kin_cmd]}" ]
+    [ -z "$failed" ] && [ -n "${is_proved[$goal]}" ]
 }
 
 # Takes in what a build has left that was cut off, and makes out/build anew.
@@ -274,7 +280,7 @@ clear_up() {
     trap - INT TERM HUP PIPE
 }
 
-# Proves what isn't proved and builds the program, or says why not.
+# Proves what isn't proved and builds the goal, or says why not.
 build() {
     local at_once total ended=0 processors
     trap 'exit 130' INT
@@ -291,10 +297,10 @@ build() {
         make_work || return
         find_proved
         total=$((${#names[@]} - ${#is_proved[@]}))
-        say "the program is missing or older than its sources; crates to prove: $total, $at_once at a time"
+        say "the $called is missing or older than its sources; crates to prove: $total, $at_once at a time"
         say "from nothing that takes about $(minutes) min; what is proved is kept"
         if ! prove; then
-            say "not proved, so nothing was built and nothing runs; all that was said is in $log"
+            say "not proved, so no $called was built; all that was said is in $log"
             return 1
         fi
     fi
