@@ -1,29 +1,28 @@
-//! The definition once more, as a short program.
+//! A second program over the definition of the text: it holds a claimed text against it.
 //!
-//! Every answer and every set of live facts at one moment, computed from all positions. It has no structure, and nothing
-//! of the engine's code: each function says in its contract that it is the definition's own function by computation.
-//! It is slow. A reader who doesn't want to believe the engine can read this instead.
+//! [`check`] takes a script, a line `=` and a claimed text, and says whether the text is that of the script. It replays
+//! the script command by command, and compares what each prints with what is left of the claim. All answers, live facts
+//! and failures come from all positions (`kin_plain`): there is no structure, no event queue and no world. It is slow. A
+//! reader who doesn't want to believe the engine can read this instead.
 #![tactic(auto)]
 
-pub mod breakpoint;
-pub mod chain;
-pub mod closest;
-pub mod contest;
-pub mod cycle;
-pub mod diameter;
-pub mod extreme;
-pub mod facts;
-pub mod failures;
-pub mod farthest;
-pub mod hull;
-pub mod keeps;
-mod lists;
-pub mod merge;
-pub mod mirrored;
-pub mod nearest;
-pub mod numbers;
-pub mod octant;
-pub mod order;
-pub mod pair;
-pub mod rect;
-pub mod tournament;
+pub use verdict::{Verdict, check};
+
+pub mod block;
+pub mod change;
+pub mod claim;
+pub mod event;
+pub mod halt;
+pub mod journal;
+pub mod laws;
+pub mod least;
+pub mod next;
+pub mod perform;
+pub mod plan;
+pub mod replay;
+pub mod reply;
+pub mod run;
+pub mod sight;
+pub mod split;
+pub mod state;
+pub mod verdict;

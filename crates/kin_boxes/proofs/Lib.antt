@@ -1,0 +1,10 @@
+mod Marking
+mod Parting
+mod Settling
+mod Sweeping
+mod Finding
+mod Rising
+mod Overlapping
+mod Reading
+mod Listing
+mod Facing

@@ -1,0 +1,5 @@
+use Rattle.kin_boxes.proofs.Facing.{facts_agree}
+use Rattle.kin_boxes.proofs.laws.computed_facts_agree.Goals as goal
+
+pub returns : goal.returns
+returns c = facts_agree

@@ -1,0 +1,5 @@
+use Rattle.kin_boxes.proofs.Facing.{facts_few}
+use Rattle.kin_boxes.proofs.laws.facts_are_few.Goals as goal
+
+pub returns : goal.returns
+returns c = facts_few

@@ -1,0 +1,4 @@
+mod Values
+mod SlotValues
+mod Reporting
+mod OneMoments

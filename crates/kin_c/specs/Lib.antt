@@ -1,0 +1,11 @@
+pub mod Slots
+pub mod Statuses
+pub mod Buffers
+pub mod Moments
+pub mod Keeps
+pub mod Failures
+pub mod Calls
+pub mod Changes
+pub mod Times
+pub mod Questions
+pub mod Comparing

@@ -1,6 +1,0 @@
-use Rattle.std.proofs.Common.{◌∙◌}
-use Rattle.kin_check.proofs.Wedges.{near_slots_fit}
-use Rattle.kin_check.proofs.closest.put_closest_facts.Goals as goal
-
-pub put_tournament_facts-requires-clause-count : goal.put_tournament_facts-requires-clause-count
-put_tournament_facts-requires-clause-count g c = near_slots_fit (g.O.Signs.scene c.args.now.now) c.args.size c.deref.result.now (c.deref.ensures.value ∙ c.in_ok-slots.ensures.value) c.requires.size

@@ -1,0 +1,14 @@
+pub mod LiveLists
+pub mod Neighbours
+pub mod Numbering
+pub mod Nodes
+pub mod LivePairs
+pub mod Wedges
+pub mod Chains
+pub mod Boxes
+pub mod Merging
+pub mod Kept
+pub mod Filling
+pub mod Failing
+pub mod Sweeping
+pub mod UnderRanges

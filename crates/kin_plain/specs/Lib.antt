@@ -1,0 +1,9 @@
+pub mod Live
+pub mod Comparing
+pub mod Nodes
+pub mod Seen
+pub mod Halves
+pub mod Forms
+pub mod Sides
+pub mod Settings
+pub mod Cells
