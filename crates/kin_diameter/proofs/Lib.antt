@@ -2,6 +2,7 @@ pub mod SweptPoints
 pub mod NextBreakpoints
 pub mod Merges
 pub mod MergedSweeps
+pub mod ListEnds
 pub mod ListChanges
 pub mod Placing
 pub mod Telling

@@ -1,7 +1,7 @@
--- What two lists of slopes don't share is between what they share at both ends.
+-- What two lists of slopes don't have in common is between what they share at both ends.
 use Rattle.std.proofs.Common.{◌≡◌, ◌⊎◌, inl, inr, refl, sym, ap, ◌∙◌, subst, List, [], ◌∷◌, ◌++◌, ℕ, ◌+◌, ◌<◌, map, take, drop, length, get_or}
 use Rattle.std.specs.Prelude.{Contains, ◌↔◌}
-use Rattle.std.proofs.lemmas.List.{append-nil, append_assoc, map-append, take_more, take-append-drop}
+use Rattle.std.proofs.lemmas.List.{map-append, take_more, take-append-drop}
 use Rattle.std.proofs.lemmas.List.Elements.{Contains-append_left, Contains-append_right, Contains-append_cases}
 use Rattle.kin_algebra.proofs.Members.{contains_none, contains_head, contains_cases}
 use Rattle.kin_motion.specs.declared.fact.Placed.{Placed}
@@ -14,6 +14,7 @@ use Rattle.kin_motion.proofs.SetLaws.{contains_map, contains_mapped, distinct_no
 use Rattle.kin_diameter.specs.declared.slope.Slope.{Slope as Kept}
 use Rattle.kin_diameter.specs.Changes.{IsLost, IsLostOne, DifferBetween}
 use Rattle.kin_diameter.specs.Seen.{slope_fact}
+use Rattle.kin_diameter.proofs.ListEnds.{between_turned}
 
 -- ---- slopes are told apart by their facts
 number : ℕ → Placed → ℕ
@@ -52,36 +53,6 @@ distinct_first {A} (x ∷ xs) ys d = distinct_cons x xs (λ h. distinct_head x (
 -- what is between
 pub distinct_between : (old new olds news : List Kept) → DifferBetween old new olds news → AreDistinct old → AreDistinct olds
 distinct_between old new olds news w d = distinct_first olds w.1 (distinct_last w.0 (olds ++ w.1) (subst (λ (l : List Kept). AreDistinct l) w.2 d))
-
--- ---- both ends
-pub between_all : (old new : List Kept) → DifferBetween old new old new
-between_all old new = ([], [], sym (append-nil old), sym (append-nil new))
-
-pub between_turned : (old new olds news : List Kept) → DifferBetween old new olds news → DifferBetween new old news olds
-between_turned old new olds news w = (w.0, w.1, w.3, w.2)
-
-more_front : (old front olds rest end : List Kept) (x : Kept) → old ≡ front ++ (olds ++ end) → olds ≡ x ∷ rest → old ≡ (front ++ x ∷ []) ++ (rest ++ end)
-more_front old front olds rest end x is first = is ∙ ap (λ (l : List Kept). front ++ (l ++ end)) first ∙ sym (append_assoc front (x ∷ []) (rest ++ end))
-
--- the first is the same
-pub between_first : (old new olds news olds' news' : List Kept) (x : Kept) → DifferBetween old new olds news → olds ≡ x ∷ olds' → news ≡ x ∷ news' → DifferBetween old new olds' news'
-between_first old new olds news olds' news' x w e f = (w.0 ++ x ∷ [], w.1, more_front old w.0 olds olds' w.1 x w.2 e, more_front new w.0 news news' w.1 x w.3 f)
-
-more_end : (old front olds rest end : List Kept) (x : Kept) → old ≡ front ++ (olds ++ end) → olds ≡ rest ++ x ∷ [] → old ≡ front ++ (rest ++ x ∷ end)
-more_end old front olds rest end x is last = is ∙ ap (λ (l : List Kept). front ++ l) (ap (λ (l : List Kept). l ++ end) last ∙ append_assoc rest (x ∷ []) end)
-
--- the last is the same
-pub between_last : (old new olds news olds' news' : List Kept) (x : Kept) → DifferBetween old new olds news → olds ≡ olds' ++ x ∷ [] → news ≡ news' ++ x ∷ [] → DifferBetween old new olds' news'
-between_last old new olds news olds' news' x w e f = (w.0, x ∷ w.1, more_end old w.0 olds olds' w.1 x w.2 e, more_end new w.0 news news' w.1 x w.3 f)
-
-within : (old front olds end front' olds' end' : List Kept) → old ≡ front ++ (olds ++ end) → olds ≡ front' ++ (olds' ++ end') → old ≡ (front ++ front') ++ (olds' ++ (end' ++ end))
-within old front olds end front' olds' end' is in_it =
-    is
-    ∙ ap (λ (l : List Kept). front ++ l) (ap (λ (l : List Kept). l ++ end) in_it ∙ append_assoc front' (olds' ++ end') end ∙ ap (λ (l : List Kept). front' ++ l) (append_assoc olds' end' end))
-    ∙ sym (append_assoc front front' (olds' ++ (end' ++ end)))
-
-pub between_within : (old new olds news olds' news' : List Kept) → DifferBetween old new olds news → DifferBetween olds news olds' news' → DifferBetween old new olds' news'
-between_within old new olds news olds' news' w v = (w.0 ++ v.0, v.1 ++ w.1, within old w.0 olds w.1 v.0 olds' v.1 w.2 v.2, within new w.0 news w.1 v.0 news' v.1 w.3 v.3)
 
 -- ---- what is lost
 -- it is between

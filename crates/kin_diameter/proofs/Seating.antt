@@ -1,7 +1,8 @@
 -- From the cells of one sweep to those of the next.
-use Rattle.std.proofs.Common.{◌≡◌, ◌⊎◌, inl, inr, refl, sym, ap, ◌∙◌, subst, arith, List, [], ℕ, ◌+◌, ◌*◌, ◌^◌, ◌<◌, ◌≤◌, ◌++◌, length, reverse, take, drop}
+use Rattle.std.proofs.Common.{◌≡◌, ◌≢◌, ◌⊎◌, inl, inr, refl, sym, ap, ◌∙◌, subst, arith, List, [], ℕ, ◌+◌, ◌*◌, ◌^◌, ◌<◌, ◌≤◌, ◌++◌, length, reverse, take, drop}
 use Rattle.std.specs.Prelude.{Contains, Option, Some, None, replicate}
 use Rattle.std.proofs.lemmas.List.{append-nil, drop_all, length-replicate, take_all}
+use Rattle.std.proofs.lemmas.Option.{none-some}
 use Rattle.std.proofs.Math.Pow.{pow_mono}
 use Rattle.kin_algebra.proofs.Places.{get_or-replicate_any}
 use Rattle.kin_algebra.proofs.Members.{contains_none}
@@ -13,7 +14,9 @@ use Rattle.kin_motion.proofs.Members.{in_reverse}
 use Rattle.kin_motion.proofs.SweepCells.{IsCellOf, cell_of}
 use Rattle.kin_tourney.specs.Tournament.{Tournament}
 use Rattle.kin_diameter.specs.Merging.{AreLow}
+use Rattle.kin_diameter.specs.Changes.{DifferBetween}
 use Rattle.kin_diameter.specs.Seats.{HaveSlots, AreWithin, HoldCells, IsKept, IsChanged, AreTold, AreSeated}
+use Rattle.kin_diameter.proofs.ListEnds.{between_turned, between_or_both, between_in}
 
 -- numbers that have one of 2^13 slots are low
 pub slots_low : (size : ℕ) (xs : List ℕ) → size ≤ 13 → HaveSlots size xs → AreLow xs
@@ -64,38 +67,61 @@ module _ {K : Type 0} where
       at i (inr c) (inl l) = inr (l.0 ∙ c.0, l.1 ∙ c.1, c.2)
       at i (inr c) (inr d) = absurd (d.2 c.0)
 
-  module _ (t u v : Tournament K Near) (before cells : List Near) (free places free' : List (Option Near)) (was : AreSeated t before free) (held : HoldCells cells places)
-      (first : AreTold (item_in places) t u) (told : (n : Near) → Contains before n → item_in u.slots n.slot ≡ item_in places n.slot)
-      (second : AreTold (item_in places) u v) (told' : (n : Near) → Contains cells n → item_in v.slots n.slot ≡ item_in places n.slot) where
+  module _ (t u v : Tournament K Near) (before cells gone come : List Near) (free places free' : List (Option Near)) (was : AreSeated t before free) (held : HoldCells cells places)
+      (between : DifferBetween before cells gone come)
+      (first : AreTold (item_in places) t u) (told : (n : Near) → Contains gone n → item_in u.slots n.slot ≡ item_in places n.slot)
+      (second : AreTold (item_in places) u v) (told' : (n : Near) → Contains come n → item_in v.slots n.slot ≡ item_in places n.slot) where
     both : AreTold (item_in places) t v
     both = told_through (item_in places) t u v first second
 
     same_size : v.size ≡ t.size
     same_size = ap (λ (w : Tournament K Near). w.size) both.same
 
+    -- a slot that has got what is in its place holds a cell of the new sweep, if there is one
+    placed : (i : ℕ) → item_in v.slots i ≡ item_in places i → HoldsCell cells i (item_in v.slots i)
+    placed i e = subst (HoldsCell cells i) (sym e) (held i)
+
     still : (i : ℕ) → item_in u.slots i ≡ item_in places i → IsKept u v i ⊎ IsChanged (item_in places) u v i → item_in v.slots i ≡ item_in places i
     still i e (inl k) = k.0 ∙ e
     still i e (inr c) = c.0
 
-    -- every slot holds what is in its place
-    pub all_hold : (i : ℕ) → item_in v.slots i ≡ item_in places i
-    all_hold i = at (item_in t.slots i) refl (was.held i) (item_in places i) refl (held i)
-      where
-        unchanged : item_in t.slots i ≡ None → item_in places i ≡ None → IsKept t v i ⊎ IsChanged (item_in places) t v i → item_in v.slots i ≡ item_in places i
-        unchanged e f (inl k) = k.0 ∙ e ∙ sym f
-        unchanged e f (inr c) = c.0
+    -- a slot that is as it was, of a cell before
+    still_held : (i : ℕ) (n : Near) → item_in v.slots i ≡ Some n → n.slot ≡ i → Contains gone n ⊎ Contains cells n → HoldsCell cells i (item_in v.slots i)
+    still_held i n e here (inl c) = placed i (still i (subst (λ j. item_in u.slots j ≡ item_in places j) here (told n c)) (second.each i))
+    still_held i n e here (inr c) = subst (HoldsCell cells i) (sym e) (c, here)
 
-        at : (x : Option Near) → item_in t.slots i ≡ x → HoldsCell before i x → (y : Option Near) → item_in places i ≡ y → HoldsCell cells i y → item_in v.slots i ≡ item_in places i
-        at (Some n) e h y f g = still i (subst (λ j. item_in u.slots j ≡ item_in places j) h.1 (told n h.0)) (second.each i)
-        at None e h (Some m) f g = subst (λ j. item_in v.slots j ≡ item_in places j) g.1 (told' m g.0)
-        at None e h None f g = unchanged e f (both.each i)
+    -- and of none
+    still_none : (i : ℕ) → item_in v.slots i ≡ None → ((n : Near) → Contains before n → n.slot ≢ i) → HoldsCell cells i (item_in v.slots i)
+    still_none i e none = subst (HoldsCell cells i) (sym e) (λ n c here. at n here (between_or_both cells before come gone (between_turned before cells gone come between) n c))
+      where
+        at : (n : Near) → n.slot ≡ i → Contains come n ⊎ Contains before n → ⊥
+        at n here (inl c) = no_place (item_in places i) refl (held i)
+          where
+            empty : item_in places i ≡ None
+            empty = sym (subst (λ j. item_in v.slots j ≡ item_in places j) here (told' n c)) ∙ e
+
+            no_place : (x : Option Near) → item_in places i ≡ x → HoldsCell cells i x → ⊥
+            no_place (Some m) f h = none-some m (sym empty ∙ f)
+            no_place None f h = h n (between_in cells before come gone (between_turned before cells gone come between) n c) here
+        at n here (inr c) = none n c here
+
+    all_held : (i : ℕ) → HoldsCell cells i (item_in v.slots i)
+    all_held i = at (both.each i)
+      where
+        kept : item_in v.slots i ≡ item_in t.slots i → (x : Option Near) → item_in t.slots i ≡ x → HoldsCell before i x → HoldsCell cells i (item_in v.slots i)
+        kept same (Some n) e h = still_held i n (same ∙ e) h.1 (between_or_both before cells gone come between n h.0)
+        kept same None e h = still_none i (same ∙ e) h
+
+        at : IsKept t v i ⊎ IsChanged (item_in places) t v i → HoldsCell cells i (item_in v.slots i)
+        at (inl k) = kept k.0 (item_in t.slots i) refl (was.held i)
+        at (inr c) = placed i c.0
 
     pub told_all : AreTold (item_in v.slots) t v
     told_all = record { same = both.same; slots_room = both.slots_room; marks_room = both.marks_room; each = λ i. at i (both.each i) }
       where
         at : (i : ℕ) → IsKept t v i ⊎ IsChanged (item_in places) t v i → IsKept t v i ⊎ IsChanged (item_in v.slots) t v i
         at i (inl k) = inl k
-        at i (inr c) = inr (refl, c.1, λ e. c.2 (e ∙ all_hold i))
+        at i (inr c) = inr (refl, c.1, λ e. c.2 (e ∙ c.0))
 
     pub seated_again : AreWithin (2 ^ t.size) cells → length free' ≡ 2 ^ t.size → ((i : ℕ) → item_in free' i ≡ None) → AreSeated v cells free'
     seated_again within room none = record {
@@ -103,7 +129,7 @@ module _ {K : Type 0} where
       marks_room = both.marks_room ∙ was.marks_room ∙ ap (λ n. 2 ^ n) (sym same_size);
       places_room = room ∙ ap (λ n. 2 ^ n) (sym same_size);
       within = subst (λ n. AreWithin (2 ^ n) cells) (sym same_size) within;
-      held = λ i. subst (HoldsCell cells i) (sym (all_hold i)) (held i);
+      held = all_held;
       free = none;
     }
 

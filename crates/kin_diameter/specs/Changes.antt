@@ -1,4 +1,4 @@
--- What one list of slopes has and another doesn't.
+-- What one list has and another doesn't.
 use Rattle.std.specs.Prelude.{◌≡◌, List, ◌++◌, map, Contains}
 use Rattle.kin_motion.specs.declared.fact.Placed.{Placed}
 use Rattle.kin_diameter.specs.declared.slope.Slope.{Slope as Kept}
@@ -13,5 +13,5 @@ abbrev pub IsLostOne : List Kept → Kept → Placed → Type 0
 IsLostOne others x p = (p ≡ slope_fact x) × ¬ (Contains others x)
 
 -- both lists have the same at their front and at their end; between that they are these
-abbrev pub DifferBetween : List Kept → List Kept → List Kept → List Kept → Type 0
-DifferBetween old new olds news = (front end : List Kept) × (old ≡ front ++ (olds ++ end)) × (new ≡ front ++ (news ++ end))
+abbrev pub DifferBetween : {A : Type 0} → List A → List A → List A → List A → Type 0
+DifferBetween {A} old new olds news = (front end : List A) × (old ≡ front ++ (olds ++ end)) × (new ≡ front ++ (news ++ end))

@@ -1,63 +1,16 @@
 //! Which slopes have gone and which are new.
 
-ghost use Rattle.std.specs.Prelude.{◌≡◌, ◌↔◌, ◌∷◌, ◌++◌, [], map, Contains, IsTrue, IfSome, OnOk};
+ghost use Rattle.std.specs.Prelude.{◌≡◌, ◌↔◌, map, Contains, IsTrue, OnOk};
 ghost use Rattle.kin_motion.specs.Kinetics.{HasChanged, HasGained};
 ghost use Rattle.kin_motion.specs.Sets.{AreDistinct};
 ghost use Rattle.kin_diameter.specs.declared.slope.Slope.{Slope as Kept};
-ghost use Rattle.kin_diameter.specs.Changes.{IsLost, IsLostOne, DifferBetween};
+ghost use Rattle.kin_diameter.specs.Changes.{IsLost, IsLostOne};
 ghost use Rattle.kin_diameter.specs.Seen.{slope_fact};
 
+use crate::between::between;
 use crate::slope::Slope;
 use kin_motion::fact::{Delta, Placed};
 use kin_num::memory::NoMemory;
-
-/// Both lists without their first slope, where that is the same.
-fn without_first<'a>(old: &'a [Slope], new: &'a [Slope]) -> Option<(&'a [Slope], &'a [Slope])>
-    ensures { IfSome result (λ rest. (x : Kept) × (old.now ≡ x ∷ rest.0.now) × (new.now ≡ x ∷ rest.1.now)) }
-{
-    let (one, old_rest) = old.split_first()?;
-    let (other, new_rest) = new.split_first()?;
-    if one.is(*other) {
-        return Some((old_rest, new_rest));
-    }
-    None
-}
-
-/// Both lists without their last slope, where that is the same.
-fn without_last<'a>(old: &'a [Slope], new: &'a [Slope]) -> Option<(&'a [Slope], &'a [Slope])>
-    ensures { IfSome result (λ rest. (x : Kept) × (old.now ≡ rest.0.now ++ x ∷ []) × (new.now ≡ rest.1.now ++ x ∷ [])) }
-{
-    let (one, old_rest) = old.split_last()?;
-    let (other, new_rest) = new.split_last()?;
-    if one.is(*other) {
-        return Some((old_rest, new_rest));
-    }
-    None
-}
-
-/// Both lists without what is the same at their front.
-fn without_front<'a>(old: &'a [Slope], new: &'a [Slope]) -> (&'a [Slope], &'a [Slope])
-    ensures { DifferBetween old.now new.now result.0.now result.1.now }
-{
-    let (mut old_rest, mut new_rest) = (old, new);
-    'front: while let Some((olds, news)) = without_first(old_rest, new_rest) {
-        old_rest = olds;
-        new_rest = news;
-    }
-    (old_rest, new_rest)
-}
-
-/// Both lists without what is the same at their end.
-fn before_end<'a>(old: &'a [Slope], new: &'a [Slope]) -> (&'a [Slope], &'a [Slope])
-    ensures { DifferBetween old.now new.now result.0.now result.1.now }
-{
-    let (mut old_rest, mut new_rest) = (old, new);
-    'end: while let Some((olds, news)) = without_last(old_rest, new_rest) {
-        old_rest = olds;
-        new_rest = news;
-    }
-    (old_rest, new_rest)
-}
 
 /// Whether the slope is in the list.
 fn has(slopes: &[Slope], slope: Slope) -> bool
@@ -102,8 +55,7 @@ pub(crate) fn tell_changes(old: &[Slope], new: &[Slope], out: &mut Delta) -> Res
     requires new_once { AreDistinct new.now }
     ensures { OnOk result (HasChanged (map slope_fact old.now) (map slope_fact new.now) out.old out.new) }
 {
-    let (olds, news) = without_front(old, new);
-    let (olds, news) = before_end(olds, news);
+    let (olds, news) = between(old, new);
     tell_missing(olds, news, &mut out.dropped)?;
     tell_missing(news, olds, &mut out.born)?;
     Ok(())

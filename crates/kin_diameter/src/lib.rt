@@ -11,6 +11,7 @@
 
 pub use diameter::KinDiameter;
 
+mod between;
 mod breakpoint;
 mod cells;
 mod changes;

@@ -11,6 +11,7 @@ ghost use Rattle.kin_pairs.specs.PairKeys.{pair_names};
 ghost use Rattle.kin_diameter.specs.Seats.{AreSeated, AreTold, HaveSlots};
 ghost use Rattle.kin_diameter.specs.Seen.{seen};
 
+use crate::between::between;
 use crate::breakpoint::Breakpoint;
 use crate::cells::list_cells;
 use crate::places::{free_all, lay_out};
@@ -53,8 +54,8 @@ impl Seats {
         })
     }
 
-    /// Gives each slot the pair of its cell in this sweep, and marks those that have another one than
-    /// before.
+    /// Gives each slot the pair of its cell in this sweep, and marks those that have another one than before. The slots of
+    /// cells that both sweeps have at their front or at their end aren't looked at.
     pub fn fill(
         &mut self,
         upper: &[u32],
@@ -74,8 +75,9 @@ impl Seats {
         swap(&mut self.cells, &mut self.before);
         list_cells(upper, lower, breakpoints, &mut self.cells)?;
         lay_out(&mut self.places, &self.cells);
-        tell_each(&mut self.tourney, &self.before, &self.places);
-        tell_each(&mut self.tourney, &self.cells, &self.places);
+        let (gone, new) = between(&self.before, &self.cells);
+        tell_each(&mut self.tourney, gone, &self.places);
+        tell_each(&mut self.tourney, new, &self.places);
         free_all(&mut self.places, &self.cells);
         Ok(())
     }

@@ -1,5 +1,6 @@
 pub mod Tellings
 pub mod Hearing
+pub mod Following
 pub mod Idle
 pub mod Works
 pub mod Steps

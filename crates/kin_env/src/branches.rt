@@ -90,6 +90,9 @@ fn visit_among<O: Signs, L: Ledger>(
     ensures tests { OnOk result (HalvesKeepOrder (merge_at nodes.old node) (chain_at nodes.old (2 * node)) (chain_at nodes.old (2 * node + 1)) → ArePaid out.old out.new steps.old steps.new) }
 {
     let (above, below) = nodes.split_at_mut(2 * node);
+    if above[node].goes_without(&below[1]) {
+        return above[node].follow(work, &mut below[0]);
+    }
     above[node].visit(
         work,
         alloc,

@@ -1,6 +1,6 @@
 //! One node of the tree: the merge of its halves, or the chain of the half that isn't empty.
 
-ghost use Rattle.std.specs.Prelude.{◌≡◌, ◌≢◌, ◌<◌, not, [], ◌∷◌, ◌++◌, length, filter, Some, None, OnOk};
+ghost use Rattle.std.specs.Prelude.{◌≡◌, ◌≢◌, ◌<◌, not, [], ◌∷◌, ◌++◌, length, filter, Some, None, OnOk, IsTrue};
 ghost use Rattle.kin_motion.specs.Kinetics.{HasChanged};
 ghost use Rattle.kin_motion.specs.Scene.{IsReal};
 ghost use Rattle.kin_overlay.specs.Diffs.{KeepOrder};
@@ -20,6 +20,7 @@ use kin_overlay::overlay::Overlay;
 use kin_overlay::work::Work;
 use smallvec::SmallVec;
 use std::alloc::Global;
+use std::mem::swap;
 use std::sync::ledger::Ledger;
 
 /// A node of the tree. A leaf passes on its own number, or nothing.
@@ -86,6 +87,36 @@ impl Node {
         diff(alloc, self.passed.as_slice(), chain, &mut self.edits)?;
         self.passed.clear();
         self.passed.extend_from_slice(chain)?;
+        Ok(())
+    }
+
+    /// True only if there is no merge, and this half held no point and holds none.
+    #[inline(always)]
+    pub fn goes_without(&self, half: &Node) -> bool
+        requires rest { IsRestingWith half.now.merge }
+        ensures none { IsTrue result → self.now.merge ≡ None }
+        ensures quiet { IsTrue result → half.now.edits.items ≡ [] }
+        ensures empty { IsTrue result → chain_of half.now ≡ [] }
+    {
+        !self.merge.is_some() && half.edits.is_empty() && half.chain().is_empty()
+    }
+
+    /// Goes on passing on the chain of a half, where there is no merge. The edits of the half lead there: they become
+    /// those of the node.
+    #[inline(always)]
+    pub fn follow(&mut self, work: &mut Work, half: &mut Node) -> Result<(), NoMemory>
+        requires rest { IsRestingWith half.old.merge }
+        ensures merge { self.new.merge ≡ self.old.merge }
+        ensures passed { OnOk result (self.new.passed.items ≡ chain_of half.old) }
+        ensures edits { self.new.edits.items ≡ half.old.edits.items }
+        ensures failed { self.new.failed.items ≡ self.old.failed.items }
+        ensures half { half.new ≡ record half.old { edits = half.new.edits } }
+        ensures taken { half.new.edits.items ≡ [] }
+    {
+        swap(&mut self.edits, &mut half.edits);
+        work.take_back(&mut half.edits);
+        self.passed.clear();
+        self.passed.extend_from_slice(half.chain())?;
         Ok(())
     }
 

@@ -47,3 +47,4 @@ pub mod PassLaws
 pub mod LinkedLaws
 pub mod AlongLaws
 pub mod SpanLaws
+pub mod TurnedLaws

@@ -101,6 +101,10 @@ module _ (part : ℕ) (m : Remembered) (put_a put_b drop_a drop_b gone a b : Lis
 pub whole-cleared : (part : ℕ) (m : Remembered) (put_a put_b drop_a drop_b gone a b : List ℕ) → put_a ≡ [] → put_b ≡ [] → drop_a ≡ [] → drop_b ≡ [] → gone ≡ [] → IsWhole part m [] [] [] [] [] a b → IsWhole part m put_a put_b drop_a drop_b gone a b
 whole-cleared part m put_a put_b drop_a drop_b gone a b pa pb da db g w = rw (pa, pb, da, db, g) w
 
+-- what a repair is given came of the merge before
+pub given-past : (p : Past) (m : Remembered) (put_a put_b gone a b put_a' put_b' gone' a' b' : List ℕ) → put_a' ≡ put_a → put_b' ≡ put_b → gone' ≡ gone → a' ≡ a → b' ≡ b → IsPast p m put_a put_b gone a b → IsPast p m put_a' put_b' gone' a' b'
+given-past p m put_a put_b gone a b put_a' put_b' gone' a' b' pa pb g same other is = rw (pa, pb, g, same, other) is
+
 -- what a repair is given is known of the merge before
 pub known-past : (p : Past) (w : Standing) (puts : Puts) (put_a put_b gone a b a' b' : List ℕ) → puts.a.now ≡ put_a → puts.b.now ≡ put_b → w.gone.now ≡ gone → a' ≡ a → b' ≡ b
     → IsPast p w.list.now put_a put_b gone a b → AreApart put_a p.drop_a → AreApart put_b p.drop_b → IsKnownPast p w puts a' b'

@@ -20,3 +20,4 @@ pub mod Repairing
 pub mod Spans
 pub mod Passing
 pub mod Windows
+pub mod Turned

@@ -1,9 +1,10 @@
 -- What a merge knows of the one before, and what its repair may ask.
 use Rattle.std.specs.Prelude.{◌≡◌, ℕ, ◌+◌, ◌*◌, ◌<◌, ◌≤◌, Bool, true, false, not, ◌||◌, cond, nat_eq, List, [], ◌∷◌, length, filter, flat_map, Option, Some, None, Contains, ◌⊎◌}
 use Rattle.kin_motion.specs.declared.fact.Fact.{Fact}
+use Rattle.kin_motion.specs.declared.fact.Placed.{Placed}
 use Rattle.kin_motion.specs.Merges.{Breakpoint, breakpoints_of}
 use Rattle.kin_motion.specs.Numbers.{is_in, IsOnce}
-use Rattle.kin_motion.specs.Scene.{Scene}
+use Rattle.kin_motion.specs.Scene.{Scene, Holds}
 use Rattle.kin_chain.specs.Supports.{list_of}
 use Rattle.kin_overlay.specs.declared.draft.Draft.{Draft}
 use Rattle.kin_overlay.specs.declared.draft.Across.{Across}
@@ -110,3 +111,9 @@ pub record IsPaid (old new : List Fact) (before after : ℕ) : Type 0 where
   pub are_born : AreNew old new born
   pub are_dropped : AreNew new old dropped
   pub cost : after ≤ before + 5 * born + dropped
+
+-- the same of a repair, where no half puts a number that it drops and no failed fact holds
+abbrev pub IsPaidWhereKnown : Scene → Standing → Puts → List ℕ → List ℕ → Remembered → ℕ → ℕ → Type 0
+IsPaidWhereKnown s w puts a b new before after =
+    (p : Past) → IsKnownPast p w puts a b → ((f : Placed) → Contains w.failed.now f → Holds s f.fact → ⊥)
+    → IsPaid (facts_of w.list.now) (facts_of new) before after

@@ -39,6 +39,7 @@ mod shared;
 mod sketch;
 pub mod stage;
 mod standing;
+mod turned;
 mod untouched;
 mod walk;
 mod window;

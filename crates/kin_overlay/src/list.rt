@@ -2,15 +2,18 @@
 
 ghost use Rattle.std.specs.Prelude.{◌≡◌, ◌⊎◌, ◌+◌, ◌<◌, ◌≤◌, ◌↔◌, false, [], ◌∷◌, ◌++◌, Some, None, Contains, MatchOption, length, slice_get, IsTrue, OnOk, IfOk};
 ghost use Rattle.kin_motion.specs.Numbers.{is_in, IsOnce};
+ghost use Rattle.kin_overlay.specs.declared.record.Record.{Record as Noted};
 ghost use Rattle.kin_overlay.specs.Reading.{AreSameEnds};
 ghost use Rattle.kin_overlay.specs.Remembered.{facts_of, left_points, end_facts};
 ghost use Rattle.kin_overlay.specs.Reports.{IsLeftBetween, IsBetween};
+ghost use Rattle.kin_overlay.specs.Turned.{with_turn};
 
 use crate::end::End;
 use crate::record::Record;
 use crate::shared::Shared;
 use kin_motion::fact::Fact;
 use kin_motion::form::Form;
+use kin_num::Sign;
 use kin_num::memory::NoMemory;
 use std::alloc::Global;
 use std::marker::Model;
@@ -125,6 +128,14 @@ impl BreakpointList {
             return Err(NoMemory);
         };
         Ok(())
+    }
+
+    /// Remembers another sign of the turn at a place.
+    pub fn set_turn(&mut self, place: usize, sign: Sign)
+        requires { place < length self.old.records }
+        ensures { (r : Noted) → slice_get self.old.records place ≡ Some r → self.new ≡ with_turn self.old place r sign }
+    {
+        self.records[place].turn = sign;
     }
 
     /// Puts both outer ends in.

@@ -1,13 +1,12 @@
 //! The list of breakpoints is made: a sketch is drawn, put in order and filled in.
 
-ghost use Rattle.std.specs.Prelude.{◌≡◌, ℕ, ◌+◌, ◌*◌, ◌<◌, ◌≤◌, length, Contains, OnOk, IfOk};
-ghost use Rattle.kin_motion.specs.declared.fact.Placed.{Placed as Put};
+ghost use Rattle.std.specs.Prelude.{◌≡◌, ℕ, ◌+◌, ◌*◌, ◌<◌, ◌≤◌, length, OnOk, IfOk};
 ghost use Rattle.kin_motion.specs.Numbers.{IsOnce};
-ghost use Rattle.kin_motion.specs.Scene.{IsReal, Holds};
+ghost use Rattle.kin_motion.specs.Scene.{IsReal};
 ghost use Rattle.kin_overlay.specs.Fingers.{IsMerged, AreLive, AreLess};
 ghost use Rattle.kin_overlay.specs.Passing.{IsLinkedAt};
 ghost use Rattle.kin_overlay.specs.Remembered.{facts_of};
-ghost use Rattle.kin_overlay.specs.Repairing.{Past, IsKnownPast, IsPaid};
+ghost use Rattle.kin_overlay.specs.Repairing.{IsPaidWhereKnown};
 ghost use Rattle.kin_overlay.specs.Reports.{AreShared};
 ghost use Rattle.kin_overlay.specs.Standings.{StandIn};
 
@@ -70,7 +69,7 @@ impl BreakpointList {
 
         // Where no half puts a number that it drops, and no failed fact holds, at most five signs are
         // asked for each fact that is born and at most one for each that is dropped.
-        ensures tests { OnOk result ((p : Past) → IsKnownPast p standing.now puts.entry a.now b.now → ((f : Put) → Contains standing.now.failed.now f → Holds (O.scene now.now) f.fact → ⊥) → IsPaid (facts_of standing.now.list.now) (facts_of self.new) steps.old steps.new) }
+        ensures tests { OnOk result (IsPaidWhereKnown (O.scene now.now) standing.now puts.entry a.now b.now self.new steps.old steps.new) }
 
         // The records that are taken over.
         ensures shared { IfOk result (λ w. AreShared w standing.now.list.now.records self.new.records) }

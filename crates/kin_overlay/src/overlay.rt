@@ -216,7 +216,7 @@ impl Overlay {
             b: self.notes.put_b(),
         };
         let (made, drawing) = (&mut work.list, &mut work.drawing);
-        let known = made.merge(
+        let known = made.repair(
             self.a.as_slice(),
             self.b.as_slice(),
             puts,

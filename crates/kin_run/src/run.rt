@@ -2,29 +2,30 @@
 
 ghost use Rattle.std.specs.Prelude.{◌≡◌, ◌≤◌, ◌<◌, ◌^◌, ◌↔◌, ◌⊎◌, ℕ, List, length, true, Ok, Err, Some, None};
 ghost use Rattle.kin_io.specs.Causes.{Rose};
+ghost use Rattle.kin_check.specs.declared.verdict.Verdict.{Verdict};
+ghost use Rattle.kin_check.specs.Checked.{Checks, IsVerdict, status_of_verdict};
 ghost use Rattle.kin_script.specs.Grammar.{script_of};
+ghost use Rattle.kin_script.specs.Inputs.{IsTextOf};
 ghost use Rattle.kin_script.specs.Ranges.{IsInRange};
 ghost use Rattle.kin_script.specs.declared.refusal.Refusal.{Refusal};
 ghost use Rattle.kin_status.specs.Demo.{WritesDemo};
-ghost use Rattle.kin_status.specs.Headline.{Writes, Answers, IsTextOf, IsBrokenOff};
+ghost use Rattle.kin_status.specs.Headline.{Writes, Answers, IsBrokenOff};
 ghost use Rattle.kin_status.specs.Words.{asked_of};
 ghost use Rattle.kin_status.specs.Written.{Wrote};
 
 use crate::demo::run_demo;
 use crate::play::play_script;
+use kin_check::run::run_check;
 use kin_io::sink::Sink;
 use kin_io::source::{Source, Untaken, read_all};
 use kin_script::read::{ReadError, read};
 use kin_script::script::Script;
 use kin_status::ending::refuse_script;
-use kin_status::status::{Side, Status, status_of};
+use kin_status::status::{LIMIT, Side, Status, status_of};
 use kin_status::words::{Asked, parse};
 use std::alloc::Global;
 use std::marker::Brand;
 use std::sync::ledger::{Blank, Ledger};
-
-/// The most bytes of a script.
-const LIMIT: u32 = 1 << 20;
 
 /// Runs the commands of a script.
 fn run_script<K: Sink, L: Ledger>(
@@ -79,7 +80,8 @@ fn run_input<S: Source, K: Sink>(alloc: Global, source: &mut S, sink: &mut K) ->
 }
 
 /// With the argument `run`: reads the whole input by the grammar, and runs its commands up to the first
-/// that is refused. With `demo`: runs a generated script, and reads nothing. With other arguments: does
+/// that is refused. With `check`: reads a script, a line `=` and a claimed text, and writes whether the
+/// claim is true. With `demo`: runs a generated script, and reads nothing. With other arguments: does
 /// nothing, and answers `Words`.
 ///
 /// No clause says when bytes are written: not before the whole input is known to be in the grammar or
@@ -113,6 +115,17 @@ pub fn run<S: Source, K: Sink>(
         S.left source.old ≡ Some input → 2 ^ 20 < length input →
         (result ≡ Status.TooLong) ⊎ IsBrokenOff result }
 
+    // A claimed text is held against its script: the verdict is written and answered once the input was
+    // taken to its end. A known input has its own verdict.
+    ensures check { asked_of words.now ≡ Some Asked.Check →
+        Checks (S.left source.old) (S.left source.new) (S.ended source.new) (K.held sink.old) (K.held sink.new) result }
+    ensures verdict { asked_of words.now ≡ Some Asked.Check → (input : List ℕ) (verdict : Verdict) →
+        S.left source.old ≡ Some input → length input ≤ 2 ^ 20 → IsVerdict input verdict →
+        (result ≡ status_of_verdict verdict) ⊎ IsBrokenOff result }
+    ensures check_too_long { asked_of words.now ≡ Some Asked.Check → (input : List ℕ) →
+        S.left source.old ≡ Some input → 2 ^ 20 < length input →
+        (result ≡ Status.TooLong) ⊎ IsBrokenOff result }
+
     // A generated run writes its own text, or is broken off at a prefix of it. It reads nothing from the
     // source.
     ensures demo { (seed count : ℕ) → asked_of words.now ≡ Some (Asked.Demo seed count) →
@@ -125,6 +138,7 @@ pub fn run<S: Source, K: Sink>(
 {
     match parse(words) {
         Some(Asked::Run) => run_input(alloc, source, sink),
+        Some(Asked::Check) => run_check(alloc, source, sink),
         Some(Asked::Demo { seed, count }) => run_demo(alloc, seed, count, sink),
         None => Status::Words,
     }

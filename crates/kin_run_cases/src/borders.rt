@@ -1,4 +1,4 @@
-//! Arguments that have neither form, and scripts that are too long.
+//! Arguments that have none of the forms, and scripts that are too long.
 
 use crate::runs::{run_to, source_of, word};
 use crate::worked::CROSSING;

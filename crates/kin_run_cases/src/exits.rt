@@ -14,6 +14,8 @@ fn each_status_has_its_exit(rt: HostRuntime) {
         (Status::Command(1, Refusal::Past), 3),
         (Status::NoMemory, 4),
         (Status::Words, 5),
+        (Status::Differs, 6),
+        (Status::Unsplit, 2),
     ] {
         assert!(rt; status.exit() == exit, "{status:?}");
     }

@@ -17,4 +17,5 @@ pub mod Deeds
 pub mod Replay
 pub mod Alike
 pub mod Text
+pub mod Inputs
 pub mod Generated

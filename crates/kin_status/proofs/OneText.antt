@@ -45,7 +45,7 @@ pub cut_of_bad : (input said : List ℕ) (k line : ℕ) → script_of input ≡ 
 cut_of_bad input said k line e is = λ answer text p. subst (IsFront (take k said)) (is ∙ sym (answer_of input (Err line) e answer text p).1) (front_take k said)
 
 -- ---- which status a known input has: what is left of it stands behind what was taken
-left_of : (now : Option (List ℕ)) (input taken : List ℕ) → Consumes (Some input) now taken → (rest : List ℕ) × (now ≡ Some rest) × (input ≡ taken ++ rest)
+pub left_of : (now : Option (List ℕ)) (input taken : List ℕ) → Consumes (Some input) now taken → (rest : List ℕ) × (now ≡ Some rest) × (input ≡ taken ++ rest)
 left_of None input taken c = absurd c
 left_of (Some ys) input taken c = (ys, refl, c)
 

@@ -39,6 +39,7 @@ pub use Rattle.kin_script.specs.Changes.{PointChange, ChangesTo, IsChangeInRange
 pub use Rattle.kin_script.specs.Deeds.{Deed, asks, changes, deed_of, goes_on, goes_to}
 pub use Rattle.kin_script.specs.Generated.{IsGenerated, IsLeastSize, insertion, insertions, generated_keeps, questions}
 pub use Rattle.kin_script.specs.Grammar.{script_of}
+pub use Rattle.kin_script.specs.Inputs.{IsTextOf}
 pub use Rattle.kin_script.specs.Printed.{PutsFront}
 pub use Rattle.kin_script.specs.PrintedJournal.{block_lines, failure_line, journal_lines}
 pub use Rattle.kin_script.specs.Questions.{IsAnswerable, IsPresent, IsProvided, must_be_live}
@@ -53,7 +54,7 @@ pub use Rattle.kin_script.specs.declared.refusal.Refusal.TheVariants.{Absent, No
 pub use Rattle.kin_script.specs.declared.script.Script.{Script}
 pub use Rattle.kin_script.proofs.Questions.{answerable_allowed, deed_in_range, has_line, one_refused_question, one_reply_line, small_keep}
 pub use Rattle.kin_status.specs.Demo.{DemoTextsExist, IsDemoText, OneDemoText, WritesDemo, demo_line, failures_in, start_of}
-pub use Rattle.kin_status.specs.Headline.{Answers, IsAnswer, IsBrokenOff, IsCut, IsTextOf, OneAnswer, Outcome, TakesWhole, TextsExist, status_of_stop}
+pub use Rattle.kin_status.specs.Headline.{Answers, IsAnswer, IsBrokenOff, IsCut, OneAnswer, Outcome, TakesWhole, TextsExist, status_of_stop}
 pub use Rattle.kin_status.specs.Passed.{Passes, PassesInTurn, block_of_next, printed_if}
 pub use Rattle.kin_status.specs.Performed.{BreaksOff, IsCutOfText, IsFrontOfEach, IsReply, Performs, PutsLine, Replies}
 pub use Rattle.kin_status.specs.Tallies.{HasTallied, counted_on, tallied_on, tally_line}

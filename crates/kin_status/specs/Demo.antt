@@ -44,6 +44,8 @@ WritesDemo seed count (status.Command line refusal) written = ⊥
 WritesDemo seed count (status.Script line) written = ⊥
 WritesDemo seed count status.TooLong written = ⊥
 WritesDemo seed count status.Words written = ⊥
+WritesDemo seed count status.Differs written = ⊥
+WritesDemo seed count status.Unsplit written = ⊥
 
 -- each seed has a text with each count of 1..1024
 abbrev pub DemoTextsExist : Type 0

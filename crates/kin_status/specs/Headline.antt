@@ -1,10 +1,7 @@
 -- What a run writes and answers: the headline.
-use Rattle.std.specs.Prelude.{◌≡◌, ℕ, ◌+◌, ◌≤◌, ◌^◌, Bool, true, List, [], length, Option, Some, None, Ok, Err, ◌⊎◌}
+use Rattle.std.specs.Prelude.{◌≡◌, ℕ, ◌+◌, ◌≤◌, ◌^◌, Bool, true, List, [], length, Option, Some, None, ◌⊎◌}
 use Rattle.std.specs.Io.KnownBytes.{Consumes, Appends, IsAtEnd}
-use Rattle.kin_script.specs.declared.script.Script.{Script}
-use Rattle.kin_script.specs.Grammar.{script_of}
-use Rattle.kin_script.specs.Text.{bad_line, Text, Ending}
-use Rattle.kin_script.specs.States.{start}
+use Rattle.kin_script.specs.Inputs.{IsBadTextOf, IsTextOf}
 use Rattle.kin_status.specs.declared.status.Status.{Status}
 use Rattle.kin_status.specs.declared.status.Status.TheVariants as status
 use Rattle.kin_status.specs.declared.status.Side.TheVariants.{Read, Write}
@@ -12,21 +9,17 @@ use Rattle.kin_status.specs.declared.stop.Stop.{Stop}
 use Rattle.kin_status.specs.declared.stop.Stop.TheVariants as stop
 use Rattle.kin_status.specs.Written.{IsFront}
 
--- the input is a script, and this is its text, with its ending
-pub record IsTextOf (input text : List ℕ) (ending : Ending) : Type 0 where
-  pub script : Script
-  pub reads : script_of input ≡ Ok script
-  pub replays : Text (start script.size script.keeps script.journal) script.lines text ending
-
 -- the text of an input, with the status that it has where all of it is written
 abbrev pub IsAnswer : List ℕ → Status → List ℕ → Type 0
 IsAnswer input status.Done text = IsTextOf input text None
 IsAnswer input (status.Command line refusal) text = IsTextOf input text (Some (line, refusal))
-IsAnswer input (status.Script line) text = (script_of input ≡ Err line) × (text ≡ bad_line line)
+IsAnswer input (status.Script line) text = IsBadTextOf input line text
 IsAnswer input (status.Fault side) text = ⊥
 IsAnswer input status.TooLong text = ⊥
 IsAnswer input status.Words text = ⊥
 IsAnswer input status.NoMemory text = ⊥
+IsAnswer input status.Differs text = ⊥
+IsAnswer input status.Unsplit text = ⊥
 
 -- a prefix of the input's text, whichever that is
 abbrev pub IsCut : List ℕ → List ℕ → Type 0
@@ -70,6 +63,8 @@ IsBrokenOff (status.Fault side) = Unit {0}
 IsBrokenOff status.TooLong = ⊥
 IsBrokenOff status.Words = ⊥
 IsBrokenOff status.NoMemory = Unit {0}
+IsBrokenOff status.Differs = ⊥
+IsBrokenOff status.Unsplit = ⊥
 
 -- the status of a run that was broken off
 abbrev pub status_of_stop : Stop → Status

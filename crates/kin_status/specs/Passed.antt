@@ -30,7 +30,8 @@ Passes s (asks q) bs = bs ≡ []
 -- the blocks that numbered commands pass in turn, none of which is refused
 abbrev pub PassesInTurn : State → List (ℕ × Command) → List Block → Type 0
 PassesInTurn s [] bs = bs ≡ []
-PassesInTurn s (c ∷ cs) bs = (first : List Block) × (rest : List Block) × (t : State) × IsAllowed s (deed_of c.1) × Passes s (deed_of c.1) first × LeadsTo s (deed_of c.1) t
+PassesInTurn s (c ∷ cs) bs =
+    (first : List Block) × (rest : List Block) × (t : State) × IsAllowed s (deed_of c.1) × Passes s (deed_of c.1) first × LeadsTo s (deed_of c.1) t
     × PassesInTurn t cs rest × (bs ≡ first ++ rest)
 
 -- the lines of a block where the journal is on

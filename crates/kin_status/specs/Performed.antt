@@ -1,9 +1,11 @@
 -- What came of one command, and of several.
-use Rattle.std.specs.Prelude.{◌≡◌, ℕ, List, ◌++◌, Result, Ok, Err}
+use Rattle.std.specs.Prelude.{◌≡◌, ℕ, Bool, List, ◌++◌, Result, Ok, Err}
+use Rattle.kin_num.specs.declared.instant.Shape.{Shape}
+use Rattle.kin_num.specs.Quadratic.{Quadratic}
 use Rattle.kin_script.specs.declared.command.Command.{Command}
 use Rattle.kin_script.specs.Deeds.{Deed}
 use Rattle.kin_script.specs.Questions.{IsAnswerable, IsRefusedQuestion, IsReplyLine}
-use Rattle.kin_script.specs.Replay.{IsRefused, IsAllowed}
+use Rattle.kin_script.specs.Replay.{IsRefused, IsAllowed, IsNamedRoot}
 use Rattle.kin_script.specs.Alike.{IsAlike}
 use Rattle.kin_script.specs.States.{State}
 use Rattle.kin_script.specs.Text.{Step, Text, Ending, Prints}
@@ -54,6 +56,10 @@ abbrev pub Performs : {E : Type 0} → State → Deed → Result E Halt → Prin
 Performs s d (Ok x) p q t = GainsSome (λ text. (u : State) × Step s d text u × IsAlike u t) p q
 Performs s d (Err (Refused r)) p q t = IsRefused s d r × (q ≡ p) × (t ≡ s)
 Performs s d (Err (Broken stop)) p q t = IsAllowed s d × BreaksOff (IsFrontOfEach (Prints s d)) stop p q
+
+-- whichever root of whichever quadratic names the instant
+abbrev pub HoweverNamed : Shape → (Bool → Quadratic → Type 0) → Type 0
+HoweverNamed asked P = (upper : Bool) (p : Quadratic) → IsNamedRoot upper p asked → P upper p
 
 -- where the command was refused
 abbrev pub OnRefused : {E : Type 0} → Result E Halt → Type 0 → Type 0

@@ -7,6 +7,9 @@ ghost use Rattle.kin_status.specs.Headline.{status_of_stop};
 use crate::stop::Stop;
 use kin_script::refusal::Refusal;
 
+/// The most bytes of an input.
+pub const LIMIT: u32 = 1 << 20;
+
 /// The side on which a call failed.
 #[derive(Clone, Copy, Debug, PartialEq, Eq)]
 pub enum Side {
@@ -17,7 +20,7 @@ pub enum Side {
 /// How a run ends. The program's exit status follows it.
 #[derive(Clone, Copy, Debug, PartialEq, Eq)]
 pub enum Status {
-    /// The whole text was written.
+    /// The whole text was written; or the claimed text is that of its script.
     Done,
     /// A call on the source or on the sink failed.
     Fault(Side),
@@ -27,10 +30,14 @@ pub enum Status {
     Command(u32, Refusal),
     /// The input has more than 2^20 bytes.
     TooLong,
-    /// The arguments have neither form.
+    /// The arguments have none of the forms.
     Words,
     /// There was no memory.
     NoMemory,
+    /// The claimed text isn't that of its script.
+    Differs,
+    /// No line of the input is the one byte `=`, so there is no claimed text.
+    Unsplit,
 }
 
 impl Status {
@@ -41,10 +48,11 @@ impl Status {
         match self {
             Status::Done => 0,
             Status::Fault(_) => 1,
-            Status::Script(_) | Status::TooLong => 2,
+            Status::Script(_) | Status::TooLong | Status::Unsplit => 2,
             Status::Command(_, _) => 3,
             Status::NoMemory => 4,
             Status::Words => 5,
+            Status::Differs => 6,
         }
     }
 }

@@ -16,6 +16,8 @@ const MOST_POINTS: u32 = 1024;
 pub enum Asked {
     /// That of the script on the source.
     Run,
+    /// The verdict on the script and the claimed text on the source.
+    Check,
     /// That of the generated script of a seed, with this many points.
     Demo { seed: u32, count: u32 },
 }
@@ -33,13 +35,14 @@ fn demo(seed: &[u8], count: &[u8]) -> Option<Asked>
     Some(Asked::Demo { seed, count })
 }
 
-/// What the arguments ask for, or `None` where they have neither form.
+/// What the arguments ask for, or `None` where they have none of these forms.
 pub fn parse(words: &[String]) -> Option<Asked>
     ensures form { result ≡ asked_of words.now }
     ensures range { IfSome result IsAskable }
 {
     match words {
         [word] if word.as_str() == "run" => Some(Asked::Run),
+        [word] if word.as_str() == "check" => Some(Asked::Check),
         [word, seed, count] if word.as_str() == "demo" => demo(seed.as_bytes(), count.as_bytes()),
         _ => None,
     }

@@ -35,6 +35,7 @@ module _ (w : World) (whole : IsWhole w) (m : Moment) where
   pub leg_comes : (n : Next) → IsNext (world_view w) n → comes_at n ≡ Some m → IsJournal (world_setting w) w.moment m [] → IsNext (world_view w) (leg m)
   leg_comes (block c) is at quiet =
       let same = same_Some c.moment m at in
-      absurd (block_is_listed (world_setting w) w.moment m c whole.canonical (comes_canonical (block c) is at) is.next (subst (λ (x : Moment). ¬ (IsEarlier x c.moment)) same (never c.moment is.next.canonical)) quiet)
+      absurd (block_is_listed (world_setting w) w.moment m c whole.canonical (comes_canonical (block c) is at) is.next
+      (subst (λ (x : Moment). ¬ (IsEarlier x c.moment)) same (never c.moment is.next.canonical)) quiet)
   leg_comes (leg k) is at quiet = subst (λ (x : Moment). IsNext (world_view w) (leg x)) (same_Some k m at) is
   leg_comes nothing is at quiet = absurd (let clash : None ≡ Some m = at in cc)

@@ -51,7 +51,8 @@ IsRefusedTurn w number u v Lost = IsLost w
 IsRefusedTurn w number u v BadNumber = IsHere w × ¬ (IsSlowVelocity u v)
 IsRefusedTurn w number u v Absent = IsHere w × IsSlowVelocity u v × IsAbsent w number
 IsRefusedTurn w number u v NotWhole = IsHere w × IsSlowVelocity u v × ((had : Course) × (motion_of w.motions number ≡ Some had) × IsNotWhole w.moment u v had)
-IsRefusedTurn w number u v OutOfBounds = IsHere w × IsSlowVelocity u v × ((had : Course) × (motion_of w.motions number ≡ Some had) × IsOutOfBounds w.moment u v had)
+IsRefusedTurn w number u v OutOfBounds =
+    IsHere w × IsSlowVelocity u v × ((had : Course) × (motion_of w.motions number ≡ Some had) × IsOutOfBounds w.moment u v had)
 IsRefusedTurn w number u v NoMemory = MayTurn w number u v
 IsRefusedTurn w number u v _ = ⊥
 
@@ -71,7 +72,8 @@ IsRefusedLeg w number at u v Lost = IsLost w
 IsRefusedLeg w number at u v BadNumber = IsHere w × ¬ (IsLegInRange at u v)
 IsRefusedLeg w number at u v Absent = IsHere w × IsLegInRange at u v × IsAbsent w number
 IsRefusedLeg w number at u v Past = IsHere w × IsLegInRange at u v × IsPresent w number × IsOver w.moment at
-IsRefusedLeg w number at u v Planned = IsHere w × IsLegInRange at u v × ((plan : Plan) × HasPlan w number plan × IsEarlier w.moment (just_at (whole at)) × HasLegFrom plan at)
+IsRefusedLeg w number at u v Planned =
+    IsHere w × IsLegInRange at u v × ((plan : Plan) × HasPlan w number plan × IsEarlier w.moment (just_at (whole at)) × HasLegFrom plan at)
 IsRefusedLeg w number at u v OutOfBounds = IsHere w × IsLegInRange at u v × ((plan : Plan) × HasPlan w number plan × FollowsTooFast w.moment plan at u v)
 IsRefusedLeg w number at u v NoMemory = MayPlan w number at u v
 IsRefusedLeg w number at u v _ = ⊥

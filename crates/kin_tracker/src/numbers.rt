@@ -2,11 +2,12 @@
 
 ghost use Rattle.std.specs.Prelude.{◌≡◌, IsTrue, IsFalse, Some, IfOk, OnOk, IfErr, if◌then◌else◌};
 ghost use Rattle.kin_num.specs.Order.{IsEarlier};
-ghost use Rattle.kin_num.specs.Quadratic.{quadratic};
+ghost use Rattle.kin_num.specs.Quadratic.{IsSmall, quadratic};
 ghost use Rattle.kin_motion.specs.Course.{IsSlow};
 ghost use Rattle.kin_motion.specs.Turning.{just_at};
 ghost use Rattle.kin_instant.specs.Sides.{IsRootOn};
 ghost use Rattle.kin_tracker.specs.Numbers.{IsRefusedMotion, IsAtFraction, IsRefusedFraction, IsAtRoot, IsRefusedRoot};
+ghost use Rattle.kin_tracker.specs.Ranges.{IsFractionInRange};
 
 use crate::ranges::{is_fraction_in_range, is_slow, is_small};
 use crate::refusal::Refusal;
@@ -33,6 +34,7 @@ pub fn motion(x: i32, y: i32, u: i32, v: i32) -> Result<Motion, Refusal>
 /// The moment at the instant `n / d`, in lowest terms or not, where `n` is less than 2^31 in size and `d` is in 1..2^31 - 1.
 pub fn fraction(n: i64, d: i64) -> Result<Moment, Refusal>
     ensures found { IfOk result (IsAtFraction n d) }
+    ensures range { OnOk result (IsFractionInRange n d) }
     ensures refused { IfErr result (IsRefusedFraction n d) }
 {
     if !is_fraction_in_range(n, d) {
@@ -45,6 +47,7 @@ pub fn fraction(n: i64, d: i64) -> Result<Moment, Refusal>
 /// that one. `a` and `c` are in -2^29..2^29, and `b` is in -2^31..2^31.
 pub fn root(a: i64, b: i64, c: i64, upper: bool) -> Result<Moment, Refusal>
     ensures found { IfOk result (IsAtRoot a b c upper) }
+    ensures range { OnOk result (IsSmall (quadratic a b c)) }
     ensures refused { IfErr result (IsRefusedRoot a b c upper) }
 {
     if !is_small(a, b, c) {

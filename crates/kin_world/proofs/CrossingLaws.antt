@@ -2,27 +2,23 @@
 use Rattle.std.proofs.lemmas.List.{append_assoc}
 use Rattle.std.proofs.lemmas.List.Elements.{Contains-append_cases, Contains-append_left}
 use Rattle.std.proofs.lemmas.List.Folds.{fold-map}
-use Rattle.std.proofs.lemmas.List.Sums.{length-filter, sum_by-append, sum_by-cons}
-use Rattle.std.specs.Prelude.{◌*◌, Bool, count_by, filter, sum_by, option_map}
+use Rattle.std.proofs.lemmas.List.Sums.{sum_by-append}
+use Rattle.std.specs.Prelude.{◌*◌, count_by, option_map}
 use Rattle.kin_world.proofs.Vocabulary.{◌≡◌, ◌↔◌, inl, inr, refl, sym, ap, ◌∙◌, subst, arith, ℕ, ◌+◌, ◌≤◌, true, List, [], ◌∷◌, ◌++◌, map, length, Option, Some, slice_set, Contains}
-use Rattle.kin_world.proofs.Vocabulary.{IsCanonical, IsEarlier, Moment, never, through, total, Course, motion_of, Certificate, IsLiveFact, ListsLive, FailsFirst, HoldsAt, Holds, Scene, scene_at, AreDistinct}
-use Rattle.kin_world.proofs.Vocabulary.{contains_map, distinct_filter, filter-complete, filter-sound, NoneFailsUntil, IsLeastFailure, certificates_of, nothing_until}
+use Rattle.kin_world.proofs.Vocabulary.{IsCanonical, IsEarlier, Moment, never, through, total, Course, motion_of, Certificate, IsLiveFact, ListsLive, FailsFirst, HoldsAt, Holds, Scene, scene_at}
+use Rattle.kin_world.proofs.Vocabulary.{contains_map, NoneFailsUntil, IsLeastFailure, certificates_of, nothing_until}
 use Rattle.kin_world.proofs.Vocabulary.{HasTakenUp, IsSound, MayTakeUp, Stage, setting, sight, Leg, AreAhead, AreFollowed, begins_at, piece_of, plans_of, Planning}
 use Rattle.kin_world.proofs.Vocabulary.{Flight, HasCrossed, IsAtEase, IsReady, NoneIsPast, seen, FailsWithin, facts_as_begins, is_about, world_plans, world_setting}
-use Rattle.kin_num.proofs.MomentOrder.{not_earlier_trans}
 use Rattle.kin_motion.specs.Agreements.{FitsSize}
-use Rattle.kin_motion.specs.Journal.{Setting}
 use Rattle.kin_motion.specs.Moments.{IsFromUntil}
 use Rattle.kin_motion.specs.Live.{live_facts}
 use Rattle.kin_motion.specs.Plans.{Leg as Piece, Plan, is_begun, motions_in_force, plans_scene}
 use Rattle.kin_motion.specs.Scene.{IsReal}
 use Rattle.kin_motion.specs.Turning.{TurnsTo}
 use Rattle.kin_motion.proofs.LiveFactLaws.{live_facts_agree}
-use Rattle.kin_motion.proofs.SetSizes.{no_longer}
 use Rattle.kin_cert.specs.Cost.{IsEnough, TakesAtMost}
 use Rattle.kin_cert.specs.Remade.{names_number}
 use Rattle.kin_cert.specs.Facts.{Facts, LiveFact}
-use Rattle.std.proofs.Common.{ap₂}
 use Rattle.kin_algebra.proofs.Members.{contains_cases, contains_head, contains_none, contains_tail}
 use Rattle.kin_legs.specs.Paths.{beginning, plans_left, IsFair, NoneBeginsBetween}
 use Rattle.kin_legs.specs.Planned.{planned}
@@ -32,45 +28,10 @@ use Rattle.kin_legs.proofs.BeginLaws.{legs_begin_in_time, own_canonical}
 use Rattle.kin_legs.proofs.FollowedLaws.{all_ahead, begun_followed, first_is_earliest, has_motion, leads_in, leg_fair, leg_listed}
 use Rattle.kin_legs.proofs.JoinedLaws.{begun_legs_are_motions}
 use Rattle.kin_legs.proofs.LeftLaws.{still_begun}
-use Rattle.kin_legs.proofs.ShownLaws.{alike_journals, force_left, motions_show_alike, quiet_times_add_nothing}
+use Rattle.kin_legs.proofs.ShownLaws.{alike_journals, force_left, motions_show_alike}
+use Rattle.kin_world.proofs.LegSums.{same_count}
+use Rattle.kin_world.proofs.QuietTimes.{quiet_through, show_through}
 use Rattle.kin_world.proofs.SoundLaws.{fits, in_time, least_fails, live_holds, lists_live, real, sound_later}
-
--- ---- what settings show alike
-pub show_back : {now last : Moment} {t u : Setting} → ShowAlike now last t u → ShowAlike now last u t
-show_back alike = record { size = sym alike.size; keeps = sym alike.keeps; scene = λ m there from until. sym (alike.scene m there from until) }
-
-pub show_through : {now last : Moment} {t u v : Setting} → ShowAlike now last t u → ShowAlike now last u v → ShowAlike now last t v
-show_through one two = record { size = one.size ∙ two.size; keeps = one.keeps ∙ two.keeps; scene = λ m there from until. one.scene m there from until ∙ two.scene m there from until }
-
--- a quiet time after a quiet time
-pub quiet_through : (t : Setting) (a b c : Moment) → IsCanonical a.at → IsQuiet t a b → IsQuiet t b c → IsQuiet t a c
-quiet_through t a b c here one two = record {
-  canonical = two.canonical;
-  not_before = not_earlier_trans a b c here.form one.canonical.form two.canonical.form one.not_before two.not_before;
-  none_fails = quiet_times_add_nothing t a b c [] here two.canonical one two.none_fails;
-  same = λ x. (λ h. (two.same x).0 ((one.same x).0 h), λ h. (one.same x).1 ((two.same x).1 h));
-}
-
--- ---- sums over legs
-pub more_a_leg : (f : Leg → ℕ) (k : ℕ) (ls : List Leg) → sum_by (λ l. f l + k) ls ≡ sum_by f ls + k * length ls
-more_a_leg f k [] = omega arith
-more_a_leg f k (l ∷ ls) =
-    let rest = more_a_leg f k ls in
-    let one = sum_by-cons (λ (j : Leg). f j + k) l ls in
-    let own = sum_by-cons f l ls in
-    grind (arith, rest, one, own)
-
-pub same_sum : (f g : Leg → ℕ) (ls : List Leg) → ((l : Leg) → Contains ls l → f l ≡ g l) → sum_by f ls ≡ sum_by g ls
-same_sum f g [] same = refl
-same_sum f g (l ∷ ls) same =
-    sum_by-cons f l ls ∙ ap₂ (λ a b. a + b) (same l (contains_head l ls)) (same_sum f g ls (λ k there. same k (contains_tail l k ls there))) ∙ sym (sum_by-cons g l ls)
-
--- two lists with the same members, none twice, have as many of each kind
-pub same_count : (p : Certificate → Bool) (xs ys : List Certificate) → AreDistinct xs → AreDistinct ys → ((c : Certificate) → Contains xs c ↔ Contains ys c) → count_by p xs ≡ count_by p ys
-same_count p xs ys once once' same =
-    let one = no_longer (filter p xs) (filter p ys) (distinct_filter p xs once) (λ c h. let k = filter-sound p xs c h in filter-complete p ys c ((same c).0 k.0) k.1) in
-    let two = no_longer (filter p ys) (filter p xs) (distinct_filter p ys once') (λ c h. let k = filter-sound p ys c h in filter-complete p xs c ((same c).1 k.0) k.1) in
-    omega (arith, one, two, length-filter p xs, length-filter p ys)
 
 -- ---- a world that is ready
 module _ {f : Flight} (ready : IsReady f) where

@@ -26,6 +26,8 @@ pub mod PaidLaws
 pub mod Becoming
 pub mod Frugal
 pub mod NextStops
+pub mod QuietTimes
+pub mod LegSums
 pub mod CrossingLaws
 pub mod Beginnings
 pub mod Ways

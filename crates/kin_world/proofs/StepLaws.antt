@@ -22,7 +22,8 @@ use Rattle.kin_legs.proofs.SceneLaws.{same_live}
 use Rattle.kin_legs.proofs.ShownLaws.{alike_blocks, force_left, quiet_times_add_no_block}
 use Rattle.kin_world.specs.Costs.{AreAsked, IsStepCost, cost_of_legs}
 use Rattle.kin_world.specs.Paid.{IsRepaid, IsSeenBefore}
-use Rattle.kin_world.proofs.CrossingLaws.{more_a_leg, motions_alike, same_keeps, same_size, same_sum, shown_here, shown_since, start_alike}
+use Rattle.kin_world.proofs.CrossingLaws.{motions_alike, same_keeps, same_size, shown_here, shown_since, start_alike}
+use Rattle.kin_world.proofs.LegSums.{more_a_leg, same_sum}
 use Rattle.kin_world.proofs.SoundLaws.{fits, live_holds, lists_live, real, whole as whole_world}
 
 -- ---- the legs that have begun

@@ -23,7 +23,8 @@ pub fn settle_at<O: Signs, L: Ledger>(
     requires real { IsReal (O.scene now.now) }
     requires within { place < length structures.old }
     requires may { (st : Kept) → slice_get structures.old place ≡ Some st → MaySettle (O.scene now.now) (take place structures.old) st failed.now }
-    ensures { OnOk result (HasChangedAt place (λ live. live ≡ (O.scene now.now).live) (O.scene now.now) structures.old structures.new out.old out.new steps.old steps.new) }
+    ensures { OnOk result (HasChangedAt place (λ live. live ≡ (O.scene now.now).live) (O.scene now.now)
+        structures.old structures.new out.old out.new steps.old steps.new) }
 {
     let (before, rest) = structures.split_at_mut(place);
     rest[0].settle(before, now, failed, out, steps)
@@ -42,7 +43,8 @@ pub fn carry_out_at<O: Signs, L: Ledger>(
     requires real { IsReal (O.scene now.now) }
     requires within { place < length structures.old }
     requires may { (st : Kept) → slice_get structures.old place ≡ Some st → MayCarryOut mark (O.scene now.now) (take place structures.old) st }
-    ensures { OnOk result (HasChangedAt place (λ live. AreLiveAfter mark live (O.scene now.now).live) (O.scene now.now) structures.old structures.new out.old out.new steps.old steps.new) }
+    ensures { OnOk result (HasChangedAt place (λ live. AreLiveAfter mark live (O.scene now.now).live) (O.scene now.now)
+        structures.old structures.new out.old out.new steps.old steps.new) }
 {
     let (before, rest) = structures.split_at_mut(place);
     rest[0].carry_out(mark, before, now, out, steps)

@@ -50,7 +50,8 @@ pub(crate) fn repair_pair<O: Signs, L: Ledger>(
     ensures settled { OnOk result (IsSettledKinDiameter pair.new (O.scene now.now)) }
     ensures size { OnOk result (pair.new.size ≡ pair.old.size) }
     ensures delta { OnOk result (HasChanged (facts_of pair.old) (facts_of pair.new) out.old out.new) }
-    ensures within { OnOk result ((v : Scene) → IsReal v → IsSettledKinDiameter pair.old v → HaveSameLive v (O.scene now.now) → HasRisenWithin (MayDiameterAsk pair.old.size v (O.scene now.now)) steps.old steps.new) }
+    ensures within { OnOk result ((v : Scene) → IsReal v → IsSettledKinDiameter pair.old v → HaveSameLive v (O.scene now.now)
+        → HasRisenWithin (MayDiameterAsk pair.old.size v (O.scene now.now)) steps.old steps.new) }
 {
     let hull = hull_among(before);
     let (upper, lower) = (hull.upper(), hull.lower());
@@ -80,7 +81,8 @@ pub(crate) fn follow_hull<O: Signs, L: Ledger>(
     ensures settled { OnOk result (IsSettledKinDiameter pair.new (O.scene now.now)) }
     ensures size { OnOk result (pair.new.size ≡ pair.old.size) }
     ensures delta { OnOk result (HasChanged (facts_of pair.old) (facts_of pair.new) out.old out.new) }
-    ensures within { OnOk result ((v : Scene) → IsSettledKinDiameter pair.old v → AreLiveAfter mark v.live (O.scene now.now).live → HasRisenWithin (MayDiameterAsk pair.old.size v (O.scene now.now)) steps.old steps.new) }
+    ensures within { OnOk result ((v : Scene) → IsSettledKinDiameter pair.old v → AreLiveAfter mark v.live (O.scene now.now).live
+        → HasRisenWithin (MayDiameterAsk pair.old.size v (O.scene now.now)) steps.old steps.new) }
 {
     let hull = hull_among(before);
     pair.chains(hull.upper(), hull.lower())?;

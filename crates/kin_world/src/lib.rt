@@ -3,8 +3,8 @@
 //! This is the event loop of a kinetic data structure (Basch, Guibas and Hershberger, "Data Structures for Mobile Data",
 //! 1999), one step at a time: `World::step` moves to the first moment at which live facts fail, rational or irrational,
 //! repairs all structures there together, and answers what failed. A contract sees a world as its motions, its planned
-//! legs, its moment and its live facts (`specs/Worlds`). `Upkeep` is written for any kind of structure; what holds of every kind is in
-//! `specs/Structures`.
+//! legs, its moment and its live facts (`specs/Worlds`). `Upkeep` is written for any kind of structure; what holds of every
+//! kind is in `specs/Structures`.
 //!
 //! A program that uses a world imports the names of lower crates from here.
 #![tactic(auto)]

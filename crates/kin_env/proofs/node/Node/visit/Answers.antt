@@ -1,32 +1,17 @@
-use Rattle.std.proofs.Common.{◌≡◌, ◌⊎◌, inr, sym, ap, ◌∙◌, subst, List, [], ℕ}
+use Rattle.std.proofs.Common.{◌≡◌, inr, sym, ◌∙◌, subst, List, [], ℕ}
 use Rattle.std.proofs.lemmas.Bool.{eqb-true}
 use Rattle.std.proofs.lemmas.List.{nil_from_length}
-use Rattle.std.specs.Prelude.{Option, None}
+use Rattle.std.specs.Prelude.{Option}
 use Rattle.kin_algebra.proofs.Results.{for_ok, at_ok}
-use Rattle.kin_motion.specs.Deltas.{Change}
 use Rattle.kin_motion.specs.Kinetics.{HasChanged}
-use Rattle.kin_motion.specs.Scene.{Scene}
 use Rattle.kin_overlay.specs.Overlays.{Merge}
-use Rattle.kin_env.specs.declared.node.Node.{Node}
-use Rattle.kin_env.specs.Joints.{Leads, IsJoint, IsSettledThere, IsVisited}
+use Rattle.kin_env.specs.Joints.{Leads, IsJoint}
 use Rattle.kin_env.specs.Nodes.{chain_with, chain_of, facts_with}
+use Rattle.kin_env.proofs.Following.{one_kept}
 use Rattle.kin_env.proofs.Mending.{no_merge, merge_told, mended_node}
 use Rattle.kin_env.proofs.Paid.{nothing_asked}
 use Rattle.kin_env.proofs.Tellings.{none_failed}
 use Rattle.kin_env.proofs.node.Node.visit.Goals as goal
-
--- a node that passes on the chain of one half, where the other one is empty
-one_kept : (v : ℕ) (s : Scene) (old new left right : Node) (before after : Change) (xs : List ℕ) → new.merge ≡ None → new.passed.items ≡ xs → ((chain_of left ≡ []) × (xs ≡ chain_of right)) ⊎ ((chain_of right ≡ []) × (xs ≡ chain_of left))
-    → Leads new.edits.items (chain_of old) xs → new.failed.items ≡ [] → HasChanged (facts_with old.merge) [] before after → IsVisited v s old new left right before after
-one_kept v s old new left right before after xs none passed one leads idle changed = record {
-  joint =
-      subst (λ (m : Option Merge). IsJoint v m new.passed.items (chain_of left) (chain_of right)) (sym none)
-      (subst (λ (l : List ℕ). ((chain_of left ≡ []) × (l ≡ chain_of right)) ⊎ ((chain_of right ≡ []) × (l ≡ chain_of left))) (sym passed) one);
-  now = subst (λ (m : Option Merge). IsSettledThere s m) (sym none) tt;
-  leads = subst (λ (l : List ℕ). Leads new.edits.items (chain_of old) l) (sym (ap (λ (m : Option Merge). chain_with m new.passed.items) none ∙ passed)) leads;
-  failed = idle;
-  changed = subst (λ (m : Option Merge). HasChanged (facts_with old.merge) (facts_with m) before after) (sym none) changed;
-}
 
 pub keep_one-requires-clause-idle : goal.keep_one-requires-clause-idle
 keep_one-requires-clause-idle g c = none_failed c.args.self.now.merge c.requires.told.spared (g.O.Signs.scene c.args.now.now) c.args.self.now.failed.items c.requires.told.failing

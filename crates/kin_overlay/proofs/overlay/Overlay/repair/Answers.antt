@@ -16,7 +16,7 @@ use Rattle.kin_overlay.specs.Repairing.{IsPaid}
 use Rattle.kin_overlay.specs.Standings.{IsUnfailed}
 use Rattle.kin_overlay.specs.Walks.{chain_read}
 use Rattle.kin_overlay.proofs.FactLaws.{merged-settled, merged-same, changed}
-use Rattle.kin_overlay.proofs.PastLaws.{whole-new, whole-cleared, known-past, failed-fail, reports-pay}
+use Rattle.kin_overlay.proofs.PastLaws.{whole-new, whole-cleared, known-past, given-past, failed-fail, reports-pay}
 use Rattle.kin_overlay.proofs.AgainLaws.{alike_where}
 use Rattle.kin_overlay.proofs.LinkedLaws.{linked-noted}
 use Rattle.kin_overlay.proofs.ReadLaws.{read-merged, threaded}
@@ -27,7 +27,7 @@ use Rattle.kin_overlay.proofs.overlay.Overlay.repair.Goals as goal
 use Rattle.kin_overlay.proofs.overlay.Overlay.repair.Goals.{In_ok-known, In_ok-copy}
 
 -- the reports pay for what the repair asks
-paid : (g : given.Over) (c : In_ok-known g) → ArePutsApart c.args.self.now → IsPaid (facts_of c.self.inside.list) (facts_of c.merge.new.self) c.args.steps.now c.merge.new.steps
+paid : (g : given.Over) (c : In_ok-known g) → ArePutsApart c.args.self.now → IsPaid (facts_of c.self.inside.list) (facts_of c.repair.new.self) c.args.steps.now c.repair.new.steps
 paid g c apart =
     let o = c.self.inside in
     let ready = rw (sym c.self.view_is) at c.requires.ready in
@@ -64,34 +64,41 @@ renew-requires g c =
     let new = merged-same _ _ _ _ _ _ _ c.as_slice.ensures c.as_slice-2.ensures refl c.in_ok-known.ensures.merged in
     record {
       once = kept.once;
-      read = (o.list, kept.read, alike_where o.list c.merge.new.self c.with_ends-same.result c.between-shared.result p.merged.left (threaded kept.whole.past.scene _ _ o.list _ p.a_some p.b_some p.merged p.merged.left) new.left (threaded s _ _ c.merge.new.self _ ready.a_some ready.b_some new new.left) c.between-shared.ensures.one c.with_ends-same.ensures.front c.with_ends-same.ensures.back c.with_ends-same.ensures.left c.with_ends-same.ensures.right);
+      read = (o.list, kept.read, alike_where o.list c.repair.new.self c.with_ends-same.result c.between-shared.result p.merged.left (threaded kept.whole.past.scene _ _ o.list _ p.a_some p.b_some p.merged p.merged.left) new.left (threaded s _ _ c.repair.new.self _ ready.a_some ready.b_some new new.left) c.between-shared.ensures.one c.with_ends-same.ensures.front c.with_ends-same.ensures.back c.with_ends-same.ensures.left c.with_ends-same.ensures.right);
     }
 
-pub merge-requires-clause-a_once : goal.merge-requires-clause-a_once
-merge-requires-clause-a_once g c =
+pub repair-requires-clause-a_once : goal.repair-requires-clause-a_once
+repair-requires-clause-a_once g c =
     let s = g.O.Signs.scene c.args.now.now in
     let chain = rw (sym c.self.view_is) at c.requires.ready.a_chain in
     subst IsOnce (sym c.as_slice.ensures) (rising_once s (real_line_laws s c.requires.real) c.self.inside.a.items chain.rising)
 
-pub merge-requires-clause-b_once : goal.merge-requires-clause-b_once
-merge-requires-clause-b_once g c =
+pub repair-requires-clause-b_once : goal.repair-requires-clause-b_once
+repair-requires-clause-b_once g c =
     let s = g.O.Signs.scene c.args.now.now in
     let chain = rw (sym c.self.view_is) at c.requires.ready.b_chain in
     subst IsOnce (sym c.as_slice-2.ensures) (rising_once s (real_line_laws s c.requires.real) c.self.inside.b.items chain.rising)
 
-pub merge-requires-clause-standing : goal.merge-requires-clause-standing
-merge-requires-clause-standing g c = λ f there u.
+pub repair-requires-clause-standing : goal.repair-requires-clause-standing
+repair-requires-clause-standing g c = λ f there u.
     let s = g.O.Signs.scene c.args.now.now in
     let o = c.self.inside in
     let listed = rw (sym c.self.view_is) at c.requires.failing in
     still-stand s o.part o.list c.args.failed.now o.notes.gone listed f there (subst (λ (l : List ℕ). IsUnfailed c.args.failed.now l f) c.gone.ensures u)
 
-pub merge-requires-clause-linked : goal.merge-requires-clause-linked
-merge-requires-clause-linked g c =
+pub repair-requires-clause-linked : goal.repair-requires-clause-linked
+repair-requires-clause-linked g c =
     let o = c.self.inside in
     let ready = rw (sym c.self.view_is) at c.requires.ready in
     let p = (sound o.stage _ ready.whole c.self.invariant).whole.is_past in
     linked-noted _ _ _ _ p.merged.noted p.merged.in_place
+
+pub repair-requires-clause-past : goal.repair-requires-clause-past
+repair-requires-clause-past g c =
+    let o = c.self.inside in
+    let ready = rw (sym c.self.view_is) at c.requires.ready in
+    let w = (sound o.stage _ ready.whole c.self.invariant).whole in
+    (w.past, given-past w.past _ o.notes.put_a o.notes.put_b o.notes.gone o.a.items o.b.items _ _ _ _ _ c.put_a.ensures c.put_b.ensures c.gone.ensures c.as_slice.ensures c.as_slice-2.ensures w.is_past)
 
 pub invariant_of-self-2 : goal.invariant_of-self-2
 invariant_of-self-2 g c =
@@ -130,7 +137,7 @@ returns-clause-repaired g c =
       same = search rules;
       gone = search rules;
       unedited = record { put_a = search rules; put_b = search rules; drop_a = search rules; drop_b = search rules };
-      tests = λ apart. rw (sym c.out.view_is) (reports-pay o.part o.list c.merge.new.self c.args.steps.now c.merge.new.steps before after c.in_ok-tell_missing.ensures c.in_ok-tell_missing-2.ensures (paid g (goal.at.returns-clause-repaired g c).In_ok-known apart));
+      tests = λ apart. rw (sym c.out.view_is) (reports-pay o.part o.list c.repair.new.self c.args.steps.now c.repair.new.steps before after c.in_ok-tell_missing.ensures c.in_ok-tell_missing-2.ensures (paid g (goal.at.returns-clause-repaired g c).In_ok-known apart));
     }
 
 -- of an `Err` nothing is said but that the merge is broken

@@ -30,5 +30,6 @@ returns-in-Err-OutOfBounds-clause-refused c =
     let here = (c.is_whole.ensures.whole c.if-not-is_whole.false).whole in
     let slow = rw (clean w32 c.args.u c.ranges.u.sfits, clean w32 c.args.v c.ranges.v.sfits) at c.is_slow_velocity.ensures.yes c.if-not-is_slow_velocity.false in
     let had = sym c.motion.ensures.value ∙ c.in-Some.is in
-    let outside = (rw (clean w32 c.args.u c.ranges.u.sfits, clean w32 c.args.v c.ranges.v.sfits, c.in-Err-OutOfBounds.field-0-is) at c.in-Err-OutOfBounds.ensures.outside c.in-Some.field-0 had).0 refl in
+    let outside =
+    (rw (clean w32 c.args.u c.ranges.u.sfits, clean w32 c.args.v c.ranges.v.sfits, c.in-Err-OutOfBounds.field-0-is) at c.in-Err-OutOfBounds.ensures.outside c.in-Some.field-0 had).0 refl in
     rw (sym c.self.view_is) (here, slow, (c.in-Some.field-0, had, outside))

@@ -1,9 +1,9 @@
 use Rattle.std.proofs.Common.{length}
 use Rattle.kin_diameter.specs.Changes.{DifferBetween}
-use Rattle.kin_diameter.proofs.changes.without_front.Given as goal
+use Rattle.kin_diameter.proofs.between.without_front.Given as goal
 
 abbrev pub invariant-front : goal.invariant-front
-invariant-front l = DifferBetween l.fn.old l.fn.new l.old_rest l.new_rest
+invariant-front g l = DifferBetween l.fn.old l.fn.new l.old_rest l.new_rest
 
 abbrev pub decreases-front : goal.decreases-front
-decreases-front l = length l.old_rest
+decreases-front g l = length l.old_rest
