@@ -20,7 +20,7 @@ use Rattle.kin_sorted.specs.Sorting.{Sorting, unmarked}
 use Rattle.kin_sorted.proofs.OrderingLaws.{absent_first, absent_last}
 use Rattle.kin_sorted.proofs.RowLaws.{is_in_from_get}
 use Rattle.kin_boxes.specs.Boxing.{AreJoined}
-use Rattle.kin_boxes.specs.BoxFacts.{low_end, high_end, kind, point}
+use Rattle.kin_motion.specs.BoxFacts.{low_end, high_end, kind, point}
 use Rattle.kin_boxes.specs.Sweeps.{pair_of, met, meets, HasBox, HasBoxes}
 use Rattle.kin_boxes.proofs.Marking.{none_marked}
 use Rattle.kin_boxes.proofs.Sweeping.{swept, before_first}

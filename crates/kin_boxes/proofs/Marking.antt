@@ -15,7 +15,7 @@ use Rattle.kin_sorted.specs.BoxEnds.{end_slot}
 use Rattle.kin_sorted.specs.Marks.{Marks, marked, with_entering, with_leaving, without_all}
 use Rattle.kin_sorted.specs.Sorting.{Sorting, unmarked}
 use Rattle.kin_sorted.proofs.ListLaws.{without_none, is_in-without_all}
-use Rattle.kin_boxes.specs.BoxFacts.{low_end, high_end, point}
+use Rattle.kin_motion.specs.BoxFacts.{low_end, high_end, point}
 use Rattle.kin_boxes.specs.Boxing.{entering_box, leaving_box, AreJoined, IsVacantAlong}
 
 pub low_slot : (e : End) (who : ℕ) → e ≡ record { point = who; side = Low } → end_slot e ≡ low_end who

@@ -25,12 +25,12 @@ use Rattle.kin_motion.specs.Records.{stands_before}
 use Rattle.kin_motion.specs.Scene.{Scene, IsReal}
 use Rattle.kin_motion.specs.Sets.{ListsExactly}
 use Rattle.kin_sorted.specs.BoxEnds.{ends}
-use Rattle.kin_sorted.specs.Laws.{IsRanking}
-use Rattle.kin_sorted.specs.Ranks.{is_before}
+use Rattle.kin_motion.specs.Rankings.{IsRanking}
+use Rattle.kin_motion.specs.Ranks.{is_before}
 use Rattle.kin_sorted.proofs.OrderingLaws.{stands_in_order}
-use Rattle.kin_boxes.specs.BoxFacts.{low_end, high_end, kind, point, end_form, end_leads, end_before, IsEndOrder}
-use Rattle.kin_boxes.specs.EndLaws.{same_before, from_order, ends_live}
-use Rattle.kin_boxes.specs.Overlaps.{reaches, meet_along, overlap, IsOverlap}
+use Rattle.kin_motion.specs.BoxFacts.{low_end, high_end, kind, point, end_form, end_leads, end_before, IsEndOrder}
+use Rattle.kin_motion.proofs.EndOrders.{same_before, from_order, ends_live}
+use Rattle.kin_motion.specs.Overlaps.{reaches, meet_along, overlap, IsOverlap}
 use Rattle.kin_boxes.specs.Sweeps.{IsFound, IsAhead, meets, pair_of}
 use Rattle.kin_boxes.proofs.Sweeping.{first_there, second_there, never_same, same_low, both_true}
 

@@ -9,7 +9,7 @@ use Rattle.kin_sorted.specs.declared.ends.Ends.{Ends}
 use Rattle.kin_sorted.specs.Sorting.{Sorting}
 use Rattle.kin_boxes.specs.Boxing.{Boxing, AreJoined, IsSettledBoxing}
 use Rattle.kin_boxes.specs.BoxingLaws.{ranked_x, ranked_y}
-use Rattle.kin_boxes.specs.Overlaps.{ListsOverlaps}
+use Rattle.kin_motion.specs.Overlaps.{ListsOverlaps}
 use Rattle.kin_boxes.specs.Sweeps.{meets, IsFound, IsAhead}
 use Rattle.kin_boxes.proofs.Overlapping.{all_ahead, found_overlaps, overlaps_found}
 use Rattle.kin_boxes.proofs.Rising.{sorted_rises}

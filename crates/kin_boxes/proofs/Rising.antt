@@ -11,7 +11,7 @@ use Rattle.kin_algebra.proofs.Members.{contains_head, contains_tail}
 use Rattle.kin_motion.specs.Numbers.{IsChain}
 use Rattle.kin_motion.specs.Sets.{AreDistinct}
 use Rattle.kin_motion.proofs.SetLaws.{distinct_head, distinct_tail}
-use Rattle.kin_boxes.specs.Overlaps.{pair_before}
+use Rattle.kin_motion.specs.Overlaps.{pair_before}
 use Rattle.kin_boxes.proofs.Sweeping.{both_true}
 
 same : ℕ × ℕ → ℕ × ℕ → Bool

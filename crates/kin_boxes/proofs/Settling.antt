@@ -20,13 +20,13 @@ use Rattle.kin_motion.proofs.Members.{is_in-append, in_head, in_tail, in_front, 
 use Rattle.kin_motion.proofs.SetLaws.{contains_map, exactly_both}
 use Rattle.kin_sorted.specs.declared.ends.Ends.{Ends}
 use Rattle.kin_sorted.specs.Marks.{Marks, marked, without_all, numbers_of, names_gone, names_one}
-use Rattle.kin_sorted.specs.Ranks.{Ranks, AreLive, IsOrderFact, neighbour_facts}
+use Rattle.kin_motion.specs.Ranks.{Ranks, AreLive, IsOrderFact, neighbour_facts}
 use Rattle.kin_sorted.specs.Sorting as list
 use Rattle.kin_sorted.specs.Sorting.{Sorting, IsAtRest, IsReady, IsSettled, unmarked}
 use Rattle.kin_sorted.proofs.ListLaws.{is_in-without_all}
-use Rattle.kin_boxes.specs.BoxFacts.{point, end_fact, end_facts, IsEndOrder, IsEndFact, AreBoxes}
+use Rattle.kin_motion.specs.BoxFacts.{point, end_fact, end_facts, IsEndOrder, IsEndFact, AreBoxes}
 use Rattle.kin_boxes.specs.Boxing.{Boxing, boxing_of, facts_of, ranks_of, is_spared, is_along_x, is_along_y, moved_back, IsReadyBoxing, IsSettledBoxing, AreJoined, AreFewTests}
-use Rattle.kin_boxes.specs.EndLaws.{same_facts, to_order, to_facts, ends_live}
+use Rattle.kin_motion.proofs.EndOrders.{same_facts, to_order, to_facts, ends_live}
 use Rattle.kin_boxes.proofs.Marking.{none_marked}
 use Rattle.kin_boxes.proofs.Parting.{InParts, along_x, along_y, x_failing, y_failing}
 

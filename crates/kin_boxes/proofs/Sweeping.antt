@@ -12,7 +12,7 @@ use Rattle.kin_sorted.specs.Marks.{without}
 use Rattle.kin_sorted.proofs.ListLaws.{is_in-without, not_in-without}
 use Rattle.kin_sorted.proofs.MarkLaws.{once-push, once-without, in-without}
 use Rattle.kin_sorted.proofs.OrderingLaws.{absent_first, absent_last}
-use Rattle.kin_boxes.specs.BoxFacts.{low_end, high_end, kind, point}
+use Rattle.kin_motion.specs.BoxFacts.{low_end, high_end, kind, point}
 use Rattle.kin_boxes.specs.Sweeps.{pair_of, met, IsFound, IsAhead}
 
 -- ---- pairs

@@ -9,10 +9,10 @@ use Rattle.kin_motion.specs.Scene.{Scene, IsReal}
 use Rattle.kin_sorted.specs.declared.ends.Ends.{Ends}
 use Rattle.kin_sorted.specs.BoxEnds.{ends}
 use Rattle.kin_sorted.specs.Marks.{Marks, marked, names_gone}
-use Rattle.kin_sorted.specs.Ranks.{Ranks}
+use Rattle.kin_motion.specs.Ranks.{Ranks}
 use Rattle.kin_sorted.specs.Sorting.{Sorting, unmarked}
-use Rattle.kin_boxes.specs.BoxFacts.{low_end, high_end, point, AreBoxes}
-use Rattle.kin_boxes.specs.Overlaps.{ListsOverlaps}
+use Rattle.kin_motion.specs.BoxFacts.{low_end, high_end, point, AreBoxes}
+use Rattle.kin_motion.specs.Overlaps.{ListsOverlaps}
 
 -- the ends in their order along x, with the width of the boxes, and along y, with their height; false after want of memory
 pub record Boxing : Type 0 where

@@ -9,13 +9,13 @@ use Rattle.kin_motion.specs.Parts.{moved_by}
 use Rattle.kin_motion.specs.Scene.{Scene, IsReal, Holds}
 use Rattle.kin_motion.proofs.SetLaws.{contains_map, exactly_in_words}
 use Rattle.kin_sorted.specs.BoxEnds.{ends}
-use Rattle.kin_sorted.specs.BoxEndLaws.{ends_ranked}
-use Rattle.kin_sorted.specs.FactLaws.{order_facts_determined}
-use Rattle.kin_sorted.specs.Laws.{IsRanking}
-use Rattle.kin_sorted.specs.Ranks.{neighbour_facts}
-use Rattle.kin_boxes.specs.BoxFacts.{point, IsEndOrder, IsEndFact, IsBoxFact, AreBoxes}
+use Rattle.kin_motion.proofs.EndRanks.{ends_ranked}
+use Rattle.kin_motion.proofs.RankedFacts.{order_facts_determined}
+use Rattle.kin_motion.specs.Rankings.{IsRanking}
+use Rattle.kin_motion.specs.Ranks.{neighbour_facts}
+use Rattle.kin_motion.specs.BoxFacts.{point, IsEndOrder, IsEndFact, IsBoxFact, AreBoxes}
 use Rattle.kin_boxes.specs.Boxing.{Boxing, facts_of, IsBoxingAtRest, IsSettledBoxing}
-use Rattle.kin_boxes.specs.EndLaws.{to_order, from_order, ends_live, to_facts, neighbours_exact}
+use Rattle.kin_motion.proofs.EndOrders.{to_order, from_order, ends_live, to_facts, neighbours_exact}
 
 -- ends along a direction are ranked, whatever their number
 pub ranked_x : (width : ℤ) → unsigned_abs width ≤ 2 ^ 16 → IsRanking (ends 0 (pos 1) (pos 0) width)

@@ -5,7 +5,7 @@ use Rattle.kin_motion.specs.Records.{stands_before}
 use Rattle.kin_sorted.specs.declared.ends.Ends.{Ends}
 use Rattle.kin_sorted.specs.Marks.{without}
 use Rattle.kin_sorted.specs.Sorting.{Sorting}
-use Rattle.kin_boxes.specs.BoxFacts.{low_end, high_end, kind, point}
+use Rattle.kin_motion.specs.BoxFacts.{low_end, high_end, kind, point}
 
 -- in this order of ends the low end of each comes before the high end of the other
 abbrev pub meets : List ℕ → ℕ → ℕ → Bool

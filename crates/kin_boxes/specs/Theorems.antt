@@ -4,8 +4,8 @@ use Rattle.kin_motion.specs.declared.fact.Placed.{Placed}
 use Rattle.kin_motion.specs.Kinetics.{AllHold, HaveSameLive}
 use Rattle.kin_motion.specs.Scene.{Scene, IsReal}
 use Rattle.kin_motion.specs.Sets.{ListsExactly}
-use Rattle.kin_boxes.specs.BoxFacts.{IsBoxFact, AreBoxes, boxes_facts}
-use Rattle.kin_boxes.specs.Overlaps.{ListsOverlaps, overlaps_of}
+use Rattle.kin_motion.specs.BoxFacts.{IsBoxFact, AreBoxes, boxes_facts}
+use Rattle.kin_motion.specs.Overlaps.{ListsOverlaps, overlaps_of}
 
 -- `overlaps_of` lists the overlaps
 abbrev pub OverlapsAgree : Type 0

@@ -3,7 +3,7 @@
 ghost use Rattle.std.specs.Prelude.{◌≡◌, ◌<◌, false, true, OnOk};
 ghost use Rattle.kin_motion.specs.Numbers.{is_in};
 ghost use Rattle.kin_sorted.specs.Sorting.{unmarked};
-ghost use Rattle.kin_boxes.specs.BoxFacts.{low_end, high_end};
+ghost use Rattle.kin_motion.specs.BoxFacts.{low_end, high_end};
 ghost use Rattle.kin_boxes.specs.Boxing.{entering_box, leaving_box};
 
 use kin_num::NoMemory;

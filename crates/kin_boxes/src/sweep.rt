@@ -4,7 +4,7 @@ ghost use Rattle.std.specs.Prelude.{◌≡◌, ℕ, [], ◌∷◌, ◌++◌, Som
 ghost use Rattle.kin_motion.specs.Numbers.{is_in, IsOnce};
 ghost use Rattle.kin_motion.specs.Sets.{ListsExactly};
 ghost use Rattle.kin_sorted.specs.Marks.{without};
-ghost use Rattle.kin_boxes.specs.BoxFacts.{low_end, high_end};
+ghost use Rattle.kin_motion.specs.BoxFacts.{low_end, high_end};
 ghost use Rattle.kin_boxes.specs.Sweeps.{meets, pair_of, met, IsFound, IsAhead, HasBox, HasBoxes};
 
 use crate::axis::{high, low};

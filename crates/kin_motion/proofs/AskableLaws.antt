@@ -1,6 +1,7 @@
 -- Every live fact may be asked for.
-use Rattle.std.proofs.Common.{◌≡◌, ◌⊎◌, inl, inr, refl, sym, ap, ◌∙◌, subst, List, [], ◌∷◌, ℕ, zero, suc, ◌+◌, ◌*◌, ◌/◌, ◌%◌, ◌≤◌, Bool, true, false, cond, map, ℤ, pos, unsigned_abs, arith}
-use Rattle.std.specs.Prelude.{Option, Some, None, Contains, slice_get}
+use Rattle.std.proofs.Common.{◌≡◌, ◌⊎◌, inl, inr, refl, sym, ap, ◌∙◌, subst, List, [], ◌∷◌, ℕ, zero, suc, ◌+◌, ◌*◌, ◌/◌, ◌%◌, ◌≤◌, ◌^◌, Bool, true, false, cond, map, ℤ, pos, unsigned_abs, arith}
+use Rattle.std.specs.Prelude.{Option, Some, None, Contains, slice_get, ◌≤ℤ◌}
+use Rattle.std.proofs.lemmas.Int.{ints}
 use Rattle.std.proofs.Math.Nat.{div-add-mod}
 use Rattle.std.proofs.lemmas.Nat.{mod_below}
 use Rattle.std.proofs.lemmas.Bool.{and_parts}
@@ -9,7 +10,7 @@ use Rattle.kin_motion.specs.declared.form.Form.{Form}
 use Rattle.kin_motion.specs.declared.form.Form.TheVariants.{Line, Dist}
 use Rattle.kin_motion.specs.declared.fact.Placed.{Placed}
 use Rattle.kin_motion.specs.declared.keep.Keep.{Keep}
-use Rattle.kin_motion.specs.declared.keep.Keep.TheVariants.{Order, Extreme, Hull, Closest, Range, Nearest, Diameter}
+use Rattle.kin_motion.specs.declared.keep.Keep.TheVariants.{Order, Extreme, Hull, Closest, Range, Nearest, Diameter, Boxes}
 use Rattle.kin_motion.specs.Forms.{IsAskable}
 use Rattle.kin_motion.specs.Numbers.{is_in, IsIn}
 use Rattle.kin_motion.specs.Scene.{Scene, placed_at}
@@ -22,6 +23,7 @@ use Rattle.kin_motion.specs.ClosestFacts.{HoldsNear, AreNearSlots, IsWedgeFact, 
 use Rattle.kin_motion.specs.Merges.{IsHullFact}
 use Rattle.kin_motion.specs.Live.{IsKeepFact, IsSmallKeep}
 use Rattle.kin_motion.specs.Theorems.{LiveFactsAreAskable}
+use Rattle.kin_motion.proofs.BoxFactLaws.{box_fact_askable}
 use Rattle.kin_motion.proofs.SetLaws.{contains_mapped}
 use Rattle.kin_motion.proofs.AgreementLaws.{kept-members}
 use Rattle.kin_motion.proofs.NearLaws.{octant_at}
@@ -119,6 +121,10 @@ hull_fact_askable : (size : ℕ) (s : Scene) (p : Placed) → IsHullFact size s 
 hull_fact_askable size s p (inl f) = subst (IsAskable s.live) (sym (ap (λ (q : Placed). q.fact.form) f.fact)) (node_form_askable size s f.node f.form f.merge)
 hull_fact_askable size s p (inr f) = subst (IsAskable s.live) (sym (ap (λ (q : Placed). q.fact.form) f.fact)) (node_form_askable size _ f.node f.form f.merge)
 
+-- ---- boxes
+small_size : (size : ℤ) → pos 0 ≤ℤ size → size ≤ℤ pos 4096 → unsigned_abs size ≤ 2 ^ 16
+small_size size low high = omega (arith, ints, low, high)
+
 -- ---- all structures
 pub keep_fact_askable : (size : ℕ) (s : Scene) (k : Keep) (p : Placed) → IsSmallKeep k → IsKeepFact size s k p → IsAskable s.live p.fact.form
 keep_fact_askable size s (Order dx dy) p small f = order_fact_askable s dx dy 0 small.0 small.1 p f
@@ -129,6 +135,8 @@ keep_fact_askable size s Range p small (inl f) = order_fact_askable s (pos 1) (p
 keep_fact_askable size s Range p small (inr f) = order_fact_askable s (pos 0) (pos 1) 1 (omega arith) (omega arith) p f
 keep_fact_askable size s Nearest p small f = wedge_fact_askable s p f
 keep_fact_askable size s Diameter p small f = diameter_fact_askable size s p f
+keep_fact_askable size s (Boxes width height) p small f =
+    box_fact_askable s width height p (small_size width small.0 small.1) (small_size height small.2 small.3) f
 
 pub live_facts_are_askable : LiveFactsAreAskable
 live_facts_are_askable size keeps s c small f =

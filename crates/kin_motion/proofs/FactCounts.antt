@@ -3,7 +3,7 @@ use Rattle.std.proofs.Common.{◌≡◌, refl, ap, arith, List, [], ◌∷◌, �
 use Rattle.std.proofs.lemmas.List.{length-append, length-map}
 use Rattle.std.proofs.lemmas.List.Sums.{sum_by-cons}
 use Rattle.kin_motion.specs.declared.keep.Keep.{Keep}
-use Rattle.kin_motion.specs.declared.keep.Keep.TheVariants.{Order, Extreme, Hull, Closest, Range, Nearest, Diameter}
+use Rattle.kin_motion.specs.declared.keep.Keep.TheVariants.{Order, Extreme, Hull, Closest, Range, Nearest, Diameter, Boxes}
 use Rattle.kin_motion.specs.Sets.{ListsExactly}
 use Rattle.kin_motion.specs.DiameterFacts.{diameter_facts}
 use Rattle.kin_motion.specs.Scene.{Scene, IsReal}
@@ -16,6 +16,7 @@ use Rattle.kin_motion.proofs.OrderCounts.{order_count, range_count}
 use Rattle.kin_motion.proofs.ExtremeCounts.{extreme_count}
 use Rattle.kin_motion.proofs.ClosestCounts.{closest_count, wedge_count}
 use Rattle.kin_motion.proofs.HullCounts.{hull_count}
+use Rattle.kin_motion.proofs.BoxFactLaws.{boxes_count}
 use Rattle.kin_motion.proofs.DiameterCounts.{few_diameter_facts}
 use Rattle.kin_motion.proofs.DiameterFactLaws.{diameter_facts_agree}
 
@@ -39,6 +40,8 @@ module _ (size : ℕ) (s : Scene) (real : IsReal s) (fits : FitsSize size s) whe
   keep_count Nearest (suc n) e = let few = wedge_count s in omega (arith, few, e)
   keep_count Diameter zero e = let few = few_diameter_facts size s (diameter_facts size s) real (diameter_facts_agree size s real) in omega (arith, few, e)
   keep_count Diameter (suc n) e = let few = few_diameter_facts size s (diameter_facts size s) real (diameter_facts_agree size s real) in omega (arith, few, e)
+  keep_count (Boxes width height) zero e = let few = boxes_count s width height real in omega (arith, few, e)
+  keep_count (Boxes width height) (suc n) e = let few = boxes_count s width height real in omega (arith, few, e)
 
   live_count : (first : ℕ) (keeps : List Keep) → length (live_facts_from first size keeps s) ≤ most_live size keeps (length s.live)
   live_count first [] = omega arith

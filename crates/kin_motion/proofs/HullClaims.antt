@@ -20,6 +20,7 @@ use Rattle.kin_motion.specs.Merges.{IsNodeForm, node_forms, IsTreeFact, hull_fac
 use Rattle.kin_motion.specs.Octants.{octants, candidate_of, IsCandidateAnswer, AreCandidates}
 use Rattle.kin_motion.specs.ClosestPairs.{closest_of}
 use Rattle.kin_motion.specs.ClosestFacts.{closest_facts, wedge_facts}
+use Rattle.kin_motion.specs.BoxFacts.{end_order_of, boxes_facts}
 use Rattle.kin_motion.specs.DiameterFacts.{diameter_facts}
 use Rattle.kin_motion.specs.Farthest.{farthest_of}
 use Rattle.kin_motion.specs.Agreements.{FitsSize}
@@ -34,6 +35,7 @@ use Rattle.kin_motion.proofs.AgreementLaws.{kept-members}
 use Rattle.kin_motion.proofs.CandidateLaws.{candidate_agrees}
 use Rattle.kin_motion.proofs.ClosestLaws.{closest_proved}
 use Rattle.kin_motion.proofs.FarthestLaws.{farthest_proved}
+use Rattle.kin_motion.proofs.BoxFactLaws.{boxes_agree}
 use Rattle.kin_motion.proofs.DiameterFactLaws.{diameter_facts_agree}
 use Rattle.kin_motion.proofs.BestLaws.{farther-otherwise}
 use Rattle.kin_motion.proofs.ExtremeFactLaws.{held_number, extreme_facts_agree, farther-through, farther-never}
@@ -145,6 +147,12 @@ settled_states_exist size s real fits = record {
   wedges = (candidate_told s, wedge_facts s, record { candidates = candidates_told size s real; exact = wedge_exact s real });
   closest = (closest_of s, closest_facts size s, record { pair = closest_proved s real; exact = closest_facts_agree size s real });
   diameter = (farthest_of s, diameter_facts size s, record { pair = farthest_proved s real; exact = diameter_facts_agree size s real });
+  boxes = λ width height. (
+    end_order_of s (pos 1) (pos 0) width,
+    end_order_of s (pos 0) (pos 1) height,
+    boxes_facts s width height,
+    boxes_agree s width height real,
+  );
   range = (
     order_of s (pos 1) (pos 0),
     order_of s (pos 0) (pos 1),

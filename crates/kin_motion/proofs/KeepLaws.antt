@@ -7,7 +7,7 @@ use Rattle.std.proofs.lemmas.Bool.Decides.{nat_tests}
 use Rattle.std.proofs.lemmas.List.Sums.{sum_by-append}
 use Rattle.kin_algebra.proofs.Members.{contains_none, contains_head, contains_tail, contains_cases, contains_from_get}
 use Rattle.kin_motion.specs.declared.keep.Keep.{Keep}
-use Rattle.kin_motion.specs.declared.keep.Keep.TheVariants.{Order, Extreme, Hull, Closest, Range, Nearest, Diameter}
+use Rattle.kin_motion.specs.declared.keep.Keep.TheVariants.{Order, Extreme, Hull, Closest, Range, Nearest, Diameter, Boxes}
 use Rattle.kin_motion.specs.Keeps.{group, limit, count_of, are_few, needs, have_kind, follow, may_keep}
 
 -- two tests that pass together are the same
@@ -190,27 +190,31 @@ not_all_kept first more keeps false whole e missing = at (may_keep keeps) refl
     at true f = e ∙ first_kept first more (ap may_keep whole ∙ f)
 
 -- every keep is of one of the groups
-all_counted : (keeps : List Keep) → count_of 0 keeps + count_of 1 keeps + count_of 2 keeps + count_of 3 keeps + count_of 4 keeps + count_of 5 keeps ≡ length keeps
+all_counted : (keeps : List Keep) → count_of 0 keeps + count_of 1 keeps + count_of 2 keeps + count_of 3 keeps + count_of 4 keeps + count_of 5 keeps
+    + count_of 6 keeps ≡ length keeps
 all_counted [] = refl
 all_counted (k ∷ keeps) =
-    (λ t. count_first 0 k keeps t + count_first 1 k keeps t + count_first 2 k keeps t + count_first 3 k keeps t + count_first 4 k keeps t + count_first 5 k keeps t)
-    ∙ at k (count_of 0 keeps) (count_of 1 keeps) (count_of 2 keeps) (count_of 3 keeps) (count_of 4 keeps) (count_of 5 keeps) (length keeps) (all_counted keeps)
+    (λ t. count_first 0 k keeps t + count_first 1 k keeps t + count_first 2 k keeps t + count_first 3 k keeps t + count_first 4 k keeps t + count_first 5 k keeps t
+    + count_first 6 k keeps t)
+    ∙ at k (count_of 0 keeps) (count_of 1 keeps) (count_of 2 keeps) (count_of 3 keeps) (count_of 4 keeps) (count_of 5 keeps) (count_of 6 keeps)
+    (length keeps) (all_counted keeps)
   where
     of : ℕ → Keep → ℕ
     of g x = cond (nat_eq (group x) g) 1 0
 
-    at : (x : Keep) (a h c r n d m : ℕ) → a + h + c + r + n + d ≡ m
+    at : (x : Keep) (a h c r n d b m : ℕ) → a + h + c + r + n + d + b ≡ m
         → (cond (nat_eq (group x) 0) 1 0 + a) + (cond (nat_eq (group x) 1) 1 0 + h) + (cond (nat_eq (group x) 2) 1 0 + c) + (cond (nat_eq (group x) 3) 1 0 + r)
-        + (cond (nat_eq (group x) 4) 1 0 + n) + (cond (nat_eq (group x) 5) 1 0 + d) ≡ suc m
-    at (Order dx dy) a h c r n d m e = omega (arith, e)
-    at (Extreme dx dy) a h c r n d m e = omega (arith, e)
-    at Hull a h c r n d m e = omega (arith, e)
-    at Closest a h c r n d m e = omega (arith, e)
-    at Range a h c r n d m e = omega (arith, e)
-    at Nearest a h c r n d m e = omega (arith, e)
-    at Diameter a h c r n d m e = omega (arith, e)
+        + (cond (nat_eq (group x) 4) 1 0 + n) + (cond (nat_eq (group x) 5) 1 0 + d) + (cond (nat_eq (group x) 6) 1 0 + b) ≡ suc m
+    at (Order dx dy) a h c r n d b m e = omega (arith, e)
+    at (Extreme dx dy) a h c r n d b m e = omega (arith, e)
+    at Hull a h c r n d b m e = omega (arith, e)
+    at Closest a h c r n d b m e = omega (arith, e)
+    at Range a h c r n d b m e = omega (arith, e)
+    at Nearest a h c r n d b m e = omega (arith, e)
+    at Diameter a h c r n d b m e = omega (arith, e)
+    at (Boxes width height) a h c r n d b m e = omega (arith, e)
 
-pub few_at_most : (keeps : List Keep) → may_keep keeps ≡ true → length keeps ≤ 21
+pub few_at_most : (keeps : List Keep) → may_keep keeps ≡ true → length keeps ≤ 22
 few_at_most keeps now =
     let few = few_of_group keeps (and_parts _ _ now).0 in
     let a = few 0 in
@@ -219,8 +223,9 @@ few_at_most keeps now =
     let r = few 3 in
     let n = few 4 in
     let d = few 5 in
+    let b = few 6 in
     let sum = all_counted keeps in
-    omega (arith, a, h, c, r, n, d, sum)
+    omega (arith, a, h, c, r, n, d, b, sum)
 
 -- ---- the hull of a farthest pair
 -- there is one hull at most
@@ -263,6 +268,7 @@ hull_before keeps now n there = at (counted 1 (take n keeps)) (hull_counted [] k
     is_hull Range e = absurd (omega (arith, e))
     is_hull Nearest e = absurd (omega (arith, e))
     is_hull Diameter e = absurd (omega (arith, e))
+    is_hull (Boxes width height) e = absurd (omega (arith, e))
 
     at : (count_of 1 (take n keeps) ≡ 0) ⊎ ((m : ℕ) × (k : Keep) × (slice_get (take n keeps) m ≡ Some k) × (group k ≡ 1)) → 1 ≤ count_of 1 (take n keeps)
         → (m : ℕ) × (m < n) × (slice_get keeps m ≡ Some Hull)

@@ -6,7 +6,7 @@ use Rattle.kin_algebra.specs.declared.sign.Sign.TheVariants.{Minus, Zero, Plus}
 use Rattle.kin_num.specs.declared.instant.Moment.{Moment}
 use Rattle.kin_motion.specs.declared.fact.Placed.{Placed}
 use Rattle.kin_motion.specs.declared.keep.Keep.{Keep}
-use Rattle.kin_motion.specs.declared.keep.Keep.TheVariants.{Order, Extreme, Hull, Closest, Range, Nearest, Diameter}
+use Rattle.kin_motion.specs.declared.keep.Keep.TheVariants.{Order, Extreme, Hull, Closest, Range, Nearest, Diameter, Boxes}
 use Rattle.kin_motion.specs.Sets.{ListsExactly}
 use Rattle.kin_motion.specs.Scene.{Scene, IsReal}
 use Rattle.kin_motion.specs.Orders.{IsOrderFact, order_facts}
@@ -18,6 +18,7 @@ use Rattle.kin_motion.proofs.SetLaws.{contains_mapped, contains_map, exactly_non
 use Rattle.kin_motion.proofs.HullFactLaws.{hull_facts_agree}
 use Rattle.kin_motion.proofs.ExtremeFactLaws.{extreme_facts_agree}
 use Rattle.kin_motion.proofs.ClosestFactLaws.{order_facts_agree, part_of_order, wedge_exact, closest_facts_agree}
+use Rattle.kin_motion.proofs.BoxFactLaws.{facts_agree}
 use Rattle.kin_motion.proofs.DiameterFactLaws.{diameter_facts_agree}
 
 module _ (size : ℕ) (s : Scene) (real : IsReal s) (fits : FitsSize size s) where
@@ -32,6 +33,7 @@ module _ (size : ℕ) (s : Scene) (real : IsReal s) (fits : FitsSize size s) whe
       (λ p f g. let e = part_of_order s (pos 1) (pos 0) 0 p f in let h = part_of_order s (pos 0) (pos 1) 1 p g in omega (arith, e, h))
   keep_exact Nearest = wedge_exact s real
   keep_exact Diameter = diameter_facts_agree size s real
+  keep_exact (Boxes width height) = facts_agree s width height real
 
   -- a fact of the k-th of these keeps, which are numbered from n on
   abbrev IsFactOf : ℕ → List Keep → Certificate → Type 0

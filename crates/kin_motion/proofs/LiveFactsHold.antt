@@ -1,9 +1,8 @@
 -- Live facts hold where they are live.
-use Rattle.std.proofs.Common.{◌≡◌, inl, inr, sym, ap, ◌∙◌, List, Option, ℕ, ℤ, pos}
-use Rattle.kin_motion.specs.declared.form.Form.{Form}
+use Rattle.std.proofs.Common.{inl, inr, sym, ap, ◌∙◌, List, Option, ℕ, ℤ, pos}
 use Rattle.kin_motion.specs.declared.fact.Placed.{Placed}
 use Rattle.kin_motion.specs.declared.keep.Keep.{Keep}
-use Rattle.kin_motion.specs.declared.keep.Keep.TheVariants.{Order, Extreme, Hull, Closest, Range, Nearest, Diameter}
+use Rattle.kin_motion.specs.declared.keep.Keep.TheVariants.{Order, Extreme, Hull, Closest, Range, Nearest, Diameter, Boxes}
 use Rattle.kin_motion.specs.Scene.{Scene, Holds, placed_at}
 use Rattle.kin_motion.specs.Orders.{neighbour_forms, IsOrderFact}
 use Rattle.kin_motion.specs.Extremes.{along_key, point_slots}
@@ -14,10 +13,9 @@ use Rattle.kin_motion.specs.DiameterFacts.{IsDiameterFact}
 use Rattle.kin_motion.specs.Farthest.{farness_key}
 use Rattle.kin_motion.specs.Merges.{IsHullFact}
 use Rattle.kin_motion.specs.Live.{Certificate, IsKeepFact, IsLiveFact}
+use Rattle.kin_motion.proofs.BoxFactLaws.{box_fact_holds}
+use Rattle.kin_motion.proofs.FactLaws.{placed_holds}
 use Rattle.kin_motion.proofs.SetLaws.{contains_mapped}
-
-pub placed_holds : (s : Scene) (part : ℕ) (f : Form) (p : Placed) → p ≡ placed_at s part f → Holds s p.fact
-placed_holds s part f p e = ap (λ (q : Placed). s.sign q.fact.form) e ∙ sym (ap (λ (q : Placed). q.fact.sign) e)
 
 pub order_fact_holds : (s : Scene) (dx dy : ℤ) (part : ℕ) (p : Placed) → IsOrderFact s dx dy part p → Holds s p.fact
 order_fact_holds s dx dy part p f =
@@ -55,6 +53,7 @@ keep_fact_holds size s Range p (inl f) = order_fact_holds s (pos 1) (pos 0) 0 p 
 keep_fact_holds size s Range p (inr f) = order_fact_holds s (pos 0) (pos 1) 1 p f
 keep_fact_holds size s Nearest p f = wedge_fact_holds s p f
 keep_fact_holds size s Diameter p f = diameter_fact_holds size s p f
+keep_fact_holds size s (Boxes width height) p f = box_fact_holds s width height p f
 
 pub live_fact_holds : (size : ℕ) (keeps : List Keep) (s : Scene) (c : Certificate) → IsLiveFact size keeps s c → Holds s c.placed.fact
 live_fact_holds size keeps s c f = keep_fact_holds size s f.keep c.placed f.fact

@@ -9,6 +9,7 @@ use Rattle.kin_motion.specs.declared.keep.Rect.{Rect}
 use Rattle.kin_motion.specs.Course.{Course}
 use Rattle.kin_motion.specs.Numbers.{IsIn}
 use Rattle.kin_motion.specs.Scene.{Scene, IsReal, x_sign, y_sign}
+use Rattle.kin_motion.specs.BoxFacts.{AreBoxes}
 use Rattle.kin_motion.specs.Boxes.{points_in}
 use Rattle.kin_motion.specs.Chains.{IsUpperChain, IsHullCycle}
 use Rattle.kin_motion.specs.Extremes.{along_key, point_slots}
@@ -44,6 +45,7 @@ pub record CanBeSettled (size : ℕ) (s : Scene) : Type 0 where
   pub wedges : (candidate : ℕ → ℕ → Option ℕ) × (facts : List Placed) × IsSettledWedges s size candidate facts
   pub closest : (pair : Option (ℕ × ℕ)) × (facts : List Placed) × IsSettledClosest s size pair facts
   pub diameter : (pair : Option (ℕ × ℕ)) × (facts : List Placed) × IsSettledDiameter s size pair facts
+  pub boxes : (width height : ℤ) → (by_x by_y : List ℕ) × (facts : List Placed) × AreBoxes s width height by_x by_y facts
   pub range : (by_x by_y : List ℕ) × (facts : List Placed) × IsSettledRange s by_x by_y facts
 
 -- the settled states of the definitions exist

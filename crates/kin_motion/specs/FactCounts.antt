@@ -2,7 +2,7 @@
 use Rattle.std.specs.Prelude.{ℕ, zero, suc, ◌+◌, ◌-◌, ◌*◌, ◌≤◌, List, length, sum_by}
 use Rattle.kin_motion.specs.declared.fact.Placed.{Placed}
 use Rattle.kin_motion.specs.declared.keep.Keep.{Keep}
-use Rattle.kin_motion.specs.declared.keep.Keep.TheVariants.{Order, Extreme, Hull, Closest, Range, Nearest, Diameter}
+use Rattle.kin_motion.specs.declared.keep.Keep.TheVariants.{Order, Extreme, Hull, Closest, Range, Nearest, Diameter, Boxes}
 use Rattle.kin_motion.specs.DiameterFacts.{IsDiameterFact}
 use Rattle.kin_motion.specs.Scene.{Scene, IsReal}
 use Rattle.kin_motion.specs.Sets.{ListsExactly}
@@ -17,6 +17,7 @@ most_facts size (Extreme dx dy) (suc n) = n
 most_facts size Range (suc n) = 2 * n
 most_facts size Nearest (suc n) = 8 * n
 most_facts size Diameter (suc n) = 4 * n
+most_facts size (Boxes width height) (suc n) = 4 * n + 2
 most_facts size Closest (suc n) = 16 * (n + 1)
 most_facts size Hull (suc n) = 4 * (n + 1) * size
 

@@ -2,7 +2,7 @@
 use Rattle.std.specs.Prelude.{ℕ, zero, suc, Bool, true, ◌&&◌, nat_eq, nat_lt, nat_le, List, [], ◌∷◌, ◌++◌, count_by, Option, Some, None}
 use Rattle.std.specs.List.{list_all}
 use Rattle.kin_motion.specs.declared.keep.Keep.{Keep}
-use Rattle.kin_motion.specs.declared.keep.Keep.TheVariants.{Order, Extreme, Hull, Closest, Range, Nearest, Diameter}
+use Rattle.kin_motion.specs.declared.keep.Keep.TheVariants.{Order, Extreme, Hull, Closest, Range, Nearest, Diameter, Boxes}
 
 -- keeps of one group are counted together: orders and extreme points are, and otherwise those of one kind
 abbrev pub group : Keep → ℕ
@@ -13,6 +13,7 @@ group Closest = 2
 group Range = 3
 group Nearest = 4
 group Diameter = 5
+group (Boxes width height) = 6
 
 -- how many of a group may be kept: 16 orders and extreme points, and one of each other kind
 abbrev pub limit : ℕ → ℕ

@@ -1,7 +1,7 @@
 -- Numbers that keep their order between two lists, and chains that keep it between two scenes.
 use Rattle.std.specs.Prelude.{◌≡◌, ℕ, ◌*◌, ◌^◌, ◌<◌, List, filter}
 use Rattle.kin_motion.specs.declared.keep.Keep.{Keep}
-use Rattle.kin_motion.specs.declared.keep.Keep.TheVariants.{Order, Extreme, Hull, Closest, Range, Nearest, Diameter}
+use Rattle.kin_motion.specs.declared.keep.Keep.TheVariants.{Order, Extreme, Hull, Closest, Range, Nearest, Diameter, Boxes}
 use Rattle.kin_motion.specs.Chains.{IsUpperChain}
 use Rattle.kin_motion.specs.Merges.{points_under}
 use Rattle.kin_motion.specs.Numbers.{is_in, IsOnce}
@@ -35,3 +35,4 @@ KeptHullKeepsOrder size Closest v w = Unit {0}
 KeptHullKeepsOrder size Range v w = Unit {0}
 KeptHullKeepsOrder size Nearest v w = Unit {0}
 KeptHullKeepsOrder size Diameter v w = Unit {0}
+KeptHullKeepsOrder size (Boxes width height) v w = Unit {0}

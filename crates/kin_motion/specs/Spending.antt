@@ -1,9 +1,10 @@
 -- What a repair may ask: how many signs each kept structure may ask between a scene before and a scene now, by its keep and the two scenes. It is meant for scenes with the same live numbers, or of which one has one number more (`follows` of `Kept`).
-use Rattle.std.specs.Prelude.{◌≡◌, ◌≢◌, ℕ, ◌+◌, ◌*◌, ◌^◌, ◌≤◌, pos, List, [], ◌∷◌, length, reverse, sum_by, Option, Some, slice_get, IsTrue, ◌⊎◌}
+use Rattle.std.specs.Prelude.{◌≡◌, ◌≢◌, ℕ, ◌+◌, ◌*◌, ◌^◌, ◌≤◌, pos, List, [], ◌∷◌, length, reverse, sum_by, Option, Some, slice_get, IsTrue, ◌⊎◌, ℤ}
 use Rattle.kin_motion.specs.declared.fact.Placed.{Placed}
 use Rattle.kin_motion.specs.declared.keep.Keep.{Keep}
-use Rattle.kin_motion.specs.declared.keep.Keep.TheVariants.{Order, Extreme, Hull, Closest, Range, Nearest, Diameter}
+use Rattle.kin_motion.specs.declared.keep.Keep.TheVariants.{Order, Extreme, Hull, Closest, Range, Nearest, Diameter, Boxes}
 use Rattle.kin_motion.specs.Agreements.{FitsSize}
+use Rattle.kin_motion.specs.BoxFacts.{IsBoxFact, end_order_of}
 use Rattle.kin_motion.specs.Records.{moved_pairs}
 use Rattle.kin_motion.specs.ClosestFacts.{IsPairFact, near_slots}
 use Rattle.kin_motion.specs.ClosestPairs.{Near}
@@ -118,6 +119,25 @@ pub record MayDiameterAsk (size : ℕ) (v w : Scene) (asked : ℕ) : Type 0 wher
   pub bound : asked ≤ length breakpoints + (size + 1) * (length changed + length failed)
   pub quiet : (upper lower : List ℕ) → v.live ≡ w.live → AreChains v upper lower → AreChains w upper lower → ((p : Placed) → IsDiameterFact size v p → Holds w p.fact) → asked ≡ 0
 
+-- ---- boxes
+-- how many pairs of ends change places along a direction
+abbrev pub moved_ends : Scene → Scene → ℤ → ℤ → ℤ → ℕ
+moved_ends v w dx dy size = moved_pairs (end_order_of v dx dy size) (end_order_of w dx dy size)
+
+-- k signs may be asked to find the place of an end: none, or where a box has entered, of n boxes then, k with 2^k ≤ 4n
+abbrev pub MayHalveEnds : Scene → Scene → ℕ → Type 0
+MayHalveEnds v w k = (k ≡ 0) ⊎ ((i : ℕ) × HasEntered i v.live w.live × (2 ^ k ≤ 4 * length w.live))
+
+-- boxes may ask 8 signs for each fact dropped or born and for each pair of ends that changes places, and k more for each of the four ends of a box that
+-- enters, two along x and two along y
+pub record MayBoxesAsk (width height : ℤ) (v w : Scene) (asked : ℕ) : Type 0 where
+  pub change : Change
+  pub changed : AreChanged (IsBoxFact v width height) (IsBoxFact w width height) change
+  pub halvings : ℕ
+  pub allowed : MayHalveEnds v w halvings
+  pub bound : asked ≤ 8 * (length change.dropped + length change.born + moved_ends v w (pos 1) (pos 0) width + moved_ends v w (pos 0) (pos 1) height)
+      + 4 * halvings
+
 -- ---- all kinds
 -- so many signs a structure may ask, by its kind
 abbrev pub MayAsk : ℕ → Keep → Scene → Scene → ℕ → Type 0
@@ -128,6 +148,7 @@ MayAsk size Closest v w asked = MayClosestAsk size v w asked
 MayAsk size Range v w asked = MayOrdersAsk (direction (pos 1) (pos 0) ∷ direction (pos 0) (pos 1) ∷ []) v w asked
 MayAsk size Nearest v w asked = MayOrdersAsk eight_directions v w asked
 MayAsk size Diameter v w asked = MayDiameterAsk size v w asked
+MayAsk size (Boxes width height) v w asked = MayBoxesAsk width height v w asked
 
 -- the count has risen by at most a number that may be asked
 abbrev pub HasRisenWithin : (ℕ → Type 0) → ℕ → ℕ → Type 0

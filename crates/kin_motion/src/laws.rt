@@ -1,9 +1,11 @@
 //! What holds of the definitions. Each function's contract is one law; none of them does anything.
 
 ghost use Rattle.kin_motion.specs.Agreements.{CandidateAgrees, ChainAgrees, ClosestAgrees, ClosestFactsAgree, CycleAgrees, DiameterFactsAgree, ExtremeAgrees, ExtremeFactsAgree, FailuresAgree, FarthestAgrees, HullFactsAgree, LiveFactsAgree, MergeFormsAgree, NearestAgrees, OrderAgrees, OrderFactsAgree};
+ghost use Rattle.kin_motion.specs.BoxTheorems.{BoxesAreDetermined, BoxFactsAgree, OneListOfOverlaps, OverlapsAgree, OverlapsAreDetermined};
 ghost use Rattle.kin_motion.specs.Claims.{ChainHasLeast, ChainIsStrict, HullHasLeast, HullIsStrict, SettledStatesExist, WrongRectIsEmpty};
 ghost use Rattle.kin_motion.specs.FactCounts.{FewDiameterFacts, FewFacts, FewLiveFacts};
 ghost use Rattle.kin_motion.specs.Parts.{MovedFactsChange, MovedFactsFail, MovedOrderFacts};
+ghost use Rattle.kin_motion.specs.RankTheorems.{OneRankedOrder, OrderIsThatOfPoints, RankedFactsAgree, RankedOrderAgrees, RankedOrderIsDetermined};
 ghost use Rattle.kin_motion.specs.RecordFacts.{FactsAreRecorded, FewFactsAreReported, FewFactsChange};
 ghost use Rattle.kin_motion.specs.ReflectedFacts.{ReflectedFactsHold, ReflectedTwiceIsSame};
 ghost use Rattle.kin_motion.specs.Turning.{OneTurn, SceneIsByPlaces, TurnKeepsScene};
@@ -118,6 +120,26 @@ pub fn order_is_determined()
     ensures { OrderIsDetermined }
 {}
 
+/// The facts of boxes determine the orders of their ends, themselves and the overlaps: where the same numbers are live in
+/// two real scenes, and all facts of boxes in one hold in the other, these are the same in both. A scene has one list of
+/// the overlaps.
+pub fn overlaps_are_determined()
+    ensures orders { BoxesAreDetermined }
+    ensures overlaps { OverlapsAreDetermined }
+    ensures one { OneListOfOverlaps }
+{}
+
+/// Ranked items that name live numbers of a real scene have at most one order. The order by computation is the order,
+/// and its facts by computation are its facts. Where the same numbers are live, the facts of an order alone determine it
+/// and its facts. Along a direction the order and its facts are those of points.
+pub fn ranked_items_have_one_order()
+    ensures one { OneRankedOrder }
+    ensures order { RankedOrderAgrees }
+    ensures facts { RankedFactsAgree }
+    ensures determined { RankedOrderIsDetermined }
+    ensures points { OrderIsThatOfPoints }
+{}
+
 /// The facts of an extreme point determine it, and themselves: where the same numbers are live in two
 /// real scenes, all with slots, and all facts of the extreme point in one hold in the other, it is the
 /// extreme point there, and they are its facts.
@@ -145,6 +167,7 @@ pub fn computed_answers_agree()
     ensures candidate { CandidateAgrees }
     ensures nearest { NearestAgrees }
     ensures farthest { FarthestAgrees }
+    ensures overlaps { OverlapsAgree }
 {}
 
 /// In a real scene, the functions that compute facts and failures list exactly those of the
@@ -155,6 +178,7 @@ pub fn computed_facts_agree()
     ensures extreme { ExtremeFactsAgree }
     ensures closest { ClosestFactsAgree }
     ensures diameter { DiameterFactsAgree }
+    ensures boxes { BoxFactsAgree }
     ensures merge { MergeFormsAgree }
     ensures hull { HullFactsAgree }
     ensures live { LiveFactsAgree }
@@ -162,9 +186,9 @@ pub fn computed_facts_agree()
 {}
 
 /// In a real scene with n live numbers, all with slots, an order or an extreme point has at most n - 1
-/// facts, a range twice, a farthest pair four and nearest neighbours eight times as many, a closest pair
-/// 16n, and a hull 4n times the size; without live numbers there are none. So all kept structures
-/// together have at most the sum. The facts of a farthest pair are as few without slots.
+/// facts, a range twice, a farthest pair four and nearest neighbours eight times as many, boxes 4n - 2, a
+/// closest pair 16n, and a hull 4n times the size; without live numbers there are none. So all kept
+/// structures together have at most the sum. The facts of a farthest pair are as few without slots.
 pub fn few_facts_are_live()
     ensures structure { FewFacts }
     ensures diameter { FewDiameterFacts }

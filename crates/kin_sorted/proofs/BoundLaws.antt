@@ -16,10 +16,10 @@ use Rattle.kin_motion.proofs.Members.{in_head}
 use Rattle.kin_motion.proofs.SetLaws.{apart_from_once}
 use Rattle.kin_sorted.specs.declared.link.Link.{Link}
 use Rattle.kin_sorted.specs.Costs.{AreBeside, IsFrugal}
-use Rattle.kin_sorted.specs.Laws.{IsRanking}
+use Rattle.kin_motion.specs.Rankings.{IsRanking}
 use Rattle.kin_sorted.specs.Links.{linked, fact_of, facts_from}
 use Rattle.kin_sorted.specs.Marks.{Marks, AreMarks, marked}
-use Rattle.kin_sorted.specs.Ranks.{Ranks}
+use Rattle.kin_motion.specs.Ranks.{Ranks}
 use Rattle.kin_sorted.specs.Repairs.{IsHeld}
 use Rattle.kin_sorted.specs.Sorting.{AreFewTests}
 use Rattle.kin_sorted.proofs.ArrangeLaws.{leaver_gone, enterer_there}

@@ -11,10 +11,10 @@ use Rattle.kin_motion.proofs.Members.{in_head, in_tail, in_cases, in_from_contai
 use Rattle.kin_motion.proofs.SetLaws.{filter-sound}
 use Rattle.kin_motion.proofs.SetSizes.{contains_joined}
 use Rattle.kin_sorted.specs.declared.link.Link.{Link}
-use Rattle.kin_sorted.specs.Laws.{IsRanking}
+use Rattle.kin_motion.specs.Rankings.{IsRanking}
 use Rattle.kin_sorted.specs.Links.{fact_of}
 use Rattle.kin_sorted.specs.Marks.{Marks, marked, numbers_of, gone_numbers, names_one, names_gone}
-use Rattle.kin_sorted.specs.Ranks.{Ranks}
+use Rattle.kin_motion.specs.Ranks.{Ranks}
 
 -- of four numbers
 four : (live : List ℕ) (i j k l n : ℕ) → IsIn i live × IsIn j live × IsIn k live × IsIn l live → is_in n (i ∷ j ∷ k ∷ l ∷ []) ≡ true → IsIn n live

@@ -9,8 +9,8 @@ use Rattle.kin_motion.specs.declared.fact.Placed.{Placed}
 use Rattle.kin_motion.specs.Kinetics.{AreDistinct}
 use Rattle.kin_motion.specs.Numbers.{is_in}
 use Rattle.kin_sorted.specs.declared.link.Link.{Link}
-use Rattle.kin_sorted.specs.Laws.{IsRanking}
-use Rattle.kin_sorted.specs.Ranks.{Ranks}
+use Rattle.kin_motion.specs.Rankings.{IsRanking}
+use Rattle.kin_motion.specs.Ranks.{Ranks}
 use Rattle.kin_sorted.specs.Links.{linked, link_for, fact_of, facts_from}
 
 module _ (r : Ranks) where

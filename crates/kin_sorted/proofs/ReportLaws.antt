@@ -12,8 +12,8 @@ use Rattle.kin_motion.specs.Kinetics.{HasChanged}
 use Rattle.kin_motion.specs.Parts.{moved_by}
 use Rattle.kin_motion.specs.Numbers.{is_in}
 use Rattle.kin_sorted.specs.declared.link.Link.{Link}
-use Rattle.kin_sorted.specs.Laws.{IsRanking}
-use Rattle.kin_sorted.specs.Ranks.{Ranks}
+use Rattle.kin_motion.specs.Rankings.{IsRanking}
+use Rattle.kin_motion.specs.Ranks.{Ranks}
 use Rattle.kin_sorted.specs.Links.{link_facts, facts_from}
 use Rattle.kin_sorted.specs.Telling.{nothing_told, told_more, IsToldIn}
 use Rattle.kin_sorted.proofs.ChangeLaws.{changed_at}

@@ -8,9 +8,9 @@ use Rattle.kin_algebra.specs.declared.sign.Sign.{Sign}
 use Rattle.kin_motion.specs.declared.fact.Placed.{Placed}
 use Rattle.kin_motion.specs.Numbers.{is_in}
 use Rattle.kin_motion.specs.Scene.{Scene, Holds}
-use Rattle.kin_sorted.specs.Laws.{IsStrict, IsRanking}
-use Rattle.kin_sorted.specs.Ranks.{Ranks, AreLive, IsOrder, IsOrderFact, neighbour_facts}
-use Rattle.kin_sorted.specs.FactLaws.{neighbour_at, neighbour_from, order_fact_listed}
+use Rattle.kin_motion.specs.Rankings.{IsStrict, IsRanking}
+use Rattle.kin_motion.specs.Ranks.{Ranks, AreLive, IsOrder, IsOrderFact, neighbour_facts}
+use Rattle.kin_motion.proofs.RankedFacts.{neighbour_at, neighbour_from, order_fact_listed}
 use Rattle.kin_sorted.specs.declared.link.Link.{Link}
 use Rattle.kin_sorted.specs.Links.{linked, link_for, facts_from}
 use Rattle.kin_sorted.specs.Repairs.{IsHeld, IsKnown}

@@ -8,10 +8,10 @@ use Rattle.kin_motion.specs.Scene.{Scene}
 use Rattle.kin_motion.specs.Sets.{ListsExactly}
 use Rattle.kin_motion.proofs.SetLaws.{apart_from_once}
 use Rattle.kin_sorted.specs.declared.link.Link.{Link}
-use Rattle.kin_sorted.specs.Laws.{IsStrict, IsRanking}
+use Rattle.kin_motion.specs.Rankings.{IsStrict, IsRanking}
 use Rattle.kin_sorted.specs.Links.{facts_from}
 use Rattle.kin_sorted.specs.Marks.{marked, names_gone}
-use Rattle.kin_sorted.specs.Ranks.{Ranks, AreLive, IsOrder, IsOrderFact}
+use Rattle.kin_motion.specs.Ranks.{Ranks, AreLive, IsOrder, IsOrderFact}
 use Rattle.kin_sorted.specs.Repairs.{IsHeld, IsKnown, AreCovered}
 use Rattle.kin_sorted.specs.Sorting.{unmarked}
 use Rattle.kin_sorted.proofs.ArrangeLaws.{known_chain}

@@ -11,10 +11,10 @@ use Rattle.kin_motion.specs.Sets.{ListsExactly}
 use Rattle.kin_motion.proofs.SetLaws.{apart_from_once}
 use Rattle.kin_sorted.specs.declared.link.Link.{Link}
 use Rattle.kin_sorted.specs.Costs.{IsArranged}
-use Rattle.kin_sorted.specs.Laws.{IsStrict, IsRanking}
+use Rattle.kin_motion.specs.Rankings.{IsStrict, IsRanking}
 use Rattle.kin_sorted.specs.Links.{link_for, facts_from}
 use Rattle.kin_sorted.specs.Marks.{Marks, AreMarks, marked, names_gone}
-use Rattle.kin_sorted.specs.Ranks.{Ranks, IsOrder, IsOrderFact}
+use Rattle.kin_motion.specs.Ranks.{Ranks, IsOrder, IsOrderFact}
 use Rattle.kin_sorted.specs.Repairs.{IsHeld}
 use Rattle.kin_sorted.specs.Rows.{Row}
 use Rattle.kin_sorted.specs.Sorting.{AreFewTests}

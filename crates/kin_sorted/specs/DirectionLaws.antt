@@ -7,8 +7,8 @@ use Rattle.kin_motion.specs.Numbers.{IsIn}
 use Rattle.kin_motion.proofs.OctantLaws.{before_turned}
 use Rattle.kin_motion.proofs.OrderLaws.{before_through}
 use Rattle.kin_motion.proofs.RealLaws.{real_line_laws}
-use Rattle.kin_sorted.specs.Directions.{along}
-use Rattle.kin_sorted.specs.Laws.{IsRanking}
+use Rattle.kin_motion.specs.Directions.{along}
+use Rattle.kin_motion.specs.Rankings.{IsRanking}
 
 same_right : (dx dy : ℤ) (i j k : ℕ) → Line dx dy (pos 0) i j ≡ Line dx dy (pos 0) i k → j ≡ k
 same_right dx dy i j k e = cc

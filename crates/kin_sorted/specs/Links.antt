@@ -4,7 +4,7 @@ use Rattle.kin_algebra.specs.declared.sign.Sign.{Sign}
 use Rattle.kin_motion.specs.declared.fact.Placed.{Placed}
 use Rattle.kin_motion.specs.Parts.{moved_by}
 use Rattle.kin_sorted.specs.declared.link.Link.{Link}
-use Rattle.kin_sorted.specs.Ranks.{Ranks}
+use Rattle.kin_motion.specs.Ranks.{Ranks}
 
 -- the link to a right neighbour with a sign, where both are there
 abbrev pub linked : Option ℕ → Option Sign → Option Link

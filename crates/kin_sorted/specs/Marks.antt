@@ -4,7 +4,7 @@ use Rattle.kin_motion.specs.declared.form.Form.{Form}
 use Rattle.kin_motion.specs.declared.fact.Placed.{Placed}
 use Rattle.kin_motion.specs.Forms.{names}
 use Rattle.kin_motion.specs.Numbers.{is_in, IsOnce}
-use Rattle.kin_sorted.specs.Ranks.{Ranks}
+use Rattle.kin_motion.specs.Ranks.{Ranks}
 
 pub record Marks : Type 0 where
   pub entering : List ℕ

@@ -1,10 +1,10 @@
 -- The determination law of a sorted list.
 use Rattle.kin_motion.specs.Kinetics.{HaveSameLive, AllHold}
 use Rattle.kin_motion.specs.Scene.{Scene, IsReal}
-use Rattle.kin_sorted.specs.Laws.{IsRanking}
-use Rattle.kin_sorted.specs.Ranks.{Ranks}
+use Rattle.kin_motion.specs.Rankings.{IsRanking}
+use Rattle.kin_motion.specs.Ranks.{Ranks}
 use Rattle.kin_sorted.specs.Sorting.{Sorting, IsSettled}
-use Rattle.kin_sorted.specs.FactLaws.{order_facts_determined, live_elsewhere}
+use Rattle.kin_motion.proofs.RankedFacts.{order_facts_determined, live_elsewhere}
 
 pub determined_lem : {R : Type 0} (r : Ranks) → IsRanking r → (k : Sorting R) (v w : Scene) → IsReal v → IsSettled r k v → HaveSameLive v w → IsReal w
     → AllHold w k.facts → IsSettled r k w

@@ -1,7 +1,7 @@
 -- What is true of every sorted list.
 use Rattle.std.specs.Prelude.{◌≡◌, Bool, true, []}
 use Rattle.kin_sorted.specs.Marks.{Marks, AreMarks}
-use Rattle.kin_sorted.specs.Ranks.{Ranks}
+use Rattle.kin_motion.specs.Ranks.{Ranks}
 use Rattle.kin_sorted.specs.Repairs.{IsHeld}
 use Rattle.kin_sorted.specs.Rows.{Row}
 

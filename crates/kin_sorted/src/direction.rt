@@ -33,7 +33,7 @@ impl Direction {
 }
 
 impl Ranked for Direction {
-    ghost use Rattle.kin_sorted.specs.Directions.{along};
+    ghost use Rattle.kin_motion.specs.Directions.{along};
     ghost use Rattle.kin_sorted.specs.DirectionLaws.{along_ranked};
 
     type Item = u32;

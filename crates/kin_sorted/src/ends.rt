@@ -94,7 +94,7 @@ fn wins_tie(left: End, right: End) -> bool
 
 impl Ranked for Ends {
     ghost use Rattle.kin_sorted.specs.BoxEnds.{ends, end_slot};
-    ghost use Rattle.kin_sorted.specs.BoxEndLaws.{ends_ranked};
+    ghost use Rattle.kin_motion.proofs.EndRanks.{ends_ranked};
 
     type Item = End;
 

@@ -1,6 +1,6 @@
 //! What holds of the definitions. Each function's contract is one law; none of them does anything.
 
-ghost use Rattle.kin_sorted.specs.Theorems.{OneOrder, OrderAgrees, OrderFactsAgree, OrderIsDetermined, OrderIsThatOfPoints};
+ghost use Rattle.kin_motion.specs.RankTheorems.{OneOrder, OrderAgrees, OrderFactsAgree, OrderIsDetermined, OrderIsThatOfPoints};
 
 /// Items that name live numbers of a real scene have at most one order.
 pub fn one_order()

@@ -4,7 +4,7 @@ ghost use Rattle.std.specs.Prelude.{◌≡◌, ℕ, ◌+◌, ◌*◌, ◌<◌, �
 ghost use Rattle.kin_motion.specs.Numbers.{is_in, IsOnce};
 ghost use Rattle.kin_sorted.specs.Lineups.{IsCleared, StaysHeld};
 ghost use Rattle.kin_sorted.specs.Marks.{without_all};
-ghost use Rattle.kin_sorted.specs.Ranks.{Ranks};
+ghost use Rattle.kin_motion.specs.Ranks.{Ranks};
 ghost use Rattle.kin_sorted.specs.Repairs.{IsTakenOut, AreCovered, AreGaps, AreInside};
 
 use crate::doubts::Doubts;

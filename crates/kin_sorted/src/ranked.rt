@@ -1,8 +1,8 @@
 //! What a sorted list keeps in order.
 
 ghost use Rattle.std.specs.Prelude.{◌≡◌, ℕ, ◌<◌, ◌^◌, Some};
-ghost use Rattle.kin_sorted.specs.Laws.{IsRanking};
-ghost use Rattle.kin_sorted.specs.Ranks.{Ranks};
+ghost use Rattle.kin_motion.specs.Rankings.{IsRanking};
+ghost use Rattle.kin_motion.specs.Ranks.{Ranks};
 
 use kin_motion::fact::Placed;
 use kin_motion::form::Form;

@@ -13,10 +13,10 @@ use Rattle.kin_motion.specs.Scene.{Scene, Holds}
 use Rattle.kin_motion.specs.Sets.{AreDistinct, ListsExactly}
 use Rattle.kin_motion.proofs.SetLaws.{contains_none, contains_cases, distinct_tail, exactly_one, exactly_both, exactly_in_words}
 use Rattle.kin_algebra.proofs.Members.{get_from_contains}
-use Rattle.kin_sorted.specs.FactLaws.{neighbour_from}
-use Rattle.kin_sorted.specs.Laws.{IsRanking}
+use Rattle.kin_motion.proofs.RankedFacts.{neighbour_from}
+use Rattle.kin_motion.specs.Rankings.{IsRanking}
 use Rattle.kin_sorted.specs.Marks.{Marks, names_gone}
-use Rattle.kin_sorted.specs.Ranks.{Ranks}
+use Rattle.kin_motion.specs.Ranks.{Ranks}
 use Rattle.kin_sorted.specs.Sorting.{Sorting, IsSettled, is_spared, unmarked}
 use Rattle.kin_sorted.proofs.RowLaws.{is_in_from_get}
 

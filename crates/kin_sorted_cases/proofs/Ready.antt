@@ -8,7 +8,7 @@ use Rattle.kin_motion.specs.Numbers.{is_in, IsIn}
 use Rattle.kin_motion.specs.Scene.{Scene}
 use Rattle.kin_motion.proofs.LiveLaws.{live-members}
 use Rattle.kin_sorted.specs.Marks.{Marks, marked}
-use Rattle.kin_sorted.specs.Ranks.{Ranks, IsLive}
+use Rattle.kin_motion.specs.Ranks.{Ranks, IsLive}
 use Rattle.kin_sorted.specs.Sorting.{Sorting, IsReady, IsSettled, unmarked}
 use Rattle.kin_sorted.proofs.ListLaws.{without_none}
 

@@ -1,4 +1,4 @@
-use Rattle.kin_boxes.proofs.Listing.{overlaps_agree, one_list}
+use Rattle.kin_motion.proofs.OverlapLists.{overlaps_agree, one_list}
 use Rattle.kin_boxes.proofs.laws.computed_overlaps_agree.Goals as goal
 
 pub returns : goal.returns

@@ -1,4 +1,4 @@
-use Rattle.kin_boxes.proofs.Facing.{facts_few}
+use Rattle.kin_motion.proofs.BoxFactLaws.{facts_few}
 use Rattle.kin_boxes.proofs.laws.facts_are_few.Goals as goal
 
 pub returns : goal.returns

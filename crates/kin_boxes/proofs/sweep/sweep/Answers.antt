@@ -1,6 +1,6 @@
 use Rattle.std.proofs.Common.{ap, sym, subst, ◌∙◌, ◌++◌, ◌≤◌, List, [], ℕ, length}
 use Rattle.kin_sorted.proofs.EndLaws.{end_point}
-use Rattle.kin_boxes.specs.BoxFacts.{point}
+use Rattle.kin_motion.specs.BoxFacts.{point}
 use Rattle.kin_boxes.specs.Sweeps.{meets, met, IsFound}
 use Rattle.kin_boxes.proofs.Finding.{box_there, step_low, step_high, swept_all}
 use Rattle.kin_boxes.proofs.Sweeping.{swept_exact}

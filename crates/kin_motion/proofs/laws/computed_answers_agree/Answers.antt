@@ -3,6 +3,7 @@ use Rattle.kin_motion.proofs.ClosestLaws.{closest_proved}
 use Rattle.kin_motion.proofs.CandidateLaws.{candidate_agrees}
 use Rattle.kin_motion.proofs.NearestLaws.{nearest_proved}
 use Rattle.kin_motion.proofs.FarthestLaws.{farthest_proved}
+use Rattle.kin_motion.proofs.OverlapLists.{overlaps_agree}
 use Rattle.kin_motion.proofs.laws.computed_answers_agree.Goals as goal
 
 pub returns-clause-order : goal.returns-clause-order
@@ -28,3 +29,6 @@ returns-clause-nearest c = nearest_proved
 
 pub returns-clause-farthest : goal.returns-clause-farthest
 returns-clause-farthest c = farthest_proved
+
+pub returns-clause-overlaps : goal.returns-clause-overlaps
+returns-clause-overlaps c = overlaps_agree

@@ -4,6 +4,7 @@ use Rattle.kin_motion.proofs.ExtremeFactLaws.{extreme_facts_agree}
 use Rattle.kin_motion.proofs.HullFactLaws.{hull_facts_agree}
 use Rattle.kin_motion.proofs.LiveFactLaws.{live_facts_agree, failures_agree}
 use Rattle.kin_motion.proofs.DiameterFactLaws.{diameter_facts_agree}
+use Rattle.kin_motion.proofs.BoxFactLaws.{facts_agree}
 use Rattle.kin_motion.proofs.laws.computed_facts_agree.Goals as goal
 
 pub returns-clause-order : goal.returns-clause-order
@@ -29,3 +30,6 @@ returns-clause-hull c = hull_facts_agree
 
 pub returns-clause-diameter : goal.returns-clause-diameter
 returns-clause-diameter c = diameter_facts_agree
+
+pub returns-clause-boxes : goal.returns-clause-boxes
+returns-clause-boxes c = facts_agree

@@ -1,4 +1,4 @@
-use Rattle.kin_sorted.proofs.Proved.{order_agrees, order_facts_agree}
+use Rattle.kin_motion.proofs.RankedLaws.{order_agrees, order_facts_agree}
 use Rattle.kin_sorted.proofs.laws.computed_order_agrees.Goals as goal
 
 pub returns : goal.returns

@@ -1,4 +1,4 @@
-use Rattle.kin_sorted.proofs.Proved.{order_is_one}
+use Rattle.kin_motion.proofs.RankedLaws.{order_is_one}
 use Rattle.kin_sorted.proofs.laws.one_order.Goals as goal
 
 pub returns : goal.returns

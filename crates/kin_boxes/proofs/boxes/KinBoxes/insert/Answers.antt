@@ -1,5 +1,5 @@
 use Rattle.std.proofs.Common.{sym, ◌∙◌, false}
-use Rattle.kin_boxes.specs.BoxFacts.{low_end, high_end}
+use Rattle.kin_motion.specs.BoxFacts.{low_end, high_end}
 use Rattle.kin_boxes.specs.Boxing.{entering_box}
 use Rattle.kin_boxes.proofs.Marking.{high_with_low, joined_marked, entering_within}
 use Rattle.kin_boxes.proofs.boxes.KinBoxes.insert.Goals as goal

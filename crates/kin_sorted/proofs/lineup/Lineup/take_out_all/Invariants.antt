@@ -1,7 +1,7 @@
 use Rattle.std.proofs.Common.{◌≡◌, ◌*◌, ◌≤◌, List, [], Option, take, length}
 use Rattle.kin_sorted.specs.declared.link.Link.{Link}
 use Rattle.kin_sorted.specs.Marks.{without_all}
-use Rattle.kin_sorted.specs.Ranks.{Ranks}
+use Rattle.kin_motion.specs.Ranks.{Ranks}
 use Rattle.kin_sorted.specs.Repairs.{IsHeld, IsThinned}
 use Rattle.kin_sorted.proofs.lineup.Lineup.take_out_all.Given as goal
 

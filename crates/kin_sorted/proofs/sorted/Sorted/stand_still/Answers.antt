@@ -2,7 +2,7 @@ use Rattle.std.proofs.Common.{◌≡◌, sym, ap, ◌∙◌, subst, [], true}
 use Rattle.kin_motion.specs.Kinetics.{ListsFailing}
 use Rattle.kin_sorted.specs.Links.{facts_from}
 use Rattle.kin_sorted.specs.Marks.{Marks, marked, names_gone}
-use Rattle.kin_sorted.specs.Ranks.{AreLive}
+use Rattle.kin_motion.specs.Ranks.{AreLive}
 use Rattle.kin_sorted.specs.Sorting.{Sorting, IsReady, is_spared, unmarked}
 use Rattle.kin_sorted.proofs.StillLaws.{settled_still}
 use Rattle.kin_sorted.proofs.sorted.Sorted.stand_still.Goals as goal

@@ -3,7 +3,7 @@ use Rattle.std.specs.Prelude.{ℕ, ℤ, pos, [], ◌∷◌}
 use Rattle.kin_motion.specs.declared.form.Form.{Form}
 use Rattle.kin_motion.specs.declared.form.Form.TheVariants.{Line, Turn, Slope, Dist}
 use Rattle.kin_motion.specs.Orders.{leads}
-use Rattle.kin_sorted.specs.Ranks.{Ranks}
+use Rattle.kin_motion.specs.Ranks.{Ranks}
 
 -- the left number of a form
 abbrev pub left_number : Form → ℕ

@@ -25,14 +25,22 @@ kind e = e % 2
 abbrev pub point : ℕ → ℕ
 point e = e / 2
 
--- how far the value of the end b is beyond that of the end a, where each box is `size` long along (dx, dy)
-abbrev pub end_form : ℤ → ℤ → ℤ → ℕ → ℕ → Form
-end_form dx dy size a b = Line dx dy ((pos (kind b) -ℤ pos (kind a)) *ℤ size) (point a) (point b)
+-- how much farther the end b lies from its point than the end a from its own, where each box is `size` long
+abbrev pub offset : ℤ → ℕ → ℕ → ℤ
+offset size a b = (pos (kind b) -ℤ pos (kind a)) *ℤ size
 
--- at equal values a low end comes before a high one, and then the lesser point
+-- how far the value of the end b is beyond that of the end a along (dx, dy)
+abbrev pub end_form : ℤ → ℤ → ℤ → ℕ → ℕ → Form
+end_form dx dy size a b = Line dx dy (offset size a b) (point a) (point b)
+
+-- which of two ends comes first at equal values, by their kinds and points: a low end before a high one, and then the lesser point
+abbrev pub ties : ℕ → ℕ → ℕ → ℕ → Bool
+ties kind point kind' point' = nat_lt kind kind' || (nat_eq kind kind' && nat_lt point point')
+
+-- whether the end a comes before the end b at this sign of their form
 abbrev pub end_leads : Sign → ℕ → ℕ → Bool
 end_leads Minus a b = false
-end_leads Zero a b = nat_lt (kind a) (kind b) || (nat_eq (kind a) (kind b) && nat_lt (point a) (point b))
+end_leads Zero a b = ties (kind a) (point a) (kind b) (point b)
 end_leads Plus a b = true
 
 -- whether the end a is before the end b

@@ -1,5 +1,5 @@
--- The law of the ends of boxes.
-use Rattle.std.specs.Prelude.{List, Option, ◌≡◌, ◌≢◌, ◌⊎◌, ℕ, zero, suc, ◌<◌, ◌≤◌, ◌^◌, nat_lt, nat_eq, ◌||◌, ◌&&◌, Bool, true, false, not, ℤ, pos, ◌+ℤ◌, ◌-ℤ◌, ◌*ℤ◌, [], ◌∷◌, unsigned_abs}
+-- The laws of the ends of boxes as ranked items.
+use Rattle.std.specs.Prelude.{List, Option, ◌≡◌, ◌≢◌, ◌⊎◌, ℕ, zero, suc, ◌+◌, ◌*◌, ◌/◌, ◌<◌, ◌≤◌, ◌^◌, nat_lt, nat_eq, ◌||◌, ◌&&◌, Bool, true, false, not, ℤ, pos, ◌+ℤ◌, ◌-ℤ◌, ◌*ℤ◌, [], ◌∷◌, unsigned_abs}
 use lib.IntN.{neg_ℤ}
 use Rattle.std.proofs.Common.{refl, sym, ap, ap₂, ◌∙◌, subst, arith, inl, inr}
 use Rattle.std.proofs.lemmas.Bool.{cases_order, both_ways, or_left, or_right}
@@ -18,9 +18,11 @@ use Rattle.kin_motion.specs.declared.form.Form.TheVariants.{Line}
 use Rattle.kin_motion.specs.Course.{Course}
 use Rattle.kin_motion.specs.Forms.{x_of, y_of, polynomial_of, sign_of_form}
 use Rattle.kin_motion.specs.Numbers.{IsIn}
+use Rattle.kin_motion.specs.Scene.{Scene, IsReal}
 use Rattle.kin_motion.proofs.RealLaws.{line_sum}
-use Rattle.kin_sorted.specs.BoxEnds.{kind, point, offset, ties, end_leads, ends}
-use Rattle.kin_sorted.specs.Laws.{IsRanking}
+use Rattle.kin_motion.specs.BoxEnds.{ends}
+use Rattle.kin_motion.specs.BoxFacts.{kind, point, offset, ties, end_leads, end_form}
+use Rattle.kin_motion.specs.Rankings.{IsStrict, IsRanking}
 
 -- ---- polynomials
 part : (dx dy x x' y y' : ℤ) → dx *ℤ (x -ℤ x') +ℤ dy *ℤ (y -ℤ y') ≡ neg_ℤ (dx *ℤ (x' -ℤ x) +ℤ dy *ℤ (y' -ℤ y))
@@ -163,7 +165,7 @@ no_width p w = by_ring (p ∷ w ∷ []) _ _ (search quotes depth 20 fits 20000) 
 less_width : (w : ℤ) → (pos 0 -ℤ pos 1) *ℤ w ≡ neg_ℤ w
 less_width w = by_ring (w ∷ []) _ _ (search quotes depth 20 fits 20000) (search quotes depth 20 fits 20000) refl
 
-small_offset : (a b : ℕ) (w : ℤ) → a < 2 → b < 2 → unsigned_abs w ≤ 2 ^ 16 → unsigned_abs ((pos a -ℤ pos b) *ℤ w) ≤ 2 ^ 16
+pub small_offset : (a b : ℕ) (w : ℤ) → a < 2 → b < 2 → unsigned_abs w ≤ 2 ^ 16 → unsigned_abs ((pos a -ℤ pos b) *ℤ w) ≤ 2 ^ 16
 small_offset zero zero w l m h = subst (λ v. unsigned_abs v ≤ 2 ^ 16) (sym (no_width (pos 0) w)) (omega arith)
 small_offset zero (suc zero) w l m h = subst (λ v. unsigned_abs v ≤ 2 ^ 16) (sym (less_width w)) (subst (λ n. n ≤ 2 ^ 16) (sym (size_negative w)) h)
 small_offset zero (suc (suc b)) w l m h = absurd (omega arith)
@@ -172,11 +174,11 @@ small_offset (suc zero) (suc zero) w l m h = subst (λ v. unsigned_abs v ≤ 2 ^
 small_offset (suc zero) (suc (suc b)) w l m h = absurd (omega arith)
 small_offset (suc (suc a)) b w l m h = absurd (omega arith)
 
-pub ends_ranked : (count : ℕ) (dx dy width : ℤ) → count ≤ 2 ^ 14 → unsigned_abs dx ≤ 16 → unsigned_abs dy ≤ 16 → unsigned_abs width ≤ 2 ^ 16
-    → IsRanking (ends count dx dy width)
-ends_ranked count dx dy width few dx_small dy_small small = record {
-  strict = λ s real.
-      let line = λ (i j : ℕ). Line dx dy (offset width i j) (point i) (point j) in
+module _ (count : ℕ) (dx dy width : ℤ) where
+  -- at any moment "before" is a strict total order, whatever the direction and the width are
+  pub ends_strict : (s : Scene) → IsReal s → IsStrict s (ends count dx dy width)
+  ends_strict s real =
+      let line = end_form dx dy width in
       let opposite : (i j : ℕ) → s.sign (line j i) ≡ opposite_of (s.sign (line i j)) = λ i j.
       real.sign (line j i) ∙ turned_sign real.motions real.moment dx dy (offset width i j) (offset width j i) (point i) (point j)
       (turned_width (pos (kind i)) (pos (kind j)) width) ∙ ap opposite_of (sym (real.sign (line i j))) in
@@ -187,17 +189,25 @@ ends_ranked count dx dy width few dx_small dy_small small = record {
             (added_polynomial real.motions dx dy (offset width i j) (offset width j k) (offset width i k) (point i) (point j) (point k)
             (widths_add (pos (kind i)) (pos (kind j)) (pos (kind k)) width))));
         opposite = λ i j a b. opposite i j;
-      };
-  left = λ i j. omega arith;
-  right = λ i j k part form. same_slot j k (omega (arith, part)) (same_line dx dy (offset width i j) (offset width i k) (point i) (point j) (point k) form);
-  askable = λ live i j a b. record {
-    i_live = All-head (λ m. IsIn m live) (point i) [] a;
-    j_live = All-head (λ m. IsIn m live) (point j) [] b;
-    dx_small = dx_small;
-    dy_small = dy_small;
-    off_small = small_offset (kind j) (kind i) width (kind_low j) (kind_low i) small;
-  };
-  few_slots = omega arith;
-  few_parts = omega arith;
-  within = λ i j. omega arith;
-}
+      }
+
+  -- the part and the form of two neighbours name the left one
+  pub ends_left : (i j : ℕ) → 2 * point i + (2 * kind i + kind j) / 2 ≡ i
+  ends_left i j = omega arith
+
+  pub ends_ranked : count ≤ 2 ^ 14 → unsigned_abs dx ≤ 16 → unsigned_abs dy ≤ 16 → unsigned_abs width ≤ 2 ^ 16 → IsRanking (ends count dx dy width)
+  ends_ranked few dx_small dy_small small = record {
+    strict = ends_strict;
+    left = ends_left;
+    right = λ i j k part form. same_slot j k (omega (arith, part)) (same_line dx dy (offset width i j) (offset width i k) (point i) (point j) (point k) form);
+    askable = λ live i j a b. record {
+      i_live = All-head (λ m. IsIn m live) (point i) [] a;
+      j_live = All-head (λ m. IsIn m live) (point j) [] b;
+      dx_small = dx_small;
+      dy_small = dy_small;
+      off_small = small_offset (kind j) (kind i) width (kind_low j) (kind_low i) small;
+    };
+    few_slots = omega arith;
+    few_parts = omega arith;
+    within = λ i j. omega arith;
+  }

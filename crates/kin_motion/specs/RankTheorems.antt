@@ -6,26 +6,26 @@ use Rattle.kin_motion.specs.Numbers.{IsOnce}
 use Rattle.kin_motion.specs.Orders as points
 use Rattle.kin_motion.specs.Scene.{Scene, IsReal}
 use Rattle.kin_motion.specs.Sets.{ListsExactly}
-use Rattle.kin_sorted.specs.Directions.{along}
-use Rattle.kin_sorted.specs.Laws.{IsRanking}
-use Rattle.kin_sorted.specs.Ranks.{Ranks, AreLive, IsOrder, IsOrderFact, order_of, order_facts}
+use Rattle.kin_motion.specs.Directions.{along}
+use Rattle.kin_motion.specs.Rankings.{IsRanking}
+use Rattle.kin_motion.specs.Ranks.{Ranks, AreLive, IsOrder, IsOrderFact, order_of, order_facts}
 
 -- there is one order at most
-abbrev pub OneOrder : Type 0
-OneOrder = (s : Scene) (r : Ranks) (set xs ys : List ℕ) → IsReal s → IsRanking r → AreLive s r set → IsOrder s r set xs → IsOrder s r set ys → xs ≡ ys
+abbrev pub OneRankedOrder : Type 0
+OneRankedOrder = (s : Scene) (r : Ranks) (set xs ys : List ℕ) → IsReal s → IsRanking r → AreLive s r set → IsOrder s r set xs → IsOrder s r set ys → xs ≡ ys
 
 -- `order_of` is the order
-abbrev pub OrderAgrees : Type 0
-OrderAgrees = (s : Scene) (r : Ranks) (set : List ℕ) → IsReal s → IsRanking r → AreLive s r set → IsOnce set → IsOrder s r set (order_of s r set)
+abbrev pub RankedOrderAgrees : Type 0
+RankedOrderAgrees = (s : Scene) (r : Ranks) (set : List ℕ) → IsReal s → IsRanking r → AreLive s r set → IsOnce set → IsOrder s r set (order_of s r set)
 
 -- `order_facts` lists exactly the facts of the order
-abbrev pub OrderFactsAgree : Type 0
-OrderFactsAgree = (s : Scene) (r : Ranks) (set : List ℕ) → IsReal s → IsRanking r → AreLive s r set → IsOnce set
+abbrev pub RankedFactsAgree : Type 0
+RankedFactsAgree = (s : Scene) (r : Ranks) (set : List ℕ) → IsReal s → IsRanking r → AreLive s r set → IsOnce set
     → ListsExactly (order_facts s r set) (IsOrderFact s r set)
 
 -- where the same numbers are live and all facts of an order hold, it is the order there, and the facts are those of the order there
-abbrev pub OrderIsDetermined : Type 0
-OrderIsDetermined = (v w : Scene) (r : Ranks) (xs : List ℕ) (facts : List Placed) → IsReal v → IsReal w → IsRanking r → HaveSameLive v w → AreLive v r xs
+abbrev pub RankedOrderIsDetermined : Type 0
+RankedOrderIsDetermined = (v w : Scene) (r : Ranks) (xs : List ℕ) (facts : List Placed) → IsReal v → IsReal w → IsRanking r → HaveSameLive v w → AreLive v r xs
     → IsOrder v r xs xs → ListsExactly facts (IsOrderFact v r xs) → AllHold w facts → IsOrder w r xs xs × ListsExactly facts (IsOrderFact w r xs)
 
 -- along a direction the order of the live numbers and its facts are those of points

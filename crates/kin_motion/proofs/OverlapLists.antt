@@ -1,18 +1,20 @@
 -- The overlaps by computation.
-use Rattle.std.proofs.Common.{◌≡◌, ◌⊎◌, inl, inr, refl, sym, ap, ap₂, ◌∙◌, subst, arith, List, [], ◌∷◌, ◌++◌, ℕ, zero, suc, ◌+◌, ◌<◌, Bool, true, false, cond, ◌||◌, ◌&&◌, nat_lt, nat_eq, map, filter}
+use Rattle.std.proofs.Common.{◌≡◌, ◌⊎◌, inl, inr, refl, sym, ap, ap₂, ◌∙◌, subst, arith, List, [], ◌∷◌, ◌++◌, ℕ, ◌+◌, ◌<◌, Bool, true, false, cond, ◌&&◌, nat_lt, nat_eq, map, filter}
 use Rattle.std.specs.Prelude.{Contains, Option, Some, None}
 use Rattle.std.proofs.lemmas.Bool.{or_cases, or_left, or_right, eqb-true}
 use Rattle.std.proofs.lemmas.Bool.Decides.{nat_tests}
 use Rattle.std.proofs.lemmas.List.Elements.{Contains-append_left, Contains-append_right, Contains-append_cases}
 use Rattle.kin_algebra.proofs.Members.{contains_none, contains_head, contains_tail, contains_cases}
-use Rattle.kin_motion.specs.Numbers.{is_in, IsChain, filled_from}
-use Rattle.kin_motion.specs.Scene.{Scene, IsReal}
+use Rattle.kin_motion.specs.Numbers.{IsChain, filled_from}
 use Rattle.kin_motion.proofs.ListChains.{chain_tail, chain_first, same_list}
-use Rattle.kin_motion.proofs.Members.{in_from_contains, contains_from_in, in_cases, in_head, in_tail}
+use Rattle.kin_motion.proofs.Members.{in_from_contains, contains_from_in}
 use Rattle.kin_motion.proofs.SetLaws.{contains_map, contains_mapped, filter-sound, filter-complete}
-use Rattle.kin_boxes.specs.Overlaps.{overlap, pair_before, pairs_of, ListsOverlaps, overlaps_of}
-use Rattle.kin_boxes.specs.Theorems.{OverlapsAgree, OneListOfOverlaps}
-use Rattle.kin_boxes.proofs.Sweeping.{both_true}
+use Rattle.kin_motion.specs.Overlaps.{overlap, pair_before, pairs_of}
+use Rattle.kin_motion.specs.BoxTheorems.{OverlapsAgree, OneListOfOverlaps}
+
+pub both_true : (a b : Bool) → a && b ≡ true → (a ≡ true) × (b ≡ true)
+both_true true b h = (refl, h)
+both_true false b h = absurd cc
 
 -- ---- the order of pairs
 before_cases : (p q : ℕ × ℕ) → pair_before p q ≡ true → (p.0 < q.0) ⊎ ((p.0 ≡ q.0) × (p.1 < q.1))
@@ -24,7 +26,8 @@ before_cases p q h = at (or_cases (nat_lt p.0 q.0) (nat_eq p.0 q.0 && nat_lt p.1
 
 before_from : (p q : ℕ × ℕ) → (p.0 < q.0) ⊎ ((p.0 ≡ q.0) × (p.1 < q.1)) → pair_before p q ≡ true
 before_from p q (inl l) = or_left (nat_lt p.0 q.0) (nat_eq p.0 q.0 && nat_lt p.1 q.1) (let g : nat_lt p.0 q.0 ≡ true = grind (arith, nat_tests, l) in g)
-before_from p q (inr (e, l)) = or_right (nat_lt p.0 q.0) (nat_eq p.0 q.0 && nat_lt p.1 q.1) (ap₂ (λ a b. a && b) (let g : nat_eq p.0 q.0 ≡ true = grind (arith, nat_tests, e) in g)
+before_from p q (inr (e, l)) = or_right (nat_lt p.0 q.0) (nat_eq p.0 q.0 && nat_lt p.1 q.1)
+    (ap₂ (λ a b. a && b) (let g : nat_eq p.0 q.0 ≡ true = grind (arith, nat_tests, e) in g)
     (let g : nat_lt p.1 q.1 ≡ true = grind (arith, nat_tests, l) in g))
 
 never : (p : ℕ × ℕ) → pair_before p p ≡ true → ⊥
@@ -44,14 +47,16 @@ through p q r h k = before_from p r (at (before_cases p q h) (before_cases q r k
     at (inr (e, l)) (inr (f, m)) = inr (e ∙ f, omega (arith, l, m))
 
 pub one_list : OneListOfOverlaps
-one_list s width height ps qs a b = same_list pair_before never through ps qs a.rising b.rising (λ p c. (b.each p).1 ((a.each p).0 c)) (λ p c. (a.each p).1 ((b.each p).0 c))
+one_list s width height ps qs a b = same_list pair_before never through ps qs a.rising b.rising
+    (λ p c. (b.each p).1 ((a.each p).0 c)) (λ p c. (a.each p).1 ((b.each p).0 c))
 
 -- ---- lists that rise
 in_front : {A : Type 0} (lt : A → A → Bool) (x : A) (xs : List A) → IsChain lt xs → ((y : A) → Contains xs y → lt x y ≡ true) → IsChain lt (x ∷ xs)
 in_front {A} lt x [] c h = tt
 in_front {A} lt x (y ∷ ys) c h = (h y (contains_head y ys), c)
 
-joined : {A : Type 0} (lt : A → A → Bool) (xs ys : List A) → IsChain lt xs → IsChain lt ys → ((x y : A) → Contains xs x → Contains ys y → lt x y ≡ true) → IsChain lt (xs ++ ys)
+joined : {A : Type 0} (lt : A → A → Bool) (xs ys : List A) → IsChain lt xs → IsChain lt ys
+    → ((x y : A) → Contains xs x → Contains ys y → lt x y ≡ true) → IsChain lt (xs ++ ys)
 joined {A} lt [] ys c d h = d
 joined {A} lt (x ∷ []) ys c d h = in_front lt x ys d (λ y k. h x y (contains_head x []) k)
 joined {A} lt (x ∷ z ∷ zs) ys c d h = (c.0, joined lt (z ∷ zs) ys c.1 d (λ v y k l. h v y (contains_tail x v (z ∷ zs) k) l))
@@ -93,11 +98,13 @@ in_pairs : (xs : List ℕ) (p : ℕ × ℕ) → IsChain nat_lt xs → Contains (
 in_pairs [] p c h = absurd (contains_none p h)
 in_pairs (i ∷ is) p c h = at (Contains-append_cases (map (λ j. (i, j)) is) (pairs_of is) p h) (in_pairs is p (chain_tail nat_lt i is c))
   where
-    at : Contains (map (λ j. (i, j)) is) p ⊎ Contains (pairs_of is) p → (Contains (pairs_of is) p → (Contains is p.0) × (Contains is p.1) × (nat_lt p.0 p.1 ≡ true))
+    at : Contains (map (λ j. (i, j)) is) p ⊎ Contains (pairs_of is) p
+        → (Contains (pairs_of is) p → (Contains is p.0) × (Contains is p.1) × (nat_lt p.0 p.1 ≡ true))
         → (Contains (i ∷ is) p.0) × (Contains (i ∷ is) p.1) × (nat_lt p.0 p.1 ≡ true)
     at (inl k) rest =
         let m = contains_mapped (λ j. (i, j)) is p k in
-        let there : (Contains (i ∷ is) i) × (Contains (i ∷ is) m.0) × (nat_lt i m.0 ≡ true) = (contains_head i is, contains_tail i m.0 is m.1, first_less i is c m.0 m.1) in
+        let there : (Contains (i ∷ is) i) × (Contains (i ∷ is) m.0) × (nat_lt i m.0 ≡ true) =
+        (contains_head i is, contains_tail i m.0 is m.1, first_less i is c m.0 m.1) in
         subst (λ (q : ℕ × ℕ). (Contains (i ∷ is) q.0) × (Contains (i ∷ is) q.1) × (nat_lt q.0 q.1 ≡ true)) (sym m.2) there
     at (inr k) rest = let r = rest k in (contains_tail i p.0 is r.0, contains_tail i p.1 is r.1, r.2)
 
@@ -105,16 +112,19 @@ of_pairs : (xs : List ℕ) (a b : ℕ) → IsChain nat_lt xs → Contains xs a �
 of_pairs [] a b c h k l = absurd (contains_none a h)
 of_pairs (i ∷ is) a b c h k l = at (contains_cases i a is h) (contains_cases i b is k) (of_pairs is a b (chain_tail nat_lt i is c))
   where
-    at : (i ≡ a) ⊎ Contains is a → (i ≡ b) ⊎ Contains is b → (Contains is a → Contains is b → nat_lt a b ≡ true → Contains (pairs_of is) (a, b)) → Contains (map (λ j. (i, j)) is ++ pairs_of is) (a, b)
+    at : (i ≡ a) ⊎ Contains is a → (i ≡ b) ⊎ Contains is b → (Contains is a → Contains is b → nat_lt a b ≡ true → Contains (pairs_of is) (a, b))
+        → Contains (map (λ j. (i, j)) is ++ pairs_of is) (a, b)
     at (inl e) (inl f) rest = absurd (grind (arith, nat_tests, e, f, l))
-    at (inl e) (inr v) rest = Contains-append_left (map (λ j. (i, j)) is) (pairs_of is) (a, b) (subst (λ n. Contains {X = ℕ × ℕ} (map (λ j. (i, j)) is) (n, b)) e
+    at (inl e) (inr v) rest = Contains-append_left (map (λ j. (i, j)) is) (pairs_of is) (a, b)
+        (subst (λ n. Contains {X = ℕ × ℕ} (map (λ j. (i, j)) is) (n, b)) e
         (contains_map (λ (j : ℕ). pair i j) is b v))
     at (inr u) (inl f) rest = absurd (let m = first_less i is c a u in grind (arith, nat_tests, f, l, m))
     at (inr u) (inr v) rest = Contains-append_right (map (λ j. (i, j)) is) (pairs_of is) (a, b) (rest u v l)
 
 pairs_rise : (xs : List ℕ) → IsChain nat_lt xs → IsChain pair_before (pairs_of xs)
 pairs_rise [] c = tt
-pairs_rise (i ∷ is) c = joined pair_before (map (λ j. (i, j)) is) (pairs_of is) (beside i is (chain_tail nat_lt i is c)) (pairs_rise is (chain_tail nat_lt i is c)) (λ p q h k.
+pairs_rise (i ∷ is) c = joined pair_before (map (λ j. (i, j)) is) (pairs_of is) (beside i is (chain_tail nat_lt i is c))
+    (pairs_rise is (chain_tail nat_lt i is c)) (λ p q h k.
     let m = contains_mapped (λ j. (i, j)) is p h in
     let e : p.0 ≡ i = ap (λ (r : ℕ × ℕ). r.0) m.2 in
     let l = first_less i is c q.0 (in_pairs is q (chain_tail nat_lt i is c) k).0 in
@@ -131,9 +141,15 @@ overlaps_agree s width height real =
         λ c. let f = filter-sound test (pairs_of s.live) p c in
             let m = in_pairs s.live p rises f.0 in
             let l = m.2 in
-            record { first_live = in_from_contains s.live p.0 m.0; second_live = in_from_contains s.live p.1 m.1; rising = grind (arith, nat_tests, l); overlapping = f.1 },
+            record {
+              first_live = in_from_contains s.live p.0 m.0;
+              second_live = in_from_contains s.live p.1 m.1;
+              rising = grind (arith, nat_tests, l);
+              overlapping = f.1;
+            },
         λ o. let l = o.rising in
-            filter-complete test (pairs_of s.live) p (of_pairs s.live p.0 p.1 rises (contains_from_in s.live p.0 o.first_live) (contains_from_in s.live p.1 o.second_live)
+            filter-complete test (pairs_of s.live) p
+            (of_pairs s.live p.0 p.1 rises (contains_from_in s.live p.0 o.first_live) (contains_from_in s.live p.1 o.second_live)
             (grind (arith, nat_tests, l))) o.overlapping,
       );
     }

@@ -9,9 +9,9 @@ use Rattle.kin_motion.specs.declared.fact.Placed.{Placed}
 use Rattle.kin_motion.specs.Numbers.{IsIn, IsChain}
 use Rattle.kin_motion.specs.Scene.{Scene, Holds}
 use Rattle.kin_motion.specs.Kinetics.{AllHold, ListsExactly}
-use Rattle.kin_sorted.specs.Laws.{IsStrict}
-use Rattle.kin_sorted.specs.Ranks.{Ranks, AreLive, IsOrder, IsOrderFact, is_before, neighbour_fact, neighbour_facts}
-use Rattle.kin_sorted.specs.OrderLaws.{one_order}
+use Rattle.kin_motion.specs.Rankings.{IsStrict}
+use Rattle.kin_motion.specs.Ranks.{Ranks, AreLive, IsOrder, IsOrderFact, is_before, neighbour_fact, neighbour_facts}
+use Rattle.kin_motion.proofs.RankedOrders.{one_order}
 
 -- the facts of neighbours, by places
 pub neighbour_at : (s : Scene) (r : Ranks) (xs : List ℕ) (k i j : ℕ) → slice_get xs k ≡ Some i → slice_get xs (suc k) ≡ Some j
