@@ -25,7 +25,6 @@ pub mod direction;
 mod doubts;
 pub mod ends;
 mod enter;
-pub mod laws;
 mod leave;
 mod lineup;
 mod link;
