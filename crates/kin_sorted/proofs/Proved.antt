@@ -53,7 +53,7 @@ order_determined v w r xs facts real real' law same live order exact hold =
     order_facts_determined v w r xs facts (law.strict v real) (law.strict w real') live (live_elsewhere v w r xs same live) order exact hold
 
 -- ---- points
-points_facts : (s : Scene) (slots : ℕ) (dx dy : ℤ) (xs : List ℕ) → neighbour_facts s (along slots dx dy) xs ≡ points.neighbour_facts s dx dy 0 xs
+pub points_facts : (s : Scene) (slots : ℕ) (dx dy : ℤ) (xs : List ℕ) → neighbour_facts s (along slots dx dy) xs ≡ points.neighbour_facts s dx dy 0 xs
 points_facts s slots dx dy [] = refl
 points_facts s slots dx dy (i ∷ []) = refl
 points_facts s slots dx dy (i ∷ j ∷ xs) = ap (λ (fs : List Placed). neighbour_fact s (along slots dx dy) i j ∷ fs) (points_facts s slots dx dy (j ∷ xs))
