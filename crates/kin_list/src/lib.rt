@@ -13,17 +13,6 @@
 pub use list::KinList;
 pub use mark::Mark;
 
-mod cell;
-mod direction;
-mod doubts;
-mod enter;
 mod kept;
-mod leave;
-mod lineup;
-mod link;
 pub mod list;
 pub mod mark;
-mod mend;
-mod repair;
-mod report;
-mod row;
