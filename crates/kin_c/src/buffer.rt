@@ -44,9 +44,9 @@ pub(crate) fn flat(alloc: Global, pairs: &[(u32, u32)]) -> Result<Vec<u32>, NoMe
     ensures { IfOk result (λ numbers. numbers.items ≡ pairs_list pairs.now) }
 {
     let mut numbers = Vec::new(alloc);
-    for &(one, other) in pairs {
-        numbers.push(one).map_err(|_| NoMemory)?;
-        numbers.push(other).map_err(|_| NoMemory)?;
+    for pair in pairs {
+        numbers.push(pair.0).map_err(|_| NoMemory)?;
+        numbers.push(pair.1).map_err(|_| NoMemory)?;
     }
     Ok(numbers)
 }
