@@ -12,3 +12,5 @@ pub mod Filling
 pub mod Failing
 pub mod Sweeping
 pub mod UnderRanges
+pub mod BoxEnds
+pub mod OverlapPairs

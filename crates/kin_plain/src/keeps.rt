@@ -5,6 +5,7 @@ ghost use Rattle.std.specs.List.{All};
 ghost use Rattle.kin_motion.specs.Agreements.{FitsSize};
 ghost use Rattle.kin_motion.specs.Live.{keep_facts, live_facts, owned_by, IsSmallKeep};
 
+use crate::box_facts::put_box_facts;
 use crate::closest::put_closest_facts;
 use crate::diameter::put_diameter_facts;
 use crate::extreme::put_extreme_facts;
@@ -84,6 +85,7 @@ pub fn put_keep_facts<O: Signs, L: Ledger>(
         Keep::Range => put_range_facts(alloc, now, live, facts, steps),
         Keep::Nearest => put_wedge_facts(alloc, now, live, facts, steps),
         Keep::Diameter => put_diameter_facts(alloc, now, size, live, facts, steps),
+        Keep::Boxes { w, h } => put_box_facts(alloc, now, size, live, w, h, facts, steps),
     }
 }
 

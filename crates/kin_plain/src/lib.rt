@@ -5,12 +5,15 @@
 //! It is slow. A reader who doesn't want to believe the engine can read this instead.
 #![tactic(auto)]
 
+pub mod axis;
+pub mod box_facts;
 pub mod breakpoint;
 pub mod chain;
 pub mod closest;
 pub mod contest;
 pub mod cycle;
 pub mod diameter;
+pub mod ends;
 pub mod extreme;
 pub mod facts;
 pub mod failures;
@@ -24,6 +27,7 @@ pub mod nearest;
 pub mod numbers;
 pub mod octant;
 pub mod order;
+pub mod overlaps;
 pub mod pair;
 pub mod rect;
 pub mod slots;

@@ -6,7 +6,7 @@
 
 pub use failure::put_failure;
 pub use line::{put_count, put_one};
-pub use list::{put_list, put_pair};
+pub use list::{put_list, put_pair, put_pairs};
 pub use moment::put_moment;
 pub use piece::{put_bytes, put_number, put_pieces};
 pub use reply::{Reply, put_reply};

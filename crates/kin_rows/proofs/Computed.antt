@@ -12,6 +12,7 @@ use Rattle.kin_rows.specs.Passing.{PassingRow}
 use Rattle.kin_rows.specs.Extremes.{ExtremeRow}
 use Rattle.kin_rows.specs.NearestRows.{NearestRows}
 use Rattle.kin_rows.specs.FarthestRows.{FarthestRows}
+use Rattle.kin_rows.specs.BoxRows.{BoxRows}
 use Rattle.kin_rows.specs.Carriageways.{CarriagewaysRow}
 use Rattle.kin_rows.specs.Changes.{ChangeRows}
 use Rattle.kin_rows.specs.HullFactRows.{HullFactRows}
@@ -53,6 +54,10 @@ nearest_rows = search refl
 pub farthest_rows : FarthestRows
 unfolding sign_of_form polynomial_of sign_at sign_at_instant
 farthest_rows = search refl
+
+pub box_rows : BoxRows
+unfolding sign_of_form polynomial_of sign_at sign_at_instant
+box_rows = search refl
 
 pub extreme_row : ExtremeRow
 unfolding sign_of_form polynomial_of sign_at sign_at_instant

@@ -8,6 +8,7 @@ pub mod Boxes
 pub mod Passing
 pub mod NearestRows
 pub mod FarthestRows
+pub mod BoxRows
 pub mod Extremes
 pub mod Carriageways
 pub mod Changes

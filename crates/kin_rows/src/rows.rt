@@ -1,6 +1,7 @@
 //! Worked rows. Each function's contract is one example; none of them does anything.
 
 ghost use Rattle.kin_rows.specs.Asking.{AskingRows};
+ghost use Rattle.kin_rows.specs.BoxRows.{BoxRows};
 ghost use Rattle.kin_rows.specs.Boxes.{SlidingRow};
 ghost use Rattle.kin_rows.specs.Carriageways.{CarriagewaysRow};
 ghost use Rattle.kin_rows.specs.Changes.{ChangeRows};
@@ -62,6 +63,12 @@ pub fn nearest_rows()
 /// The farthest pairs of a unit square, of points that come together and part again, and of ties.
 pub fn farthest_rows()
     ensures { FarthestRows }
+{}
+
+/// Boxes that meet and part, boxes of no width and no height, and corners that touch: the pairs that overlap, and the
+/// facts of both axes.
+pub fn box_rows()
+    ensures { BoxRows }
 {}
 
 /// Of two points that meet the lesser number is the extreme one.

@@ -10,7 +10,7 @@ use Rattle.kin_num.specs.declared.instant.Phase.TheVariants.{At, After}
 use Rattle.kin_motion.specs.declared.form.Form.{Form}
 use Rattle.kin_motion.specs.declared.form.Form.TheVariants.{Line, Turn, Slope, Dist}
 use Rattle.kin_motion.specs.Journal.{Failure}
-use Rattle.kin_script.specs.PrintedJournal.{failure_line, block_lines, journal_lines, now_line, one_line}
+use Rattle.kin_script.specs.PrintedJournal.{failure_line, block_lines, journal_lines, now_line, one_line, pairs_lines}
 
 -- a fact of the part 0 of the structure 0 had the first sign and has the second
 abbrev failure : Form → Sign → Sign → Failure
@@ -40,6 +40,13 @@ irrational : failure_line (record { at = Root (pos 1) (pos 0) (neg_ℤ (pos 2)) 
 unfolding digits
 irrational = refl
 
+-- two boxes of width 2 meet
+boxes_meet : failure_line (record { at = Ratio (pos 3) (pos 1); phase = At })
+    (record { was = record { structure = 0; placed = record { part = 2; fact = record { form = Line (pos 1) (pos 0) (neg_ℤ (pos 2)) 0 1; sign = Plus } } }; now = Zero })
+    ≡ codes "! 3 0/2 line(1,0,-2) 0 1 + 0\n"
+unfolding digits
+boxes_meet = refl
+
 offset : failure_line (record { at = Ratio (pos 0) (pos 1); phase = After }) (failure (Line (pos 0) (pos 1) (neg_ℤ (pos 30)) 4 5) Zero Plus) ≡ codes "! 0+ 0/0 line(0,1,-30) 4 5 0 +\n"
 unfolding digits
 offset = refl
@@ -63,3 +70,11 @@ some_point = refl
 no_point : one_line None ≡ codes "none\n"
 unfolding digits
 no_point = refl
+
+some_pairs : pairs_lines ((0, 1) ∷ (0, 12) ∷ []) ≡ codes "0 1\n0 12\n"
+unfolding digits
+some_pairs = refl
+
+no_pairs : pairs_lines [] ≡ codes "none\n"
+unfolding digits
+no_pairs = refl

@@ -1,7 +1,8 @@
 -- The table of the proofs of what may be kept and asked: numbers are in range; a question is refused for one cause, or it isn't and has one line.
-use Rattle.std.proofs.Common.{◌≡◌, ◌⊎◌, inl, inr, ℕ, Bool, true, false, List, [], ◌∷◌, length, Option, Some, None, refl, sym, ap, ◌∙◌, subst, arith}
-use Rattle.std.specs.Prelude.{ℤ, nat_eq, Contains, slice_get, is_some, IfSome, IsTrue}
+use Rattle.std.proofs.Common.{◌≡◌, ◌⊎◌, inl, inr, ℕ, Bool, true, false, List, [], ◌∷◌, length, Option, Some, None, zero, suc, pos, refl, sym, ap, ◌∙◌, subst, arith}
+use Rattle.std.specs.Prelude.{ℤ, ◌≤◌, nat_eq, Contains, slice_get, is_some, IfSome, IsTrue}
 use Rattle.std.proofs.lemmas.Bool.Decides.{nat_tests}
+use Rattle.std.proofs.lemmas.Int.{ints}
 use Rattle.std.proofs.lemmas.Option.{same_Some}
 use Rattle.kin_algebra.proofs.Members.{contains_none, contains_head, contains_tail, contains_cases, contains_from_get, get_from_contains}
 use Rattle.kin_num.specs.Canonical.{IsCanonical}
@@ -15,9 +16,10 @@ use Rattle.kin_motion.specs.ClosestPairs.{closest_of}
 use Rattle.kin_motion.specs.Extremes.{IsExtremePoint, extreme_of}
 use Rattle.kin_motion.specs.Farthest.{farthest_of}
 use Rattle.kin_motion.specs.Keeps.{group}
-use Rattle.kin_motion.specs.Live.{IsLiveFact, IsSmallKeep, live_facts}
+use Rattle.kin_motion.specs.Live.{IsLiveFact, IsSmallBox, IsSmallKeep, live_facts}
 use Rattle.kin_motion.specs.Nearest.{nearest_of}
 use Rattle.kin_motion.specs.Orders.{IsOrder, order_of}
+use Rattle.kin_motion.specs.Overlaps.{ListsOverlaps, overlaps_of}
 use Rattle.kin_motion.specs.Plans.{Plan, motions_in_force}
 use Rattle.kin_motion.specs.Scene.{IsReal}
 use Rattle.kin_motion.proofs.ClosestLaws.{closest_proved}
@@ -27,18 +29,19 @@ use Rattle.kin_motion.proofs.LiveFactLaws.{live_facts_agree}
 use Rattle.kin_motion.proofs.MotionScenes.{real_at}
 use Rattle.kin_motion.proofs.NearestLaws.{nearest_proved, one_nearest}
 use Rattle.kin_motion.proofs.OneLaws.{one_extreme, one_closest, one_hull_cycle}
+use Rattle.kin_motion.proofs.OverlapLists.{one_list, overlaps_agree}
 use Rattle.kin_motion.proofs.Proved.{order_is_one, order_proved, extreme_proved, cycle_proved}
 use Rattle.kin_legs.specs.Paths.{plan_of}
 use Rattle.kin_script.specs.declared.command.Command.{Command}
-use Rattle.kin_script.specs.declared.command.Command.TheVariants.{Insert, Remove, Replace, Turn, Leg, AtRatio, AtRoot, Next, Order, Extreme, Hull, Closest, Live, Inside, Nearest, Farthest}
+use Rattle.kin_script.specs.declared.command.Command.TheVariants.{Insert, Remove, Replace, Turn, Leg, AtRatio, AtRoot, Next, Order, Extreme, Hull, Closest, Live, Inside, Nearest, Farthest, Overlaps}
 use Rattle.kin_script.specs.declared.refusal.Refusal.{Refusal}
 use Rattle.kin_script.specs.declared.refusal.Refusal.TheVariants.{NotKept, Absent}
 use Rattle.kin_script.specs.Deeds.{asks, deed_of}
-use Rattle.kin_script.specs.Questions.{keep_of, IsKeepInRange, order_question_of, extreme_question_of, box_question_of, nearest_question_of, question_of, IsQuestionInRange}
-use Rattle.kin_script.specs.Questions.{HasKeep, IsProvided, must_be_live, IsPresent, IsAnswerable, IsRefusedQuestion, IsOrderLine, IsExtremeLine, IsLiveLine, IsReplyLine}
+use Rattle.kin_script.specs.Questions.{boxes_of, keep_of, IsKeepInRange, order_question_of, extreme_question_of, box_question_of, nearest_question_of, question_of, IsQuestionInRange}
+use Rattle.kin_script.specs.Questions.{HasKeep, kept_boxes, IsProvided, must_be_live, IsPresent, IsAnswerable, IsRefusedQuestion, IsOrderLine, IsExtremeLine, AreOverlapsLines, IsLiveLine, IsReplyLine}
 use Rattle.kin_script.specs.Lines.{Word}
 use Rattle.kin_script.specs.Printed.{list_line}
-use Rattle.kin_script.specs.PrintedJournal.{one_line, count_line, pair_line}
+use Rattle.kin_script.specs.PrintedJournal.{one_line, count_line, pair_line, pairs_lines}
 use Rattle.kin_script.specs.Ranges.{IsCommandInRange, IsDeedInRange}
 use Rattle.kin_script.specs.States.{State, state_scene}
 use Rattle.kin_script.proofs.Counts.{same_length}
@@ -46,6 +49,16 @@ use Rattle.kin_script.proofs.EachGiven.{Each, each_none, each_way, each_last, ea
 use Rattle.kin_script.proofs.WordRanges.{natural_at_range, integer_at_range, number_range, direction_range}
 
 -- ---- what is kept
+
+boxes_range : (ws : List Word) → Each IsKeepInRange (boxes_of ws)
+unfolding boxes_of
+boxes_range ws =
+    each_then _ _ _ _ (natural_at_range 0 4096 ws) (λ width w.
+    each_then _ _ _ _ (natural_at_range 0 4096 width.1) (λ height h.
+    each_last _ _ height.1 (small width.0 height.0 w.1 h.1)))
+  where
+    small : (width height : ℕ) → width ≤ 4096 → height ≤ 4096 → IsSmallBox (pos width) (pos height)
+    small width height w h = (omega (arith, ints), omega (arith, ints, w), omega (arith, ints), omega (arith, ints, h))
 
 pub keep_range : (ws : List Word) → Each IsKeepInRange (keep_of ws)
 unfolding keep_of
@@ -57,7 +70,8 @@ keep_range (kind ∷ ws) =
     (each_way _ _ _ _ (each_last _ keep.Closest ws tt)
     (each_way _ _ _ _ (each_last _ keep.Range ws tt)
     (each_way _ _ _ _ (each_last _ keep.Nearest ws tt)
-    (each_way _ _ _ _ (each_last _ keep.Diameter ws tt) (each_none _)))))))
+    (each_way _ _ _ _ (each_last _ keep.Diameter ws tt)
+    (each_way _ _ _ _ (boxes_range ws) (each_none _))))))))
 
 -- a kept structure that a script can name has small numbers
 pub small_keep : (k : Keep) → IsKeepInRange k → IsSmallKeep k
@@ -68,6 +82,7 @@ small_keep keep.Closest h = tt
 small_keep keep.Range h = tt
 small_keep keep.Nearest h = tt
 small_keep keep.Diameter h = tt
+small_keep (keep.Boxes width height) h = h
 
 hull_alone : (x : Keep) → group x ≡ 1 → x ≡ keep.Hull
 hull_alone keep.Hull e = refl
@@ -103,6 +118,19 @@ kept_or_not kind only (x ∷ xs) = at (nat_eq (group x) (group kind)) refl (kept
     at false e (inl none) = inl (λ h. another e none (contains_cases x kind xs h))
     at false e (inr some) = inr (contains_tail x kind xs some)
 
+-- boxes whose width and height are found are kept
+pub boxes_kept : (keeps : List Keep) (width height : ℤ) → kept_boxes keeps ≡ Some (width, height) → (k : ℕ) × (slice_get keeps k ≡ Some (keep.Boxes width height))
+boxes_kept [] width height e = absurd cc
+boxes_kept (keep.Boxes w h ∷ keeps) width height e = (0, ap (λ (size : ℤ × ℤ). Some (keep.Boxes size.0 size.1)) (same_Some _ _ e))
+boxes_kept (_ ∷ keeps) width height e = let k = boxes_kept keeps width height e in (suc k.0, k.1)
+
+-- and the width and the height of boxes that are kept are found
+pub boxes_found : (keeps : List Keep) (k : ℕ) (width height : ℤ) → slice_get keeps k ≡ Some (keep.Boxes width height) → is_some (kept_boxes keeps) ≡ true
+boxes_found [] k width height e = absurd cc
+boxes_found (keep.Boxes w h ∷ keeps) k width height e = refl
+boxes_found (_ ∷ keeps) zero width height e = absurd cc
+boxes_found (_ ∷ keeps) (suc k) width height e = boxes_found keeps k width height e
+
 -- ---- what is asked
 
 order_range : (size : ℕ) (ws : List Word) → Each (IsQuestionInRange size) (order_question_of ws)
@@ -136,7 +164,8 @@ question_range size name ws =
     (each_way _ _ _ _ (box_range size ws)
     (each_way _ _ _ _ (nearest_range size ws)
     (each_way _ _ _ _ (each_last _ Farthest ws tt)
-    (each_way _ _ _ _ (each_last _ Live ws tt) (each_none _))))))))
+    (each_way _ _ _ _ (each_last _ Overlaps ws tt)
+    (each_way _ _ _ _ (each_last _ Live ws tt) (each_none _)))))))))
 
 -- a question in its range is a command in its range
 pub question_in_range : (size : ℕ) (c : Command) → IsQuestionInRange size c → IsCommandInRange size c
@@ -223,6 +252,15 @@ module _ (s : State) (canonical : IsCanonical s.moment.at) where
       let same : a.0 ≡ b.0 = sym a.1.2 ∙ same_length a.1.0 b.1.0 (IsLiveFact s.size s.keeps (state_scene s)) a.1.1 b.1.1 ∙ b.1.2 in
       a.2 ∙ ap count_line same ∙ sym b.2
 
+  one_overlaps_text : (x y : List ℕ) → AreOverlapsLines s.keeps (state_scene s) x → AreOverlapsLines s.keeps (state_scene s) y → x ≡ y
+  one_overlaps_text x y a b =
+      let e = same_size (a.width, a.height) (b.width, b.height) (same_Some _ _ (sym a.kept ∙ b.kept)) in
+      let o = along_same (λ width height. ListsOverlaps (state_scene s) width height a.pairs) a.width a.height b.width b.height e a.overlaps in
+      a.lines ∙ ap pairs_lines (one_list (state_scene s) b.width b.height a.pairs b.pairs o b.overlaps) ∙ sym b.lines
+    where
+      same_size : (v w : ℤ × ℤ) → v ≡ w → (v.0 ≡ w.0) × (v.1 ≡ w.1)
+      same_size v w same = (ap (λ (size : ℤ × ℤ). size.0) same, ap (λ (size : ℤ × ℤ). size.1) same)
+
   -- there is no other line
   pub one_reply_line : (q : Command) (x y : List ℕ) → IsReplyLine s q x → IsReplyLine s q y → x ≡ y
   one_reply_line (Order k) x y a b = one_order_line k x y a b
@@ -232,6 +270,7 @@ module _ (s : State) (canonical : IsCanonical s.moment.at) where
   one_reply_line (Inside r) x y a b = a ∙ sym b
   one_reply_line (Nearest n) x y a b = a.2 ∙ ap one_line (one_nearest (state_scene s) n a.0 b.0 real a.1 b.1) ∙ sym b.2
   one_reply_line Farthest x y a b = a.2 ∙ ap pair_line (one_farthest (state_scene s) a.0 b.0 real a.1 b.1) ∙ sym b.2
+  one_reply_line Overlaps x y a b = one_overlaps_text x y a b
   one_reply_line Live x y a b = one_live_line x y a b
   one_reply_line question x y a b = absurd a
 
@@ -276,6 +315,26 @@ module _ (s : State) (canonical : IsCanonical s.moment.at) where
       at (inr some) (inl absent) = inl (Absent, inr (refl, kept (get_from_contains s.keeps kind some), absent))
       at (inr some) (inr present) = inr ((kept (get_from_contains s.keeps kind some), present), (text, line present))
 
+  overlaps_lines : (o : Option (ℤ × ℤ)) → kept_boxes s.keeps ≡ o → HasLine Overlaps
+  overlaps_lines None e = not_kept Overlaps (λ h. absurd (let clash = sym (boxes_found s.keeps h.0 h.1 h.2 h.3) ∙ ap is_some e in cc))
+  overlaps_lines (Some (width, height)) e =
+      let k = boxes_kept s.keeps width height e in
+      let pairs = overlaps_of (state_scene s) width height in
+      inr (
+        ((k.0, width, height, k.1), tt),
+        (
+          pairs_lines pairs,
+          record {
+            width = width;
+            height = height;
+            kept = e;
+            pairs = pairs;
+            overlaps = overlaps_agree (state_scene s) width height real;
+            lines = refl;
+          },
+        ),
+      )
+
   live_line : FitsSize s.size (state_scene s) → HasLine Live
   live_line fits =
       let facts = live_facts s.size s.keeps (state_scene s) in
@@ -289,5 +348,6 @@ module _ (s : State) (canonical : IsCanonical s.moment.at) where
   has_line fits (Inside r) = by_kind (Inside r) keep.Range range_alone (λ h. h) (λ h. h) (list_line (points_in (motions_in_force s.plans s.moment) s.moment r)) (λ present. refl)
   has_line fits (Nearest n) = by_kind (Nearest n) keep.Nearest nearest_alone (λ h. h) (λ h. h) (one_line (nearest_of (state_scene s) n)) (λ present. (nearest_of (state_scene s) n, nearest_proved (state_scene s) n real, refl))
   has_line fits Farthest = by_kind Farthest keep.Diameter diameter_alone (λ h. h) (λ h. h) (pair_line (farthest_of (state_scene s))) (λ present. (farthest_of (state_scene s), farthest_proved (state_scene s) real, refl))
+  has_line fits Overlaps = overlaps_lines (kept_boxes s.keeps) refl
   has_line fits Live = live_line fits
   has_line fits other = not_kept other (λ h. h)

@@ -3,12 +3,12 @@ use Rattle.std.proofs.Common.{refl, [], ◌∷◌, pos, true, false}
 use Rattle.std.specs.Prelude.{codes}
 use lib.IntN.{neg_ℤ}
 use Rattle.kin_motion.specs.declared.keep.Keep.TheVariants as keep
-use Rattle.kin_script.specs.declared.command.Command.TheVariants.{Insert, Remove, Replace, Turn, Leg, AtRatio, AtRoot, Next, Order, Extreme, Nearest, Farthest, Live}
+use Rattle.kin_script.specs.declared.command.Command.TheVariants.{Insert, Remove, Replace, Turn, Leg, AtRatio, AtRoot, Next, Order, Extreme, Nearest, Farthest, Overlaps, Live}
 use Rattle.kin_script.specs.Lines.{lines_of, words_of, pieces_of}
 use Rattle.kin_script.specs.Left.{numbered}
 use Rattle.kin_script.specs.Numbers.{digits_after, numeral_of, natural_of, integer_of, ratio_of}
 use Rattle.kin_script.specs.Words.{natural_at, number_at, instant_at, integer_at, motion_at, velocity_at, side_at, direction_at}
-use Rattle.kin_script.specs.Questions.{keep_of, order_question_of, extreme_question_of, box_question_of, nearest_question_of, question_of}
+use Rattle.kin_script.specs.Questions.{boxes_of, keep_of, order_question_of, extreme_question_of, box_question_of, nearest_question_of, question_of}
 use Rattle.kin_script.specs.Changes.{insert_of, remove_of, replace_of, turn_of, leg_of}
 use Rattle.kin_script.specs.Commands.{quadratic_at, root_of, at_of, command_of, size_of, journal_of, header_line_of}
 use Rattle.kin_script.specs.Grammar.{IsScript, IsFirstOutside, commands_of, behind_size, script_of_lines, script_of}
@@ -92,6 +92,16 @@ DiameterTwice = IsFirstOutside (codes "size 1\nkeep hull\nkeep diameter\nkeep di
 abbrev DiameterBeforeItsHull : Type 0
 DiameterBeforeItsHull = IsFirstOutside (codes "size 1\nkeep diameter\nkeep hull\n") 2
 
+-- boxes are kept, of a width and a height from 0 to 4096 and once at most
+abbrev BoxesAsked : Type 0
+BoxesAsked = IsScript (codes "size 1\nkeep boxes 4096 -0\noverlaps\n") (record { size = 1; keeps = keep.Boxes (pos 4096) (pos 0) ∷ []; journal = false; lines = (3, Overlaps) ∷ [] })
+
+abbrev BoxesTooWide : Type 0
+BoxesTooWide = IsFirstOutside (codes "size 1\nkeep boxes 4097 0\n") 2
+
+abbrev BoxesTwice : Type 0
+BoxesTwice = IsFirstOutside (codes "size 1\nkeep boxes 1 2\nkeep boxes 2 1\n") 3
+
 abbrev SecondJournalLine : Type 0
 SecondJournalLine = IsFirstOutside (codes "size 1\njournal on\njournal off\nlive\n") 3
 
@@ -108,6 +118,6 @@ abbrev WordsOnlyInComments : Type 0
 WordsOnlyInComments = IsFirstOutside (codes "# one\n\n  # two") 4
 
 -- all of it is so
-rows : Spelling × TooFar × Fraction × Root × Changed × HalfAVelocity × JournalOn × NearestAsked × NearestTwice × NearestOfTooGreatANumber × FarthestAsked × DiameterTwice × DiameterBeforeItsHull × SecondJournalLine × EmptyInput × NumberOutOfRange × LateKeep × WordsOnlyInComments
-unfolding script_of lines_of words_of pieces_of numbered commands_of behind_size script_of_lines command_of question_of insert_of remove_of replace_of turn_of leg_of instant_at side_at quadratic_at root_of at_of order_question_of extreme_question_of box_question_of nearest_question_of motion_at velocity_at number_at natural_at integer_at size_of direction_at keep_of journal_of header_line_of digits_after numeral_of natural_of integer_of ratio_of
-rows = (refl, refl, refl, refl, refl, refl, refl, refl, refl, refl, refl, refl, refl, refl, refl, refl, refl, refl)
+rows : Spelling × TooFar × Fraction × Root × Changed × HalfAVelocity × JournalOn × NearestAsked × NearestTwice × NearestOfTooGreatANumber × FarthestAsked × DiameterTwice × DiameterBeforeItsHull × BoxesAsked × BoxesTooWide × BoxesTwice × SecondJournalLine × EmptyInput × NumberOutOfRange × LateKeep × WordsOnlyInComments
+unfolding script_of lines_of words_of pieces_of numbered commands_of behind_size script_of_lines command_of question_of insert_of remove_of replace_of turn_of leg_of instant_at side_at quadratic_at root_of at_of order_question_of extreme_question_of box_question_of nearest_question_of motion_at velocity_at number_at natural_at integer_at size_of direction_at boxes_of keep_of journal_of header_line_of digits_after numeral_of natural_of integer_of ratio_of
+rows = (refl, refl, refl, refl, refl, refl, refl, refl, refl, refl, refl, refl, refl, refl, refl, refl, refl, refl, refl, refl, refl)

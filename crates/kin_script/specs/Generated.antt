@@ -42,7 +42,7 @@ abbrev pub insertions : ℕ → ℕ → List (ℕ × Command)
 insertions seed zero = []
 insertions seed (suc n) = insertions seed n ++ insertion seed n ∷ []
 
--- what is kept: one structure of each kind but nearest neighbours and a farthest pair
+-- what is kept: one structure of each kind but nearest neighbours, a farthest pair and boxes
 abbrev pub generated_keeps : List Keep
 generated_keeps = keep.Order (pos 1) (pos 0) ∷ keep.Extreme (pos 1) (pos 1) ∷ keep.Hull ∷ keep.Closest ∷ keep.Range ∷ []
 

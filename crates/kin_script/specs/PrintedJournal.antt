@@ -70,7 +70,16 @@ abbrev pub one_line : Option ℕ → List ℕ
 one_line None = none_line
 one_line (Some n) = count_line n
 
+-- two numbers, as a line
+abbrev pub two_line : ℕ × ℕ → List ℕ
+two_line p = list_line (p.0 ∷ p.1 ∷ [])
+
 -- two numbers or the word none, as a line
 abbrev pub pair_line : Option (ℕ × ℕ) → List ℕ
 pair_line None = none_line
-pair_line (Some p) = list_line (p.0 ∷ p.1 ∷ [])
+pair_line (Some p) = two_line p
+
+-- one line for each pair, or the word none as a line
+abbrev pub pairs_lines : List (ℕ × ℕ) → List ℕ
+pairs_lines [] = none_line
+pairs_lines (p ∷ ps) = flat_map two_line (p ∷ ps)

@@ -1,6 +1,6 @@
 -- The table of what may be kept and asked: how a keep line and a question are written, in which ranges their numbers are, what must be kept,
--- which number must be live, and the line that answers.
-use Rattle.std.specs.Prelude.{◌≡◌, ◌⊎◌, ℕ, ◌+◌, ◌<◌, ◌≤◌, ◌^◌, ℤ, unsigned_abs, List, [], ◌∷◌, Option, Some, None, option_map, is_some, IfSome, IsTrue, codes, slice_get, if◌then◌else◌}
+-- which number must be live, and the line that answers, or the lines.
+use Rattle.std.specs.Prelude.{◌≡◌, ◌⊎◌, ℕ, ◌+◌, ◌<◌, ◌≤◌, ◌^◌, ℤ, pos, unsigned_abs, List, [], ◌∷◌, Option, Some, None, option_map, is_some, IfSome, IsTrue, codes, slice_get, if◌then◌else◌}
 use Rattle.std.specs.Str.{bytes_eq}
 use Rattle.kin_motion.specs.declared.keep.Keep.{Keep}
 use Rattle.kin_motion.specs.declared.keep.Keep.TheVariants as keep
@@ -10,26 +10,34 @@ use Rattle.kin_motion.specs.Chains.{IsHullCycle}
 use Rattle.kin_motion.specs.ClosestPairs.{IsClosest}
 use Rattle.kin_motion.specs.Extremes.{IsExtremePoint}
 use Rattle.kin_motion.specs.Farthest.{IsFarthest}
-use Rattle.kin_motion.specs.Live.{IsLiveCount}
+use Rattle.kin_motion.specs.Live.{IsLiveCount, IsSmallBox}
 use Rattle.kin_motion.specs.Nearest.{IsNearest}
 use Rattle.kin_motion.specs.Orders.{IsOrder}
+use Rattle.kin_motion.specs.Overlaps.{ListsOverlaps}
 use Rattle.kin_motion.specs.Plans.{motions_in_force}
 use Rattle.kin_motion.specs.Scene.{Scene}
 use Rattle.kin_legs.specs.Paths.{plan_of}
 use Rattle.kin_script.specs.declared.command.Command.{Command}
-use Rattle.kin_script.specs.declared.command.Command.TheVariants.{Order, Extreme, Hull, Closest, Inside, Nearest, Farthest, Live}
+use Rattle.kin_script.specs.declared.command.Command.TheVariants.{Order, Extreme, Hull, Closest, Inside, Nearest, Farthest, Overlaps, Live}
 use Rattle.kin_script.specs.declared.refusal.Refusal.{Refusal}
 use Rattle.kin_script.specs.declared.refusal.Refusal.TheVariants.{NotKept, Absent}
 use Rattle.kin_script.specs.Lines.{Word}
 use Rattle.kin_script.specs.Numbers.{◌>>=◌}
 use Rattle.kin_script.specs.Printed.{list_line}
-use Rattle.kin_script.specs.PrintedJournal.{count_line, one_line, pair_line}
+use Rattle.kin_script.specs.PrintedJournal.{count_line, one_line, pair_line, pairs_lines}
 use Rattle.kin_script.specs.States.{State, state_scene}
 use Rattle.kin_script.specs.Words.{natural_at, integer_at, number_at, direction_at, last}
 
 -- ---- what is kept
 
--- order DX DY, extreme DX DY, hull, closest, range, nearest, diameter
+-- boxes W H, each in 0..4096
+unfoldable pub boxes_of : List Word → Option Keep
+boxes_of ws = do
+  width ← natural_at 0 4096 ws
+  height ← natural_at 0 4096 width.1
+  last (keep.Boxes (pos width.0) (pos height.0)) height.1
+
+-- order DX DY, extreme DX DY, hull, closest, range, nearest, diameter, boxes W H
 unfoldable pub keep_of : List Word → Option Keep
 keep_of [] = None
 keep_of (kind ∷ ws) =
@@ -40,6 +48,7 @@ keep_of (kind ∷ ws) =
     else if bytes_eq kind (codes "range") then last keep.Range ws
     else if bytes_eq kind (codes "nearest") then last keep.Nearest ws
     else if bytes_eq kind (codes "diameter") then last keep.Diameter ws
+    else if bytes_eq kind (codes "boxes") then boxes_of ws
     else None
 
 -- both parts are in -16..16, and one is not 0
@@ -57,6 +66,7 @@ IsKeepInRange keep.Closest = Unit {0}
 IsKeepInRange keep.Range = Unit {0}
 IsKeepInRange keep.Nearest = Unit {0}
 IsKeepInRange keep.Diameter = Unit {0}
+IsKeepInRange (keep.Boxes width height) = IsSmallBox width height
 
 -- ---- what is asked
 
@@ -97,6 +107,7 @@ question_of size name ws =
     else if bytes_eq name (codes "box") then box_question_of ws
     else if bytes_eq name (codes "nearest") then nearest_question_of size ws
     else if bytes_eq name (codes "farthest") then last Farthest ws
+    else if bytes_eq name (codes "overlaps") then last Overlaps ws
     else if bytes_eq name (codes "live") then last Live ws
     else None
 
@@ -109,12 +120,17 @@ IsQuestionInRange size Closest = Unit {0}
 IsQuestionInRange size (Inside r) = IsRectInRange r
 IsQuestionInRange size (Nearest n) = n < 2 ^ size
 IsQuestionInRange size Farthest = Unit {0}
+IsQuestionInRange size Overlaps = Unit {0}
 IsQuestionInRange size Live = Unit {0}
 IsQuestionInRange size _ = ⊥
 
 -- a structure of this kind is kept
 abbrev pub HasKeep : State → Keep → Type 0
 HasKeep s kind = (k : ℕ) × (slice_get s.keeps k ≡ Some kind)
+
+-- boxes are kept, of some width and height
+abbrev pub HasBoxes : State → Type 0
+HasBoxes s = (k : ℕ) × (width : ℤ) × (height : ℤ) × (slice_get s.keeps k ≡ Some (keep.Boxes width height))
 
 -- what a question asks for is kept
 abbrev pub IsProvided : State → Command → Type 0
@@ -125,6 +141,7 @@ IsProvided s Closest = HasKeep s keep.Closest
 IsProvided s (Inside r) = HasKeep s keep.Range
 IsProvided s (Nearest n) = HasKeep s keep.Nearest
 IsProvided s Farthest = HasKeep s keep.Diameter
+IsProvided s Overlaps = HasBoxes s
 IsProvided s Live = Unit {0}
 IsProvided s _ = ⊥
 
@@ -183,11 +200,26 @@ IsNearestLine s n text = (point : Option ℕ) × IsNearest (state_scene s) n poi
 abbrev pub IsFarthestLine : State → List ℕ → Type 0
 IsFarthestLine s text = (pair : Option (ℕ × ℕ)) × IsFarthest (state_scene s) pair × (text ≡ pair_line pair)
 
+-- the width and the height of the boxes that are kept: a script keeps boxes once at most
+abbrev pub kept_boxes : List Keep → Option (ℤ × ℤ)
+kept_boxes [] = None
+kept_boxes (keep.Boxes width height ∷ keeps) = Some (width, height)
+kept_boxes (_ ∷ keeps) = kept_boxes keeps
+
+-- the lines of the pairs whose boxes overlap
+pub record AreOverlapsLines (keeps : List Keep) (s : Scene) (text : List ℕ) : Type 0 where
+  pub width : ℤ
+  pub height : ℤ
+  pub kept : kept_boxes keeps ≡ Some (width, height)
+  pub pairs : List (ℕ × ℕ)
+  pub overlaps : ListsOverlaps s width height pairs
+  pub lines : text ≡ pairs_lines pairs
+
 -- the line with the number of live facts
 abbrev pub IsLiveLine : State → List ℕ → Type 0
 IsLiveLine s text = (n : ℕ) × IsLiveCount s.size s.keeps (state_scene s) n × (text ≡ count_line n)
 
--- the line that answers a question
+-- the line that answers a question, or the lines
 abbrev pub IsReplyLine : State → Command → List ℕ → Type 0
 IsReplyLine s (Order k) text = IsOrderLine s.keeps (state_scene s) k text
 IsReplyLine s (Extreme k) text = IsExtremeLine s.keeps (state_scene s) k text
@@ -196,5 +228,6 @@ IsReplyLine s Closest text = IsClosestLine s text
 IsReplyLine s (Inside r) text = IsInsideLine s r text
 IsReplyLine s (Nearest n) text = IsNearestLine s n text
 IsReplyLine s Farthest text = IsFarthestLine s text
+IsReplyLine s Overlaps text = AreOverlapsLines s.keeps (state_scene s) text
 IsReplyLine s Live text = IsLiveLine s text
 IsReplyLine s _ text = ⊥

@@ -36,6 +36,8 @@ pub enum Command {
     Nearest { no: u32 },
     /// The farthest pair.
     Farthest,
+    /// The pairs of points whose boxes overlap.
+    Overlaps,
     /// How many facts are live.
     Live,
 }

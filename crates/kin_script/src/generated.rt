@@ -68,7 +68,7 @@ fn least_size(count: u32) -> u32
     size
 }
 
-/// One structure of each kind but nearest neighbours and a farthest pair.
+/// One structure of each kind but nearest neighbours, a farthest pair and boxes.
 fn generated_keeps(alloc: Global) -> Result<Keeps, AllocError>
     ensures { IfOk result (λ k. k ≡ generated_keeps) }
 {
@@ -132,8 +132,8 @@ fn put_together(alloc: Global, seed: u32, count: u32) -> Result<Script, AllocErr
 }
 
 /// The script of a seed, with `count` points, 1 to 1024: their places are drawn from -1000..1000 and their
-/// speeds from -10..10, along each axis. One structure of each kind but nearest neighbours
-/// and a farthest pair is kept, and all are asked at the time 20.
+/// speeds from -10..10, along each axis. One structure of each kind but nearest neighbours,
+/// a farthest pair and boxes is kept, and all are asked at the time 20.
 #[tactic(auto, using(crate::proofs::GeneratedRanges::result_in_range))]
 pub fn generate(alloc: Global, seed: u32, count: u32) -> Result<Script, AllocError>
     requires low { 1 ≤ count }

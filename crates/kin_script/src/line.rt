@@ -3,7 +3,7 @@
 ghost use Rattle.std.specs.Prelude.{◌≡◌, ◌≤◌, IfSome, option_map};
 ghost use Rattle.kin_script.specs.Changes.{insert_of, remove_of, replace_of, turn_of, leg_of};
 ghost use Rattle.kin_script.specs.Commands.{quadratic_at, root_of, at_of, command_of, size_of, journal_of, header_line_of};
-ghost use Rattle.kin_script.specs.Questions.{keep_of, order_question_of, extreme_question_of, box_question_of, nearest_question_of, question_of};
+ghost use Rattle.kin_script.specs.Questions.{boxes_of, keep_of, order_question_of, extreme_question_of, box_question_of, nearest_question_of, question_of};
 ghost use Rattle.kin_script.specs.Words.{direction_at};
 
 use crate::command::Command;
@@ -180,6 +180,8 @@ fn question(size: u32, name: &[u8], words: &mut Words<'_>) -> Option<Command>
         nearest(size, words)
     } else if name == b"farthest".as_slice() {
         words.last(Command::Farthest)
+    } else if name == b"overlaps".as_slice() {
+        words.last(Command::Overlaps)
     } else if name == b"live".as_slice() {
         words.last(Command::Live)
     } else {
@@ -240,6 +242,16 @@ fn direction(words: &mut Words<'_>) -> Option<(i32, i32)>
     words.last((dx, dy))
 }
 
+/// What follows the words `keep boxes`: a width and a height.
+#[tactic(auto, unfolding(crate::specs::Questions::boxes_of))]
+fn boxes(words: &mut Words<'_>) -> Option<Keep>
+    ensures { result ≡ boxes_of words.old }
+{
+    let w = words.natural(0, 4096)? as i32;
+    let h = words.natural(0, 4096)? as i32;
+    words.last(Keep::Boxes { w, h })
+}
+
 /// What a keep line keeps.
 #[tactic(auto, unfolding(crate::specs::Questions::keep_of))]
 fn keep(words: &mut Words<'_>) -> Option<Keep>
@@ -262,6 +274,8 @@ fn keep(words: &mut Words<'_>) -> Option<Keep>
         words.last(Keep::Nearest)
     } else if kind == b"diameter".as_slice() {
         words.last(Keep::Diameter)
+    } else if kind == b"boxes".as_slice() {
+        boxes(words)
     } else {
         None
     }
