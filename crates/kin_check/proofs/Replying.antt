@@ -1,11 +1,11 @@
 -- What is answered from all positions is what the definition asks for.
-use Rattle.std.proofs.Common.{◌≡◌, refl, sym, ap, ◌∙◌, subst, List, ℕ, ℤ, w32, to_z, of_z, is_some, Option, Some, None, true, length}
+use Rattle.std.proofs.Common.{◌≡◌, inl, refl, sym, ap, ◌∙◌, subst, List, ℕ, ℤ, w32, to_z, of_z, is_some, Option, Some, None, true, length}
 use Rattle.std.specs.Prelude.{option_map, slice_get, Contains}
 use Rattle.std.proofs.lemmas.List.Elements.{All-contains}
 use Rattle.kin_algebra.proofs.Members.{contains_from_get, get_from_contains}
 use Rattle.kin_num.specs.declared.instant.Moment.{Moment}
 use Rattle.kin_motion.specs.declared.keep.Keep.{Keep}
-use Rattle.kin_motion.specs.declared.keep.Keep.TheVariants.{Extreme, Order}
+use Rattle.kin_motion.specs.declared.keep.Keep.TheVariants.{Boxes, Extreme, Order}
 use Rattle.kin_motion.specs.declared.keep.Rect.{Rect}
 use Rattle.kin_motion.specs.Boxes.{points_in}
 use Rattle.kin_motion.specs.Chains.{IsHullCycle, cycle_of}
@@ -13,24 +13,30 @@ use Rattle.kin_motion.specs.ClosestPairs.{IsClosest, closest_of}
 use Rattle.kin_motion.specs.Course.{Course, live_of, motion_of}
 use Rattle.kin_motion.specs.Extremes.{IsExtremePoint, extreme_of}
 use Rattle.kin_motion.specs.Farthest.{IsFarthest, farthest_of}
-use Rattle.kin_motion.specs.Live.{Certificate, IsSmallDirection, IsSmallKeep, live_facts}
+use Rattle.kin_motion.specs.Live.{Certificate, IsSmallBox, IsSmallDirection, IsSmallKeep, live_facts}
 use Rattle.kin_motion.specs.Nearest.{IsNearest, nearest_of}
 use Rattle.kin_motion.specs.Numbers.{IsIn}
 use Rattle.kin_motion.specs.Orders.{IsOrder, order_of}
+use Rattle.kin_motion.specs.Overlaps.{ListsOverlaps, overlaps_of}
 use Rattle.kin_motion.specs.Plans.{Plan, motion_in_force, motions_in_force, plans_scene}
 use Rattle.kin_motion.specs.Scene.{IsReal, Scene, scene_at}
 use Rattle.kin_motion.proofs.ClosestLaws.{closest_proved}
 use Rattle.kin_motion.proofs.FarthestLaws.{farthest_proved}
 use Rattle.kin_motion.proofs.LiveLaws.{live-members}
 use Rattle.kin_motion.proofs.NearestLaws.{nearest_proved}
+use Rattle.kin_motion.proofs.OverlapLists.{overlaps_agree}
 use Rattle.kin_motion.proofs.Proved.{cycle_proved, extreme_proved, order_proved}
 use Rattle.kin_legs.specs.Paths.{plan_of}
 use Rattle.kin_legs.proofs.SceneLaws.{forced}
+use Rattle.kin_plain.proofs.BoxEnds.{size_read}
 use Rattle.kin_plain.proofs.Wedges.{small_read}
+use Rattle.kin_script.specs.declared.command.Command.TheVariants.{Overlaps}
+use Rattle.kin_script.specs.declared.refusal.Refusal.TheVariants.{NotKept}
 use Rattle.kin_script.specs.Printed.{list_line}
-use Rattle.kin_script.specs.PrintedJournal.{count_line, one_line, pair_line}
-use Rattle.kin_script.specs.Questions.{HasKeep, IsClosestLine, IsExtremeLine, IsFarthestLine, IsHullLine, IsInsideLine, IsLiveLine, IsNearestLine, IsOrderLine}
+use Rattle.kin_script.specs.PrintedJournal.{count_line, one_line, pair_line, pairs_lines}
+use Rattle.kin_script.specs.Questions.{AreOverlapsLines, HasBoxes, HasKeep, IsClosestLine, IsExtremeLine, IsFarthestLine, IsHullLine, IsInsideLine, IsLiveLine, IsNearestLine, IsOrderLine, IsRefusedQuestion, kept_boxes}
 use Rattle.kin_script.specs.States.{State, state_scene}
+use Rattle.kin_script.proofs.Questions.{boxes_found, boxes_kept}
 use Rattle.kin_check.specs.Sound.{IsSound}
 use Rattle.kin_check.proofs.Coming.{listed, real}
 
@@ -41,6 +47,21 @@ has_keep s keeps kind same there = get_from_contains s.keeps kind (subst (λ (ks
 pub keep_is : (s : State) (keeps : List Keep) (k : ℕ) (found : Option Keep) (keep kind : Keep) → keeps ≡ s.keeps → found ≡ slice_get keeps k → found ≡ Some keep → keep ≡ kind
     → slice_get s.keeps k ≡ Some kind
 keep_is s keeps k found keep kind same e is kind_is = ap (λ (ks : List Keep). slice_get ks k) (sym same) ∙ sym e ∙ is ∙ ap (λ (x : Keep). Some x) kind_is
+
+-- boxes of this width and height were found, or none
+pub boxes_are : (s : State) (keeps : List Keep) (found size : Option (ℤ × ℤ)) → keeps ≡ s.keeps → found ≡ kept_boxes keeps → found ≡ size → kept_boxes s.keeps ≡ size
+boxes_are s keeps found size same e is = ap kept_boxes (sym same) ∙ sym e ∙ is
+
+pub has_boxes : (s : State) (width height : ℤ) → kept_boxes s.keeps ≡ Some (width, height) → HasBoxes s
+has_boxes s width height found = let k = boxes_kept s.keeps width height found in (k.0, width, height, k.1)
+
+pub no_boxes : (s : State) → kept_boxes s.keeps ≡ None → IsRefusedQuestion s Overlaps NotKept
+no_boxes s none = inl (refl, λ h. absurd (let clash = sym (boxes_found s.keeps h.0 h.1 h.2 h.3) ∙ ap is_some none in cc))
+
+-- a width and a height, as they were handed on
+handed_box : (width height : ℤ) → IsSmallBox width height → IsSmallBox (to_z w32 (of_z w32 width)) (to_z w32 (of_z w32 height))
+handed_box width height small =
+    subst (λ w. IsSmallBox w (to_z w32 (of_z w32 height))) (sym (size_read width small.0 small.1)) (subst (IsSmallBox width) (sym (size_read height small.2 small.3)) small)
 
 -- both parts of a direction, as they were handed on
 handed : (dx dy : ℤ) → IsSmallDirection dx dy → IsSmallDirection (to_z w32 (of_z w32 dx)) (to_z w32 (of_z w32 dy))
@@ -55,6 +76,12 @@ module _ (s : State) (sound : IsSound s) where
 
   pub extreme_small : (k : ℕ) (dx dy : ℤ) → slice_get s.keeps k ≡ Some (Extreme dx dy) → IsSmallDirection (to_z w32 (of_z w32 dx)) (to_z w32 (of_z w32 dy))
   extreme_small k dx dy kept = handed dx dy (small_kept k (Extreme dx dy) kept)
+
+  small_boxes : (width height : ℤ) → kept_boxes s.keeps ≡ Some (width, height) → IsSmallBox width height
+  small_boxes width height found = let k = boxes_kept s.keeps width height found in small_kept k.0 (Boxes width height) k.1
+
+  pub boxes_small : (width height : ℤ) → kept_boxes s.keeps ≡ Some (width, height) → IsSmallBox (to_z w32 (of_z w32 width)) (to_z w32 (of_z w32 height))
+  boxes_small width height found = handed_box width height (small_boxes width height found)
 
   abbrev now_seen : Scene
   now_seen = state_scene s
@@ -96,6 +123,22 @@ module _ (s : State) (sound : IsSound s) where
 
     pub farthest_line : (pair : Option (ℕ × ℕ)) → pair ≡ farthest_of (scene_at ms m) → IsFarthestLine s (pair_line pair)
     farthest_line pair e = (pair, subst (IsFarthest now_seen) (sym (e ∙ ap farthest_of seen_is)) (farthest_proved now_seen now_real), refl)
+
+    pub overlaps_lines : (width height : ℤ) (pairs : List (ℕ × ℕ)) → kept_boxes s.keeps ≡ Some (width, height)
+        → pairs ≡ overlaps_of (scene_at ms m) (to_z w32 (of_z w32 width)) (to_z w32 (of_z w32 height)) → AreOverlapsLines s.keeps now_seen (pairs_lines pairs)
+    overlaps_lines width height pairs found e =
+        let small = small_boxes width height found in
+        let listed : pairs ≡ overlaps_of now_seen width height =
+        e ∙ ap (λ w. overlaps_of (scene_at ms m) w (to_z w32 (of_z w32 height))) (size_read width small.0 small.1)
+        ∙ ap (overlaps_of (scene_at ms m) width) (size_read height small.2 small.3) ∙ ap (λ (v : Scene). overlaps_of v width height) seen_is in
+        record {
+          width = width;
+          height = height;
+          kept = found;
+          pairs = pairs;
+          overlaps = subst (ListsOverlaps now_seen width height) (sym listed) (overlaps_agree now_seen width height now_real);
+          lines = refl;
+        }
 
     pub inside_line : (rect : Rect) (points : List ℕ) → points ≡ points_in ms m rect → IsInsideLine s rect (list_line points)
     inside_line rect points e = ap list_line (e ∙ ap (λ (x : Moment). points_in ms x rect) (at ∙ same) ∙ ap (λ (cs : List (Option Course)). points_in cs s.moment rect) force_is)

@@ -4,6 +4,7 @@ ghost use Rattle.std.specs.Prelude.{◌≡◌, ◌↔◌, IfOk, IsTrue, slice_ge
 ghost use Rattle.std.specs.List.{Contains};
 ghost use Rattle.kin_motion.specs.Boxes.{IsRectInRange};
 ghost use Rattle.kin_script.specs.declared.command.Command.TheVariants as asked;
+ghost use Rattle.kin_script.specs.Questions.{kept_boxes};
 ghost use Rattle.kin_script.specs.Ranges.{IsCommandInRange};
 ghost use Rattle.kin_check.specs.Performed.{IsReply};
 ghost use Rattle.kin_check.specs.Sound.{IsSound};
@@ -19,6 +20,7 @@ use kin_plain::extreme::extreme_of;
 use kin_plain::farthest::farthest_of;
 use kin_plain::nearest::nearest_of;
 use kin_plain::order::order_of;
+use kin_plain::overlaps::overlaps_of;
 use kin_plain::rect::points_in;
 use kin_print::Reply;
 use kin_script::command::Command;
@@ -43,6 +45,18 @@ fn has_keep(keeps: &[Keep], kind: &Keep) -> bool
         }
     }
     false
+}
+
+/// The width and the height of the boxes that are kept.
+fn kept_boxes(keeps: &[Keep]) -> Option<(i32, i32)>
+    ensures { result ≡ kept_boxes keeps.now }
+{
+    for keep in keeps {
+        if let Keep::Boxes { w, h } = *keep {
+            return Some((w, h));
+        }
+    }
+    None
 }
 
 /// The order that is kept as structure `s`.
@@ -165,6 +179,20 @@ fn farthest<L: Ledger>(alloc: Global, state: &State, steps: &mut Steps<L>) -> Re
     Ok(Reply::Pair(farthest_of(alloc, &sight, &sight.live, steps)?))
 }
 
+/// The pairs of points whose boxes overlap.
+fn overlaps<L: Ledger>(alloc: Global, state: &State, steps: &mut Steps<L>) -> Result<Reply, Halt>
+    requires { IsSound state.now }
+    ensures { IsReply state.now asked.Overlaps result }
+{
+    match kept_boxes(state.keeps()) {
+        Some((w, h)) => {
+            let sight = sight_at(alloc, state, &state.moment())?;
+            Ok(Reply::Pairs(overlaps_of(alloc, &sight, &sight.live, w, h, steps)?))
+        }
+        None => Err(Halt::Refused(Refusal::NotKept)),
+    }
+}
+
 /// How many facts are live.
 fn live<L: Ledger>(alloc: Global, state: &State, steps: &mut Steps<L>) -> Result<Reply, Halt>
     requires { IsSound state.now }
@@ -194,6 +222,7 @@ pub fn reply_to<L: Ledger>(
         Command::Inside { rect } => inside(alloc, state, &rect, steps),
         Command::Nearest { no } => nearest(alloc, state, no, steps),
         Command::Farthest => farthest(alloc, state, steps),
+        Command::Overlaps => overlaps(alloc, state, steps),
         Command::Live => live(alloc, state, steps),
         _ => Err(Halt::Refused(Refusal::NotKept)),
     }

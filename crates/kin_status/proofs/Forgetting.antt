@@ -20,10 +20,10 @@ use Rattle.kin_legs.proofs.LeftLaws.{past_legs_dont_matter}
 use Rattle.kin_legs.proofs.SchedulingLaws.{follows_too_fast_left, leg_from_left, left_extended, may_follow_left}
 use Rattle.kin_legs.proofs.ShownLaws.{alike_journals}
 use Rattle.kin_num.proofs.MomentLaws.{never}
-use Rattle.kin_script.specs.declared.command.Command.TheVariants.{Order, Extreme, Hull, Closest, Inside, Nearest, Farthest, Live}
+use Rattle.kin_script.specs.declared.command.Command.TheVariants.{Order, Extreme, Hull, Closest, Inside, Nearest, Farthest, Overlaps, Live}
 use Rattle.kin_script.specs.Changes.{IsRefusedLeg, IsRefusedTurn}
 use Rattle.kin_script.specs.Printed.{list_line}
-use Rattle.kin_script.specs.Questions.{IsOrderLine, IsExtremeLine, IsReplyLine}
+use Rattle.kin_script.specs.Questions.{IsOrderLine, IsExtremeLine, AreOverlapsLines, IsReplyLine}
 use Rattle.kin_status.proofs.Vocabulary.{same_Some, IsCanonical, IsEarlier, Quadratic, Moment, Shape, Course, Plan, ArePaths, IsPath, lasting, left_of, motion_in_force, plan_of, plans_left, Block, IsJournal, Next, IsNext, block, leg, nothing, comes_at, PointChange, ChangesTo, IsChangeInRange, IsRefusedChange, enters, leaves, restarts, turns, schedules}
 use Rattle.kin_status.proofs.Vocabulary.{Deed, asks, changes, deed_of, goes_on, goes_to, IsDeedInRange, IsCommandInRange, IsPresent, IsProvided, must_be_live, IsAllowed, IsNamedRoot, IsRefused, LeadsTo, State, IsAlike, IsOnPaths, just_at, state_scene, state_setting, state_view, IsPassedText, Prints, Step, Text, Ending, Command, Refusal, Past, deed_in_range, Passes, PassesInTurn}
 use Rattle.kin_status.proofs.Determined.{next_canonical, stays}
@@ -114,6 +114,7 @@ provided_by_keeps s t Closest e h = (h.0, ap (λ (ks : List Keep). slice_get ks 
 provided_by_keeps s t (Inside r) e h = (h.0, ap (λ (ks : List Keep). slice_get ks h.0) (sym e) ∙ h.1)
 provided_by_keeps s t (Nearest n) e h = (h.0, ap (λ (ks : List Keep). slice_get ks h.0) (sym e) ∙ h.1)
 provided_by_keeps s t Farthest e h = (h.0, ap (λ (ks : List Keep). slice_get ks h.0) (sym e) ∙ h.1)
+provided_by_keeps s t Overlaps e h = (h.0, h.1, h.2, ap (λ (ks : List Keep). slice_get ks h.0) (sym e) ∙ h.3)
 provided_by_keeps s t Live e h = tt
 provided_by_keeps s t question e h = absurd h
 
@@ -179,6 +180,7 @@ module _ (s : State) (qs : List (Option Plan)) (on : IsOnPaths s) (others : AreP
       by_question (Inside r) h = subst (λ (ms : List (Option Course)). text ≡ list_line (points_in ms s.moment r)) (force_alike s.moment on.canonical s.plans qs on.paths others same s.moment on.canonical now) h
       by_question (Nearest n) h = (h.0, subst (λ (v : Scene). IsNearest v n h.0) seen h.1, h.2)
       by_question Farthest h = (h.0, subst (λ (v : Scene). IsFarthest v h.0) seen h.1, h.2)
+      by_question Overlaps h = subst (λ (v : Scene). AreOverlapsLines s.keeps v text) seen h
       by_question Live h = (h.0, subst (λ (v : Scene). IsLiveCount s.size s.keeps v h.0) seen h.1, h.2)
       by_question question h = absurd h
 
