@@ -49,7 +49,8 @@ pub keep_is : (s : State) (keeps : List Keep) (k : ℕ) (found : Option Keep) (k
 keep_is s keeps k found keep kind same e is kind_is = ap (λ (ks : List Keep). slice_get ks k) (sym same) ∙ sym e ∙ is ∙ ap (λ (x : Keep). Some x) kind_is
 
 -- boxes of this width and height were found, or none
-pub boxes_are : (s : State) (keeps : List Keep) (found size : Option (ℤ × ℤ)) → keeps ≡ s.keeps → found ≡ kept_boxes keeps → found ≡ size → kept_boxes s.keeps ≡ size
+pub boxes_are : (s : State) (keeps : List Keep) (found size : Option (ℤ × ℤ)) → keeps ≡ s.keeps → found ≡ kept_boxes keeps → found ≡ size
+    → kept_boxes s.keeps ≡ size
 boxes_are s keeps found size same e is = ap kept_boxes (sym same) ∙ sym e ∙ is
 
 pub has_boxes : (s : State) (width height : ℤ) → kept_boxes s.keeps ≡ Some (width, height) → HasBoxes s
@@ -61,7 +62,8 @@ no_boxes s none = inl (refl, λ h. absurd (let clash = sym (boxes_found s.keeps 
 -- a width and a height, as they were handed on
 handed_box : (width height : ℤ) → IsSmallBox width height → IsSmallBox (to_z w32 (of_z w32 width)) (to_z w32 (of_z w32 height))
 handed_box width height small =
-    subst (λ w. IsSmallBox w (to_z w32 (of_z w32 height))) (sym (size_read width small.0 small.1)) (subst (IsSmallBox width) (sym (size_read height small.2 small.3)) small)
+    subst (λ w. IsSmallBox w (to_z w32 (of_z w32 height))) (sym (size_read width small.0 small.1))
+    (subst (IsSmallBox width) (sym (size_read height small.2 small.3)) small)
 
 -- both parts of a direction, as they were handed on
 handed : (dx dy : ℤ) → IsSmallDirection dx dy → IsSmallDirection (to_z w32 (of_z w32 dx)) (to_z w32 (of_z w32 dy))

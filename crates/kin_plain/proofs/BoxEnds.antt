@@ -35,7 +35,8 @@ end_askable s dx dy size a b f x_small y_small small a_live b_live e = subst (Is
 -- ---- lists of ends
 -- live points are small enough for their ends
 pub points_small : (s : Scene) (size : ℕ) (live : List ℕ) → FitsSize size s → size ≤ 12 → live ≡ s.live → All (λ (i : ℕ). i < 2 ^ 12) live
-points_small s size live fits le same = All-weaker (λ (i : ℕ). IsIn i s.live) (λ (i : ℕ). i < 2 ^ 12) (λ i here. number_small s size fits le i here) live (all_live s live same)
+points_small s size live fits le same =
+    All-weaker (λ (i : ℕ). IsIn i s.live) (λ (i : ℕ). i < 2 ^ 12) (λ i here. number_small s size fits le i here) live (all_live s live same)
 
 module _ (s : Scene) where
   abbrev IsEndOfLive : ℕ → Type 0
@@ -68,4 +69,5 @@ module _ (s : Scene) where
     pub all_end_facts : (xs : List ℕ) (i : ℕ) (fs old : List Placed) → length xs ≤ i → 1 ≤ i
         → fs ++ end_facts s dx dy size first (drop (i - 1) xs) ≡ old ++ end_facts s dx dy size first xs → fs ≡ old ++ end_facts s dx dy size first xs
     all_end_facts xs i fs old high low e =
-        sym (append-nil fs) ∙ ap (λ (l : List Placed). fs ++ l) (sym (alone (drop (i - 1) xs) (let n = length-drop (i - 1) xs in omega (arith, n, high, low)))) ∙ e
+        let few : length (drop (i - 1) xs) ≤ 1 = let n = length-drop (i - 1) xs in omega (arith, n, high, low) in
+        sym (append-nil fs) ∙ ap (λ (l : List Placed). fs ++ l) (sym (alone (drop (i - 1) xs) few)) ∙ e

@@ -20,20 +20,23 @@ module _ (s : Scene) where
 
   -- those of one point more are put
   pub overlaps_more : (w h : ℤ) (live : List ℕ) (i : ℕ) (old new all : List (ℕ × ℕ)) → i < length live
-      → new ≡ old ++ with_later w h (get_or live i 0) (take (length live - (i + 1)) (drop (i + 1) live)) → old ++ among w h (drop i live) ≡ all → new ++ among w h (drop (i + 1) live) ≡ all
+      → new ≡ old ++ with_later w h (get_or live i 0) (take (length live - (i + 1)) (drop (i + 1) live)) → old ++ among w h (drop i live) ≡ all
+      → new ++ among w h (drop (i + 1) live) ≡ all
   overlaps_more w h live i old new all lt put whole =
       let later = drop (i + 1) live in
       let here = with_later w h (get_or live i 0) later in
       let is : new ≡ old ++ here = put ∙ ap (λ (l : List ℕ). old ++ with_later w h (get_or live i 0) l) (take_rest live (i + 1)) in
       ap (λ (l : List (ℕ × ℕ)). l ++ among w h later) is ∙ append_assoc old here (among w h later)
-      ∙ ap (λ (l : List (ℕ × ℕ)). old ++ l) (sym (filter-append (λ (p : ℕ × ℕ). overlap s w h p.0 p.1) (map (λ (j : ℕ). (get_or live i 0, j)) later) (pairs_of later)))
+      ∙ ap (λ (l : List (ℕ × ℕ)). old ++ l)
+      (sym (filter-append (λ (p : ℕ × ℕ). overlap s w h p.0 p.1) (map (λ (j : ℕ). (get_or live i 0, j)) later) (pairs_of later)))
       ∙ ap (λ (l : List ℕ). old ++ among w h l) (sym (drop_more live i 0 lt)) ∙ whole
 
   -- no point is left
-  pub all_overlaps : (w h x y : ℤ) (live : List ℕ) (i : ℕ) (pairs : List (ℕ × ℕ)) → x ≡ w → y ≡ h → length live ≤ i → pairs ++ among x y (drop i live) ≡ overlaps_of s x y
-      → pairs ≡ overlaps_of s w h
+  pub all_overlaps : (w h x y : ℤ) (live : List ℕ) (i : ℕ) (pairs : List (ℕ × ℕ)) → x ≡ w → y ≡ h → length live ≤ i
+      → pairs ++ among x y (drop i live) ≡ overlaps_of s x y → pairs ≡ overlaps_of s w h
   all_overlaps w h x y live i pairs same_x same_y le whole =
-      sym (append-nil pairs) ∙ ap (λ (l : List ℕ). pairs ++ among x y l) (sym (drop_of_length-le live le)) ∙ whole ∙ ap (λ (v : ℤ). overlaps_of s v y) same_x ∙ ap (overlaps_of s w) same_y
+      sym (append-nil pairs) ∙ ap (λ (l : List ℕ). pairs ++ among x y l) (sym (drop_of_length-le live le)) ∙ whole
+      ∙ ap (λ (v : ℤ). overlaps_of s v y) same_x ∙ ap (overlaps_of s w) same_y
 
   -- the later points are live
   pub later_live : (live : List ℕ) (i n : ℕ) → live ≡ s.live → AreLive s (take n (drop i live))

@@ -42,7 +42,10 @@ irrational = refl
 
 -- two boxes of width 2 meet
 boxes_meet : failure_line (record { at = Ratio (pos 3) (pos 1); phase = At })
-    (record { was = record { structure = 0; placed = record { part = 2; fact = record { form = Line (pos 1) (pos 0) (neg_ℤ (pos 2)) 0 1; sign = Plus } } }; now = Zero })
+    (record {
+      was = record { structure = 0; placed = record { part = 2; fact = record { form = Line (pos 1) (pos 0) (neg_ℤ (pos 2)) 0 1; sign = Plus } } };
+      now = Zero;
+    })
     ≡ codes "! 3 0/2 line(1,0,-2) 0 1 + 0\n"
 unfolding digits
 boxes_meet = refl

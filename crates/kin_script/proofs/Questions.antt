@@ -119,7 +119,8 @@ kept_or_not kind only (x ∷ xs) = at (nat_eq (group x) (group kind)) refl (kept
     at false e (inr some) = inr (contains_tail x kind xs some)
 
 -- boxes whose width and height are found are kept
-pub boxes_kept : (keeps : List Keep) (width height : ℤ) → kept_boxes keeps ≡ Some (width, height) → (k : ℕ) × (slice_get keeps k ≡ Some (keep.Boxes width height))
+pub boxes_kept : (keeps : List Keep) (width height : ℤ) → kept_boxes keeps ≡ Some (width, height)
+    → (k : ℕ) × (slice_get keeps k ≡ Some (keep.Boxes width height))
 boxes_kept [] width height e = absurd cc
 boxes_kept (keep.Boxes w h ∷ keeps) width height e = (0, ap (λ (size : ℤ × ℤ). Some (keep.Boxes size.0 size.1)) (same_Some _ _ e))
 boxes_kept (_ ∷ keeps) width height e = let k = boxes_kept keeps width height e in (suc k.0, k.1)

@@ -94,7 +94,9 @@ DiameterBeforeItsHull = IsFirstOutside (codes "size 1\nkeep diameter\nkeep hull\
 
 -- boxes are kept, of a width and a height from 0 to 4096 and once at most
 abbrev BoxesAsked : Type 0
-BoxesAsked = IsScript (codes "size 1\nkeep boxes 4096 -0\noverlaps\n") (record { size = 1; keeps = keep.Boxes (pos 4096) (pos 0) ∷ []; journal = false; lines = (3, Overlaps) ∷ [] })
+BoxesAsked = IsScript
+    (codes "size 1\nkeep boxes 4096 -0\noverlaps\n")
+    (record { size = 1; keeps = keep.Boxes (pos 4096) (pos 0) ∷ []; journal = false; lines = (3, Overlaps) ∷ [] })
 
 abbrev BoxesTooWide : Type 0
 BoxesTooWide = IsFirstOutside (codes "size 1\nkeep boxes 4097 0\n") 2

@@ -100,6 +100,32 @@ fn a_farthest_pair_is_kept_once_and_after_a_hull(rt: HostRuntime) -> Result<(), 
 }
 
 #[test]
+fn boxes_are_kept_once_and_are_4096_long_at_most(rt: HostRuntime) -> Result<(), Fail> {
+    let rows: [(&[u8], u32); 18] = [
+        (b"size 1\nkeep boxes 4096 4096\noverlaps", 0),
+        (b"size 1\nkeep boxes 0 -0", 0),
+        (b"size 1\nkeep hull\nkeep boxes 01 2\njournal on", 0),
+        (b"size 1\nkeep boxes 4097 0", 2),
+        (b"size 1\nkeep boxes 0 4097", 2),
+        (b"size 1\nkeep boxes -1 0", 2),
+        (b"size 1\nkeep boxes 0 -1", 2),
+        (b"size 1\nkeep boxes", 2),
+        (b"size 1\nkeep boxes 1", 2),
+        (b"size 1\nkeep boxes 1 2 3", 2),
+        (b"size 1\nkeep boxes 1/2 1", 2),
+        (b"size 1\nkeep box 1 2", 2),
+        (b"size 1\nkeep overlaps", 2),
+        (b"size 1\nkeep boxes 1 2\nkeep boxes 1 2", 3),
+        (b"size 1\nkeep boxes 1 2\nkeep range\nkeep boxes 2 1", 4),
+        (b"size 1\noverlaps\nkeep boxes 1 2", 3),
+        (b"size 1\noverlaps", 0),
+        (b"size 1\noverlaps 0", 2),
+    ];
+    are_outside(&rt, rt.alloc(), &rows)?;
+    Ok(())
+}
+
+#[test]
 fn sixteen_structures_are_kept_and_no_more(rt: HostRuntime) -> Result<(), Fail> {
     let mut bytes = Vec::from_slice(rt.alloc(), b"size 1\n")?;
     for _ in 0..8 {
@@ -108,10 +134,10 @@ fn sixteen_structures_are_kept_and_no_more(rt: HostRuntime) -> Result<(), Fail> 
     let rows: [(&[u8], u32); 3] = [
         (b"", 0),
         (
-            b"keep hull\nkeep closest\nkeep range\nkeep nearest\nkeep diameter\n",
+            b"keep hull\nkeep closest\nkeep range\nkeep nearest\nkeep diameter\nkeep boxes 1 1\n",
             0,
         ),
-        (b"keep extreme 1 1\n", 23),
+        (b"keep extreme 1 1\n", 24),
     ];
     for (more, line) in rows {
         bytes.extend_from_slice(more)?;

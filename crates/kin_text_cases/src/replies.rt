@@ -1,7 +1,7 @@
 //! Printed replies.
 
 use kin_num::NoMemory;
-use kin_print::{Reply, put_list, put_reply};
+use kin_print::{Reply, put_list, put_pairs, put_reply};
 use std::alloc::Global;
 use std::test::Fail;
 
@@ -40,6 +40,21 @@ fn a_pair_or_none_is_a_line(rt: HostRuntime) -> Result<(), Fail> {
 }
 
 #[test]
+fn pairs_are_a_line_each(rt: HostRuntime) -> Result<(), Fail> {
+    let rows: [(&[(u32, u32)], &[u8]); 3] = [
+        (&[], b"none\n"),
+        (&[(0, 1)], b"0 1\n"),
+        (&[(0, 1), (0, 4095), (2, 3)], b"0 1\n0 4095\n2 3\n"),
+    ];
+    for (pairs, text) in rows {
+        let mut out = Vec::new(rt.alloc());
+        put_pairs(&mut out, pairs)?;
+        assert!(rt; out.as_slice() == text, "{} pairs", pairs.len());
+    }
+    Ok(())
+}
+
+#[test]
 fn a_number_or_none_is_a_line(rt: HostRuntime) -> Result<(), Fail> {
     let text = lines(
         rt.alloc(),
@@ -64,9 +79,10 @@ fn each_reply_is_a_line(rt: HostRuntime) -> Result<(), Fail> {
             Reply::List(Vec::new(rt.alloc())),
             Reply::One(Some(7)),
             Reply::Pair(Some((1, 2))),
+            Reply::Pairs(Vec::from_slice(rt.alloc(), &[(5, 6)])?),
             Reply::Count(13),
         ],
     )?;
-    assert!(rt; text.as_slice() == b"3 1 2\nnone\n7\n1 2\n13\n".as_slice());
+    assert!(rt; text.as_slice() == b"3 1 2\nnone\n7\n1 2\n5 6\n13\n".as_slice());
     Ok(())
 }

@@ -49,8 +49,8 @@ fn spelling_is_free_within_a_line(rt: HostRuntime) -> Result<(), Fail> {
 #[test]
 fn each_line_is_read(rt: HostRuntime) -> Result<(), Fail> {
     let bytes =
-        b"size 12\nkeep order 0 -16\njournal off\nat 7\nat 14/6\nextreme 31\nhull\nclosest\n\
-        box -16777216 16777216 5 -0\nnext\nlive\nfarthest\n";
+        b"size 12\nkeep order 0 -16\nkeep boxes 4096 07\njournal off\nat 7\nat 14/6\nextreme 31\nhull\nclosest\n\
+        box -16777216 16777216 5 -0\nnext\nlive\nfarthest\noverlaps\n";
     let rect = Rect {
         x1: -16777216,
         x2: 16777216,
@@ -59,18 +59,22 @@ fn each_line_is_read(rt: HostRuntime) -> Result<(), Fail> {
     };
     let told = Told {
         size: 12,
-        keeps: &[Keep::Order { dx: 0, dy: -16 }],
+        keeps: &[
+            Keep::Order { dx: 0, dy: -16 },
+            Keep::Boxes { w: 4096, h: 7 },
+        ],
         journal: false,
         lines: &[
-            (4, Command::AtRatio { n: 7, d: 1 }),
-            (5, Command::AtRatio { n: 14, d: 6 }),
-            (6, Command::Extreme { s: 31 }),
-            (7, Command::Hull),
-            (8, Command::Closest),
-            (9, Command::Inside { rect }),
-            (10, Command::Next),
-            (11, Command::Live),
-            (12, Command::Farthest),
+            (5, Command::AtRatio { n: 7, d: 1 }),
+            (6, Command::AtRatio { n: 14, d: 6 }),
+            (7, Command::Extreme { s: 31 }),
+            (8, Command::Hull),
+            (9, Command::Closest),
+            (10, Command::Inside { rect }),
+            (11, Command::Next),
+            (12, Command::Live),
+            (13, Command::Farthest),
+            (14, Command::Overlaps),
         ],
     };
     says(&rt, rt.alloc(), bytes, &told)?;

@@ -16,4 +16,6 @@ returns-in_ok-overlaps_of-in-Some g c =
     )
 
 pub returns-in-None : goal.returns-in-None
-returns-in-None g c = no_boxes c.args.state.now (boxes_are c.args.state.now c.keeps.result.now c.kept_boxes.result _ c.keeps.ensures c.kept_boxes.ensures c.in-None.is)
+returns-in-None g c =
+    no_boxes c.args.state.now
+    (boxes_are c.args.state.now c.keeps.result.now c.kept_boxes.result _ c.keeps.ensures c.kept_boxes.ensures c.in-None.is)

@@ -4,4 +4,5 @@ use Rattle.kin_plain.proofs.box_facts.put_end_facts.Goals as goal
 
 pub put_neighbours-requires-clause-live : goal.put_neighbours-requires-clause-live
 put_neighbours-requires-clause-live g c =
-    sorted_ends (g.O.Signs.scene c.args.now.now) _ _ c.deref.result.now 0 (ends_live (g.O.Signs.scene c.args.now.now) _ _ refl refl) (c.deref.ensures.value ∙ c.in_ok-order.ensures)
+    let s = g.O.Signs.scene c.args.now.now in
+    sorted_ends s _ _ c.deref.result.now 0 (ends_live s _ _ refl refl) (c.deref.ensures.value ∙ c.in_ok-order.ensures)
