@@ -360,7 +360,7 @@ kin_status kin_farthest(kin_world *world, uint32_t *out, size_t room, size_t *le
 
 /*
  * The pairs of points whose boxes overlap, rising: the two numbers of each pair, the lesser first, pair after pair. Boxes that
- * touch overlap. `*len` is twice the number of pairs.
+ * touch overlap. `*len` is twice the number of pairs, at most n*(n - 1) for n points.
  * KIN_NO_WORLD, KIN_LOST, KIN_NOT_KEPT, KIN_NO_MEMORY, KIN_TOO_SMALL
  */
 kin_status kin_overlaps(kin_world *world, uint32_t *out, size_t room, size_t *len);

@@ -34,7 +34,7 @@ fn crowd<L: Ledger>(
     Ok(boxes)
 }
 
-/// Whether point j isn't more than so far behind point i along a direction.
+/// Whether the box of point j, this long along a direction, reaches point i.
 fn reaches(now: &Now<'_>, way: (i32, i32), size: i32, i: u32, j: u32) -> Result<bool, Fault> {
     let (dx, dy) = way;
     let form = Form::Line {
