@@ -1,6 +1,6 @@
 -- The facts of boxes by computation, how many there are, that they hold, and that they may be asked.
 use Rattle.std.proofs.Common.{◌≡◌, inl, inr, refl, sym, ap, ap₂, ◌∙◌, subst, arith, List, [], ◌∷◌, ℕ, ◌+◌, ◌-◌, ◌*◌, ◌<◌, ◌≤◌, ◌^◌, ℤ, pos, Bool, true, false, ◌||◌, nat_eq, length}
-use Rattle.std.specs.Prelude.{unsigned_abs}
+use Rattle.std.specs.Prelude.{Contains, unsigned_abs}
 use Rattle.std.proofs.lemmas.Bool.{eqb-true, eqb-false}
 use Rattle.std.proofs.lemmas.Bool.Decides.{nat_tests}
 use Rattle.std.proofs.lemmas.List.{length-append}
@@ -10,10 +10,11 @@ use Rattle.kin_motion.specs.BoxFacts.{low_end, high_end, kind, point, end_form, 
 use Rattle.kin_motion.specs.BoxTheorems.{BoxFactsAgree}
 use Rattle.kin_motion.specs.Forms.{IsAskable}
 use Rattle.kin_motion.specs.Numbers.{is_in, IsOnce}
-use Rattle.kin_motion.specs.Ranks.{order_of, order_facts}
-use Rattle.kin_motion.specs.Scene.{Scene, IsReal, Holds}
+use Rattle.kin_motion.specs.RankTheorems.{OrderIsThatOfEnds}
+use Rattle.kin_motion.specs.Ranks.{order_of, order_facts, neighbour_facts}
+use Rattle.kin_motion.specs.Scene.{Scene, IsReal, Holds, placed_at}
 use Rattle.kin_motion.specs.Sets.{ListsExactly}
-use Rattle.kin_motion.proofs.EndOrders.{same_facts, to_order, to_facts, ends_live, end_part, end_fact_of}
+use Rattle.kin_motion.proofs.EndOrders.{same_facts, to_order, from_order, to_facts, ends_live, end_part, end_fact_of}
 use Rattle.kin_motion.proofs.EndRanks.{ends_strict, ends_left, small_offset}
 use Rattle.kin_motion.proofs.FactLaws.{placed_holds}
 use Rattle.kin_motion.proofs.OrderCounts.{sorted-length}
@@ -81,6 +82,33 @@ facts_agree s width height real =
     let l = (end_part s (pos 1) (pos 0) width 0 f.order p f.listed).1 in
     let m = (end_part s (pos 0) (pos 1) height 4 g.order p g.listed).0 in
     omega (arith, l, m))
+
+-- ---- the ends as ranked items
+first_part : (s : Scene) (count : ℕ) (dx dy size : ℤ) (xs : List ℕ) → neighbour_facts s (ends count dx dy size) xs ≡ end_facts s dx dy size 0 xs
+first_part s count dx dy size [] = refl
+first_part s count dx dy size (a ∷ []) = refl
+first_part s count dx dy size (a ∷ b ∷ xs) =
+    let part : 2 * kind a + kind b ≡ 0 + (2 * kind a + kind b) = omega arith in
+    ap₂ (λ (n : ℕ) (fs : List Placed). placed_at s n (end_form dx dy size a b) ∷ fs) part (first_part s count dx dy size (b ∷ xs))
+
+pub order_of_ends : OrderIsThatOfEnds
+order_of_ends s count dx dy size =
+    let set = ends_of s.live in
+    let all = all_ends s.live in (
+      λ xs. (to_order s count dx dy size set xs all, from_order s count dx dy size set xs all),
+      λ p. (
+        λ f. record {
+          order = f.order;
+          ordered = to_order s count dx dy size set f.order all f.ordered;
+          listed = subst (λ fs. Contains fs p) (first_part s count dx dy size f.order) f.listed;
+        },
+        λ f. record {
+          order = f.order;
+          ordered = from_order s count dx dy size set f.order all f.ordered;
+          listed = subst (λ fs. Contains fs p) (sym (first_part s count dx dy size f.order)) f.listed;
+        },
+      ),
+    )
 
 -- ---- how many facts there are
 neighbours_many : (s : Scene) (dx dy size : ℤ) (first : ℕ) (xs : List ℕ) → length (end_facts s dx dy size first xs) ≡ length xs - 1

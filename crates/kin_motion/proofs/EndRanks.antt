@@ -174,6 +174,19 @@ small_offset (suc zero) (suc zero) w l m h = subst (λ v. unsigned_abs v ≤ 2 ^
 small_offset (suc zero) (suc (suc b)) w l m h = absurd (omega arith)
 small_offset (suc (suc a)) b w l m h = absurd (omega arith)
 
+-- a sign that is its own opposite is 0, and at 0 no end is before itself
+own_leads : (t : Sign) (i : ℕ) → t ≡ opposite_of t → end_leads t i i ≡ false
+own_leads Minus i e = refl
+own_leads Zero i e = at (ties (kind i) (point i) (kind i) (point i)) refl
+  where
+    at : (b : Bool) → ties (kind i) (point i) (kind i) (point i) ≡ b → b ≡ false
+    at false h = refl
+    at true h = elim (tie_cases (kind i) (point i) (kind i) (point i) h) [
+      | inl l ↦ absurd (omega (arith, l))
+      | inr c ↦ absurd (let l = c.1 in omega (arith, l))
+    ]
+own_leads Plus i e = absurd cc
+
 module _ (count : ℕ) (dx dy width : ℤ) where
   -- at any moment "before" is a strict total order, whatever the direction and the width are
   pub ends_strict : (s : Scene) → IsReal s → IsStrict s (ends count dx dy width)
@@ -183,6 +196,7 @@ module _ (count : ℕ) (dx dy width : ℤ) where
       real.sign (line j i) ∙ turned_sign real.motions real.moment dx dy (offset width i j) (offset width j i) (point i) (point j)
       (turned_width (pos (kind i)) (pos (kind j)) width) ∙ ap opposite_of (sym (real.sign (line i j))) in
       record {
+        irreflexive = λ i a. own_leads (s.sign (line i i)) i (opposite i i);
         total = λ i j a b d. ap (λ t. end_leads t j i) (opposite i j) ∙ turned_leads (s.sign (line i j)) i j d;
         transitive = λ i j k a b c. leads_through _ _ _ i j k (by_signs (real.sign (line i j)) (real.sign (line j k)) (real.sign (line i k))
             (line_sum real.motions real.moment real.canonical (line i j) (line j k) (line i k)

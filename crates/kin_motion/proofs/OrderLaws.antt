@@ -1,5 +1,5 @@
 -- The order is one list, and its facts determine it.
-use Rattle.std.proofs.Common.{◌≡◌, refl, sym, ap, ap₂, ◌∙◌, subst, arith, List, [], ◌∷◌, ℕ, true, IsTrue, ℤ, pos}
+use Rattle.std.proofs.Common.{◌≡◌, refl, sym, ap, ap₂, ◌∙◌, subst, arith, List, [], ◌∷◌, ℕ, Bool, true, false, IsTrue, ℤ, pos}
 use Rattle.std.proofs.lemmas.Bool.Decides.{nat_tests}
 use Rattle.std.proofs.lemmas.List.Elements.{All-head, All-tail}
 use Rattle.kin_algebra.specs.declared.sign.Sign.{Sign}
@@ -32,6 +32,13 @@ leads_through Plus Plus r i j k sum a b = ap (λ q. leads q i k) sum
 module _ (s : Scene) (laws : HasLineLaws s) (dx dy : ℤ) where
   pub never_before_itself : (i : ℕ) → is_before s dx dy i i ≡ true → ⊥
   never_before_itself i h = never_leads (s.sign (Line dx dy (pos 0) i i)) i (zero_from_opposite _ (laws.opposite dx dy i i)) h
+
+  pub not_before_itself : (i : ℕ) → is_before s dx dy i i ≡ false
+  not_before_itself i = at (is_before s dx dy i i) refl
+    where
+      at : (b : Bool) → is_before s dx dy i i ≡ b → b ≡ false
+      at true h = absurd (never_before_itself i h)
+      at false h = refl
 
   pub before_through : (i j k : ℕ) → is_before s dx dy i j ≡ true → is_before s dx dy j k ≡ true → is_before s dx dy i k ≡ true
   before_through i j k = leads_through _ _ _ i j k (laws.chain dx dy i j k)

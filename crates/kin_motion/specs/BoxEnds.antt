@@ -4,7 +4,7 @@ use Rattle.kin_motion.specs.BoxFacts.{kind, point, end_form, end_leads}
 use Rattle.kin_motion.specs.Directions.{left_number}
 use Rattle.kin_motion.specs.Ranks.{Ranks}
 
--- a low end lies at its point, and a high one `width` farther
+-- a low end lies at its point, and a high one `width` farther; along y this is the height of the boxes
 abbrev pub ends : ℕ → ℤ → ℤ → ℤ → Ranks
 ends count dx dy width = record {
   slots = 2 * count;

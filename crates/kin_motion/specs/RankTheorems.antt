@@ -6,6 +6,8 @@ use Rattle.kin_motion.specs.Numbers.{IsOnce}
 use Rattle.kin_motion.specs.Orders as points
 use Rattle.kin_motion.specs.Scene.{Scene, IsReal}
 use Rattle.kin_motion.specs.Sets.{ListsExactly}
+use Rattle.kin_motion.specs.BoxEnds.{ends}
+use Rattle.kin_motion.specs.BoxFacts.{IsEndFact, IsEndOrder, ends_of}
 use Rattle.kin_motion.specs.Directions.{along}
 use Rattle.kin_motion.specs.Rankings.{IsRanking}
 use Rattle.kin_motion.specs.Ranks.{Ranks, AreLive, IsOrder, IsOrderFact, order_of, order_facts}
@@ -32,3 +34,9 @@ RankedOrderIsDetermined = (v w : Scene) (r : Ranks) (xs : List ℕ) (facts : Lis
 abbrev pub OrderIsThatOfPoints : Type 0
 OrderIsThatOfPoints = (s : Scene) (slots : ℕ) (dx dy : ℤ) → ((xs : List ℕ) → IsOrder s (along slots dx dy) s.live xs ↔ points.IsOrder s dx dy xs) ×
     ((p : Placed) → IsOrderFact s (along slots dx dy) s.live p ↔ points.IsOrderFact s dx dy 0 p)
+
+-- along an axis the order of the ends of all boxes and its facts are those of the ends as ranked items
+abbrev pub OrderIsThatOfEnds : Type 0
+OrderIsThatOfEnds = (s : Scene) (count : ℕ) (dx dy size : ℤ)
+    → ((xs : List ℕ) → IsOrder s (ends count dx dy size) (ends_of s.live) xs ↔ IsEndOrder s dx dy size xs)
+    × ((p : Placed) → IsOrderFact s (ends count dx dy size) (ends_of s.live) p ↔ IsEndFact s dx dy size 0 p)

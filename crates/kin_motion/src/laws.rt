@@ -5,7 +5,7 @@ ghost use Rattle.kin_motion.specs.BoxTheorems.{BoxesAreDetermined, BoxFactsAgree
 ghost use Rattle.kin_motion.specs.Claims.{ChainHasLeast, ChainIsStrict, HullHasLeast, HullIsStrict, SettledStatesExist, WrongRectIsEmpty};
 ghost use Rattle.kin_motion.specs.FactCounts.{FewDiameterFacts, FewFacts, FewLiveFacts};
 ghost use Rattle.kin_motion.specs.Parts.{MovedFactsChange, MovedFactsFail, MovedOrderFacts};
-ghost use Rattle.kin_motion.specs.RankTheorems.{OneRankedOrder, OrderIsThatOfPoints, RankedFactsAgree, RankedOrderAgrees, RankedOrderIsDetermined};
+ghost use Rattle.kin_motion.specs.RankTheorems.{OneRankedOrder, OrderIsThatOfEnds, OrderIsThatOfPoints, RankedFactsAgree, RankedOrderAgrees, RankedOrderIsDetermined};
 ghost use Rattle.kin_motion.specs.RecordFacts.{FactsAreRecorded, FewFactsAreReported, FewFactsChange};
 ghost use Rattle.kin_motion.specs.ReflectedFacts.{ReflectedFactsHold, ReflectedTwiceIsSame};
 ghost use Rattle.kin_motion.specs.Turning.{OneTurn, SceneIsByPlaces, TurnKeepsScene};
@@ -131,13 +131,14 @@ pub fn overlaps_are_determined()
 
 /// Ranked items that name live numbers of a real scene have at most one order. The order by computation is the order,
 /// and its facts by computation are its facts. Where the same numbers are live, the facts of an order alone determine it
-/// and its facts. Along a direction the order and its facts are those of points.
+/// and its facts. Along a direction the order and its facts are those of points, and those of the ends of boxes.
 pub fn ranked_items_have_one_order()
     ensures one { OneRankedOrder }
     ensures order { RankedOrderAgrees }
     ensures facts { RankedFactsAgree }
     ensures determined { RankedOrderIsDetermined }
     ensures points { OrderIsThatOfPoints }
+    ensures ends { OrderIsThatOfEnds }
 {}
 
 /// The facts of an extreme point determine it, and themselves: where the same numbers are live in two

@@ -64,7 +64,7 @@ module _ (s : Scene) (r : Ranks) (law : IsRanking r) (laws : IsStrict s r) (m : 
     tests = whole_tests;
   }
 
--- a row that is arranged, and whose links are told, is settled
+-- a row that is arranged, and whose links are reported, is settled
 pub renewed : (s : Scene) (r : Ranks) → IsRanking r → IsStrict s r → (m : Marks) (part : ℕ) (old mid new : Row) (touched seen swaps : List ℕ) (failed : List Placed)
     (before after : ℕ) (out out' : Change) → AreMarks m old.room old.items → IsHeld r old.links old.items old.signs [] []
     → ListsFailing (facts_from r 0 old.links) (names_gone r m old.items) s failed

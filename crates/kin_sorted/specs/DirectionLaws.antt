@@ -5,7 +5,7 @@ use Rattle.std.proofs.lemmas.List.Elements.{All-head}
 use Rattle.kin_motion.specs.declared.form.Form.TheVariants.{Line}
 use Rattle.kin_motion.specs.Numbers.{IsIn}
 use Rattle.kin_motion.proofs.OctantLaws.{before_turned}
-use Rattle.kin_motion.proofs.OrderLaws.{before_through}
+use Rattle.kin_motion.proofs.OrderLaws.{before_through, not_before_itself}
 use Rattle.kin_motion.proofs.RealLaws.{real_line_laws}
 use Rattle.kin_motion.specs.Directions.{along}
 use Rattle.kin_motion.specs.Rankings.{IsRanking}
@@ -18,6 +18,7 @@ along_ranked slots dx dy few dx_small dy_small = record {
   strict = λ s real.
       let laws = real_line_laws s real in
       record {
+        irreflexive = λ i a. not_before_itself s laws dx dy i;
         total = λ i j a b n. before_turned s laws dx dy i j n;
         transitive = λ i j k a b c. before_through s laws dx dy i j k;
         opposite = λ i j a b. laws.opposite dx dy i j;

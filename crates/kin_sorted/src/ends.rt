@@ -24,7 +24,7 @@ pub struct End {
 }
 
 /// The low and high ends of boxes in their order along `(dx, dy)`. The low end of a box is its point, and
-/// its high end lies `width` farther. At equal values a low end comes before a high one, and then the lesser
+/// its high end lies `width` farther, which along y is the height of the box. At equal values a low end comes before a high one, and then the lesser
 /// number. The points are the numbers below `count`.
 #[derive(Clone, Copy, Debug, PartialEq, Eq, Drop)]
 pub struct Ends {

@@ -29,9 +29,10 @@ pub trait Ranked: Drop {
         requires { slot_of self.now item < (ranks self.now).slots }
         ensures { result ≡ slot_of self.now item };
 
-    /// The item of a slot.
+    /// The item of a slot. No other item has the slot.
     fn item(&self, slot: u32) -> Self::Item
-        ensures { slot_of self.now result ≡ slot };
+        ensures slot { slot_of self.now result ≡ slot }
+        ensures one { (x : Self.Item) → slot_of self.now x ≡ slot → result ≡ x };
 
     /// The part of the fact of two neighbours.
     fn part(&self, left: Self::Item, right: Self::Item) -> u32

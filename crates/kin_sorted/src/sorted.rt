@@ -251,9 +251,10 @@ impl<R: Ranked> Sorted<R> {
         self.lineup.row.items()
     }
 
-    /// The item of a slot.
+    /// The item of a slot. No other item has the slot.
     pub fn item(&self, slot: u32) -> R::Item
-        ensures { R.slot_of self.now.rank result ≡ slot }
+        ensures slot { R.slot_of self.now.rank result ≡ slot }
+        ensures one { (x : R.Item) → R.slot_of self.now.rank x ≡ slot → result ≡ x }
     {
         self.rank.item(slot)
     }

@@ -11,17 +11,17 @@ use Rattle.kin_boxes.proofs.sweep.sweep.Goals.{in-Low+in_ok-meet-in-Low+in_ok-op
 pub meet-requires-clause-box_there : goal.meet-requires-clause-box_there
 meet-requires-clause-box_there c =
     box_there c.args.by_y.now c.args.by_x.now.items c.slots-slot-items.result.now c.loop-slot.slot-index 0 c.item-end.result.point c.slots-slot-items.ensures c.loop-slot-test.true c.requires.boxes
-    (ap point (sym c.item-end.ensures) ∙ end_point c.item-end.result)
+    (ap point (sym c.item-end.ensures.slot) ∙ end_point c.item-end.result)
 
 pub loop-slot-preserved : goal.loop-slot-preserved
 loop-slot-preserved c = elim c.match-end.branch [
   | in-Low+in_ok-meet-in-Low+in_ok-open_box-in-Low w ↦ rw (w.pairs-is, w.opened-is)
       (step_low c.args.by_y.now (meets c.args.by_y.now.items) c.args.by_x.now.items c.slots-slot-items.result.now c.loop-slot.opened.items c.loop-slot.pairs.items _ c.loop-slot.slot-index 0
-      c.slots-slot-items.ensures c.loop-slot-test.true c.requires.boxes c.item-end.result c.item-end.ensures c.loop-slot.invariant w.in-Low.is w.meet.new.pairs.items w.open_box.new.opened.items
+      c.slots-slot-items.ensures c.loop-slot-test.true c.requires.boxes c.item-end.result c.item-end.ensures.slot c.loop-slot.invariant w.in-Low.is w.meet.new.pairs.items w.open_box.new.opened.items
       (w.in_ok-meet-in-Low.ensures ∙ ap (λ os. c.loop-slot.pairs.items ++ met (meets c.args.by_y.now.items) c.item-end.result.point os) w.deref.ensures.value) w.in_ok-open_box-in-Low.ensures)
   | in-High w ↦ rw (w.pairs-is, w.opened-is) (step_high c.args.by_y.now (meets c.args.by_y.now.items) c.args.by_x.now.items c.slots-slot-items.result.now c.loop-slot.opened.items
       c.loop-slot.pairs.items _ c.loop-slot.slot-index 0
-      c.slots-slot-items.ensures c.loop-slot-test.true c.requires.boxes c.item-end.result c.item-end.ensures c.loop-slot.invariant w.in-High.is w.close_box.new.opened.items w.close_box.ensures)
+      c.slots-slot-items.ensures c.loop-slot-test.true c.requires.boxes c.item-end.result c.item-end.ensures.slot c.loop-slot.invariant w.in-High.is w.close_box.new.opened.items w.close_box.ensures)
 ]
 
 pub returns : goal.returns

@@ -1,3 +1,4 @@
+use Rattle.kin_motion.proofs.BoxFactLaws.{order_of_ends}
 use Rattle.kin_motion.proofs.RankedLaws.{order_is_one, order_agrees, order_facts_agree, order_determined, points_order}
 use Rattle.kin_motion.proofs.laws.ranked_items_have_one_order.Goals as goal
 
@@ -15,3 +16,6 @@ returns-clause-determined c = order_determined
 
 pub returns-clause-points : goal.returns-clause-points
 returns-clause-points c = points_order
+
+pub returns-clause-ends : goal.returns-clause-ends
+returns-clause-ends c = order_of_ends
