@@ -27,7 +27,8 @@ module _ {A : Type 0} (test : A → Bool) where
   one_counted (y ∷ ys) (suc n) x there e = let rest = one_counted ys n x there e in let more = counted_rest y ys in omega (arith, rest, more)
 
   -- and two are counted twice
-  two_counted : (xs : List A) (m n : ℕ) (x y : A) → m < n → slice_get xs m ≡ Some x → slice_get xs n ≡ Some y → test x ≡ true → test y ≡ true → 2 ≤ count_by test xs
+  two_counted : (xs : List A) (m n : ℕ) (x y : A) → m < n → slice_get xs m ≡ Some x → slice_get xs n ≡ Some y → test x ≡ true → test y ≡ true
+      → 2 ≤ count_by test xs
   two_counted [] m n x y less here there e f = absurd cc
   two_counted (z ∷ zs) m zero x y less here there e f = absurd (omega (arith, less))
   two_counted (z ∷ zs) zero (suc n) x y less here there e f =
@@ -45,7 +46,8 @@ module _ {A : Type 0} (test : A → Bool) where
   passes (y ∷ ys) all (suc n) x there = passes ys (and_parts _ _ all).1 n x there
 
 -- ---- one size
-few_here : (keeps : List Keep) → may_keep keeps ≡ true → (n : ℕ) (kept : Keep) → slice_get keeps n ≡ Some kept → count_of (group kept) keeps ≤ limit (group kept)
+few_here : (keeps : List Keep) → may_keep keeps ≡ true → (n : ℕ) (kept : Keep) → slice_get keeps n ≡ Some kept
+    → count_of (group kept) keeps ≤ limit (group kept)
 few_here keeps may n kept there =
     let e = passes (λ x. nat_le (count_of (group x) keeps) (limit (group x))) keeps (and_parts _ _ may).0 n kept there in
     grind (arith, nat_tests, e)
@@ -65,13 +67,16 @@ module _ (keeps : List Keep) (may : may_keep keeps ≡ true) where
       grind (arith, less, more)
 
   -- so they are kept where some are found
-  pub boxes_at : (m n : ℕ) (w h : ℤ) → slice_get keeps m ≡ Some (keep.Boxes w h) → (w' : ℤ) × (h' : ℤ) × (slice_get keeps n ≡ Some (keep.Boxes w' h')) → slice_get keeps n ≡ Some (keep.Boxes w h)
+  pub boxes_at : (m n : ℕ) (w h : ℤ) → slice_get keeps m ≡ Some (keep.Boxes w h) → (w' : ℤ) × (h' : ℤ) × (slice_get keeps n ≡ Some (keep.Boxes w' h'))
+      → slice_get keeps n ≡ Some (keep.Boxes w h)
   boxes_at m n w h here (w', h', there) = subst (λ j. slice_get keeps j ≡ Some (keep.Boxes w h)) (one_boxes m n w h w' h' here there) here
 
 -- ---- the answer
-pub kept_overlaps : (b : Boxing) (pairs : List (ℕ × ℕ)) → AreOverlapsOf b pairs → (size : ℕ) (w h : ℤ) (s : Scene) → IsKept size (keep.Boxes w h) s (Boxes b) → ListsOverlaps s w h pairs
+pub kept_overlaps : (b : Boxing) (pairs : List (ℕ × ℕ)) → AreOverlapsOf b pairs → (size : ℕ) (w h : ℤ) (s : Scene)
+    → IsKept size (keep.Boxes w h) s (Boxes b) → ListsOverlaps s w h pairs
 kept_overlaps b pairs are size w h s kept =
     let same = kept.settled.kind.0 in
     let width : b.by_x.rank.width ≡ w = cc in
     let height : b.by_y.rank.width ≡ h = cc in
-    subst (λ (x : ℤ). ListsOverlaps s x h pairs) width (subst (λ (y : ℤ). ListsOverlaps s b.by_x.rank.width y pairs) height (are s kept.real kept.settled.settled))
+    subst (λ (x : ℤ). ListsOverlaps s x h pairs) width
+    (subst (λ (y : ℤ). ListsOverlaps s b.by_x.rank.width y pairs) height (are s kept.real kept.settled.settled))

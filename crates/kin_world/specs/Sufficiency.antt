@@ -15,15 +15,17 @@ use Rattle.kin_motion.specs.Overlaps.{ListsOverlaps}
 use Rattle.kin_motion.specs.Scene.{Scene, IsReal, Holds}
 use Rattle.kin_world.specs.Worlds.{World, world_scene}
 
--- each kept order, extreme point, hull, closest pair and farthest pair of the one scene is that of the other, and so are the overlaps of boxes; points in rectangles and nearest
--- points needn't be: no fact is about a border, and the facts of nearest neighbours determine the candidates, but not the nearest
+-- each kept order, extreme point, hull, closest pair and farthest pair of the one scene is that of the other, and so are the overlaps of boxes;
+-- points in rectangles and nearest points needn't be: no fact is about a border, and the facts of nearest neighbours determine the candidates, but not
+-- the nearest
 pub record HaveSameAnswers (keeps : List Keep) (v w : Scene) : Type 0 where
   pub order : (n : ℕ) (dx dy : ℤ) (xs : List ℕ) → slice_get keeps n ≡ Some (Order dx dy) → IsOrder v dx dy xs → IsOrder w dx dy xs
   pub extreme : (n : ℕ) (dx dy : ℤ) (point : Option ℕ) → slice_get keeps n ≡ Some (Extreme dx dy) → IsExtremePoint v dx dy point → IsExtremePoint w dx dy point
   pub hull : (n : ℕ) (cycle : List ℕ) → slice_get keeps n ≡ Some Hull → IsHullCycle v cycle → IsHullCycle w cycle
   pub closest : (n : ℕ) (pair : Option (ℕ × ℕ)) → slice_get keeps n ≡ Some Closest → IsClosest v pair → IsClosest w pair
   pub farthest : (n : ℕ) (pair : Option (ℕ × ℕ)) → slice_get keeps n ≡ Some Diameter → IsFarthest v pair → IsFarthest w pair
-  pub overlaps : (n : ℕ) (width height : ℤ) (pairs : List (ℕ × ℕ)) → slice_get keeps n ≡ Some (Boxes width height) → ListsOverlaps v width height pairs → ListsOverlaps w width height pairs
+  pub overlaps : (n : ℕ) (width height : ℤ) (pairs : List (ℕ × ℕ)) → slice_get keeps n ≡ Some (Boxes width height)
+      → ListsOverlaps v width height pairs → ListsOverlaps w width height pairs
 
 -- the same numbers are live in both scenes, all with slots, and all facts that are live in the one hold in the other; a farthest pair is kept with a hull
 pub record LiveFactsHoldThere (size : ℕ) (keeps : List Keep) (v w : Scene) (cs : List Certificate) : Type 0 where

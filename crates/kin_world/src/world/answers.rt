@@ -91,8 +91,10 @@ impl World {
     pub fn overlaps(&self) -> Result<Vec<(u32, u32)>, NoMemory>
         requires whole { IsTrue self.now.whole }
         requires kept { (k : ℕ) × (w : ℤ) × (h : ℤ) × (slice_get self.now.keeps k ≡ Some (keep.Boxes w h)) }
-        ensures overlaps { IfOk result (λ pairs. (k : ℕ) (w h : ℤ) → slice_get self.now.keeps k ≡ Some (keep.Boxes w h) → ListsOverlaps (world_scene self.now) w h pairs.items) }
-        ensures suffices { IfOk result (λ pairs. (k : ℕ) (w h : ℤ) → slice_get self.now.keeps k ≡ Some (keep.Boxes w h) → (v : Scene) → LiveFactsHoldIn self.now v → ListsOverlaps v w h pairs.items) }
+        ensures overlaps { IfOk result (λ pairs. (k : ℕ) (w h : ℤ) → slice_get self.now.keeps k ≡ Some (keep.Boxes w h)
+            → ListsOverlaps (world_scene self.now) w h pairs.items) }
+        ensures suffices { IfOk result (λ pairs. (k : ℕ) (w h : ℤ) → slice_get self.now.keeps k ≡ Some (keep.Boxes w h)
+            → (v : Scene) → LiveFactsHoldIn self.now v → ListsOverlaps v w h pairs.items) }
     {
         self.structure(self.place_of_boxes()).overlaps()
     }

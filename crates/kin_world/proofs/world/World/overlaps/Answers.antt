@@ -10,10 +10,13 @@ overlaps-requires c =
 
 pub returns : goal.returns
 returns c = record {
-  overlaps = IfOk-weaker c.overlaps.result _ _ (λ pairs each k w h there. each _ w h _ (c.structure.ensures.kept (keep.Boxes w h) (c.place_of_boxes.ensures k w h there))) c.overlaps.ensures;
+  overlaps = IfOk-weaker c.overlaps.result _ _
+      (λ pairs each k w h there. each _ w h _ (c.structure.ensures.kept (keep.Boxes w h) (c.place_of_boxes.ensures k w h there)))
+      c.overlaps.ensures;
   suffices = IfOk-weaker c.overlaps.result _ _
       (λ pairs each k w h there v hold.
       let here = c.place_of_boxes.ensures k w h there in
-      (answers_suffice _ v c.structure.ensures.whole hold).overlaps c.place_of_boxes.result w h pairs.items here (each _ w h _ (c.structure.ensures.kept (keep.Boxes w h) here)))
+      let suffice = answers_suffice _ v c.structure.ensures.whole hold in
+      suffice.overlaps c.place_of_boxes.result w h pairs.items here (each _ w h _ (c.structure.ensures.kept (keep.Boxes w h) here)))
       c.overlaps.ensures;
 }

@@ -14,4 +14,5 @@ pub returns : goal.returns
 returns c = λ k w h there.
     let sound = sound_inside c.self.inside c.self.view_is c.self.invariant c.requires.whole in
     rw (← c.self.view_is)
-    (boxes_at c.self.inside.upkeep.keeps.items sound.in_order.fit.keepable.few k c.place_of_boxes.result w h (rw (← c.self.view_is) at there) (rw c.deref.ensures.value at c.place_of_boxes.ensures))
+    (boxes_at c.self.inside.upkeep.keeps.items sound.in_order.fit.keepable.few k c.place_of_boxes.result w h (rw (← c.self.view_is) at there)
+    (rw c.deref.ensures.value at c.place_of_boxes.ensures))
