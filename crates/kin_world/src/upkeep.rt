@@ -318,7 +318,7 @@ fn plan_of(alloc: Global, size: u32, keeps: &[Keep]) -> Result<Plan, NoMemory>
 }
 
 // How many lists a keep has: orders, or the sweep of a farthest pair. Their facts are in its first parts, and each fact is
-// known by its first number. Each order of ends of boxes counts as four: a fact's part tells which two kinds of ends it is about.
+// known by its first number. Each order of ends of boxes counts as four: a fact's part says of which kinds its two ends are.
 fn lists_of(keep: &Keep) -> u32 {
     match *keep {
         Keep::Order { .. } | Keep::Diameter => 1,
