@@ -42,6 +42,10 @@ HasExtreme w place = (dx : ℤ) × (dy : ℤ) × (slice_get w.keeps place ≡ So
 abbrev pub HasKeep : World → Keep → Type 0
 HasKeep w kind = (place : ℕ) × (slice_get w.keeps place ≡ Some kind)
 
+-- boxes of some width and height are kept
+abbrev pub HasBoxes : World → Type 0
+HasBoxes w = (place : ℕ) × (width : ℤ) × (height : ℤ) × (slice_get w.keeps place ≡ Some (keep.Boxes width height))
+
 -- what is asked for is kept or not, and the answer takes no memory
 abbrev pub IsRefusedAnswer : World → Type 0 → Refusal → Type 0
 IsRefusedAnswer w kept Lost = IsLost w

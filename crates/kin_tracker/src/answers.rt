@@ -1,6 +1,6 @@
 //! Questions. None of them changes the tracker.
 
-ghost use Rattle.std.specs.Prelude.{◌≡◌, ◌≤◌, Some, IsSome, IsNone, IfOk, OnOk, IfErr, IfSome, MatchOption, length, slice_get};
+ghost use Rattle.std.specs.Prelude.{◌≡◌, ◌≤◌, ℕ, ℤ, Some, IsSome, IsNone, IfOk, OnOk, IfErr, IfSome, MatchOption, length, slice_get};
 ghost use Rattle.kin_motion.specs.declared.keep.Keep.TheVariants as keep;
 ghost use Rattle.kin_motion.specs.Boxes.{IsRectInRange, points_in};
 ghost use Rattle.kin_motion.specs.Chains.{IsHullCycle};
@@ -9,9 +9,10 @@ ghost use Rattle.kin_motion.specs.Course.{live_of, motion_of};
 ghost use Rattle.kin_motion.specs.FactCounts.{most_live};
 ghost use Rattle.kin_motion.specs.Farthest.{IsFarthest};
 ghost use Rattle.kin_motion.specs.Nearest.{IsNearest};
+ghost use Rattle.kin_motion.specs.Overlaps.{ListsOverlaps};
 ghost use Rattle.kin_motion.specs.Sizes.{step_limit};
 ghost use Rattle.kin_legs.specs.Nexts.{IsAtRest};
-ghost use Rattle.kin_tracker.specs.Questions.{IsRefusedLook, IsRefusedNumber, HasOrder, HasExtreme, HasKeep, IsRefusedAnswer, IsRefusedList, IsOrderAt, IsExtremeAt, IsRefusedInside, IsRefusedNearest, ArePresent, IsRefusedApproach, IsApproach};
+ghost use Rattle.kin_tracker.specs.Questions.{IsRefusedLook, IsRefusedNumber, HasOrder, HasExtreme, HasKeep, HasBoxes, IsRefusedAnswer, IsRefusedList, IsOrderAt, IsExtremeAt, IsRefusedInside, IsRefusedNearest, ArePresent, IsRefusedApproach, IsApproach};
 ghost use Rattle.kin_tracker.specs.Trackers.{IsHere, IsPresent};
 ghost use Rattle.kin_world.specs.Worlds.{IsNextMoment, world_scene, world_view};
 
@@ -199,6 +200,25 @@ impl Tracker {
             return Err(Refusal::NotKept);
         }
         Ok(self.world.farthest())
+    }
+
+    /// The pairs of points whose boxes overlap, the lesser number first, rising. Boxes that touch overlap.
+    pub fn overlaps(&self) -> Result<Vec<(u32, u32)>, Refusal>
+        ensures overlaps { IfOk result (λ pairs. (place : ℕ) (w h : ℤ) → slice_get self.now.keeps place ≡ Some (keep.Boxes w h)
+            → ListsOverlaps (world_scene self.now) w h pairs.items) }
+        ensures may { OnOk result (IsHere self.now × HasBoxes self.now) }
+        ensures refused { IfErr result (IsRefusedList self.now (HasBoxes self.now)) }
+    {
+        if !self.world.is_whole() {
+            return Err(Refusal::Lost);
+        }
+        if !self.world.keeps_boxes() {
+            return Err(Refusal::NotKept);
+        }
+        let Ok(pairs) = self.world.overlaps() else {
+            return Err(Refusal::NoMemory);
+        };
+        Ok(pairs)
     }
 
     /// When two points come within a distance of at most 16384, from now on, if both keep their motions of now; `None`

@@ -33,7 +33,7 @@ impl Model for Tracker {
 impl Tracker {
     /// No points yet, at the instant 0. Points have numbers below `2^size`, and the size is from 1 to 12. Of the keeps at
     /// most 16 are orders or extreme points, and at most one is of each other kind. A farthest pair comes after a hull.
-    /// Each part of a direction is in -16..16.
+    /// Each part of a direction is in -16..16, and the width and the height of boxes are in 0..4096.
     pub fn new(alloc: Global, size: u32, keeps: &[Keep]) -> Result<Tracker, Refusal>
         ensures empty { IfOk result (λ t. t ≡ empty size keeps.now) }
         ensures may { OnOk result (MayStart size keeps.now) }
