@@ -24,7 +24,7 @@ joining = point (pos 0) (pos 0) (pos 1) (pos 0) ∷ point (pos 1) (pos 0) (pos 0
 abbrev pub left_over : List (Option Course)
 left_over = None ∷ point (pos 1) (pos 0) (pos 0) (pos 0) ∷ []
 
--- a box stands still, and another one passes its corner at 1
+-- a box is at rest, and another one passes its corner at 1
 abbrev pub cornering : List (Option Course)
 cornering = point (pos 0) (pos 0) (pos 0) (pos 0) ∷ point (pos 0) (pos 2) (pos 1) (negsuc 0) ∷ []
 
