@@ -2,8 +2,8 @@
  * kin.h: moving points, and structures that are kept over them, exactly.
  *
  * A world has points that move, each with a constant velocity, and keeps structures over them: orders along directions,
- * extreme points, the convex hull, the closest pair, nearest neighbours, the farthest pair. It goes on in time from one
- * change of these to the next. Nothing is rounded anywhere.
+ * extreme points, the convex hull, the closest pair, nearest neighbours, the farthest pair, overlaps of boxes. It goes on in
+ * time from one change of these to the next. Nothing is rounded anywhere.
  *
  *     kin_world world = {0};
  *     kin_keep keeps[1] = {{KIN_CLOSEST, 0, 0}};
@@ -93,10 +93,14 @@ enum {
     KIN_CLOSEST = 3,  /* the closest pair */
     KIN_RANGE = 4,    /* the points in any rectangle */
     KIN_NEAREST = 5,  /* the nearest other point of any point */
-    KIN_DIAMETER = 6  /* the farthest pair */
+    KIN_DIAMETER = 6, /* the farthest pair */
+    KIN_BOXES = 7     /* boxes of the width dx and the height dy, whose lower left corners the points are */
 };
 
-/* A structure that is to be kept: its kind, and its direction. The other kinds have no direction, and theirs isn't read. */
+/*
+ * A structure that is to be kept: its kind, and its direction or the size of its boxes. The other kinds have neither, and
+ * what is there isn't read.
+ */
 typedef struct kin_keep {
     uint32_t kind;
     int32_t dx;
@@ -179,10 +183,11 @@ enum {
 /*
  * Makes a world with no points, at the instant 0. A world that was there is freed. The size is in 1..12, and points have
  * numbers below 2^size. Of the `len` structures at `keeps` at most 16 are orders or extreme points, and at most one is of
- * each other kind. A farthest pair comes after a hull. dx and dy of orders and extreme points are in -16..16.
+ * each other kind. A farthest pair comes after a hull. dx and dy of orders and extreme points are in -16..16, the width and
+ * the height of boxes in 0..4096.
  * A structure is named by its place in this list, from 0 on.
  *
- * KIN_BAD_KEEP: a kind isn't in 0..6; `*place` is the place of the first such structure
+ * KIN_BAD_KEEP: a kind isn't in 0..7; `*place` is the place of the first such structure
  * KIN_BAD_NUMBER: the size
  * KIN_BAD_KEEP: `*place` is the place of the first structure that can't be kept with those before it
  * KIN_NO_MEMORY: maybe also where the size or a structure can't be, since the list is copied first. The world that was
@@ -352,6 +357,13 @@ kin_status kin_nearest(kin_world *world, uint32_t point, uint32_t *out, size_t r
  * KIN_NO_WORLD, KIN_LOST, KIN_NOT_KEPT, KIN_TOO_SMALL
  */
 kin_status kin_farthest(kin_world *world, uint32_t *out, size_t room, size_t *len);
+
+/*
+ * The pairs of points whose boxes overlap, rising: the two numbers of each pair, the lesser first, pair after pair. Boxes that
+ * touch overlap. `*len` is twice the number of pairs, at most n*(n - 1) for n points.
+ * KIN_NO_WORLD, KIN_LOST, KIN_NOT_KEPT, KIN_NO_MEMORY, KIN_TOO_SMALL
+ */
+kin_status kin_overlaps(kin_world *world, uint32_t *out, size_t room, size_t *len);
 
 /* ---- moments */
 

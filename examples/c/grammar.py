@@ -76,8 +76,10 @@ place = integer(-8192, 8192)
 part = integer(-16, 16)
 border = integer(-(2**24), 2**24)
 structure = integer(0, 31)
+width = integer(0, 4096)
 outer, inner = integer(-(2**29), 2**29), integer(-(2**31), 2**31)
 side = one_of({b"lo": False, b"hi": True})
+ALONG = (kin.order(1, 0).kind, kin.extreme(1, 0).kind)
 SINGLE_KEEPS = {
     b"hull": kin.HULL,
     b"closest": kin.CLOSEST,
@@ -107,6 +109,7 @@ def readers_of_commands(size: int) -> dict[bytes, tuple]:
         b"box": (border, border, border, border),
         b"nearest": (point,),
         b"farthest": (),
+        b"overlaps": (),
     }
 
 
@@ -127,9 +130,14 @@ def read_keep(words: Words, before: list[kin.Keep]) -> kin.Keep:
     """What a line `keep` keeps, if it may be kept with those before it."""
     if words[:1] in ([b"order"], [b"extreme"]):
         dx, dy = read_words((part, part), words[1:])
-        if (dx, dy) == (0, 0) or sum(keep not in SINGLE_KEEPS.values() for keep in before) == 16:
+        if (dx, dy) == (0, 0) or sum(keep.kind in ALONG for keep in before) == 16:
             raise Outside
         return kin.order(dx, dy) if words[0] == b"order" else kin.extreme(dx, dy)
+    if words[:1] == [b"boxes"]:
+        keep = kin.boxes(*read_words((width, width), words[1:]))
+        if any(other.kind == keep.kind for other in before):
+            raise Outside
+        return keep
     (keep,) = read_words((one_of(SINGLE_KEEPS),), words)
     if keep in before or keep == kin.DIAMETER and kin.HULL not in before:
         raise Outside

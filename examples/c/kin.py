@@ -92,7 +92,7 @@ def _from_c(it: _Moment) -> Moment:
 
 
 class Keep(NamedTuple):
-    """A structure that is to be kept: its kind, as kin.h numbers them, and the direction of an order or an extreme point."""
+    """A structure that is to be kept: its kind, as kin.h numbers them, and the direction of an order or an extreme point, or the size of boxes."""
 
     kind: int
     dx: int = 0
@@ -110,6 +110,11 @@ def order(dx: int, dy: int) -> Keep:
 def extreme(dx: int, dy: int) -> Keep:
     """The point that lies farthest along a direction."""
     return Keep(1, dx, dy)
+
+
+def boxes(width: int, height: int) -> Keep:
+    """Boxes of this size, whose lower left corners the points are."""
+    return Keep(7, width, height)
 
 
 class Motion(NamedTuple):
@@ -273,6 +278,11 @@ class World(AbstractContextManager["World"]):
         """The farthest pair, the lesser number first."""
         return self._pair("kin_farthest")
 
+    def overlaps(self) -> list[tuple[int, int]]:
+        """The pairs of points whose boxes overlap, the lesser number of each first, rising."""
+        found = self._long_list("kin_overlaps")
+        return list(zip(found[::2], found[1::2]))
+
     def inside(self, x1: int, x2: int, y1: int, y2: int) -> list[int]:
         """The points in a rectangle, its border included, rising."""
         return self._list("kin_inside", _i32(x1), _i32(x2), _i32(y1), _i32(y2))
@@ -293,6 +303,16 @@ class World(AbstractContextManager["World"]):
     def _list(self, name: str, *arguments: object) -> list[int]:
         length = c_size_t()
         self._call(name, *arguments, self._numbers, c_size_t(len(self._numbers)), byref(length))
+        return self._numbers[: length.value]
+
+    def _long_list(self, name: str) -> list[int]:
+        # The list may have more numbers than there are points. Where there is no room for it, its length is said.
+        length = c_size_t()
+        try:
+            self._call(name, self._numbers, c_size_t(len(self._numbers)), byref(length))
+        except TooSmall:
+            self._numbers = (c_uint32 * length.value)()
+            self._call(name, self._numbers, c_size_t(length.value), byref(length))
         return self._numbers[: length.value]
 
     def _one(self, name: str, *arguments: object) -> Optional[int]:

@@ -38,6 +38,8 @@ class Player:
             yield from self.go_on()
         elif name == "box":
             yield text_of(self.world.inside(*values))
+        elif name == "overlaps":
+            yield from map(text_of, self.world.overlaps() or [()])
         else:
             yield text_of(getattr(self.world, name)(*values))
 

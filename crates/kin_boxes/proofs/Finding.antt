@@ -1,6 +1,6 @@
 -- The sweep under way.
-use Rattle.std.proofs.Common.{◌≡◌, ◌≢◌, ◌⊎◌, inl, inr, refl, sym, ap, ap₂, ◌∙◌, subst, arith, List, [], ◌∷◌, ◌++◌, append_assoc, ℕ, zero, suc, ◌+◌, ◌*◌, ◌/◌, ◌%◌, ◌<◌, ◌≤◌, Bool, true, false, cond, not, ◌||◌, ◌&&◌, nat_eq, nat_lt, map, filter, drop, length, get_or, Some}
-use Rattle.std.specs.Prelude.{Contains, slice_get}
+use Rattle.std.proofs.Common.{◌≡◌, ◌⊎◌, inl, inr, refl, sym, ap, ap₂, ◌∙◌, subst, arith, List, [], ◌∷◌, ◌++◌, append_assoc, ℕ, zero, suc, ◌+◌, ◌*◌, ◌<◌, ◌≤◌, Bool, true, false, cond, not, ◌||◌, ◌&&◌, nat_eq, nat_lt, map, filter, drop, length, get_or, Some}
+use Rattle.std.specs.Prelude.{slice_get}
 use Rattle.std.proofs.lemmas.Bool.{both_ways, or_cases, eqb-true, ne_eqb}
 use Rattle.std.proofs.lemmas.Bool.Decides.{nat_tests}
 use Rattle.std.proofs.lemmas.List.{drop_more, drop_all, append-nil}
@@ -12,12 +12,12 @@ use Rattle.kin_sorted.specs.declared.ends.Ends.{Ends}
 use Rattle.kin_sorted.specs.declared.ends.End.{End}
 use Rattle.kin_sorted.specs.declared.ends.Side.{Side}
 use Rattle.kin_sorted.specs.declared.ends.Side.TheVariants.{Low, High}
-use Rattle.kin_sorted.specs.BoxEnds.{end_slot, kind_of}
+use Rattle.kin_sorted.specs.EndSlots.{end_slot, kind_of}
 use Rattle.kin_sorted.specs.Marks.{without}
 use Rattle.kin_sorted.proofs.EndLaws.{end_point}
 use Rattle.kin_sorted.proofs.MarkLaws.{in-without}
 use Rattle.kin_sorted.specs.Sorting.{Sorting, unmarked}
-use Rattle.kin_sorted.proofs.OrderingLaws.{absent_first, absent_last}
+use Rattle.kin_motion.proofs.RankedOrders.{absent_first, absent_last}
 use Rattle.kin_sorted.proofs.RowLaws.{is_in_from_get}
 use Rattle.kin_boxes.specs.Boxing.{AreJoined}
 use Rattle.kin_motion.specs.BoxFacts.{low_end, high_end, kind, point}

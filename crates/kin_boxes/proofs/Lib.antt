@@ -1,10 +1,10 @@
 mod Marking
+mod Leaving
 mod Parting
 mod Settling
+mod Members
 mod Sweeping
 mod Finding
 mod Rising
 mod Overlapping
 mod Reading
-mod Listing
-mod Facing

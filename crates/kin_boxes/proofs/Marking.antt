@@ -1,17 +1,16 @@
 -- The marks of one box, and what both lists have in common.
-use Rattle.std.proofs.Common.{◌≡◌, ◌⊎◌, inl, inr, refl, sym, ap, ap₂, ◌∙◌, subst, arith, List, [], ◌∷◌, ℕ, zero, suc, ◌+◌, ◌*◌, ◌%◌, ◌<◌, ◌≤◌, ◌^◌, ℤ, pos, negsuc, Bool, true, false, ◌||◌, ◌&&◌, not, nat_eq}
+use Rattle.std.proofs.Common.{◌≡◌, ◌⊎◌, inl, inr, refl, sym, ap, ap₂, ◌∙◌, subst, arith, List, [], ◌∷◌, ℕ, ◌*◌, ◌%◌, ◌<◌, ◌≤◌, ◌^◌, ℤ, pos, negsuc, Bool, true, false, ◌||◌, ◌&&◌, not, nat_eq}
 use Rattle.std.specs.Prelude.{Contains, ◌≤ℤ◌}
 use Rattle.std.proofs.lemmas.Bool.Decides.{nat_tests}
 use Rattle.std.proofs.lemmas.Int.{ints}
 use Rattle.std.proofs.Math.Pow.{pow_mono}
 use Rattle.kin_algebra.proofs.Members.{contains_none}
-use Rattle.kin_motion.specs.declared.fact.Placed.{Placed}
 use Rattle.kin_motion.specs.Numbers.{is_in, IsOnce}
 use Rattle.kin_motion.proofs.Members.{in_cases}
 use Rattle.kin_sorted.specs.declared.ends.End.{End}
 use Rattle.kin_sorted.specs.declared.ends.Ends.{Ends}
 use Rattle.kin_sorted.specs.declared.ends.Side.TheVariants.{Low, High}
-use Rattle.kin_sorted.specs.BoxEnds.{end_slot}
+use Rattle.kin_sorted.specs.EndSlots.{end_slot}
 use Rattle.kin_sorted.specs.Marks.{Marks, marked, with_entering, with_leaving, without_all}
 use Rattle.kin_sorted.specs.Sorting.{Sorting, unmarked}
 use Rattle.kin_sorted.proofs.ListLaws.{without_none, is_in-without_all}

@@ -1,10 +1,10 @@
 -- In the orders of the ends, places are as the signs say.
-use Rattle.std.proofs.Common.{◌≡◌, ◌≢◌, ◌⊎◌, inl, inr, refl, sym, ap, ap₂, ◌∙◌, subst, arith, List, [], ◌∷◌, ℕ, zero, suc, ◌+◌, ◌*◌, ◌/◌, ◌%◌, ◌<◌, ◌≤◌, ◌^◌, ℤ, pos, ◌+ℤ◌, ◌-ℤ◌, ◌*ℤ◌, Bool, true, false, cond, not, ◌||◌, ◌&&◌, nat_eq, nat_lt}
-use Rattle.std.specs.Prelude.{Contains, ◌↔◌, Option}
-use Rattle.std.proofs.lemmas.Bool.{both_ways, eqb-true, or_left}
+use Rattle.std.proofs.Common.{◌≡◌, ◌⊎◌, inl, inr, refl, sym, ap, ap₂, ◌∙◌, subst, arith, List, [], ◌∷◌, ℕ, zero, suc, ℤ, pos, ◌+ℤ◌, ◌-ℤ◌, ◌*ℤ◌, Bool, true, false, cond, not, ◌||◌, ◌&&◌, nat_eq, nat_lt}
+use Rattle.std.specs.Prelude.{Option}
+use Rattle.std.proofs.lemmas.Bool.{both_ways, eqb-true}
 use Rattle.std.proofs.lemmas.Bool.Decides.{nat_tests}
 use Rattle.kin_algebra.specs.declared.sign.Sign.{Sign}
-use Rattle.kin_algebra.specs.declared.sign.Sign.TheVariants.{Minus, Zero, Plus}
+use Rattle.kin_algebra.specs.declared.sign.Sign.TheVariants.{Zero}
 use Rattle.kin_algebra.specs.Signs.{sign_of, first_of}
 use Rattle.kin_algebra.proofs.Ring.{by_ring, quotes}
 use Rattle.kin_num.specs.declared.instant.Moment.{Moment}
@@ -12,27 +12,26 @@ use Rattle.kin_num.specs.declared.instant.Phase.{Phase}
 use Rattle.kin_num.specs.declared.instant.Phase.TheVariants.{At, After}
 use Rattle.kin_num.specs.declared.instant.Shape.{Shape}
 use Rattle.kin_num.specs.Canonical.{IsCanonical, IsCanonicalForm}
-use Rattle.kin_num.specs.Instants.{sign_at, sign_at_phase, sign_at_instant}
+use Rattle.kin_num.specs.Instants.{sign_at, sign_at_phase}
 use Rattle.kin_num.specs.Quadratic.{Quadratic, linear}
 use Rattle.kin_num.proofs.Constants.{constant_sign}
-use Rattle.kin_motion.specs.declared.form.Form.{Form}
 use Rattle.kin_motion.specs.declared.form.Form.TheVariants.{Line}
 use Rattle.kin_motion.specs.Boxes.{is_not_minus}
 use Rattle.kin_motion.specs.Course.{Course}
 use Rattle.kin_motion.specs.Forms.{x_of, y_of, polynomial_of, sign_of_form}
-use Rattle.kin_motion.specs.Numbers.{is_in, IsIn, IsOnce}
+use Rattle.kin_motion.specs.Numbers.{is_in, IsOnce}
 use Rattle.kin_motion.specs.Records.{stands_before}
 use Rattle.kin_motion.specs.Scene.{Scene, IsReal}
-use Rattle.kin_motion.specs.Sets.{ListsExactly}
-use Rattle.kin_sorted.specs.BoxEnds.{ends}
-use Rattle.kin_motion.specs.Rankings.{IsRanking}
+use Rattle.kin_motion.specs.BoxEnds.{ends}
 use Rattle.kin_motion.specs.Ranks.{is_before}
-use Rattle.kin_sorted.proofs.OrderingLaws.{stands_in_order}
-use Rattle.kin_motion.specs.BoxFacts.{low_end, high_end, kind, point, end_form, end_leads, end_before, IsEndOrder}
-use Rattle.kin_motion.proofs.EndOrders.{same_before, from_order, ends_live}
+use Rattle.kin_motion.specs.BoxFacts.{low_end, high_end, IsEndOrder}
+use Rattle.kin_motion.proofs.EndOrders.{ends_live}
+use Rattle.kin_motion.proofs.EndPlaces.{never_same, low_there, high_there, low_live, high_live, in_places, reach_is}
+use Rattle.kin_motion.proofs.EndRanks.{ends_strict}
+use Rattle.kin_motion.proofs.OverlapLists.{both_true}
 use Rattle.kin_motion.specs.Overlaps.{reaches, meet_along, overlap, IsOverlap}
 use Rattle.kin_boxes.specs.Sweeps.{IsFound, IsAhead, meets, pair_of}
-use Rattle.kin_boxes.proofs.Sweeping.{first_there, second_there, never_same, same_low, both_true}
+use Rattle.kin_boxes.proofs.Sweeping.{first_there, second_there, same_low}
 
 -- ---- a box isn't of negative size
 zero_steps : (dx dy x y : ℤ) → dx *ℤ (x -ℤ x) +ℤ dy *ℤ (y -ℤ y) ≡ pos 0
@@ -65,89 +64,41 @@ own_sign ms m dx dy n i canonical = ap (λ (p : Quadratic). is_not_minus (sign_a
 own_reach : (s : Scene) (dx dy size : ℤ) (n i : ℕ) → IsReal s → size ≡ pos n → reaches s dx dy size i i ≡ true
 own_reach s dx dy size n i real e = ap (λ z. reaches s dx dy z i i) e ∙ ap is_not_minus (real.sign (Line dx dy (pos n) i i)) ∙ own_sign real.motions real.moment dx dy n i real.canonical
 
--- ---- a low end and a high end
-one_size : (size : ℤ) → (pos 1 -ℤ pos 0) *ℤ size ≡ size
-one_size size = by_ring (size ∷ []) _ _ (search quotes depth 20 fits 20000) (search quotes depth 20 fits 20000) refl
-
-low_kind : (i : ℕ) → kind (low_end i) ≡ 0
-low_kind i = omega arith
-
-high_kind : (i : ℕ) → kind (high_end i) ≡ 1
-high_kind i = omega arith
-
-pub low_point : (i : ℕ) → point (low_end i) ≡ i
-low_point i = omega arith
-
-pub high_point : (i : ℕ) → point (high_end i) ≡ i
-high_point i = omega arith
-
-form_is : (dx dy size : ℤ) (i j : ℕ) → end_form dx dy size (low_end i) (high_end j) ≡ Line dx dy size i j
-form_is dx dy size i j =
-    let off : (pos (kind (high_end j)) -ℤ pos (kind (low_end i))) *ℤ size ≡ size = ap₂ (λ (m n : ℕ). (pos m -ℤ pos n) *ℤ size) (high_kind j) (low_kind i) ∙ one_size size in
-    λ t. Line dx dy (off t) (low_point i t) (high_point j t)
-
-leads_is : (t : Sign) (i j : ℕ) → end_leads t (low_end i) (high_end j) ≡ is_not_minus t
-leads_is Minus i j = refl
-leads_is Zero i j = or_left (nat_lt (kind (low_end i)) (kind (high_end j))) (nat_eq (kind (low_end i)) (kind (high_end j)) && nat_lt (point (low_end i)) (point (high_end j)))
-    (ap₂ nat_lt (low_kind i) (high_kind j))
-leads_is Plus i j = refl
-
-module _ (s : Scene) (dx dy size : ℤ) (real : IsReal s) (law : IsRanking (ends 0 dx dy size)) (xs : List ℕ) (order : IsEndOrder s dx dy size xs) where
-  -- a low end is before a high one exactly where the box of the high one reaches that far
-  low_high : (i j : ℕ) → is_before s (ends 0 dx dy size) (low_end i) (high_end j) ≡ reaches s dx dy size i j
-  low_high i j =
-      (λ t. same_before s 0 dx dy size t (low_end i) (high_end j))
-      ∙ leads_is (s.sign (end_form dx dy size (low_end i) (high_end j))) i j
-      ∙ ap (λ f. is_not_minus (s.sign f)) (form_is dx dy size i j)
-
-  stands : (a b : ℕ) → (a ≡ b → ⊥) → is_in a xs ≡ true → is_in b xs ≡ true → stands_before xs a b ≡ is_before s (ends 0 dx dy size) a b
-  stands a b n h k =
-      let o = from_order s 0 dx dy size xs xs order.all order in
-      stands_in_order s (ends 0 dx dy size) (law.strict s real) xs b a (ends_live s 0 dx dy size xs order.all) o.chain order.once n k h
-
-  pub low_there : (i : ℕ) → is_in i s.live ≡ true → is_in (low_end i) xs ≡ true
-  low_there i h = order.all (low_end i) ∙ ap (λ n. is_in n s.live) (low_point i) ∙ h
-
-  pub high_there : (i : ℕ) → is_in i s.live ≡ true → is_in (high_end i) xs ≡ true
-  high_there i h = order.all (high_end i) ∙ ap (λ n. is_in n s.live) (high_point i) ∙ h
-
-  pub low_live : (i : ℕ) → is_in (low_end i) xs ≡ true → is_in i s.live ≡ true
-  low_live i h = ap (λ n. is_in n s.live) (sym (low_point i)) ∙ sym (order.all (low_end i)) ∙ h
-
-  pub high_live : (i : ℕ) → is_in (high_end i) xs ≡ true → is_in i s.live ≡ true
-  high_live i h = ap (λ n. is_in n s.live) (sym (high_point i)) ∙ sym (order.all (high_end i)) ∙ h
-
-  pub reach_is : (i j : ℕ) → is_in i s.live ≡ true → is_in j s.live ≡ true → stands_before xs (low_end i) (high_end j) ≡ reaches s dx dy size i j
-  reach_is i j h k = stands (low_end i) (high_end j) (never_same i j) (low_there i h) (high_there j k) ∙ low_high i j
-
+module _ (s : Scene) (dx dy size : ℤ) (real : IsReal s) (xs : List ℕ) (order : IsEndOrder s dx dy size xs) where
   -- they meet along the axis exactly where each low end comes before the other high one
   pub meets_is : (i j : ℕ) → is_in i s.live ≡ true → is_in j s.live ≡ true → meets xs i j ≡ meet_along s dx dy size i j
-  meets_is i j h k = ap₂ (λ a b. a && b) (reach_is i j h k) (reach_is j i k h)
+  meets_is i j h k = ap₂ (λ a b. a && b) (reach_is s dx dy size real xs order i j h k) (reach_is s dx dy size real xs order j i k h)
+
+  -- a low end is before a high one exactly where the box of the high one reaches that far
+  low_high : (i j : ℕ) → is_in i s.live ≡ true → is_in j s.live ≡ true → is_before s (ends 0 dx dy size) (low_end i) (high_end j) ≡ reaches s dx dy size i j
+  low_high i j h k =
+      sym (in_places s dx dy size real xs order (low_end i) (high_end j) (never_same i j) (low_there s dx dy size real xs order i h)
+      (high_there s dx dy size real xs order j k)) ∙ reach_is s dx dy size real xs order i j h k
 
   module _ (n : ℕ) (whole : size ≡ pos n) where
     pub own_ends : (i : ℕ) → is_in i s.live ≡ true → stands_before xs (low_end i) (high_end i) ≡ true
-    own_ends i h = reach_is i i h h ∙ own_reach s dx dy size n i real whole
+    own_ends i h = reach_is s dx dy size real xs order i i h h ∙ own_reach s dx dy size n i real whole
 
     -- where the one opens while the other is open, they meet along this axis
     pub open_meets : (l k : ℕ) → is_in l s.live ≡ true → is_in k s.live ≡ true → (k ≡ l → ⊥) → stands_before xs (low_end l) (high_end k) ≡ true → stands_before xs (low_end k) (low_end l) ≡ true
         → meet_along s dx dy size l k ≡ true
     open_meets l k h g apart a b =
         let r = ends 0 dx dy size in
-        let laws = law.strict s real in
+        let laws = ends_strict 0 dx dy size s real in
         let live = ends_live s 0 dx dy size xs order.all in
-        let first : is_before s r (low_end k) (low_end l) ≡ true = sym (stands (low_end k) (low_end l) (λ e. apart (same_low k l e)) (low_there k g) (low_there l h)) ∙ b in
-        let second : is_before s r (low_end l) (high_end l) ≡ true = low_high l l ∙ own_reach s dx dy size n l real whole in
-        let through = laws.transitive (low_end k) (low_end l) (high_end l) (live (low_end k) (low_there k g)) (live (low_end l) (low_there l h)) (live (high_end l) (high_there l h)) first second in
-        ap₂ (λ u v. u && v) (sym (reach_is l k h g) ∙ a) (sym (low_high k l) ∙ through)
+        let first : is_before s r (low_end k) (low_end l) ≡ true = sym (in_places s dx dy size real xs order (low_end k) (low_end l) (λ e. apart (same_low k l e)) (low_there s dx dy size real xs order k g) (low_there s dx dy size real xs order l h)) ∙ b in
+        let second : is_before s r (low_end l) (high_end l) ≡ true = low_high l l h h ∙ own_reach s dx dy size n l real whole in
+        let through = laws.transitive (low_end k) (low_end l) (high_end l) (live (low_end k) (low_there s dx dy size real xs order k g)) (live (low_end l) (low_there s dx dy size real xs order l h)) (live (high_end l) (high_there s dx dy size real xs order l h)) first second in
+        ap₂ (λ u v. u && v) (sym (reach_is s dx dy size real xs order l k h g) ∙ a) (sym (low_high k l g h) ∙ through)
 
   -- of two boxes one opens first
   pub one_first : (i j : ℕ) → is_in i s.live ≡ true → is_in j s.live ≡ true → (i ≡ j → ⊥) → (stands_before xs (low_end i) (low_end j) ≡ true) ⊎ (stands_before xs (low_end j) (low_end i) ≡ true)
   one_first i j h k apart = at (is_before s (ends 0 dx dy size) (low_end i) (low_end j)) refl
     where
       at : (b : Bool) → is_before s (ends 0 dx dy size) (low_end i) (low_end j) ≡ b → (stands_before xs (low_end i) (low_end j) ≡ true) ⊎ (stands_before xs (low_end j) (low_end i) ≡ true)
-      at true e = inl (stands (low_end i) (low_end j) (λ f. apart (same_low i j f)) (low_there i h) (low_there j k) ∙ e)
-      at false e = inr (stands (low_end j) (low_end i) (λ f. apart (sym (same_low j i f))) (low_there j k) (low_there i h)
-          ∙ (law.strict s real).total (low_end i) (low_end j) (ends_live s 0 dx dy size xs order.all (low_end i) (low_there i h)) (ends_live s 0 dx dy size xs order.all (low_end j) (low_there j k))
+      at true e = inl (in_places s dx dy size real xs order (low_end i) (low_end j) (λ f. apart (same_low i j f)) (low_there s dx dy size real xs order i h) (low_there s dx dy size real xs order j k) ∙ e)
+      at false e = inr (in_places s dx dy size real xs order (low_end j) (low_end i) (λ f. apart (sym (same_low j i f))) (low_there s dx dy size real xs order j k) (low_there s dx dy size real xs order i h)
+          ∙ (ends_strict 0 dx dy size s real).total (low_end i) (low_end j) (ends_live s 0 dx dy size xs order.all (low_end i) (low_there s dx dy size real xs order i h)) (ends_live s 0 dx dy size xs order.all (low_end j) (low_there s dx dy size real xs order j k))
           (λ f. apart (same_low i j f))
           ∙ ap not e)
 
@@ -170,7 +121,7 @@ never_self (x ∷ xs) a once = ap₂ (λ u v. u || v) (at (nat_eq x a) refl) (ne
     at true e = ap₂ (λ u v. u && v) e (ap (λ n. is_in n xs) (sym (eqb-true x a e)) ∙ once.0)
     at false e = ap (λ u. u && is_in a xs) e
 
-module _ (s : Scene) (width height : ℤ) (m n : ℕ) (real : IsReal s) (wide : width ≡ pos m) (x_law : IsRanking (ends 0 (pos 1) (pos 0) width)) (y_law : IsRanking (ends 0 (pos 0) (pos 1) height))
+module _ (s : Scene) (width height : ℤ) (m n : ℕ) (real : IsReal s) (wide : width ≡ pos m)
     (xs ys : List ℕ)
     (x_order : IsEndOrder s (pos 1) (pos 0) width xs) (y_order : IsEndOrder s (pos 0) (pos 1) height ys) where
   -- the whole sweep is ahead
@@ -180,7 +131,7 @@ module _ (s : Scene) (width height : ℤ) (m n : ℕ) (real : IsReal s) (wide : 
     open_once = tt;
     no_low = λ j h. absurd (let none : false ≡ true = h in cc);
     high = λ j h. absurd (let none : false ≡ true = h in cc);
-    both = λ i h. own_ends s (pos 1) (pos 0) width real x_law xs x_order m wide i (low_live s (pos 1) (pos 0) width real x_law xs x_order i h);
+    both = λ i h. own_ends s (pos 1) (pos 0) width real xs x_order m wide i (low_live s (pos 1) (pos 0) width real xs x_order i h);
   }
 
   in_pair : (l k : ℕ) → is_in l s.live ≡ true → is_in k s.live ≡ true → (k ≡ l → ⊥) → overlap s width height l k ≡ true → IsOverlap s width height (pair_of l k)
@@ -195,22 +146,22 @@ module _ (s : Scene) (width height : ℤ) (m n : ℕ) (real : IsReal s) (wide : 
   found_overlaps p f = at f.opened
     where
       later_live : is_in f.later s.live ≡ true
-      later_live = low_live s (pos 1) (pos 0) width real x_law xs x_order f.later (first_there xs (low_end f.later) (high_end f.earlier) f.not_closed)
+      later_live = low_live s (pos 1) (pos 0) width real xs x_order f.later (first_there xs (low_end f.later) (high_end f.earlier) f.not_closed)
 
       earlier_live : is_in f.earlier s.live ≡ true
-      earlier_live = high_live s (pos 1) (pos 0) width real x_law xs x_order f.earlier (second_there xs (low_end f.later) (high_end f.earlier) f.not_closed)
+      earlier_live = high_live s (pos 1) (pos 0) width real xs x_order f.earlier (second_there xs (low_end f.later) (high_end f.earlier) f.not_closed)
 
       at : (is_in f.earlier [] ≡ true) ⊎ (stands_before xs (low_end f.earlier) (low_end f.later) ≡ true) → IsOverlap s width height p
       at (inl h) = absurd (let none : false ≡ true = h in cc)
       at (inr h) =
           let apart : f.earlier ≡ f.later → ⊥ = λ e. both_ways _ (never_self xs (low_end f.later) x_order.once) (ap (λ i. stands_before xs (low_end i) (low_end f.later)) (sym e) ∙ h) in
-          let x_meet = open_meets s (pos 1) (pos 0) width real x_law xs x_order m wide f.later f.earlier later_live earlier_live apart f.not_closed h in
-          let y_meet = sym (meets_is s (pos 0) (pos 1) height real y_law ys y_order f.later f.earlier later_live earlier_live) ∙ f.meeting in
+          let x_meet = open_meets s (pos 1) (pos 0) width real xs x_order m wide f.later f.earlier later_live earlier_live apart f.not_closed h in
+          let y_meet = sym (meets_is s (pos 0) (pos 1) height real ys y_order f.later f.earlier later_live earlier_live) ∙ f.meeting in
           subst (IsOverlap s width height) (sym f.pair) (in_pair f.later f.earlier later_live earlier_live apart (ap₂ (λ u v. u && v) x_meet y_meet))
 
   -- and what overlaps is found
   pub overlaps_found : (p : ℕ × ℕ) → IsOverlap s width height p → IsFound (meets ys) [] xs p
-  overlaps_found p o = at (one_first s (pos 1) (pos 0) width real x_law xs x_order p.0 p.1 o.first_live o.second_live (λ e. let l = o.rising in omega (arith, l, e)))
+  overlaps_found p o = at (one_first s (pos 1) (pos 0) width real xs x_order p.0 p.1 o.first_live o.second_live (λ e. let l = o.rising in omega (arith, l, e)))
     where
       both : (meet_along s (pos 1) (pos 0) width p.0 p.1 ≡ true) × (meet_along s (pos 0) (pos 1) height p.0 p.1 ≡ true)
       both = both_true (meet_along s (pos 1) (pos 0) width p.0 p.1) (meet_along s (pos 0) (pos 1) height p.0 p.1) o.overlapping
@@ -229,8 +180,8 @@ module _ (s : Scene) (width height : ℤ) (m n : ℕ) (real : IsReal s) (wide : 
         later = p.1;
         earlier = p.0;
         opened = inr h;
-        not_closed = reach_is s (pos 1) (pos 0) width real x_law xs x_order p.1 p.0 o.second_live o.first_live ∙ reach.1;
-        meeting = meets_is s (pos 0) (pos 1) height real y_law ys y_order p.1 p.0 o.second_live o.first_live
+        not_closed = reach_is s (pos 1) (pos 0) width real xs x_order p.1 p.0 o.second_live o.first_live ∙ reach.1;
+        meeting = meets_is s (pos 0) (pos 1) height real ys y_order p.1 p.0 o.second_live o.first_live
             ∙ in_turn (reaches s (pos 0) (pos 1) height p.1 p.0) (reaches s (pos 0) (pos 1) height p.0 p.1) ∙ both.1;
         pair = sym (ap (λ b. cond {A = ℕ × ℕ} b (p.1, p.0) (p.0, p.1)) not_low);
       }
@@ -238,7 +189,7 @@ module _ (s : Scene) (width height : ℤ) (m n : ℕ) (real : IsReal s) (wide : 
         later = p.0;
         earlier = p.1;
         opened = inr h;
-        not_closed = reach_is s (pos 1) (pos 0) width real x_law xs x_order p.0 p.1 o.first_live o.second_live ∙ reach.0;
-        meeting = meets_is s (pos 0) (pos 1) height real y_law ys y_order p.0 p.1 o.first_live o.second_live ∙ both.1;
+        not_closed = reach_is s (pos 1) (pos 0) width real xs x_order p.0 p.1 o.first_live o.second_live ∙ reach.0;
+        meeting = meets_is s (pos 0) (pos 1) height real ys y_order p.0 p.1 o.first_live o.second_live ∙ both.1;
         pair = sym (ap (λ b. cond {A = ℕ × ℕ} b (p.0, p.1) (p.1, p.0)) low);
       }

@@ -1,5 +1,5 @@
 -- Different pairs that were sorted rise.
-use Rattle.std.proofs.Common.{◌≡◌, ◌⊎◌, inl, inr, refl, sym, ap, ap₂, ◌∙◌, subst, arith, List, [], ◌∷◌, ℕ, zero, suc, ◌+◌, ◌<◌, Bool, true, false, ◌&&◌, ◌||◌, nat_lt, nat_cmp, nat_eq, get_or, length, Less, Equal, Greater}
+use Rattle.std.proofs.Common.{◌≡◌, inl, inr, refl, sym, ap, ap₂, subst, arith, List, [], ◌∷◌, ℕ, suc, ◌+◌, ◌<◌, Bool, true, false, ◌&&◌, nat_lt, nat_cmp, nat_eq, get_or, length, Less, Equal}
 use Rattle.std.specs.Prelude.{Contains}
 use Rattle.std.specs.List.{IsDistinct, AllByRecursion}
 use Rattle.std.specs.List.Sorted.{IsPermutation, IsSorted}
@@ -12,7 +12,7 @@ use Rattle.kin_motion.specs.Numbers.{IsChain}
 use Rattle.kin_motion.specs.Sets.{AreDistinct}
 use Rattle.kin_motion.proofs.SetLaws.{distinct_head, distinct_tail}
 use Rattle.kin_motion.specs.Overlaps.{pair_before}
-use Rattle.kin_boxes.proofs.Sweeping.{both_true}
+use Rattle.kin_motion.proofs.OverlapLists.{both_true}
 
 same : ℕ × ℕ → ℕ × ℕ → Bool
 same p q = nat_eq p.0 q.0 && nat_eq p.1 q.1

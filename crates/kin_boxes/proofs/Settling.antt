@@ -1,18 +1,14 @@
 -- Both lists have settled.
-use Rattle.std.proofs.Common.{◌≡◌, ◌⊎◌, inl, inr, refl, sym, ap, ap₂, ◌∙◌, subst, arith, List, [], ◌∷◌, ◌++◌, ℕ, ◌+◌, ◌*◌, ◌/◌, ◌%◌, ◌<◌, ◌≤◌, ◌^◌, ℤ, pos, Bool, true, false, not, ◌||◌, ◌&&◌, nat_eq, length, map, filter}
-use Rattle.std.specs.Prelude.{Contains, flat_map, sum}
-use Rattle.std.specs.List.{All}
-use Rattle.std.proofs.lemmas.Bool.{cases_eq}
+use Rattle.std.proofs.Common.{◌≡◌, ◌⊎◌, inl, inr, refl, sym, ap, ap₂, ◌∙◌, subst, arith, List, [], ◌∷◌, ◌++◌, ℕ, ◌+◌, ◌*◌, ◌/◌, ◌<◌, ◌≤◌, ℤ, pos, Bool, true, false, not, ◌||◌, ◌&&◌, length, map, filter}
+use Rattle.std.specs.Prelude.{Contains, flat_map}
 use Rattle.std.proofs.lemmas.List.{length-append}
 use Rattle.std.proofs.lemmas.List.Sums.{sum_by-append}
-use Rattle.std.proofs.lemmas.List.Elements.{Contains-append_cases, Contains-get_or, filter_agree}
-use Rattle.kin_algebra.proofs.Members.{contains_none, contains_cases}
+use Rattle.std.proofs.lemmas.List.Elements.{Contains-append_cases, filter_agree}
 use Rattle.kin_motion.specs.declared.fact.Placed.{Placed}
 use Rattle.kin_motion.specs.Deltas.{Change}
 use Rattle.kin_motion.specs.Kinetics.{ListsFailing, HasChanged}
-use Rattle.kin_motion.specs.Numbers.{is_in, IsIn, IsOnce, Lists}
+use Rattle.kin_motion.specs.Numbers.{is_in, Lists}
 use Rattle.kin_motion.specs.Parts.{moved_by}
-use Rattle.kin_motion.specs.Records.{moved_pairs}
 use Rattle.kin_motion.specs.Scene.{Scene}
 use Rattle.kin_motion.specs.Sets.{ListsExactly}
 use Rattle.kin_motion.proofs.ChangeLaws.{both_changed}
@@ -20,13 +16,13 @@ use Rattle.kin_motion.proofs.Members.{is_in-append, in_head, in_tail, in_front, 
 use Rattle.kin_motion.proofs.SetLaws.{contains_map, exactly_both}
 use Rattle.kin_sorted.specs.declared.ends.Ends.{Ends}
 use Rattle.kin_sorted.specs.Marks.{Marks, marked, without_all, numbers_of, names_gone, names_one}
-use Rattle.kin_motion.specs.Ranks.{Ranks, AreLive, IsOrderFact, neighbour_facts}
+use Rattle.kin_motion.specs.Ranks.{neighbour_facts}
 use Rattle.kin_sorted.specs.Sorting as list
 use Rattle.kin_sorted.specs.Sorting.{Sorting, IsAtRest, IsReady, IsSettled, unmarked}
 use Rattle.kin_sorted.proofs.ListLaws.{is_in-without_all}
-use Rattle.kin_motion.specs.BoxFacts.{point, end_fact, end_facts, IsEndOrder, IsEndFact, AreBoxes}
-use Rattle.kin_boxes.specs.Boxing.{Boxing, boxing_of, facts_of, ranks_of, is_spared, is_along_x, is_along_y, moved_back, IsReadyBoxing, IsSettledBoxing, AreJoined, AreFewTests}
-use Rattle.kin_motion.proofs.EndOrders.{same_facts, to_order, to_facts, ends_live}
+use Rattle.kin_motion.specs.BoxFacts.{point, IsEndOrder, IsEndFact}
+use Rattle.kin_boxes.specs.Boxing.{boxing_of, facts_of, ranks_of, is_spared, is_along_x, is_along_y, moved_back, IsReadyBoxing, IsSettledBoxing, AreJoined, AreFewTests}
+use Rattle.kin_motion.proofs.EndOrders.{same_facts, to_order, to_facts, ends_live, end_part}
 use Rattle.kin_boxes.proofs.Marking.{none_marked}
 use Rattle.kin_boxes.proofs.Parting.{InParts, along_x, along_y, x_failing, y_failing}
 
@@ -38,18 +34,7 @@ pub record IsResettled (s : Scene) (k k' : Sorting Ends) : Type 0 where
   pub same : k'.rank ≡ k.rank
 
 -- ---- the parts of facts
--- facts of an order are in the four parts of its axis
-pub end_part : (s : Scene) (dx dy size : ℤ) (first : ℕ) (xs : List ℕ) (p : Placed) → Contains (end_facts s dx dy size first xs) p → (first ≤ p.part) × (p.part < first + 4)
-end_part s dx dy size first [] p h = absurd (contains_none p h)
-end_part s dx dy size first (a ∷ []) p h = absurd (contains_none p h)
-end_part s dx dy size first (a ∷ b ∷ xs) p h = at (contains_cases (end_fact s dx dy size first a b) p (end_facts s dx dy size first (b ∷ xs)) h) (end_part s dx dy size first (b ∷ xs) p)
-  where
-    at : (end_fact s dx dy size first a b ≡ p) ⊎ Contains (end_facts s dx dy size first (b ∷ xs)) p
-        → (Contains (end_facts s dx dy size first (b ∷ xs)) p → (first ≤ p.part) × (p.part < first + 4)) → (first ≤ p.part) × (p.part < first + 4)
-    at (inl e) rest = let f : first + (2 * (a % 2) + b % 2) ≡ p.part = ap (λ (q : Placed). q.part) e in (omega (arith, f), omega (arith, f))
-    at (inr c) rest = rest c
-
--- so are those of a list that has settled
+-- the facts of a list that has settled are in its four parts
 in_parts : (s : Scene) (k : Sorting Ends) → IsSettled (ranks_of k.rank) k s → InParts k.facts
 in_parts s k settled p c =
     let f = (settled.exact.each p).0 c in
@@ -59,7 +44,7 @@ in_parts s k settled p c =
     omega (arith, l)
 
 -- ---- which facts are spared
-named : (xs : List ℕ) (n : ℕ) → is_in n (flat_map (λ e. point e ∷ []) xs) ≡ true → (e : ℕ) × (is_in e xs ≡ true) × (n ≡ point e)
+pub named : (xs : List ℕ) (n : ℕ) → is_in n (flat_map (λ e. point e ∷ []) xs) ≡ true → (e : ℕ) × (is_in e xs ≡ true) × (n ≡ point e)
 named [] n h = absurd cc
 named (x ∷ xs) n h = at (in_cases n (point x) (flat_map (λ e. point e ∷ []) xs) h) (named xs n)
   where

@@ -1,17 +1,19 @@
 -- A sweep finds each pair once: where the one opens while the other is open, and both meet along the other axis.
-use Rattle.std.proofs.Common.{◌≡◌, ◌≢◌, ◌⊎◌, inl, inr, refl, sym, ap, ap₂, ◌∙◌, subst, arith, List, [], ◌∷◌, ◌++◌, ℕ, zero, suc, ◌+◌, ◌*◌, ◌/◌, ◌%◌, ◌<◌, ◌≤◌, Bool, true, false, cond, not, ◌||◌, ◌&&◌, nat_eq, nat_lt, map, filter}
-use Rattle.std.specs.Prelude.{Contains, ◌↔◌}
-use Rattle.std.proofs.lemmas.Bool.{cases_eq, both_ways, or_cases, or_left, or_right, eqb-true, ne_eqb}
+use Rattle.std.proofs.Common.{◌≡◌, ◌≢◌, ◌⊎◌, inl, inr, refl, sym, ap, ap₂, ◌∙◌, subst, arith, List, [], ◌∷◌, ◌++◌, ℕ, Bool, true, false, cond, ◌&&◌, nat_eq, nat_lt, filter}
+use Rattle.std.specs.Prelude.{Contains}
+use Rattle.std.proofs.lemmas.Bool.{cases_eq, both_ways, or_cases, or_left, or_right, eqb-true}
 use Rattle.std.proofs.lemmas.Bool.Decides.{nat_tests}
 use Rattle.kin_motion.specs.Numbers.{is_in, IsOnce}
 use Rattle.kin_motion.specs.Records.{stands_before}
-use Rattle.kin_motion.specs.Sets.{AreDistinct, ListsExactly}
+use Rattle.kin_motion.specs.Sets.{ListsExactly}
 use Rattle.kin_motion.proofs.Members.{in_from_contains, contains_from_in, in_head, in_tail, in_cases, in_left, in_right, in_either}
 use Rattle.kin_motion.proofs.SetLaws.{contains_map, contains_mapped, filter-sound, filter-complete, distinct_filter, distinct_mapped_on, apart_from_once, exactly_both, exactly_in_words, exactly_none}
 use Rattle.kin_sorted.specs.Marks.{without}
 use Rattle.kin_sorted.proofs.ListLaws.{is_in-without, not_in-without}
 use Rattle.kin_sorted.proofs.MarkLaws.{once-push, once-without, in-without}
-use Rattle.kin_sorted.proofs.OrderingLaws.{absent_first, absent_last}
+use Rattle.kin_motion.proofs.EndPlaces.{never_same}
+use Rattle.kin_motion.proofs.OverlapLists.{both_true}
+use Rattle.kin_motion.proofs.RankedOrders.{absent_first, absent_last}
 use Rattle.kin_motion.specs.BoxFacts.{low_end, high_end, kind, point}
 use Rattle.kin_boxes.specs.Sweeps.{pair_of, met, IsFound, IsAhead}
 
@@ -31,9 +33,6 @@ same_low i j e = omega (arith, e)
 
 same_high : (i j : ℕ) → high_end i ≡ high_end j → i ≡ j
 same_high i j e = omega (arith, e)
-
-pub never_same : (i j : ℕ) → low_end i ≡ high_end j → ⊥
-never_same i j e = omega (arith, e)
 
 low_or_high : (e : ℕ) (b : Bool) → nat_eq (kind e) 0 ≡ b → cond {A = Type 0} b (e ≡ low_end (point e)) (e ≡ high_end (point e))
 low_or_high e true h = let k : kind e ≡ 0 = eqb-true (kind e) 0 h in omega (arith, k)
@@ -60,10 +59,6 @@ second_there xs i j h = at (is_in j xs) refl
 
 before_more : (e : ℕ) (xs : List ℕ) (i j : ℕ) → stands_before xs i j ≡ true → stands_before (e ∷ xs) i j ≡ true
 before_more e xs i j h = or_right (nat_eq e i && is_in j xs) (stands_before xs i j) h
-
-pub both_true : (a b : Bool) → a && b ≡ true → (a ≡ true) × (b ≡ true)
-both_true true b h = (refl, h)
-both_true false b h = absurd cc
 
 before_cases : (e : ℕ) (xs : List ℕ) (i j : ℕ) → stands_before (e ∷ xs) i j ≡ true → ((e ≡ i) × (is_in j xs ≡ true)) ⊎ (stands_before xs i j ≡ true)
 before_cases e xs i j h = at (or_cases (nat_eq e i && is_in j xs) (stands_before xs i j) h)

@@ -1,13 +1,15 @@
 -- What moving boxes mean to their callers.
-use Rattle.std.specs.Prelude.{◌≡◌, ◌⊎◌, ℕ, ◌+◌, ◌-◌, ◌*◌, ◌^◌, ◌<◌, ◌≤◌, nat_lt, not, ℤ, pos, List, [], ◌∷◌, ◌++◌, map, length, sum, Bool, true, Contains}
+use Rattle.std.specs.Prelude.{◌≡◌, ◌⊎◌, ℕ, ◌+◌, ◌-◌, ◌*◌, ◌^◌, ◌<◌, ◌≤◌, nat_lt, not, ℤ, pos, List, [], ◌∷◌, ◌++◌, map, length, sum, Bool, true, Contains, Option, Some, None}
 use Rattle.kin_motion.specs.declared.fact.Placed.{Placed}
+use Rattle.kin_motion.specs.declared.keep.Keep.{Keep}
+use Rattle.kin_motion.specs.declared.keep.Keep.TheVariants as keep
 use Rattle.kin_motion.specs.Deltas.{Change}
-use Rattle.kin_motion.specs.Numbers.{is_in, IsOnce}
+use Rattle.kin_motion.specs.Numbers.{is_in, IsOnce, HasEntered}
 use Rattle.kin_motion.specs.Parts.{moved_by}
 use Rattle.kin_motion.specs.Records.{moved_pairs}
 use Rattle.kin_motion.specs.Scene.{Scene, IsReal}
 use Rattle.kin_sorted.specs.declared.ends.Ends.{Ends}
-use Rattle.kin_sorted.specs.BoxEnds.{ends}
+use Rattle.kin_motion.specs.BoxEnds.{ends}
 use Rattle.kin_sorted.specs.Marks.{Marks, marked, names_gone}
 use Rattle.kin_motion.specs.Ranks.{Ranks}
 use Rattle.kin_sorted.specs.Sorting.{Sorting, unmarked}
@@ -52,15 +54,25 @@ ranks_of e = ends e.count e.dx e.dy e.width
 abbrev pub is_spared : Boxing → Placed → Bool
 is_spared b p = names_gone (ranks_of b.by_x.rank) b.by_x.marks b.by_x.items p
 
+-- the list as it is once the box that is to leave, if there is one, is marked
+abbrev pub with_leaving : Option ℕ → Sorting Ends → Sorting Ends
+with_leaving None k = k
+with_leaving (Some who) k = record k { marks = leaving_box who }
+
 -- no mark waits
 pub record IsBoxingAtRest (b : Boxing) : Type 0 where
   pub whole : b.whole ≡ true
   pub marks : b.by_x.marks ≡ unmarked
+  pub y_marks : b.by_y.marks ≡ unmarked
 
--- the members as they will be are both ends of the boxes of the live points
-pub record IsReadyBoxing (b : Boxing) (s : Scene) : Type 0 where
+-- the members as they will be, once the marks are carried out, are both ends of the boxes of these points
+pub record HasMembers (b : Boxing) (set : List ℕ) : Type 0 where
   pub whole : b.whole ≡ true
-  pub members : (e : ℕ) → is_in e (marked b.by_x.marks b.by_x.items) ≡ is_in (point e) s.live
+  pub members : (e : ℕ) → is_in e (marked b.by_x.marks b.by_x.items) ≡ is_in (point e) set
+
+-- they are those of the live points
+abbrev pub IsReadyBoxing : Boxing → Scene → Type 0
+IsReadyBoxing b s = HasMembers b s.live
 
 -- the two lists are the orders of the ends along x and along y, and the facts are theirs
 abbrev pub IsSettledBoxing : Boxing → Scene → Type 0
@@ -105,6 +117,14 @@ pub record AreJoined (x y : Sorting Ends) : Type 0 where
   pub x_parts : (p : Placed) → Contains x.facts p → p.part < 4
   pub y_parts : (p : Placed) → Contains y.facts p → p.part < 4
 
+-- what is true inside between two calls: both lists are joined once the box that is to leave is marked, and before that they have no marks
+pub record AreJoinedBut (leaving : Option ℕ) (x y : Sorting Ends) : Type 0 where
+  pub joined : AreJoined (with_leaving leaving x) (with_leaving leaving y)
+  pub x_unmarked : (who : ℕ) → leaving ≡ Some who → x.marks ≡ unmarked
+  pub y_unmarked : (who : ℕ) → leaving ≡ Some who → y.marks ≡ unmarked
+  pub member : (who : ℕ) → leaving ≡ Some who → is_in (low_end who) x.items ≡ true
+  pub within : (who : ℕ) → leaving ≡ Some who → who < x.rank.count
+
 -- at most 8 tests for each fact dropped or born and for each moved pair of ends of an axis, and a halving for each end that enters,
 -- of at most h tests with 2^h <= 2*n where its list has n ends afterwards
 pub record AreFewTests (old new : Boxing) (out out' : Change) (before after : ℕ) : Type 0 where
@@ -114,6 +134,32 @@ pub record AreFewTests (old new : Boxing) (out out' : Change) (before after : �
   pub bound : after + 8 * (length out.dropped + length out.born)
       ≤ before + 8 * (length out'.dropped + length out'.born + moved_pairs old.by_x.items new.by_x.items + moved_pairs old.by_y.items new.by_y.items) + sum
       halvings
+
+-- ---- as the structure of a keep
+-- boxes are kept
+abbrev pub IsBoxesKeep : Keep → Type 0
+IsBoxesKeep (keep.Boxes width height) = Unit {0}
+IsBoxesKeep _ = ⊥
+
+-- they are the boxes of the keep, for the numbers below 2^size
+abbrev pub IsBoxingFor : Boxing → ℕ → Keep → Type 0
+IsBoxingFor b size kept = (kept ≡ keep.Boxes b.by_x.rank.width b.by_y.rank.width) × (b.by_x.rank.count ≡ 2 ^ size)
+
+-- the axes, the size of the boxes and the room are the same
+abbrev pub StaysBoxing : Boxing → Boxing → Type 0
+StaysBoxing old new = (new.by_x.rank ≡ old.by_x.rank) × (new.by_y.rank ≡ old.by_y.rank)
+
+-- the marks lead from the first live numbers to the second
+abbrev pub LeadsTo : Marks → List ℕ → List ℕ → Type 0
+LeadsTo m before after =
+    ((m ≡ unmarked) × (before ≡ after))
+    ⊎ (((who : ℕ) × (m ≡ entering_box who) × HasEntered who before after) ⊎ ((who : ℕ) × (m ≡ leaving_box who) × HasEntered who after before))
+
+-- they were settled in this scene, and the marks, in both lists the same, lead from the live numbers there to these
+pub record FollowsBoxing (b : Boxing) (s : Scene) (live : List ℕ) : Type 0 where
+  pub settled : IsSettledBoxing b s
+  pub same : b.by_y.marks ≡ b.by_x.marks
+  pub led : LeadsTo b.by_x.marks s.live live
 
 -- ---- the parts of the axes
 -- whether the fact is one of the order along x, and whether it is one of the order along y

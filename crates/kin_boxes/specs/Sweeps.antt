@@ -1,11 +1,10 @@
 -- What a sweep along the first axis finds.
-use Rattle.std.specs.Prelude.{◌≡◌, ◌⊎◌, ℕ, ◌*◌, ◌<◌, Bool, true, false, cond, nat_lt, nat_eq, ◌&&◌, List, [], ◌∷◌, ◌++◌, map, filter, slice_get, Some}
+use Rattle.std.specs.Prelude.{◌≡◌, ◌⊎◌, ℕ, ◌*◌, ◌<◌, Bool, true, false, cond, nat_lt, ◌&&◌, List, map, filter}
 use Rattle.kin_motion.specs.Numbers.{is_in, IsOnce}
 use Rattle.kin_motion.specs.Records.{stands_before}
 use Rattle.kin_sorted.specs.declared.ends.Ends.{Ends}
-use Rattle.kin_sorted.specs.Marks.{without}
 use Rattle.kin_sorted.specs.Sorting.{Sorting}
-use Rattle.kin_motion.specs.BoxFacts.{low_end, high_end, kind, point}
+use Rattle.kin_motion.specs.BoxFacts.{low_end, high_end, point}
 
 -- in this order of ends the low end of each comes before the high end of the other
 abbrev pub meets : List ℕ → ℕ → ℕ → Bool

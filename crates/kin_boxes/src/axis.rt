@@ -52,7 +52,8 @@ pub(crate) fn leave(ends: &mut Sorted<Ends>, no: u32) -> Result<(), NoMemory>
     requires within { no < ends.old.rank.count }
     requires low { is_in (low_end no) ends.old.items ≡ true }
     requires high { is_in (high_end no) ends.old.items ≡ true }
-    ensures { OnOk result (ends.new ≡ record ends.old { marks = leaving_box no }) }
+    ensures ok { OnOk result (ends.new ≡ record ends.old { marks = leaving_box no }) }
+    ensures same { ends.new.rank ≡ ends.old.rank }
 {
     ends.remove(low(no))?;
     ends.remove(high(no))?;

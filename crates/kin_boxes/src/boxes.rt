@@ -5,8 +5,8 @@ ghost use Rattle.kin_motion.specs.Kinetics.{ListsFailing, HasChanged};
 ghost use Rattle.kin_motion.specs.Scene.{IsReal};
 ghost use Rattle.kin_boxes.specs.Boxing.{entering_box, leaving_box, facts_of, has_point, with_marks, is_spared, AreOverlapsOf, IsBoxingAtRest, IsReadyBoxing, IsSettledBoxing, IsVacantBoxing, AreFewTests};
 
-use crate::axis::{enter, leave};
-use crate::both::settle_both;
+use crate::axis::enter;
+use crate::both::{leave_both, settle_both};
 use crate::mail::Mail;
 use crate::sweep::sweep;
 use kin_motion::fact::{Delta, Placed};
@@ -29,19 +29,22 @@ pub struct KinBoxes {
     by_x: Sorted<Ends>,
     by_y: Sorted<Ends>,
     mail: Mail,
+    /// The number that is to leave. Its ends are marked when the lists settle, since that takes memory, and `remove`
+    /// takes none.
+    leaving: Option<u32>,
     /// Whether no call that takes memory is under way and none has run out of it.
     whole: bool,
 }
 
 impl Model for KinBoxes {
     ghost use Rattle.std.specs.Prelude.{◌≡◌, true};
-    ghost use Rattle.kin_boxes.specs.Boxing.{Boxing, AreJoined};
+    ghost use Rattle.kin_boxes.specs.Boxing.{Boxing, AreJoinedBut, with_leaving};
 
     ghost Value = { Boxing };
 
-    ghost view = { λ b. record { by_x = b.by_x; by_y = b.by_y; whole = b.whole } };
+    ghost view = { λ b. record { by_x = with_leaving b.leaving b.by_x; by_y = with_leaving b.leaving b.by_y; whole = b.whole } };
 
-    ghost invariant = { λ b. b.whole ≡ true → AreJoined b.by_x b.by_y };
+    ghost invariant = { λ b. b.whole ≡ true → AreJoinedBut b.leaving b.by_x b.by_y };
 }
 
 impl KinBoxes {
@@ -59,6 +62,7 @@ impl KinBoxes {
             by_x: Sorted::new(alloc, Ends::new(1, 0, width, count))?,
             by_y: Sorted::new(alloc, Ends::new(0, 1, height, count))?,
             mail: Mail::new(alloc),
+            leaving: None,
             whole: true,
         })
     }
@@ -79,19 +83,14 @@ impl KinBoxes {
         Ok(())
     }
 
-    /// Marks a member as leaving. No mark waits. After want of memory the structure may not be used again.
-    pub fn remove(&mut self, no: u32) -> Result<(), NoMemory>
+    /// Marks a member as leaving. No mark waits.
+    pub fn remove(&mut self, no: u32)
         requires rest { IsBoxingAtRest self.old }
         requires within { no < self.old.by_x.rank.count }
         requires member { has_point self.old no ≡ true }
-        ensures ok { OnOk result (self.new ≡ with_marks (leaving_box no) self.old) }
-        ensures err { OnErr result (self.new.whole ≡ false) }
+        ensures { self.new ≡ with_marks (leaving_box no) self.old }
     {
-        self.whole = false;
-        leave(&mut self.by_x, no)?;
-        leave(&mut self.by_y, no)?;
-        self.whole = true;
-        Ok(())
+        self.leaving = Some(no);
     }
 }
 
@@ -147,6 +146,8 @@ impl Kinetic for KinBoxes {
         ensures y_same { self.new.by_y.rank ≡ self.old.by_y.rank }
     {
         self.whole = false;
+        leave_both(&mut self.by_x, &mut self.by_y, self.leaving)?;
+        self.leaving = None;
         settle_both(
             &mut self.by_x,
             &mut self.by_y,

@@ -12,6 +12,6 @@ pub use boxes::KinBoxes;
 mod axis;
 mod both;
 pub mod boxes;
-pub mod laws;
+mod kept;
 mod mail;
 mod sweep;

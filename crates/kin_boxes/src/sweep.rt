@@ -51,16 +51,16 @@ fn meets_other(ends: &Sorted<Ends>, no: u32, places: (u32, u32), other: u32) -> 
 fn meet(
     by_y: &Sorted<Ends>,
     no: u32,
-    open: &[u32],
+    opened: &[u32],
     pairs: &mut Vec<(u32, u32)>,
 ) -> Result<(), NoMemory>
     requires once { IsOnce by_y.now.items }
     requires box_there { HasBox by_y.now no }
-    requires open_there { (i : ℕ) → is_in i open.now ≡ true → HasBox by_y.now i }
-    ensures { OnOk result (pairs.new.items ≡ pairs.old.items ++ met (meets by_y.now.items) no open.now) }
+    requires open_there { (i : ℕ) → is_in i opened.now ≡ true → HasBox by_y.now i }
+    ensures { OnOk result (pairs.new.items ≡ pairs.old.items ++ met (meets by_y.now.items) no opened.now) }
 {
     let places = span(by_y, no);
-    for &other in open {
+    for &other in opened {
         if meets_other(by_y, no, places, other) {
             pairs.push(pair(no, other)).map_err(|_| NoMemory)?;
         }
@@ -69,17 +69,17 @@ fn meet(
 }
 
 /// Puts a box at the end.
-fn open_box(open: &mut Vec<u32>, no: u32) -> Result<(), NoMemory>
-    ensures { OnOk result (open.new.items ≡ open.old.items ++ no ∷ []) }
+fn open_box(opened: &mut Vec<u32>, no: u32) -> Result<(), NoMemory>
+    ensures { OnOk result (opened.new.items ≡ opened.old.items ++ no ∷ []) }
 {
-    open.push(no).map_err(|_| NoMemory)
+    opened.push(no).map_err(|_| NoMemory)
 }
 
 /// Takes out a box.
-fn close_box(open: &mut Vec<u32>, no: u32)
-    ensures { open.new.items ≡ without no open.old.items }
+fn close_box(opened: &mut Vec<u32>, no: u32)
+    ensures { opened.new.items ≡ without no opened.old.items }
 {
-    open.retain(|x| *x != no);
+    opened.retain(|x| *x != no);
 }
 
 /// All pairs of boxes that meet along both axes, in the order in which the sweep finds them.
@@ -93,15 +93,15 @@ pub(crate) fn sweep(
     ensures { IfOk result (λ pairs. IsAhead [] by_x.now.items → ListsExactly pairs.items (IsFound (meets by_y.now.items) [] by_x.now.items)) }
 {
     let mut pairs = Vec::new(alloc);
-    let mut open = Vec::new(alloc);
+    let mut opened = Vec::new(alloc);
     for &slot in by_x.slots() {
         let end = by_x.item(slot);
         match end.side {
             Side::Low => {
-                meet(by_y, end.point, &open, &mut pairs)?;
-                open_box(&mut open, end.point)?;
+                meet(by_y, end.point, &opened, &mut pairs)?;
+                open_box(&mut opened, end.point)?;
             }
-            Side::High => close_box(&mut open, end.point),
+            Side::High => close_box(&mut opened, end.point),
         }
     }
     Ok(pairs)

@@ -1,5 +1,5 @@
 -- Lists that go to a caller's buffer.
-use Rattle.std.specs.Prelude.{◌≡◌, ℕ, ◌<◌, ◌≤◌, List, [], ◌∷◌, Option, Some, None, length, take, drop}
+use Rattle.std.specs.Prelude.{◌≡◌, ℕ, ◌<◌, ◌≤◌, List, [], ◌∷◌, Option, Some, None, length, take, drop, flat_map}
 use Rattle.kin_c.specs.declared.status.Status.{Status}
 use Rattle.kin_c.specs.declared.status.Status.TheVariants.{Done, NoWorld, Refused, TooSmall}
 
@@ -35,3 +35,7 @@ Puts items before after (Refused refusal) = ⊥
 abbrev pub pair_list : Option (ℕ × ℕ) → List ℕ
 pair_list None = []
 pair_list (Some pair) = pair.0 ∷ pair.1 ∷ []
+
+-- both numbers of each pair, pair after pair
+abbrev pub pairs_list : List (ℕ × ℕ) → List ℕ
+pairs_list pairs = flat_map (λ pair. pair.0 ∷ pair.1 ∷ []) pairs

@@ -1,7 +1,7 @@
 -- Structures to be kept, as plain numbers.
 use Rattle.std.specs.Prelude.{◌≡◌, ◌⊎◌, ℕ, ◌==◌, List, Option, Some, None, map, take, slice_get, IsSomeAnd, if◌then◌else◌}
 use Rattle.kin_motion.specs.declared.keep.Keep.{Keep}
-use Rattle.kin_motion.specs.declared.keep.Keep.TheVariants.{Order, Extreme, Hull, Closest, Range, Nearest, Diameter}
+use Rattle.kin_motion.specs.declared.keep.Keep.TheVariants.{Order, Extreme, Hull, Closest, Range, Nearest, Diameter, Boxes}
 use Rattle.kin_tracker.specs.declared.refusal.Refusal.{Refusal}
 use Rattle.kin_tracker.specs.declared.refusal.Refusal.TheVariants.{BadKeep, NoMemory}
 use Rattle.kin_tracker.specs.Keeping.{IsRefusedStart, MayStart}
@@ -19,7 +19,8 @@ keep_of k =
     if k.kind == 3 then Some Closest else
     if k.kind == 4 then Some Range else
     if k.kind == 5 then Some Nearest else
-    if k.kind == 6 then Some Diameter else None
+    if k.kind == 6 then Some Diameter else
+    if k.kind == 7 then Some (Boxes k.dx k.dy) else None
 
 -- each is the structure that the numbers name
 abbrev pub AreKeeps : List KinKeep → List Keep → Type 0

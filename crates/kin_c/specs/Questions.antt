@@ -1,5 +1,5 @@
 -- Questions.
-use Rattle.std.specs.Prelude.{◌≡◌, ℕ, ◌≤◌, ℤ, [], ◌∷◌, ◌++◌, Option, Some, MatchOption, length, option_to_list}
+use Rattle.std.specs.Prelude.{◌≡◌, ℕ, ◌≤◌, ℤ, List, [], ◌∷◌, ◌++◌, Option, Some, MatchOption, length, option_to_list, slice_get}
 use Rattle.kin_num.specs.declared.instant.Moment.{Moment}
 use Rattle.kin_num.specs.Canonical.{IsCanonical}
 use Rattle.kin_legs.specs.Nexts.{IsAtRest}
@@ -13,11 +13,12 @@ use Rattle.kin_motion.specs.Course.{Course, live_of, motion_of}
 use Rattle.kin_motion.specs.FactCounts.{most_live}
 use Rattle.kin_motion.specs.Farthest.{IsFarthest}
 use Rattle.kin_motion.specs.Nearest.{IsNearest}
+use Rattle.kin_motion.specs.Overlaps.{ListsOverlaps}
 use Rattle.kin_motion.specs.Sizes.{step_limit}
 use Rattle.kin_script.specs.Printed.{moment_text}
 use Rattle.kin_tracker.specs.declared.refusal.Refusal.{Refusal}
 use Rattle.kin_tracker.specs.declared.refusal.Refusal.TheVariants.{NoMemory}
-use Rattle.kin_tracker.specs.Questions.{HasExtreme, HasKeep, HasOrder, IsApproach, IsExtremeAt, IsOrderAt}
+use Rattle.kin_tracker.specs.Questions.{HasBoxes, HasExtreme, HasKeep, HasOrder, IsApproach, IsExtremeAt, IsOrderAt}
 use Rattle.kin_tracker.specs.Questions.{IsRefusedAnswer, IsRefusedApproach, IsRefusedInside, IsRefusedList, IsRefusedLook, IsRefusedNearest, IsRefusedNumber}
 use Rattle.kin_tracker.specs.Trackers.{IsHere, IsPresent}
 use Rattle.kin_world.specs.Worlds.{World, IsNextMoment, IsWhole, world_scene, world_view}
@@ -25,7 +26,7 @@ use Rattle.kin_c.specs.declared.moment.KinMoment.{KinMoment}
 use Rattle.kin_c.specs.declared.motion.KinMotion.{KinMotion}
 use Rattle.kin_c.specs.declared.status.Status.{Status}
 use Rattle.kin_c.specs.declared.status.Status.TheVariants.{Done, NoWorld, Refused, TooSmall}
-use Rattle.kin_c.specs.Buffers.{Buffer, Puts, pair_list}
+use Rattle.kin_c.specs.Buffers.{Buffer, Puts, pair_list, pairs_list}
 use Rattle.kin_c.specs.Calls.{Reads, Tells}
 use Rattle.kin_c.specs.Moments.{IsMaybe, IsNoMoment, Names, moment_numbers}
 
@@ -140,6 +141,16 @@ AsksNearest point before after w =
 abbrev pub AsksFarthest : Buffer ℕ → Buffer ℕ → World → Status → Type 0
 AsksFarthest before after w = Tells (λ pair. IsKept w keep.Diameter (IsFarthest (world_scene w) pair)) (λ pair. Puts (pair_list pair) before after)
     (IsRefusedAnswer w (HasKeep w keep.Diameter)) (after ≡ before)
+
+-- these are the overlaps of the boxes that are kept
+abbrev pub AreOverlaps : World → List (ℕ × ℕ) → Type 0
+AreOverlaps world pairs =
+    (place : ℕ) (width height : ℤ) → slice_get world.keeps place ≡ Some (keep.Boxes width height) → ListsOverlaps (world_scene world) width height pairs
+
+-- the pairs of points whose boxes overlap, both numbers of each
+abbrev pub AsksOverlaps : Buffer ℕ → Buffer ℕ → World → Status → Type 0
+AsksOverlaps before after w = Tells (λ pairs. (IsHere w × HasBoxes w) × AreOverlaps w pairs) (λ pairs. Puts (pairs_list pairs) before after)
+    (IsRefusedList w (HasBoxes w)) (after ≡ before)
 
 -- ---- of a moment
 

@@ -1,9 +1,11 @@
 //! Lists that go to a caller's buffer.
 
-ghost use Rattle.std.specs.Prelude.{◌≡◌, option_to_list};
-ghost use Rattle.kin_c.specs.Buffers.{Puts, buffer, pair_list};
+ghost use Rattle.std.specs.Prelude.{◌≡◌, IfOk, option_to_list};
+ghost use Rattle.kin_c.specs.Buffers.{Puts, buffer, pair_list, pairs_list};
 
 use crate::status::Status;
+use kin_num::NoMemory;
+use std::alloc::Global;
 
 /// Gives the items, where there is room for them.
 pub(crate) fn put<T: Copy>(items: &[T], out: &mut [T], len: &mut usize) -> Status
@@ -35,4 +37,16 @@ pub(crate) fn put_pair(pair: Option<(u32, u32)>, out: &mut [u32], len: &mut usiz
         Some((one, other)) => put(&[one, other], out, len),
         None => put(&[], out, len),
     }
+}
+
+/// Both numbers of each pair, pair after pair.
+pub(crate) fn flat(alloc: Global, pairs: &[(u32, u32)]) -> Result<Vec<u32>, NoMemory>
+    ensures { IfOk result (λ numbers. numbers.items ≡ pairs_list pairs.now) }
+{
+    let mut numbers = Vec::new(alloc);
+    for pair in pairs {
+        numbers.push(pair.0).map_err(|_| NoMemory)?;
+        numbers.push(pair.1).map_err(|_| NoMemory)?;
+    }
+    Ok(numbers)
 }

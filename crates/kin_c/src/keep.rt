@@ -7,7 +7,7 @@ use kin_motion::Keep;
 use kin_tracker::Refusal;
 use std::alloc::Global;
 
-/// A structure that is to be kept: its kind, and its direction if it has one.
+/// A structure that is to be kept: its kind, and its direction if it has one, or the width and the height of its boxes.
 #[repr(C)]
 #[derive(Clone, Copy)]
 pub struct KinKeep {
@@ -30,6 +30,7 @@ impl KinKeep {
             4 => Some(Keep::Range),
             5 => Some(Keep::Nearest),
             6 => Some(Keep::Diameter),
+            7 => Some(Keep::Boxes { w: dx, h: dy }),
             _ => None,
         }
     }

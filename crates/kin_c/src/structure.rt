@@ -2,13 +2,13 @@
 
 ghost use Rattle.kin_c.specs.Buffers.{buffer};
 ghost use Rattle.kin_c.specs.Calls.{Asking};
-ghost use Rattle.kin_c.specs.Questions.{AsksClosest, AsksExtreme, AsksFarthest, AsksHull, AsksInside, AsksNearest, AsksOrder, rectangle};
+ghost use Rattle.kin_c.specs.Questions.{AsksClosest, AsksExtreme, AsksFarthest, AsksHull, AsksInside, AsksNearest, AsksOrder, AsksOverlaps, rectangle};
 ghost use Rattle.kin_c.specs.Statuses.{Answers};
 
-use crate::buffer::{put, put_one, put_pair};
+use crate::buffer::{flat, put, put_one, put_pair};
 use crate::handle::KinWorld;
 use crate::status::Status;
-use kin_tracker::{Rect, Tracker};
+use kin_tracker::{Rect, Refusal, Tracker};
 use std::alloc::Global;
 
 /// The points in order.
@@ -211,6 +211,37 @@ fn farthest(tracker: &Tracker, out: &mut [u32], len: &mut usize) -> Status
 {
     match tracker.farthest() {
         Ok(pair) => put_pair(pair, out, len),
+        Err(refusal) => Status::Refused(refusal),
+    }
+}
+
+/// The pairs of points whose boxes overlap.
+#[unsafe(no_mangle)]
+pub extern "C" fn kin_overlaps(
+    alloc: Global,
+    world: &mut KinWorld,
+    out: &mut [u32],
+    len: &mut usize,
+) -> u32
+    ensures { Answers result (Asking AsksOverlaps (buffer out.old len.old) (buffer out.new len.new) world.old.slot.value world.new.slot.value) }
+{
+    let Some(tracker) = world.take(alloc) else {
+        return Status::NoWorld.code();
+    };
+    let status = overlaps(alloc, &tracker, out, len);
+    world.put(tracker);
+    status.code()
+}
+
+/// The pairs of points whose boxes overlap.
+fn overlaps(alloc: Global, tracker: &Tracker, out: &mut [u32], len: &mut usize) -> Status
+    ensures { AsksOverlaps (buffer out.old len.old) (buffer out.new len.new) tracker.now result }
+{
+    match tracker.overlaps() {
+        Ok(pairs) => match flat(alloc, &pairs) {
+            Ok(numbers) => put(&numbers, out, len),
+            Err(_) => Status::Refused(Refusal::NoMemory),
+        },
         Err(refusal) => Status::Refused(refusal),
     }
 }

@@ -6,6 +6,7 @@ ghost use Rattle.kin_wedge.specs.Wedging.{IsSettledWedging};
 
 use crate::ask::is_live;
 use crate::fault::Fault;
+use kin_boxes::KinBoxes;
 use kin_closest::KinClosest;
 use kin_fail::Now;
 use kin_hull::KinHull;
@@ -82,6 +83,23 @@ impl Answer for KinClosest {
             Some((i, j)) => Ok(Vec::from_slice(alloc, &[i, j])?),
             None => Ok(Vec::new(alloc)),
         }
+    }
+}
+
+/// The two points of each pair whose boxes overlap, pair after pair.
+impl Answer for KinBoxes {
+    fn answer(
+        &self,
+        alloc: Global,
+        _motions: &Motions,
+        _moment: &Moment,
+    ) -> Result<Vec<u32>, Fault> {
+        let mut both = Vec::new(alloc);
+        for (i, j) in self.overlaps()? {
+            both.push(i).map_err(|_| Fault::NoMemory)?;
+            both.push(j).map_err(|_| Fault::NoMemory)?;
+        }
+        Ok(both)
     }
 }
 

@@ -34,7 +34,7 @@ halvings_allowed (Enters i) n v w k few leads halved = inr (i, leads, omega arit
 halvings_allowed (Leaves i) n v w k few leads halved = inl halved
 halvings_allowed Broken n v w k few leads halved = absurd leads
 
-few_members : (xs live : List ℕ) → Lists xs live → length xs ≤ length live
+pub few_members : (xs live : List ℕ) → Lists xs live → length xs ≤ length live
 few_members xs live lists = no_longer xs live (apart_from_once xs lists.once) (λ i h. contains_from_in live i (sym (lists.same i) ∙ in_from_contains xs i h))
 
 -- the parts of a kept direction

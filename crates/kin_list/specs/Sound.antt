@@ -1,27 +1,26 @@
 -- What is true of every kinetic list.
-use Rattle.std.specs.Prelude.{◌≡◌, ℕ, ◌<◌, true, false, List, [], Option}
-use Rattle.kin_algebra.specs.declared.sign.Sign.{Sign}
-use Rattle.kin_motion.specs.Numbers.{is_in}
-use Rattle.kin_list.specs.declared.link.Link.{Link}
+use Rattle.kin_sorted.specs.declared.direction.Direction.{Direction}
+use Rattle.kin_sorted.specs.declared.single.Single.{Single}
+use Rattle.kin_sorted.specs.declared.single.Single.TheVariants as single
+use Rattle.kin_sorted.specs.Sorting.{Sorting, IsAtRest, MayPass}
 use Rattle.kin_list.specs.declared.mark.Mark.{Mark}
 use Rattle.kin_list.specs.declared.mark.Mark.TheVariants.{Rest, Enters, Leaves, Broken}
-use Rattle.kin_list.specs.Repairs.{IsHeld}
-use Rattle.kin_list.specs.Rows.{Row}
 
--- the number of the mark may enter or leave
-abbrev pub IsMarkable : Mark → Row → Type 0
-IsMarkable Rest row = Unit {0}
-IsMarkable (Enters i) row = (i < row.room) × (is_in i row.items ≡ false)
-IsMarkable (Leaves i) row = is_in i row.items ≡ true
-IsMarkable Broken row = Unit {0}
+-- the item of the mark
+abbrev pub single_of : Mark → Single
+single_of Rest = single.Neither
+single_of (Enters i) = single.Enters i
+single_of (Leaves i) = single.Leaves i
+single_of Broken = single.Neither
 
--- but for a broken list the links are those of the neighbours, each with a sign by which they are in order
-abbrev pub IsHeldIf : Mark → List (Option Link) → List ℕ → List Sign → Type 0
-IsHeldIf Rest links items signs = IsHeld links items signs [] []
-IsHeldIf (Enters i) links items signs = IsHeld links items signs [] []
-IsHeldIf (Leaves i) links items signs = IsHeld links items signs [] []
-IsHeldIf Broken links items signs = Unit {0}
+-- no mark waits in the sorted list, and the number of the list's own mark may enter or leave it
+pub record IsMarkable (mark : Mark) (k : Sorting Direction) : Type 0 where
+  pub rest : IsAtRest k
+  pub may : MayPass (single_of mark) k.rank.slots k.items
 
-pub record IsSound (mark : Mark) (row : Row) : Type 0 where
-  pub markable : IsMarkable mark row
-  pub held : IsHeldIf mark row.links row.items row.signs
+-- but for a list of which a settle was cut off it may be marked as it is
+abbrev pub IsSound : Mark → Sorting Direction → Type 0
+IsSound Rest k = IsMarkable Rest k
+IsSound (Enters i) k = IsMarkable (Enters i) k
+IsSound (Leaves i) k = IsMarkable (Leaves i) k
+IsSound Broken k = Unit {0}

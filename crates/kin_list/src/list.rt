@@ -10,41 +10,48 @@ ghost use Rattle.kin_list.specs.declared.mark.Mark.TheVariants.{Rest, Enters, Le
 ghost use Rattle.kin_list.specs.Listing.{IsAtRest, IsReadyListing, IsSettledListing, AreFewTests, names_leaving, staying, lasting};
 ghost use Rattle.kin_list.specs.Rows.{exchanged};
 
-use crate::direction::Direction;
-use crate::lineup::Lineup;
-use crate::mark::Mark;
-use crate::report::report;
+use crate::mark::{Mark, single};
 use kin_motion::fact::{Delta, Placed};
 use kin_motion::kinetic::Kinetic;
 use kin_motion::signs::Signs;
 use kin_num::memory::NoMemory;
 use kin_num::steps::Steps;
+use kin_sorted::{Direction, Sorted};
 use std::alloc::Global;
 use std::marker::Model;
 use std::sync::ledger::Ledger;
 
 /// Moving points in their order along a direction.
+///
+/// The mark is the list's own, and none is ever left in the sorted list: so `remove` takes no memory, and a
+/// `settle` finds by one look that nothing waits.
 #[derive(Drop)]
 pub struct KinList {
-    along: Direction,
-    lineup: Lineup,
+    sorted: Sorted<Direction>,
     mark: Mark,
 }
 
 impl Model for KinList {
-    ghost use Rattle.kin_list.specs.Links.{facts_from};
     ghost use Rattle.kin_list.specs.Listing.{Listing};
     ghost use Rattle.kin_list.specs.Sound.{IsSound};
 
     ghost Value = { Listing };
 
-    ghost view = { λ k. record { dx = k.along.dx; dy = k.along.dy; room = k.lineup.row.room; items = k.lineup.row.items; facts = facts_from k.along.dx k.along.dy 0 k.lineup.row.links; swaps = k.lineup.swaps.items; mark = k.mark } };
+    ghost view = { λ k. record {
+      dx = k.sorted.rank.dx;
+      dy = k.sorted.rank.dy;
+      room = k.sorted.rank.slots;
+      items = k.sorted.items;
+      facts = k.sorted.facts;
+      swaps = k.sorted.swaps;
+      mark = k.mark;
+    } };
 
-    ghost invariant = { λ k. IsSound k.mark k.lineup.row };
+    ghost invariant = { λ k. IsSound k.mark k.sorted };
 }
 
 /// How many numbers have this size.
-fn room_for(size: u32) -> usize
+fn room_for(size: u32) -> u16
     requires { size ≤ 12 }
     ensures value { result ≡ 2 ^ size }
     ensures small { result ≤ 2 ^ 15 }
@@ -61,11 +68,10 @@ impl KinList {
         requires high { size ≤ 12 }
         ensures { IfOk result (λ k. k ≡ record { dx = dx; dy = dy; room = 2 ^ size; items = []; facts = []; swaps = []; mark = Rest }) }
     {
-        let along = Direction::new(dx, dy);
-        let lineup = Lineup::new(alloc, room_for(size))?;
+        let along = Direction::new(dx, dy, room_for(size));
+        let sorted = Sorted::new(alloc, along)?;
         Ok(KinList {
-            along,
-            lineup,
+            sorted,
             mark: Mark::Rest,
         })
     }
@@ -78,7 +84,7 @@ impl KinList {
         ensures ok { OnOk result (self.new ≡ record self.old { mark = Enters no }) }
         ensures err { OnErr result (self.new ≡ self.old) }
     {
-        self.lineup.row.reserve()?;
+        self.sorted.reserve()?;
         self.mark = Mark::Enters(no);
         Ok(())
     }
@@ -108,7 +114,7 @@ impl KinList {
         ensures same { self.new ≡ record self.old { swaps = [] } }
         ensures settled { IsAtRest self.old → (s : Scene) → IsReal s → IsReadyListing self.old s → ListsFailing self.old.facts (names_leaving self.old.mark) s [] → IsSettledListing self.new s }
     {
-        self.lineup.swaps.clear();
+        self.sorted.stand_still();
     }
 
     /// `settle` as a part of a structure: the change is reported as that of the facts in this part.
@@ -136,25 +142,22 @@ impl KinList {
         ensures tests { OnOk result (AreFewTests self.old.mark self.old.items self.new.items out.old out.new steps.old steps.new) }
         ensures same { OnOk result ((self.new.dx ≡ self.old.dx) × (self.new.dy ≡ self.old.dy) × (self.new.room ≡ self.old.room)) }
     {
-        let mark = self.mark;
-        self.mark = Mark::Broken;
-        self.lineup.arrange(mark, self.along, failed, now, steps)?;
-        report(
-            &mut self.lineup.row,
-            &self.lineup.touched,
-            part,
-            self.along,
-            out,
-        )?;
-        self.mark = Mark::Rest;
-        Ok(())
+        let settled = self
+            .sorted
+            .settle_one(single(self.mark), part, now, failed, out, steps);
+        self.mark = if settled.is_ok() {
+            Mark::Rest
+        } else {
+            Mark::Broken
+        };
+        settled
     }
 
     /// The places of the exchanges of the last `settle`, in their order.
     pub fn swaps(&self) -> &[u32]
         ensures { result.now ≡ self.now.swaps }
     {
-        &self.lineup.swaps
+        self.sorted.swaps()
     }
 
     /// The place of a number, or `None` exactly where it is no member.
@@ -162,7 +165,7 @@ impl KinList {
         ensures some { IfSome result (λ p. slice_get self.now.items p ≡ Some no) }
         ensures none { IsNone result ↔ (is_in no self.now.items ≡ false) }
     {
-        self.lineup.row.place_of(no)
+        self.sorted.find_slot(no)
     }
 
     /// The place of a member.
@@ -171,14 +174,14 @@ impl KinList {
         requires { is_in no self.now.items ≡ true }
         ensures { slice_get self.now.items result ≡ Some no }
     {
-        self.lineup.row.place_of_member(no)
+        self.sorted.place_of_slot(no)
     }
 
     /// The members, in their order as it was settled last.
     pub fn items(&self) -> &[u32]
         ensures { result.now ≡ self.now.items }
     {
-        self.lineup.row.items()
+        self.sorted.slots()
     }
 }
 

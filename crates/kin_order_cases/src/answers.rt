@@ -3,6 +3,7 @@
 ghost use Rattle.std.specs.Prelude.{◌≡◌};
 ghost use Rattle.kin_motion.specs.Live.{IsSmallKeep};
 
+use kin_boxes::KinBoxes;
 use kin_cases::answer::Answer;
 use kin_cases::fault::Fault;
 use kin_cases::keeping::Keeping;
@@ -88,6 +89,8 @@ enum Seen {
     ClosestOfThree,
     /// Nearest points: the points, and what is to be seen of them.
     Nearest(&'static str, &'static str),
+    /// Boxes of a width and a height: the points, and what is to be seen of them.
+    Boxes((i32, i32), &'static str, &'static str),
 }
 
 impl Seen {
@@ -110,7 +113,7 @@ impl Seen {
                 "0 0 0 0, 4 0 -2 0, 1 0 0 0",
                 "0: 0 2 / 20; 3/2: 1 2 / 19; 2: 0 1 / 19",
             ),
-            Seen::Nearest(points, told) => (points, told),
+            Seen::Nearest(points, told) | Seen::Boxes(_, points, told) => (points, told),
         }
     }
 }
@@ -134,6 +137,13 @@ impl Scene for Seen {
             }
             Seen::ClosestOfThree => {
                 goes_on::<KinClosest, L>(alloc, &Keep::Closest, written, steps)
+            }
+            Seen::Boxes((w, h), ..) => {
+                let keep = Keep::Boxes { w, h };
+                if !keep.is_small() {
+                    return Err(Fault::Differs);
+                }
+                goes_on::<KinBoxes, L>(alloc, &keep, written, steps)
             }
             Seen::Nearest(..) => { goes_on::<KinNearest, L>(alloc, &Keep::Nearest, written, steps) }
         }
@@ -187,6 +197,62 @@ fn nearest_points_at_one_place_and_between_groups(rt: HostRuntime) {
         Seen::Nearest(
             "0 2 0 0, 2 0 0 0, 0 -2 0 0, -2 0 0 0, 1 1 0 0, 1 -1 0 0, -1 -1 0 0, 0 0 0 0",
             "0: 4 4 5 6 0 1 2 4 / 56",
+        ),
+    ];
+    assert_eq!(rt; first_wrong(rt.alloc(), &scenes), None);
+}
+
+#[test]
+fn boxes_that_touch_pass_and_lie_on_each_other(rt: HostRuntime) {
+    let scenes = [
+        // One comes to the other, and they touch at a side before and after they pass.
+        Seen::Boxes(
+            (2, 2),
+            "0 0 1 0, 5 0 0 0",
+            "0: / 6; 3: 0 1 / 6; 3+: 0 1 / 6; 7: 0 1 / 6; 7+: / 6; 8: / 6",
+        ),
+        Seen::Boxes(
+            (2, 2),
+            "5 0 -1 0, 0 0 0 0",
+            "2: / 6; 3: 0 1 / 6; 5: 0 1 / 6; 5+: 0 1 / 6; 7: 0 1 / 6; 7+: / 6",
+        ),
+        // They touch at a corner, at first and at last, and then at one instant only.
+        Seen::Boxes(
+            (1, 1),
+            "0 0 1 1, 3 3 0 0",
+            "1: / 6; 2: 0 1 / 6; 4: 0 1 / 6; 4+: / 6",
+        ),
+        Seen::Boxes(
+            (1, 1),
+            "0 4 1 -1, 5 1 0 0",
+            "3: / 6; 4: 0 1 / 6; 4+: / 6; 5: / 6",
+        ),
+        // Boxes without width or height, and without both.
+        Seen::Boxes((0, 3), "0 0 1 0, 2 2 0 0", "1: / 6; 2: 0 1 / 6; 2+: / 6"),
+        Seen::Boxes((3, 0), "0 0 0 1, 2 2 0 0", "1: / 6; 2: 0 1 / 6; 2+: / 6"),
+        Seen::Boxes((0, 0), "0 0 1 0, 1 0 0 0", "0: / 6; 1: 0 1 / 6; 1+: / 6"),
+        // All alike, and each touching the next one.
+        Seen::Boxes(
+            (2, 2),
+            "1 1 0 0, 1 1 0 0, 1 1 0 0",
+            "0: 0 1 0 2 1 2 / 10; 1: 0 1 0 2 1 2 / 10",
+        ),
+        Seen::Boxes(
+            (2, 2),
+            "4 0 0 0, 2 0 0 0, 0 0 0 0",
+            "0: 0 1 1 2 / 10; 0+: 0 1 1 2 / 10",
+        ),
+        // Apart along one axis alone.
+        Seen::Boxes(
+            (9, 1),
+            "0 0 0 0, 3 2 0 0, 0 4 0 -1",
+            "0: / 10; 1: 1 2 / 10; 3: 0 2 1 2 / 10; 4: 0 2 / 10; 6: / 10",
+        ),
+        // The widest boxes that may be kept.
+        Seen::Boxes(
+            (4096, 4096),
+            "-4096 0 0 0, 0 4096 1 0",
+            "0: 0 1 / 6; 0+: / 6",
         ),
     ];
     assert_eq!(rt; first_wrong(rt.alloc(), &scenes), None);

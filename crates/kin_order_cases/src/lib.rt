@@ -6,3 +6,5 @@
 mod answers;
 #[cfg(test)]
 mod many;
+#[cfg(test)]
+mod overlapping;

@@ -5,7 +5,8 @@ use Rattle.kin_motion.specs.declared.form.Form.TheVariants.{Line}
 use Rattle.kin_sorted.specs.declared.ends.End.{End}
 use Rattle.kin_sorted.specs.declared.ends.Side.{Side}
 use Rattle.kin_sorted.specs.declared.ends.Side.TheVariants.{Low, High}
-use Rattle.kin_sorted.specs.BoxEnds.{kind_of, end_slot, kind, point, offset}
+use Rattle.kin_motion.specs.BoxFacts.{kind, point, offset}
+use Rattle.kin_sorted.specs.EndSlots.{kind_of, end_slot}
 
 kind_again : (i : ℕ) (side : Side) → kind (2 * i + kind_of side) ≡ kind_of side
 kind_again i Low = omega arith

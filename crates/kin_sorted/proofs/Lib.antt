@@ -24,4 +24,3 @@ pub mod StillLaws
 pub mod MarkLaws
 pub mod PutLaws
 pub mod EndLaws
-pub mod Proved

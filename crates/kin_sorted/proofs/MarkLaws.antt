@@ -5,7 +5,9 @@ use Rattle.std.proofs.lemmas.Bool.{cases_eq, both_ways, or_from, or_cases, or_pa
 use Rattle.kin_motion.specs.Numbers.{is_in, IsOnce}
 use Rattle.kin_motion.proofs.Members.{is_in-push}
 use Rattle.kin_sorted.specs.Marks.{Marks, AreMarks, marked, with_entering, with_leaving, without, without_all}
-use Rattle.kin_sorted.specs.Sorting.{unmarked}
+use Rattle.kin_sorted.specs.declared.single.Single.{Single}
+use Rattle.kin_sorted.specs.declared.single.Single.TheVariants.{Neither, Enters, Leaves}
+use Rattle.kin_sorted.specs.Sorting.{MayPass, marks_for, unmarked}
 use Rattle.kin_sorted.proofs.ArrangeLaws.{marked-members}
 use Rattle.kin_sorted.proofs.ListLaws.{is_in-without, is_in-without_all, not_in-without}
 use Rattle.kin_sorted.proofs.RowLaws.{is_in_from_get}
@@ -138,3 +140,29 @@ no_marks room items once = record {
   new = λ i h. absurd cc;
   member = λ i h. absurd cc;
 }
+
+-- where at most one item enters or leaves
+pub single_sound : (single : Single) (room : ℕ) (items : List ℕ) → IsOnce items → MayPass single room items → AreMarks (marks_for single) room items
+single_sound Neither room items once may = no_marks room items once
+single_sound (Enters i) room items once may = record {
+  once = once;
+  entering_once = (refl, tt);
+  leaving_once = tt;
+  within = λ j h. subst (λ n. n < room) (sym (only j h)) may.0;
+  new = λ j h. ap (λ n. is_in n items) (only j h) ∙ may.1;
+  member = λ j h. absurd cc;
+}
+  where
+    only : (j : ℕ) → is_in j (i ∷ []) ≡ true → j ≡ i
+    only j h = elim (or_cases (nat_eq j i) false h) [ inl e ↦ eqb-true j i e | inr t ↦ absurd cc ]
+single_sound (Leaves i) room items once may = record {
+  once = once;
+  entering_once = tt;
+  leaving_once = (refl, tt);
+  within = λ j h. absurd cc;
+  new = λ j h. absurd cc;
+  member = λ j h. ap (λ n. is_in n items) (only j h) ∙ may;
+}
+  where
+    only : (j : ℕ) → is_in j (i ∷ []) ≡ true → j ≡ i
+    only j h = elim (or_cases (nat_eq j i) false h) [ inl e ↦ eqb-true j i e | inr t ↦ absurd cc ]

@@ -1,25 +1,29 @@
 -- What a whole settle gives.
-use Rattle.std.proofs.Common.{◌≡◌, refl, sym, ap, ◌∙◌, subst, arith, List, [], ℕ, zero, suc, ◌+◌, ◌<◌, true, false, length, Some, None, Option}
+use Rattle.std.proofs.Common.{◌≡◌, refl, sym, ap, ap₂, ◌∙◌, subst, arith, List, [], ℕ, zero, suc, ◌+◌, ◌<◌, true, false, length, map, Some, None, Option}
 use Rattle.std.specs.Prelude.{slice_get, replicate}
 use Rattle.kin_algebra.specs.declared.sign.Sign.{Sign}
 use Rattle.kin_motion.specs.declared.fact.Placed.{Placed}
 use Rattle.kin_motion.specs.Deltas.{Change}
 use Rattle.kin_motion.specs.Kinetics.{ListsFailing, HasChanged}
 use Rattle.kin_motion.specs.Numbers.{is_in}
+use Rattle.kin_motion.specs.Parts.{moved_by}
 use Rattle.kin_motion.specs.Scene.{Scene}
 use Rattle.kin_motion.specs.Sets.{ListsExactly}
 use Rattle.kin_motion.proofs.SetLaws.{apart_from_once}
 use Rattle.kin_sorted.specs.declared.link.Link.{Link}
 use Rattle.kin_sorted.specs.Costs.{IsArranged}
 use Rattle.kin_motion.specs.Rankings.{IsStrict, IsRanking}
+use Rattle.kin_sorted.specs.Lineups.{IsRenewed}
 use Rattle.kin_sorted.specs.Links.{link_for, facts_from}
 use Rattle.kin_sorted.specs.Marks.{Marks, AreMarks, marked, names_gone}
 use Rattle.kin_motion.specs.Ranks.{Ranks, IsOrder, IsOrderFact}
 use Rattle.kin_sorted.specs.Repairs.{IsHeld}
 use Rattle.kin_sorted.specs.Rows.{Row}
 use Rattle.kin_sorted.specs.Sorting.{AreFewTests}
+use Rattle.kin_sorted.specs.Telling.{IsToldIn, nothing_told}
 use Rattle.kin_sorted.proofs.BoundLaws.{failed_dropped, few_tests}
 use Rattle.kin_sorted.proofs.SettleLaws.{held_after, all_hold, exact_after}
+use Rattle.kin_sorted.proofs.TellingLaws.{changed_in_part, few_in_part}
 
 -- an order of a set is the order of its own members
 pub own_order : (s : Scene) (r : Ranks) (set xs : List ℕ) → IsOrder s r set xs → IsOrder s r xs xs
@@ -59,6 +63,41 @@ module _ (s : Scene) (r : Ranks) (law : IsRanking r) (laws : IsStrict s r) (m : 
         (own_order s r (marked m row.items) new arranged.order);
     tests = whole_tests;
   }
+
+-- a row that is arranged, and whose links are told, is settled
+pub renewed : (s : Scene) (r : Ranks) → IsRanking r → IsStrict s r → (m : Marks) (part : ℕ) (old mid new : Row) (touched seen swaps : List ℕ) (failed : List Placed)
+    (before after : ℕ) (out out' : Change) → AreMarks m old.room old.items → IsHeld r old.links old.items old.signs [] []
+    → ListsFailing (facts_from r 0 old.links) (names_gone r m old.items) s failed
+    → ((links : List (Option Link)) → IsHeld r links old.items old.signs [] [] → ListsFailing (facts_from r 0 links) (names_gone r m old.items) s failed
+    → IsArranged s r m links old.items mid.items mid.signs touched swaps (length failed) before after)
+    → mid.links ≡ old.links → (new.items ≡ mid.items) × (new.room ≡ mid.room) × (new.signs ≡ mid.signs) → length new.links ≡ length mid.links
+    → length mid.links ≡ length mid.signs → seen ≡ touched
+    → ((i : ℕ) → i < length mid.links → is_in i seen ≡ true → slice_get new.links i ≡ Some (link_for mid.items mid.signs i))
+    → ((i : ℕ) → is_in i seen ≡ false → slice_get new.links i ≡ slice_get mid.links i)
+    → IsToldIn part (facts_from r 0 mid.links) (facts_from r 0 new.links) out out'
+    → IsRenewed s r m part old new swaps out out' before after
+renewed s r law laws m part old mid new touched seen swaps failed before after out out' marks held failing arranges kept same long fits deref written others told =
+    let failing' = subst (λ (ls : List (Option Link)). ListsFailing (facts_from r 0 ls) (names_gone r m old.items) s failed) (sym kept) failing in
+    let held' = subst (λ (ls : List (Option Link)). IsHeld r ls old.items old.signs [] []) (sym kept) held in
+    let arranged = subst (λ (ts : List Sign). IsArranged s r m mid.links old.items new.items ts touched swaps (length failed) before after) (sym same.2)
+    (subst (λ (xs : List ℕ). IsArranged s r m mid.links old.items xs mid.signs touched swaps (length failed) before after) (sym same.0)
+    (arranges mid.links held' failing')) in
+    let whole = whole_settle s r law laws m old mid.links new.links new.items old.signs new.signs touched swaps failed before after nothing_told told.change marks held' failing'
+    arranged long (fits ∙ sym (ap length same.2))
+    (λ i l h. written i l (ap (is_in i) deref ∙ h) ∙ ap₂ (λ xs ts. Some (link_for xs ts i)) (sym same.0) (sym same.2))
+    (λ i h. others i (ap (is_in i) deref ∙ h)) in
+    record {
+      held = whole.held;
+      live = arranged.live;
+      members = arranged.order.all;
+      order = whole.order;
+      exact = whole.exact;
+      delta = subst (λ (ls : List (Option Link)). HasChanged (map (moved_by part) (facts_from r 0 ls)) (map (moved_by part) (facts_from r 0 new.links)) out out') kept
+          (changed_in_part part _ _ out out' told);
+      exchanges = arranged.exchanges;
+      moved = arranged.moved;
+      tests = few_in_part part (length m.entering) old.items new.items _ _ out out' before after told (whole.tests told.changed);
+    }
 
 -- an empty list
 no_links : (n i : ℕ) → i < length {A = Option Link} (replicate n None) → slice_get {X = Option Link} (replicate n None) i ≡ Some None

@@ -1,7 +1,3 @@
-pub mod Ranks
-pub mod Laws
-pub mod OrderLaws
-pub mod FactLaws
 pub mod Rows
 pub mod Cells
 pub mod Links
@@ -13,8 +9,5 @@ pub mod Sound
 pub mod Costs
 pub mod Lineups
 pub mod SortingLaws
-pub mod Directions
 pub mod DirectionLaws
-pub mod BoxEnds
-pub mod BoxEndLaws
-pub mod Theorems
+pub mod EndSlots

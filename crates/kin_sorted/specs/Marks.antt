@@ -10,6 +10,10 @@ pub record Marks : Type 0 where
   pub entering : List ℕ
   pub leaving : List ℕ
 
+-- those enter and these leave
+abbrev pub marks_of : List ℕ → List ℕ → Marks
+marks_of entering leaving = record { entering = entering; leaving = leaving }
+
 -- the list without an item
 abbrev pub without : ℕ → List ℕ → List ℕ
 without i [] = []

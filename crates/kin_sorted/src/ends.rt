@@ -1,7 +1,8 @@
 //! The ends of boxes along a direction.
 
 ghost use Rattle.std.specs.Prelude.{◌≡◌, ◌≤◌, ◌^◌, unsigned_abs, pos, ◌-ℤ◌, ◌*ℤ◌};
-ghost use Rattle.kin_sorted.specs.BoxEnds.{kind_of, ties};
+ghost use Rattle.kin_motion.specs.BoxFacts.{ties};
+ghost use Rattle.kin_sorted.specs.EndSlots.{kind_of};
 
 use crate::ranked::Ranked;
 use kin_motion::fact::Placed;
@@ -93,7 +94,8 @@ fn wins_tie(left: End, right: End) -> bool
 }
 
 impl Ranked for Ends {
-    ghost use Rattle.kin_sorted.specs.BoxEnds.{ends, end_slot};
+    ghost use Rattle.kin_motion.specs.BoxEnds.{ends};
+    ghost use Rattle.kin_sorted.specs.EndSlots.{end_slot};
     ghost use Rattle.kin_motion.proofs.EndRanks.{ends_ranked};
 
     type Item = End;

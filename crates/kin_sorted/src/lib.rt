@@ -17,6 +17,7 @@
 pub use direction::Direction;
 pub use ends::{End, Ends, Side};
 pub use ranked::Ranked;
+pub use single::Single;
 pub use sorted::Sorted;
 
 mod between;
@@ -25,7 +26,6 @@ pub mod direction;
 mod doubts;
 pub mod ends;
 mod enter;
-pub mod laws;
 mod leave;
 mod lineup;
 mod link;
@@ -35,4 +35,6 @@ pub mod ranked;
 mod repair;
 mod report;
 mod row;
+mod settle;
+pub mod single;
 pub mod sorted;

@@ -6,14 +6,15 @@ ghost use Rattle.kin_motion.specs.Kinetics.{ListsFailing, HasChanged};
 ghost use Rattle.kin_motion.specs.Numbers.{is_in, Lists};
 ghost use Rattle.kin_motion.specs.Parts.{moved_by};
 ghost use Rattle.kin_motion.specs.Scene.{Scene, IsReal};
-ghost use Rattle.kin_sorted.specs.Marks.{marked, without_all, with_entering, with_leaving};
+ghost use Rattle.kin_sorted.specs.Marks.{marked, names_gone, without_all, with_entering, with_leaving};
+ghost use Rattle.kin_motion.specs.Ranks.{AreLive};
 ghost use Rattle.kin_sorted.specs.Rows.{exchanged};
-ghost use Rattle.kin_sorted.specs.Sorting.{IsAtRest, IsReady, IsSettled, AreFewTests, is_spared, unmarked};
+ghost use Rattle.kin_sorted.specs.Sorting.{IsAtRest, IsReady, IsSettled, AreFewTests, MayPass, is_spared, marks_for, unmarked};
 
 use crate::lineup::Lineup;
 use crate::marks::Marks;
 use crate::ranked::Ranked;
-use crate::report::report;
+use crate::single::Single;
 use kin_motion::fact::{Delta, Placed};
 use kin_motion::kinetic::Kinetic;
 use kin_motion::signs::Signs;
@@ -99,6 +100,14 @@ impl<R: Ranked> Sorted<R> {
         Ok(())
     }
 
+    /// Takes the memory for one member more.
+    pub fn reserve(&mut self) -> Result<(), NoMemory>
+        ensures { self.new ≡ self.old }
+    {
+        self.lineup.row.reserve(1)?;
+        Ok(())
+    }
+
     /// Whether no mark waits and no `settle` has run out of memory.
     pub fn is_at_rest(&self) -> bool
         ensures { IsTrue result ↔ IsAtRest self.now }
@@ -147,16 +156,49 @@ impl<R: Ranked> Sorted<R> {
     {
         self.whole = false;
         self.lineup
-            .arrange(&mut self.marks, &self.rank, failed, now, steps)?;
-        report(
-            &mut self.lineup.row,
-            &self.lineup.touched,
-            part,
-            &self.rank,
-            out,
-        )?;
+            .settle(&mut self.marks, &self.rank, part, now, failed, out, steps)?;
         self.whole = true;
         Ok(())
+    }
+
+    /// `settle_in` of a list in which no mark waits, where at most one item enters or leaves. It needs no
+    /// memory for a mark.
+    #[inline(always)]
+    pub fn settle_one<O: Signs, L: Ledger>(
+        &mut self,
+        single: Single,
+        part: u32,
+        now: &O,
+        failed: &[Placed],
+        out: &mut Delta,
+        steps: &mut Steps<L>,
+    ) -> Result<(), NoMemory>
+        requires parts { part + (R.ranks self.old.rank).parts ≤ 2 ^ 32 }
+        requires real { IsReal (O.scene now.now) }
+        requires rest { IsAtRest self.old }
+        requires single { MayPass single (R.ranks self.old.rank).slots self.old.items }
+        requires live { AreLive (O.scene now.now) (R.ranks self.old.rank) (marked (marks_for single) self.old.items) }
+        requires failing { ListsFailing self.old.facts (names_gone (R.ranks self.old.rank) (marks_for single) self.old.items) (O.scene now.now) failed.now }
+        ensures rest { OnOk result (IsAtRest self.new) }
+        ensures members { OnOk result (Lists self.new.items (marked (marks_for single) self.old.items)) }
+        ensures settled { OnOk result (IsSettled (R.ranks self.new.rank) self.new (O.scene now.now)) }
+        ensures delta { OnOk result (HasChanged (map (moved_by part) self.old.facts) (map (moved_by part) self.new.facts) out.old out.new) }
+        ensures broken { OnErr result (self.new.whole ≡ false) }
+        ensures exchanges { OnOk result
+            (exchanged self.new.swaps (without_all (marks_for single).leaving self.old.items) ≡ without_all (marks_for single).entering self.new.items) }
+        ensures moved { OnOk result (length self.new.swaps ≡ moved_pairs self.old.items self.new.items) }
+        ensures tests { OnOk result
+            (AreFewTests (length (marks_for single).entering) self.old.items self.new.items out.old out.new steps.old steps.new) }
+        ensures same { self.new.rank ≡ self.old.rank }
+    {
+        let settled = self
+            .lineup
+            .settle_one(single, &self.rank, part, now, failed, out, steps);
+        // Written late, so that a settle that ends well has nothing more to write here.
+        if settled.is_err() {
+            self.whole = false;
+        }
+        settled
     }
 
     /// The places of the exchanges of the last `settle`, in their order.
@@ -183,6 +225,23 @@ impl<R: Ranked> Sorted<R> {
         ensures { slice_get self.now.items result ≡ Some (R.slot_of self.now.rank item) }
     {
         self.lineup.row.place_of_member(self.rank.slot(item))
+    }
+
+    /// The place of a slot, or `None` exactly where no member has it. It may be any number.
+    pub fn find_slot(&self, slot: u32) -> Option<u32>
+        ensures some { IfSome result (λ p. slice_get self.now.items p ≡ Some slot) }
+        ensures none { IsNone result ↔ (is_in slot self.now.items ≡ false) }
+    {
+        self.lineup.row.place_of(slot)
+    }
+
+    /// The place of a member, by its slot.
+    #[inline(always)]
+    pub fn place_of_slot(&self, slot: u32) -> u32
+        requires { is_in slot self.now.items ≡ true }
+        ensures { slice_get self.now.items result ≡ Some slot }
+    {
+        self.lineup.row.place_of_member(slot)
     }
 
     /// The slots of the members, in their order as it was settled last.

@@ -6,7 +6,7 @@ use Rattle.std.specs.Prelude.{◌*◌, Bool, cond, count_by, filter, sum}
 use Rattle.kin_world.proofs.Vocabulary.{◌≡◌, ◌↔◌, refl, sym, ap, ◌∙◌, subst, arith, ℕ, ◌+◌, ◌≤◌, true, List, [], ◌∷◌, map, length, length-map, slice_get, Some, Option, Contains}
 use Rattle.kin_world.proofs.Vocabulary.{Moment, Course, Certificate, IsNextBlock, Block, IsReal, Keep, Scene, scene_at, live_fits, contains_map, contains_mapped, exactly_in_words, filter-complete}
 use Rattle.kin_world.proofs.Vocabulary.{AreWaiting, Facts, HasGivenOut, HasSameFrame, IsMarked, IsSound, LiveFact, NoneWaits, Owned, Stage, Structure, certificate_of, certificates_of, meaning, owned_by, setting, sight, AreLiveAfter}
-use Rattle.kin_motion.specs.declared.keep.Keep.TheVariants.{Order, Extreme, Hull, Closest, Range, Nearest, Diameter}
+use Rattle.kin_motion.specs.declared.keep.Keep.TheVariants.{Order, Extreme, Hull, Closest, Range, Nearest, Diameter, Boxes}
 use Rattle.kin_motion.specs.Agreements.{FitsSize}
 use Rattle.kin_motion.specs.KeptOrder.{KeptHullKeepsOrder, TreesKeepOrder}
 use Rattle.kin_motion.proofs.SetLaws.{contains_head, contains_tail, distinct_mapped}
@@ -92,6 +92,7 @@ chains_kept size Closest v w trees = tt
 chains_kept size Range v w trees = tt
 chains_kept size Nearest v w trees = tt
 chains_kept size Diameter v w trees = tt
+chains_kept size (Boxes width height) v w trees = tt
 
 -- what was seen just now
 pub seen_now : {s : Stage} → IsSound s → IsSeenBefore (sight s) s

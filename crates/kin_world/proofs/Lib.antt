@@ -13,6 +13,7 @@ pub mod OneMore
 pub mod MarkLaws
 pub mod Inside
 pub mod LiveCounts
+pub mod KeptBoxes
 pub mod StartLaws
 pub mod AskLaws
 pub mod RootLaws

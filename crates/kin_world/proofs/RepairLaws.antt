@@ -14,7 +14,7 @@ use Rattle.kin_motion.specs.Merges.{IsHullFact}
 use Rattle.kin_motion.specs.Numbers.{IsIn}
 use Rattle.kin_diameter.specs.Diameter.{Diameter as FarthestPair}
 use Rattle.kin_hull.specs.Hulls.{Hull as KinHull, IsHullAtRest, IsSettledKinHull}
-use Rattle.kin_world.specs.declared.structure.Structure.TheVariants.{Order, Extreme, Hull, Closest, Range, Nearest, Diameter}
+use Rattle.kin_world.specs.declared.structure.Structure.TheVariants.{Order, Extreme, Hull, Closest, Range, Nearest, Diameter, Boxes}
 use Rattle.kin_world.proofs.InOrder.{replaced, restated, timed_new}
 use Rattle.kin_world.proofs.StructureLaws.{all_from_each, grounded_where, settled_facts, settled_holds, settled_where_hold}
 
@@ -115,6 +115,7 @@ is_hull size (Closest k) kind = absurd (let clash : keep.Hull ≡ keep.Closest =
 is_hull size (Range r) kind = absurd (let clash : keep.Hull ≡ keep.Range = kind.0 in cc)
 is_hull size (Nearest k) kind = absurd (let clash : keep.Hull ≡ keep.Nearest = kind.0 in cc)
 is_hull size (Diameter k) kind = absurd (let clash : keep.Hull ≡ keep.Diameter = kind.0 in cc)
+is_hull size (Boxes b) kind = absurd (let clash : keep.Hull ≡ keep.Boxes b.by_x.rank.width b.by_y.rank.width = kind.0 in cc)
 
 module _ {size k : ℕ} {before now : Scene} {s : Stage} (o : IsInOrder (HasGoneOver size k before now) s) where
   -- the structure of a keep among those that were gone over
@@ -139,6 +140,7 @@ module _ {size k : ℕ} {before now : Scene} {s : Stage} (o : IsInOrder (HasGone
   needs_met kept (Closest x) there kind = tt
   needs_met kept (Range x) there kind = tt
   needs_met kept (Nearest x) there kind = tt
+  needs_met kept (Boxes x) there kind = tt
   needs_met kept (Diameter x) there kind = record { some = some; settled = hull_settled }
     where
       some : (n : ℕ) × (hull : KinHull) × (slice_get (take k s.structures) n ≡ Some (Hull hull))

@@ -7,7 +7,7 @@ use Rattle.kin_motion.specs.Keeps.{may_keep}
 use Rattle.kin_motion.specs.Merges.{IsHullFact}
 use Rattle.kin_chain.proofs.HullDetermined.{same_chains}
 use Rattle.kin_diameter.specs.Diameter.{Diameter as FarthestPair}
-use Rattle.kin_world.specs.declared.structure.Structure.TheVariants.{Order, Extreme, Hull, Closest, Range, Nearest, Diameter}
+use Rattle.kin_world.specs.declared.structure.Structure.TheVariants.{Order, Extreme, Hull, Closest, Range, Nearest, Diameter, Boxes}
 use Rattle.kin_motion.proofs.AskableLaws.{keep_fact_askable}
 use Rattle.kin_motion.proofs.LiveFactsHold.{keep_fact_holds}
 
@@ -37,6 +37,7 @@ grounded_where size keeps v w real real' fits same few k kept (Hull x) there was
 grounded_where size keeps v w real real' fits same few k kept (Closest x) there was hold = tt
 grounded_where size keeps v w real real' fits same few k kept (Range x) there was hold = tt
 grounded_where size keeps v w real real' fits same few k kept (Nearest x) there was hold = tt
+grounded_where size keeps v w real real' fits same few k kept (Boxes x) there was hold = tt
 grounded_where size keeps v w real real' fits same few k kept (Diameter x) there was hold =
     let h = hull_before keeps few k (there ∙ ap (λ (y : Keep). Some y) was.kind.0) in
     same_chains size v w real real' fits same (hold x h.0 refl h.2) x.upper x.lower (was.settled.swept.upper_chain, was.settled.swept.lower_chain)

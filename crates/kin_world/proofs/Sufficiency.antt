@@ -4,7 +4,8 @@ use Rattle.std.specs.Prelude.{◌↔◌, Contains, Option, Some, slice_get}
 use Rattle.std.proofs.lemmas.List.Elements.{All-contains, Contains-get_or}
 use Rattle.kin_motion.specs.declared.fact.Placed.{Placed}
 use Rattle.kin_motion.specs.declared.keep.Keep.{Keep}
-use Rattle.kin_motion.specs.declared.keep.Keep.TheVariants.{Order, Extreme, Hull, Closest, Range, Nearest, Diameter}
+use Rattle.kin_motion.specs.declared.keep.Keep.TheVariants.{Order, Extreme, Hull, Closest, Range, Nearest, Diameter, Boxes}
+use Rattle.kin_motion.specs.BoxFacts.{AreBoxes, IsBoxFact, boxes_facts, end_order_of}
 use Rattle.kin_motion.specs.Chains.{IsHullCycle, cycle_of, upper_chain_of, lower_chain_of}
 use Rattle.kin_motion.specs.ClosestFacts.{IsClosestFact, closest_facts}
 use Rattle.kin_motion.specs.ClosestPairs.{IsClosest, closest_of}
@@ -15,11 +16,14 @@ use Rattle.kin_motion.specs.Kinetics.{AllHold}
 use Rattle.kin_motion.specs.Live.{Certificate, IsKeepFact, IsLiveFact}
 use Rattle.kin_motion.specs.Merges.{IsHullFact, hull_facts}
 use Rattle.kin_motion.specs.Orders.{IsOrder, IsOrderFact, order_of, order_facts}
+use Rattle.kin_motion.specs.Overlaps.{ListsOverlaps}
 use Rattle.kin_motion.specs.Scene.{Scene, Holds, reflected}
 use Rattle.kin_motion.specs.Sets.{ListsExactly}
 use Rattle.kin_motion.specs.Sweeps.{AreChains}
+use Rattle.kin_motion.proofs.BoxFactLaws.{end_order_agrees, facts_agree}
 use Rattle.kin_motion.proofs.ClosestFactLaws.{order_facts_agree, closest_facts_agree}
 use Rattle.kin_motion.proofs.ClosestLaws.{closest_proved}
+use Rattle.kin_motion.proofs.DeterminedBoxes.{boxes_determined, overlaps_determined}
 use Rattle.kin_motion.proofs.DeterminedExtremes.{extreme_is_determined}
 use Rattle.kin_motion.proofs.DeterminedWedges.{fact_goes, fact_comes}
 use Rattle.kin_motion.proofs.DiameterFactLaws.{diameter_facts_agree}
@@ -84,6 +88,23 @@ module _ (size : ℕ) (keeps : List Keep) (v w : Scene) (cs : List Certificate) 
       let exact = diameter_facts_agree size v h.real in
       diameter_is_determined size v w upper lower pair (diameter_facts size v) h.real h.real_there h.fits h.same here there o exact (all_hold w (diameter_facts size v) (IsDiameterFact size v) exact (kept_holds n Diameter kept))
 
+  -- the orders of the ends of boxes are those there, with their facts, and the overlaps are
+  boxes_here : (width height : ℤ) → AreBoxes v width height (end_order_of v (pos 1) (pos 0) width) (end_order_of v (pos 0) (pos 1) height) (boxes_facts v width height)
+  boxes_here width height = record {
+    x_order = end_order_agrees v (pos 1) (pos 0) width h.real;
+    y_order = end_order_agrees v (pos 0) (pos 1) height h.real;
+    exact = facts_agree v width height h.real;
+  }
+
+  box_facts_hold : (width height : ℤ) → ((p : Placed) → IsBoxFact v width height p → Holds w p.fact) → AllHold w (boxes_facts v width height)
+  box_facts_hold width height hold = all_hold w (boxes_facts v width height) (IsBoxFact v width height) (facts_agree v width height h.real) hold
+
+  box_facts_there : (width height : ℤ) → ((p : Placed) → IsBoxFact v width height p → Holds w p.fact) → ListsExactly (boxes_facts v width height) (IsBoxFact w width height)
+  box_facts_there width height hold = (boxes_determined v w width height _ _ _ h.real h.real_there h.same (boxes_here width height) (box_facts_hold width height hold)).exact
+
+  overlaps_there : (width height : ℤ) (pairs : List (ℕ × ℕ)) → ListsOverlaps v width height pairs → ((p : Placed) → IsBoxFact v width height p → Holds w p.fact) → ListsOverlaps w width height pairs
+  overlaps_there width height pairs o hold = overlaps_determined v w width height _ _ _ pairs h.real h.real_there h.same (boxes_here width height) (box_facts_hold width height hold) o
+
   same_order_facts : (dx dy : ℤ) (part : ℕ) → ((p : Placed) → IsOrderFact v dx dy part p → Holds w p.fact) → (p : Placed) → IsOrderFact v dx dy part p ↔ IsOrderFact w dx dy part p
   same_order_facts dx dy part hold =
       same_listed (order_facts v dx dy part) (IsOrderFact v dx dy part) (IsOrderFact w dx dy part) (order_facts_agree v dx dy part h.real) (order_there dx dy part (order_of v dx dy) (order_proved v dx dy h.real) hold).1
@@ -98,6 +119,8 @@ module _ (size : ℕ) (keeps : List Keep) (v w : Scene) (cs : List Certificate) 
   same_facts n Nearest kept hold = λ p. (fact_goes v w h.real h.real_there h.same hold p, fact_comes v w h.real h.real_there h.same hold p)
   same_facts n Diameter kept hold =
       same_listed (diameter_facts size v) (IsDiameterFact size v) (IsDiameterFact size w) (diameter_facts_agree size v h.real) (farthest_there n (farthest_of v) kept (farthest_proved v h.real)).1
+  same_facts n (Boxes width height) kept hold =
+      same_listed (boxes_facts v width height) (IsBoxFact v width height) (IsBoxFact w width height) (facts_agree v width height h.real) (box_facts_there width height hold)
   same_facts n Range kept hold = λ p. (to p, from p)
     where
       by_x : (p : Placed) → IsOrderFact v (pos 1) (pos 0) 0 p ↔ IsOrderFact w (pos 1) (pos 0) 0 p
@@ -120,6 +143,7 @@ live_facts_imply_answers size keeps v w cs h = record {
   extreme = λ n dx dy point kept o. (extreme_there size keeps v w cs h dx dy point o (kept_holds size keeps v w cs h n (Extreme dx dy) kept)).0;
   hull = λ n cycle kept o. (hull_there size keeps v w cs h cycle o (kept_holds size keeps v w cs h n Hull kept)).0;
   farthest = λ n pair kept o. (farthest_there size keeps v w cs h n pair kept o).0;
+  overlaps = λ n width height pairs kept o. overlaps_there size keeps v w cs h width height pairs o (kept_holds size keeps v w cs h n (Boxes width height) kept);
   closest = λ n pair kept o. (closest_there size keeps v w cs h pair o (kept_holds size keeps v w cs h n Closest kept)).0;
 }
 

@@ -13,6 +13,9 @@ use Rattle.kin_list.specs.ListingLaws as listing_laws
 use Rattle.kin_tourney.specs.PointLaws.{points_exact, points_determined}
 use Rattle.kin_tourney.specs.Points as points
 use Rattle.kin_tourney.specs.Tournament as tournament
+use Rattle.kin_boxes.specs.Boxing as boxing
+use Rattle.kin_boxes.specs.BoxingLaws as boxing_laws
+use Rattle.kin_boxes.specs.BoxingLaws.{boxing_exact}
 use Rattle.kin_closest.specs.Closing as closing
 use Rattle.kin_closest.specs.ClosingLaws as closing_laws
 use Rattle.kin_closest.specs.ClosingLaws.{closing_exact}
@@ -30,7 +33,7 @@ use Rattle.kin_range.specs.RangingLaws.{range_exact}
 use Rattle.kin_wedge.specs.Wedging as wedging
 use Rattle.kin_wedge.specs.WedgingLaws as wedging_laws
 use Rattle.kin_world.specs.declared.structure.Structure.{Structure}
-use Rattle.kin_world.specs.declared.structure.Structure.TheVariants.{Order, Extreme, Hull, Closest, Range, Nearest, Diameter}
+use Rattle.kin_world.specs.declared.structure.Structure.TheVariants.{Order, Extreme, Hull, Closest, Range, Nearest, Diameter, Boxes}
 
 -- its live facts, each in its part
 abbrev pub placed_facts : Structure → List Placed
@@ -41,8 +44,9 @@ placed_facts (Closest k) = closing.facts_of k
 placed_facts (Range r) = ranging.facts_of r
 placed_facts (Nearest k) = k.facts
 placed_facts (Diameter k) = diameter.facts_of k
+placed_facts (Boxes b) = boxing.facts_of b
 
--- it is of the kind, the direction and the size of a keep
+-- it is of the kind, the direction and the size of a keep, and its boxes are those of the keep
 abbrev pub IsFor : ℕ → Keep → Structure → Type 0
 IsFor size keep (Order k) = list.IsListFor k size keep
 IsFor size keep (Extreme t) = points.IsTournamentFor t size keep
@@ -51,6 +55,7 @@ IsFor size keep (Closest k) = closing.IsClosingFor k size keep
 IsFor size keep (Range r) = ranging.IsRangingFor r size keep
 IsFor size keep (Nearest k) = nearing.IsNearingFor k size keep
 IsFor size keep (Diameter k) = diameter.IsDiameterFor k size keep
+IsFor size keep (Boxes b) = boxing.IsBoxingFor b size keep
 
 -- no mark waits
 abbrev pub IsAtRest : Structure → Type 0
@@ -61,6 +66,7 @@ IsAtRest (Closest k) = closing.IsClosingAtRest k
 IsAtRest (Range r) = ranging.IsRangingAtRest r
 IsAtRest (Nearest k) = wedging.IsWedgingAtRest k
 IsAtRest (Diameter k) = diameter.IsDiameterAtRest k
+IsAtRest (Boxes b) = boxing.IsBoxingAtRest b
 
 -- its members are these numbers, once its mark is carried out; a farthest pair has none but those of its hull
 abbrev pub HasMembers : List ℕ → Structure → Type 0
@@ -71,6 +77,7 @@ HasMembers live (Closest k) = closing.HasMembers k live
 HasMembers live (Range r) = ranging.HasMembers r live
 HasMembers live (Nearest k) = nearing.HasMembers k live
 HasMembers live (Diameter k) = Unit {0}
+HasMembers live (Boxes b) = boxing.HasMembers b live
 
 -- its content and its facts are the definition's in the scene
 abbrev pub IsSettledIn : Scene → Structure → Type 0
@@ -81,6 +88,7 @@ IsSettledIn s (Closest k) = closing.IsSettledClosing k s
 IsSettledIn s (Range r) = ranging.IsSettledRanging r s
 IsSettledIn s (Nearest k) = wedging.IsSettledWedging k s
 IsSettledIn s (Diameter k) = diameter.IsSettledKinDiameter k s
+IsSettledIn s (Boxes b) = boxing.IsSettledBoxing b s
 
 -- what it is made of is that of the scene: of a farthest pair both chains are, and the others are made of nothing
 abbrev pub IsGroundedIn : Scene → Structure → Type 0
@@ -91,6 +99,7 @@ IsGroundedIn s (Closest k) = Unit {0}
 IsGroundedIn s (Range r) = Unit {0}
 IsGroundedIn s (Nearest k) = Unit {0}
 IsGroundedIn s (Diameter k) = diameter.IsGrounded k s
+IsGroundedIn s (Boxes b) = Unit {0}
 
 -- settled over the live numbers it has the facts of its keep, and these determine it, with what it is made of
 pub record IsKinetic (st : Structure) : Type 0 where
@@ -106,3 +115,4 @@ kinetic (Closest k) = record { exact = closing_exact k; determined = λ v w rest
 kinetic (Range r) = record { exact = range_exact r; determined = λ v w rest real settled same real' ground. ranging_laws.determined_lem r v w rest real settled same real' tt }
 kinetic (Nearest k) = record { exact = nearing_exact k; determined = λ v w rest real settled same real' ground. wedging_laws.determined_lem k v w rest real settled same real' tt }
 kinetic (Diameter k) = record { exact = λ size keep s kind members. diameter_exact k size keep s kind; determined = diameter_laws.determined_lem k }
+kinetic (Boxes b) = record { exact = boxing_exact b; determined = λ v w rest real settled same real' ground. boxing_laws.determined_lem b v w rest real settled same real' tt }

@@ -14,7 +14,7 @@ use Rattle.kin_hull.specs.Hulls.{Hull as KinHull, IsHullAtRest, IsSettledKinHull
 use Rattle.kin_world.specs.declared.structure.Mark.{Mark}
 use Rattle.kin_world.specs.declared.structure.Mark.TheVariants.{Enters, Leaves}
 use Rattle.kin_world.specs.declared.structure.Structure.{Structure}
-use Rattle.kin_world.specs.declared.structure.Structure.TheVariants.{Order, Extreme, Hull, Closest, Range, Nearest, Diameter}
+use Rattle.kin_world.specs.declared.structure.Structure.TheVariants.{Order, Extreme, Hull, Closest, Range, Nearest, Diameter, Boxes}
 use Rattle.kin_world.specs.Kinds.{placed_facts, IsFor, IsAtRest, HasMembers, IsSettledIn}
 
 -- exactly these facts don't hold
@@ -79,6 +79,7 @@ HasNeeds s before (Closest k) = Unit {0}
 HasNeeds s before (Range r) = Unit {0}
 HasNeeds s before (Nearest k) = Unit {0}
 HasNeeds s before (Diameter k) = HasHull s before
+HasNeeds s before (Boxes b) = Unit {0}
 
 -- it may settle in the scene: it was settled in one before with the same live numbers, and these of its facts don't hold now
 pub record MaySettle (s : Scene) (before : List Structure) (st : Structure) (failed : List Placed) : Type 0 where

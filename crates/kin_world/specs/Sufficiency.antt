@@ -2,7 +2,7 @@
 use Rattle.std.specs.Prelude.{◌≡◌, ℕ, ℤ, List, Option, Some, slice_get}
 use Rattle.std.specs.List.{All}
 use Rattle.kin_motion.specs.declared.keep.Keep.{Keep}
-use Rattle.kin_motion.specs.declared.keep.Keep.TheVariants.{Order, Extreme, Hull, Closest, Diameter}
+use Rattle.kin_motion.specs.declared.keep.Keep.TheVariants.{Order, Extreme, Hull, Closest, Diameter, Boxes}
 use Rattle.kin_motion.specs.Agreements.{FitsSize}
 use Rattle.kin_motion.specs.Chains.{IsHullCycle}
 use Rattle.kin_motion.specs.ClosestPairs.{IsClosest}
@@ -11,17 +11,19 @@ use Rattle.kin_motion.specs.Farthest.{IsFarthest}
 use Rattle.kin_motion.specs.Kinetics.{HaveSameLive}
 use Rattle.kin_motion.specs.Live.{Certificate, ListsLive}
 use Rattle.kin_motion.specs.Orders.{IsOrder}
+use Rattle.kin_motion.specs.Overlaps.{ListsOverlaps}
 use Rattle.kin_motion.specs.Scene.{Scene, IsReal, Holds}
 use Rattle.kin_world.specs.Worlds.{World, world_scene}
 
--- each kept order, extreme point, hull, closest pair and farthest pair of the one scene is that of the other; points in rectangles and nearest points needn't be: no fact is
--- about a border, and the facts of nearest neighbours determine the candidates, but not the nearest
+-- each kept order, extreme point, hull, closest pair and farthest pair of the one scene is that of the other, and so are the overlaps of boxes; points in rectangles and nearest
+-- points needn't be: no fact is about a border, and the facts of nearest neighbours determine the candidates, but not the nearest
 pub record HaveSameAnswers (keeps : List Keep) (v w : Scene) : Type 0 where
   pub order : (n : ℕ) (dx dy : ℤ) (xs : List ℕ) → slice_get keeps n ≡ Some (Order dx dy) → IsOrder v dx dy xs → IsOrder w dx dy xs
   pub extreme : (n : ℕ) (dx dy : ℤ) (point : Option ℕ) → slice_get keeps n ≡ Some (Extreme dx dy) → IsExtremePoint v dx dy point → IsExtremePoint w dx dy point
   pub hull : (n : ℕ) (cycle : List ℕ) → slice_get keeps n ≡ Some Hull → IsHullCycle v cycle → IsHullCycle w cycle
   pub closest : (n : ℕ) (pair : Option (ℕ × ℕ)) → slice_get keeps n ≡ Some Closest → IsClosest v pair → IsClosest w pair
   pub farthest : (n : ℕ) (pair : Option (ℕ × ℕ)) → slice_get keeps n ≡ Some Diameter → IsFarthest v pair → IsFarthest w pair
+  pub overlaps : (n : ℕ) (width height : ℤ) (pairs : List (ℕ × ℕ)) → slice_get keeps n ≡ Some (Boxes width height) → ListsOverlaps v width height pairs → ListsOverlaps w width height pairs
 
 -- the same numbers are live in both scenes, all with slots, and all facts that are live in the one hold in the other; a farthest pair is kept with a hull
 pub record LiveFactsHoldThere (size : ℕ) (keeps : List Keep) (v w : Scene) (cs : List Certificate) : Type 0 where
@@ -33,7 +35,7 @@ pub record LiveFactsHoldThere (size : ℕ) (keeps : List Keep) (v w : Scene) (cs
   pub hold : All (λ c. Holds w c.placed.fact) cs
   pub hull : (n : ℕ) → slice_get keeps n ≡ Some Diameter → (h : ℕ) × (slice_get keeps h ≡ Some Hull)
 
--- then each kept order, extreme point, hull, closest pair and farthest pair is the same in both
+-- then each kept order, extreme point, hull, closest pair and farthest pair is the same in both, and so are the overlaps of boxes
 abbrev pub LiveFactsImplyAnswers : Type 0
 LiveFactsImplyAnswers = (size : ℕ) (keeps : List Keep) (v w : Scene) (cs : List Certificate) → LiveFactsHoldThere size keeps v w cs → HaveSameAnswers keeps v w
 

@@ -58,7 +58,7 @@ world_scene w = scene_at w.motions w.moment
 abbrev pub certificate : ℕ → ℕ → Form → Sign → Certificate
 certificate structure part form sign = record { structure = structure; placed = record { part = part; fact = record { form = form; sign = sign } } }
 
--- a world may keep these: few enough, each farthest pair with a hull before it, and each with a small direction
+-- a world may keep these: few enough, each farthest pair with a hull before it, each with a small direction, and boxes of a small width and height
 pub record AreKeepable (keeps : List Keep) : Type 0 where
   pub few : IsTrue (may_keep keeps)
   pub small : (j : ℕ) (keep : Keep) → slice_get keeps j ≡ Some keep → IsSmallKeep keep

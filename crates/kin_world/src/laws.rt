@@ -29,8 +29,8 @@ pub fn chains_keep_order()
 {}
 
 /// Facts imply the answer. Where the same numbers are live in two real scenes, all with slots, and all facts that are live in
-/// the one hold in the other, each kept order, extreme point, hull and closest pair is the same in both, and the same facts
-/// are live.
+/// the one hold in the other, each kept order, extreme point, hull and closest pair is the same in both, so are the farthest
+/// pair, if a hull is kept with it, and the overlaps of boxes, and the same facts are live.
 pub fn live_facts_imply_answers()
     ensures answers { LiveFactsImplyAnswers }
     ensures facts { LiveFactsStay }

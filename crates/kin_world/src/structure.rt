@@ -5,7 +5,7 @@
 
 ghost use Rattle.std.specs.Prelude.{◌≡◌, ◌≤◌, ◌<◌, ◌^◌, ℕ, ℤ, List, [], Contains, IfOk, OnOk};
 ghost use Rattle.kin_motion.specs.declared.keep.Keep.{Keep as Kind};
-ghost use Rattle.kin_motion.specs.declared.keep.Keep.TheVariants.{Order as KeepOrder, Extreme as KeepExtreme, Hull as KeepHull, Closest as KeepClosest, Range as KeepRange, Nearest as KeepNearest, Diameter as KeepDiameter};
+ghost use Rattle.kin_motion.specs.declared.keep.Keep.TheVariants.{Order as KeepOrder, Extreme as KeepExtreme, Hull as KeepHull, Closest as KeepClosest, Range as KeepRange, Nearest as KeepNearest, Diameter as KeepDiameter, Boxes as KeepBoxes};
 ghost use Rattle.kin_motion.specs.Boxes.{IsRectInRange, points_in};
 ghost use Rattle.kin_motion.specs.Chains.{IsHullCycle};
 ghost use Rattle.kin_motion.specs.ClosestPairs.{IsClosest};
@@ -13,6 +13,7 @@ ghost use Rattle.kin_motion.specs.Extremes.{IsExtremePoint};
 ghost use Rattle.kin_motion.specs.Farthest.{IsFarthest};
 ghost use Rattle.kin_motion.specs.Nearest.{IsNearest};
 ghost use Rattle.kin_motion.specs.Orders.{IsOrder};
+ghost use Rattle.kin_motion.specs.Overlaps.{ListsOverlaps};
 ghost use Rattle.kin_motion.specs.Kinetics.{AllHold, HasChanged, HaveSameLive};
 ghost use Rattle.kin_motion.specs.Live.{IsSmallKeep};
 ghost use Rattle.kin_motion.specs.Numbers.{HasEntered, IsIn};
@@ -24,6 +25,7 @@ ghost use Rattle.kin_world.specs.Structures.{AreFailing, AreLiveAfter, HasNeeds,
 
 use crate::counter::{Work, uncounted};
 use crate::farthest::{follow_hull, repair_pair};
+use kin_boxes::KinBoxes;
 use kin_closest::KinClosest;
 use kin_diameter::KinDiameter;
 use kin_fail::Now;
@@ -48,6 +50,7 @@ pub enum Structure {
     Range(KinRange),
     Nearest(KinNearest),
     Diameter(KinDiameter),
+    Boxes(KinBoxes),
 }
 
 /// A number that has become live, or that isn't live any more.
@@ -78,6 +81,7 @@ impl Structure {
             Keep::Range => Ok(Structure::Range(KinRange::vacant(alloc, keep, size)?)),
             Keep::Nearest => Ok(Structure::Nearest(KinNearest::vacant(alloc, keep, size)?)),
             Keep::Diameter => Ok(Structure::Diameter(KinDiameter::new(alloc, size)?)),
+            Keep::Boxes { .. } => Ok(Structure::Boxes(KinBoxes::vacant(alloc, keep, size)?)),
         }
     }
 
@@ -112,6 +116,7 @@ impl Structure {
             Structure::Range(lists) => repair_all(lists, now, failed, out, steps),
             Structure::Nearest(wedges) => repair_all(wedges, now, failed, out, steps),
             Structure::Diameter(pair) => repair_pair(pair, before, now, failed, out, steps),
+            Structure::Boxes(boxes) => repair_all(boxes, now, failed, out, steps),
         }
     }
 
@@ -177,6 +182,7 @@ impl Structure {
             Structure::Diameter(pair) => {
                 follow_hull(pair, before, Mark::Enters(entering), now, out, steps)
             }
+            Structure::Boxes(boxes) => enter(boxes, entering, now, out, steps),
         }
     }
 
@@ -212,6 +218,7 @@ impl Structure {
             Structure::Diameter(pair) => {
                 follow_hull(pair, before, Mark::Leaves(leaving), now, out, steps)
             }
+            Structure::Boxes(boxes) => let_go(boxes, leaving, now, out, steps),
         }
     }
 
@@ -273,6 +280,18 @@ impl Structure {
         match self {
             Structure::Diameter(pair) => pair.farthest(),
             _ => None,
+        }
+    }
+
+    /// The pairs of points whose boxes overlap, the lesser number first, rising, in each scene in which the boxes are
+    /// kept. Boxes that touch overlap.
+    pub fn overlaps(&self) -> Result<Vec<(u32, u32)>, NoMemory>
+        requires kept { (size : ℕ) × (w : ℤ) × (h : ℤ) × (s : Scene) × IsKept size (KeepBoxes w h) s self.now }
+        ensures { IfOk result (λ pairs. (size : ℕ) (w h : ℤ) (s : Scene) → IsKept size (KeepBoxes w h) s self.now → ListsOverlaps s w h pairs.items) }
+    {
+        match self {
+            Structure::Boxes(boxes) => boxes.overlaps(),
+            _ => unreachable!(),
         }
     }
 

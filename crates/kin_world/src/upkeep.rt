@@ -318,12 +318,12 @@ fn plan_of(alloc: Global, size: u32, keeps: &[Keep]) -> Result<Plan, NoMemory>
 }
 
 // How many lists a keep has: orders, or the sweep of a farthest pair. Their facts are in its first parts, and each fact is
-// known by its first number.
+// known by its first number. Each order of ends of boxes counts as four: a fact's part tells which two kinds of ends it is about.
 fn lists_of(keep: &Keep) -> u32 {
     match *keep {
         Keep::Order { .. } | Keep::Diameter => 1,
         Keep::Range => 2,
-        Keep::Closest | Keep::Nearest => 8,
+        Keep::Closest | Keep::Nearest | Keep::Boxes { .. } => 8,
         Keep::Extreme { .. } | Keep::Hull => 0,
     }
 }
@@ -336,6 +336,6 @@ fn nodes_of(keep: &Keep, size: u32) -> u32
         Keep::Extreme { .. } => 1 << size,
         Keep::Diameter => 2 << size,
         Keep::Closest => 8 << size,
-        Keep::Order { .. } | Keep::Range | Keep::Nearest | Keep::Hull => 0,
+        Keep::Order { .. } | Keep::Range | Keep::Nearest | Keep::Boxes { .. } | Keep::Hull => 0,
     }
 }

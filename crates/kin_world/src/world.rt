@@ -1,6 +1,6 @@
 //! The world: motions, planned legs, structures and the table of live facts together.
 
-ghost use Rattle.std.specs.Prelude.{◌≡◌, ◌≤◌, ◌<◌, ◌^◌, ◌↔◌, ℕ, true, false, Option, Some, None, slice_get, length, Contains, IsTrue, IsFalse, Err, IfOk, OnOk, OnErr, IfSome, IsNone, unsigned_abs};
+ghost use Rattle.std.specs.Prelude.{◌≡◌, ◌≤◌, ◌<◌, ◌^◌, ◌↔◌, ℕ, ℤ, true, false, Option, Some, None, slice_get, length, Contains, IsTrue, IsFalse, Err, IfOk, OnOk, OnErr, IfSome, IsNone, unsigned_abs};
 ghost use Rattle.kin_algebra.specs.declared.sign.Sign.{Sign as Signum};
 ghost use Rattle.kin_num.specs.Order.{IsEarlier};
 ghost use Rattle.kin_motion.specs.declared.keep.Keep.TheVariants as keep;
@@ -15,7 +15,7 @@ ghost use Rattle.kin_world.specs.declared.planning.LegError.TheVariants.{Past as
 ghost use Rattle.kin_world.specs.Costs.{IsRepairCost, IsReplacementCost, IsTurnCost};
 ghost use Rattle.kin_world.specs.Worlds.{AreKeepable, IsWhole, CanTurn, CanPlan, HasInserted, HasRemoved, HasReplaced, HasTurned, HasPlanned, certificate, empty, world_plans};
 
-use crate::places::find;
+use crate::places::{find, find_boxes};
 use crate::planning::{LegError, following};
 use crate::structure::Mark;
 use crate::upkeep::Upkeep;
@@ -37,7 +37,7 @@ mod steps;
 ///
 /// Between two calls, while the world is whole, every structure is settled at the moment now, and the
 /// table has exactly the live facts. After a changing call that answered want of memory the world
-/// isn't whole, and only `is_whole`, `keep` and `keeps` may be asked.
+/// isn't whole, and only `is_whole`, `keep`, `keeps` and `keeps_boxes` may be asked.
 ///
 /// Clause `cost` of a changing call bounds the steps of an `Ok` by the worlds before and after it and
 /// the number of failures (`specs/Costs`). `leap` has none, and `leg` takes no steps.
@@ -65,8 +65,8 @@ impl Model for World {
 
 impl World {
     /// No points yet, at the instant 0. The size is from 1 to 12. Of the keeps at most 16 are orders
-    /// or extreme points, and at most one is of each other kind; each direction is small, and a
-    /// farthest pair has a hull before it (`AreKeepable`).
+    /// or extreme points, and at most one is of each other kind; each direction is small, boxes have
+    /// a width and a height in 0..4096, and a farthest pair has a hull before it (`AreKeepable`).
     pub fn new(alloc: Global, size: u32, keeps: &[Keep]) -> Result<World, NoMemory>
         requires low { 1 ≤ size }
         requires high { size ≤ 12 }
@@ -262,8 +262,8 @@ impl World {
 
     /// How many facts are live: at most `most_live`, the sum over the kept structures. Without live
     /// numbers there are none. With n of them each order and each extreme point has at most n - 1, a
-    /// range twice, a farthest pair four and nearest neighbours eight times as many, a closest pair
-    /// 16n, and a hull 4n times the size.
+    /// range twice, a farthest pair four and nearest neighbours eight times as many, boxes 4n - 2, a
+    /// closest pair 16n, and a hull 4n times the size.
     pub fn live(&self) -> usize
         requires { IsTrue self.now.whole }
         ensures count { result ≡ length self.now.live }
@@ -288,11 +288,21 @@ impl World {
         self.upkeep.keeps.get(s as usize).copied()
     }
 
-    /// Whether this is kept, along the same direction if it has one.
+    /// Whether this is kept, along the same direction or over boxes of the same size if it has one.
     pub fn keeps(&self, keep: &Keep) -> bool
         ensures { IsTrue result ↔ ((k : ℕ) × (slice_get self.now.keeps k ≡ Some keep.now)) }
     {
         match find(keep, &self.upkeep.keeps) {
+            Some(_) => true,
+            None => false,
+        }
+    }
+
+    /// Whether boxes are kept, whatever their width and height.
+    pub fn keeps_boxes(&self) -> bool
+        ensures { IsTrue result ↔ ((k : ℕ) × (w : ℤ) × (h : ℤ) × (slice_get self.now.keeps k ≡ Some (keep.Boxes w h))) }
+    {
+        match find_boxes(&self.upkeep.keeps) {
             Some(_) => true,
             None => false,
         }

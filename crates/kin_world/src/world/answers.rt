@@ -13,13 +13,14 @@ ghost use Rattle.kin_motion.specs.Extremes.{IsExtremePoint};
 ghost use Rattle.kin_motion.specs.Farthest.{IsFarthest};
 ghost use Rattle.kin_motion.specs.Nearest.{IsNearest};
 ghost use Rattle.kin_motion.specs.Orders.{IsOrder};
+ghost use Rattle.kin_motion.specs.Overlaps.{ListsOverlaps};
 ghost use Rattle.kin_motion.specs.Scene.{Scene};
 ghost use Rattle.kin_world.specs.Kinds.{IsAtRest};
 ghost use Rattle.kin_world.specs.Structures.{IsKept};
 ghost use Rattle.kin_world.specs.Sufficiency.{LiveFactsHoldIn};
 ghost use Rattle.kin_world.specs.Worlds.{IsWhole, world_scene};
 
-use crate::places::place_of;
+use crate::places::{place_of, place_of_boxes};
 use crate::structure::Structure;
 use crate::world::World;
 use kin_motion::{Keep, Rect};
@@ -84,6 +85,18 @@ impl World {
         self.structure(self.place_of(&Keep::Diameter)).farthest()
     }
 
+    /// The pairs of live points whose boxes overlap, the lesser number first, rising. Boxes that touch
+    /// overlap. It is meant to ask no sign, and to compare each box with those alone that overlap it
+    /// along x; no clause says so. Want of memory changes nothing.
+    pub fn overlaps(&self) -> Result<Vec<(u32, u32)>, NoMemory>
+        requires whole { IsTrue self.now.whole }
+        requires kept { (k : ℕ) × (w : ℤ) × (h : ℤ) × (slice_get self.now.keeps k ≡ Some (keep.Boxes w h)) }
+        ensures overlaps { IfOk result (λ pairs. (k : ℕ) (w h : ℤ) → slice_get self.now.keeps k ≡ Some (keep.Boxes w h) → ListsOverlaps (world_scene self.now) w h pairs.items) }
+        ensures suffices { IfOk result (λ pairs. (k : ℕ) (w h : ℤ) → slice_get self.now.keeps k ≡ Some (keep.Boxes w h) → (v : Scene) → LiveFactsHoldIn self.now v → ListsOverlaps v w h pairs.items) }
+    {
+        self.structure(self.place_of_boxes()).overlaps()
+    }
+
     /// The live numbers in a rectangle, its border included, rising. It is meant to look at
     /// each of them once; no clause says so. Want of memory changes nothing.
     pub fn inside(&self, rect: &Rect) -> Result<Vec<u32>, NoMemory>
@@ -116,6 +129,15 @@ impl World {
         ensures { slice_get self.now.keeps result ≡ Some keep.now }
     {
         place_of(keep, &self.upkeep.keeps)
+    }
+
+    // The place of the boxes.
+    fn place_of_boxes(&self) -> u32
+        requires whole { IsTrue self.now.whole }
+        requires kept { (k : ℕ) × (w : ℤ) × (h : ℤ) × (slice_get self.now.keeps k ≡ Some (keep.Boxes w h)) }
+        ensures { (k : ℕ) (w h : ℤ) → slice_get self.now.keeps k ≡ Some (keep.Boxes w h) → slice_get self.now.keeps result ≡ Some (keep.Boxes w h) }
+    {
+        place_of_boxes(&self.upkeep.keeps)
     }
 
     // The structure of that number, settled now.

@@ -12,6 +12,6 @@ pub remove-requires-2-clause-member : goal.remove-requires-2-clause-member
 remove-requires-2-clause-member c = high_leaves c.args.no _ c.args.ends.now c.remove.new.self (low_slot c.low.result c.args.no c.low.ensures) c.requires.rest _
     (high_slot c.high.result c.args.no c.high.ensures) c.in_ok-remove.ensures.ok c.requires.high
 
-pub returns : goal.returns
-returns c = both_left c.args.no _ c.args.ends.now c.remove.new.self (low_slot c.low.result c.args.no c.low.ensures) c.requires.rest _
+pub returns-clause-ok : goal.returns-clause-ok
+returns-clause-ok c = both_left c.args.no _ c.args.ends.now c.remove.new.self (low_slot c.low.result c.args.no c.low.ensures) c.requires.rest _
     (high_slot c.high.result c.args.no c.high.ensures) c.remove-2.new.self c.in_ok-remove.ensures.ok c.in_ok-remove-2.ensures.ok

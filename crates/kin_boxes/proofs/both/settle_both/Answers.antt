@@ -1,7 +1,7 @@
 use Rattle.std.proofs.Common.{◌∙◌}
 use Rattle.std.proofs.lemmas.Result.{on_ok_weaker}
 use Rattle.kin_algebra.proofs.Results.{from_three, from_four}
-use Rattle.kin_boxes.proofs.Settling.{IsResettled, x_ready, y_ready, x_told, y_told, joined_now, settled_now, boxes_changed, few_tests}
+use Rattle.kin_boxes.proofs.Settling.{x_ready, y_ready, x_told, y_told, joined_now, settled_now, boxes_changed, few_tests}
 use Rattle.kin_boxes.proofs.both.settle_both.Goals as goal
 
 pub settle_in-requires-clause-ready : goal.settle_in-requires-clause-ready

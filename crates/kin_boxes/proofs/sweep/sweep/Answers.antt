@@ -15,13 +15,13 @@ meet-requires-clause-box_there c =
 
 pub loop-slot-preserved : goal.loop-slot-preserved
 loop-slot-preserved c = elim c.match-end.branch [
-  | in-Low+in_ok-meet-in-Low+in_ok-open_box-in-Low w ↦ rw (w.pairs-is, w.open-is)
-      (step_low c.args.by_y.now (meets c.args.by_y.now.items) c.args.by_x.now.items c.slots-slot-items.result.now c.loop-slot.open.items c.loop-slot.pairs.items _ c.loop-slot.slot-index 0
-      c.slots-slot-items.ensures c.loop-slot-test.true c.requires.boxes c.item-end.result c.item-end.ensures c.loop-slot.invariant w.in-Low.is w.meet.new.pairs.items w.open_box.new.open.items
+  | in-Low+in_ok-meet-in-Low+in_ok-open_box-in-Low w ↦ rw (w.pairs-is, w.opened-is)
+      (step_low c.args.by_y.now (meets c.args.by_y.now.items) c.args.by_x.now.items c.slots-slot-items.result.now c.loop-slot.opened.items c.loop-slot.pairs.items _ c.loop-slot.slot-index 0
+      c.slots-slot-items.ensures c.loop-slot-test.true c.requires.boxes c.item-end.result c.item-end.ensures c.loop-slot.invariant w.in-Low.is w.meet.new.pairs.items w.open_box.new.opened.items
       (w.in_ok-meet-in-Low.ensures ∙ ap (λ os. c.loop-slot.pairs.items ++ met (meets c.args.by_y.now.items) c.item-end.result.point os) w.deref.ensures.value) w.in_ok-open_box-in-Low.ensures)
-  | in-High w ↦ rw (w.pairs-is, w.open-is) (step_high c.args.by_y.now (meets c.args.by_y.now.items) c.args.by_x.now.items c.slots-slot-items.result.now c.loop-slot.open.items
+  | in-High w ↦ rw (w.pairs-is, w.opened-is) (step_high c.args.by_y.now (meets c.args.by_y.now.items) c.args.by_x.now.items c.slots-slot-items.result.now c.loop-slot.opened.items
       c.loop-slot.pairs.items _ c.loop-slot.slot-index 0
-      c.slots-slot-items.ensures c.loop-slot-test.true c.requires.boxes c.item-end.result c.item-end.ensures c.loop-slot.invariant w.in-High.is w.close_box.new.open.items w.close_box.ensures)
+      c.slots-slot-items.ensures c.loop-slot-test.true c.requires.boxes c.item-end.result c.item-end.ensures c.loop-slot.invariant w.in-High.is w.close_box.new.opened.items w.close_box.ensures)
 ]
 
 pub returns : goal.returns
@@ -29,5 +29,5 @@ returns c = λ ahead.
     let xs = c.args.by_x.now.items in
     let meet = meets c.args.by_y.now.items in
     let past = subst (λ (es : List ℕ). length es ≤ c.loop-slot.slot-index) c.slots-slot-items.ensures c.loop-slot-test.false in
-    subst (λ (ps : List (ℕ × ℕ)). ListsExactly ps (IsFound meet [] xs)) (sym (swept_all meet xs c.loop-slot.open.items c.loop-slot.pairs.items _ c.loop-slot.slot-index past c.loop-slot.invariant.0))
+    subst (λ (ps : List (ℕ × ℕ)). ListsExactly ps (IsFound meet [] xs)) (sym (swept_all meet xs c.loop-slot.opened.items c.loop-slot.pairs.items _ c.loop-slot.slot-index past c.loop-slot.invariant.0))
     (swept_exact meet [] xs ahead)

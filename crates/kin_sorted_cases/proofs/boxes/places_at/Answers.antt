@@ -4,7 +4,7 @@ use Rattle.kin_motion.specs.Numbers.{is_in, IsIn}
 use Rattle.kin_motion.proofs.Members.{in_cases}
 use Rattle.kin_sorted.specs.declared.ends.End.{End}
 use Rattle.kin_sorted.specs.declared.ends.Ends.{Ends}
-use Rattle.kin_sorted.specs.BoxEnds.{end_slot}
+use Rattle.kin_sorted.specs.EndSlots.{end_slot}
 use Rattle.kin_sorted.specs.Marks.{Marks, with_entering}
 use Rattle.kin_sorted.specs.Sorting.{Sorting}
 use Rattle.kin_sorted_cases.proofs.Ready.{set_live, still_live, one_live, kept, ready_from}

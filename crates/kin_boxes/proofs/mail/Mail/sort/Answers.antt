@@ -1,4 +1,4 @@
-use Rattle.std.proofs.Common.{◌≤◌, ◌∙◌, arith, length, filter}
+use Rattle.std.proofs.Common.{◌∙◌, arith, filter}
 use Rattle.std.proofs.lemmas.List.{map-id}
 use Rattle.kin_motion.specs.declared.fact.Placed.{Placed}
 use Rattle.kin_boxes.specs.Boxing.{is_along_x}

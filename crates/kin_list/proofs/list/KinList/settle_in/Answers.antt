@@ -1,66 +1,65 @@
-use Rattle.std.proofs.Common.{sym, ap, ap₂, ◌∙◌, subst, [], List, ℕ, Option, Some, length, map, rules}
-use Rattle.kin_algebra.specs.declared.sign.Sign.{Sign}
-use Rattle.kin_motion.specs.Kinetics.{ListsFailing, HasChanged}
-use Rattle.kin_motion.specs.Numbers.{is_in}
-use Rattle.kin_motion.specs.Parts.{moved_by}
-use Rattle.kin_motion.proofs.RealLaws.{real_line_laws}
-use Rattle.kin_list.specs.declared.link.Link.{Link}
-use Rattle.kin_list.specs.Costs.{IsArranged}
-use Rattle.kin_list.specs.Links.{link_for, facts_from}
-use Rattle.kin_list.specs.Listing.{names_leaving}
-use Rattle.kin_list.specs.Repairs.{IsHeld}
-use Rattle.kin_list.specs.Telling.{nothing_told}
-use Rattle.kin_list.proofs.TellingLaws.{changed_in_part, few_in_part}
-use Rattle.kin_list.proofs.WholeLaws.{IsWholeSettle, held_when_ready, whole_settle}
-use Rattle.kin_list.proofs.list.KinList.settle_in.Given as given
+use Rattle.std.proofs.Common.{◌≡◌, sym, ap, ◌∙◌, subst, length}
+use Rattle.kin_algebra.proofs.Results.{for_ok, at_ok}
+use Rattle.kin_motion.specs.Kinetics.{ListsFailing}
+use Rattle.kin_motion.specs.Numbers.{is_in, Lists}
+use Rattle.kin_sorted.specs.declared.single.Single.{Single}
+use Rattle.kin_motion.specs.Directions.{along}
+use Rattle.kin_sorted.specs.Marks.{marked, names_gone, without_all}
+use Rattle.kin_motion.specs.Ranks.{AreLive}
+use Rattle.kin_sorted.specs.Sorting.{AreFewTests, marks_for}
+use Rattle.kin_list.specs.Listing as listing
+use Rattle.kin_list.specs.Rows.{exchanged}
+use Rattle.kin_list.proofs.AlongLaws.{marked_live, marked_same, failing_same, few_same, lasting_same, lists_marked, settled_along, staying_same}
 use Rattle.kin_list.proofs.list.KinList.settle_in.Goals as goal
-use Rattle.kin_list.proofs.list.KinList.settle_in.Goals.{In_ok-report}
 
--- the order is arranged and its links are told
-done : (g : given.Over) (c : In_ok-report g) →
+pub settle_one-settled-requires-clause-live : goal.settle_one-settled-requires-clause-live
+settle_one-settled-requires-clause-live g c =
     let s = g.O.Signs.scene c.args.now.now in
     let k = c.self.inside in
-    let n = c.arrange.new.self in
-    let r = c.report.new.row in
-    IsArranged s k.along.dx k.along.dy k.mark n.row.links k.lineup.row.items r.items r.signs n.touched.items n.swaps.items (length c.args.failed.now) c.args.steps.now c.arrange.new.steps
-    × IsWholeSettle s k.along.dx k.along.dy k.mark k.lineup.row.items n.row.links r.links r.items r.signs nothing_told c.in_ok-report.ensures.told.change c.args.steps.now c.arrange.new.steps
-done g c =
-    let s = g.O.Signs.scene c.args.now.now in
-    let k = c.self.inside in
-    let n = c.arrange.new.self in
-    let r = c.report.new.row in
-    let told = c.in_ok-report.ensures in
-    let same = c.report.ensures.same in
-    let touched = c.deref.ensures.value in
-    let links = sym c.in_ok-arrange.ensures.links in
+    let d = k.sorted.rank in
     let ready = rw (sym c.self.view_is) at c.requires.ready in
-    let failing = subst (λ (ls : List (Option Link)). ListsFailing (facts_from k.along.dx k.along.dy 0 ls) (names_leaving k.mark) s c.args.failed.now) links (rw (sym c.self.view_is) at c.requires.failing) in
-    let held = subst (λ (ls : List (Option Link)). IsHeld ls k.lineup.row.items k.lineup.row.signs [] []) links (held_when_ready k.mark k.lineup.row.links k.lineup.row.items k.lineup.row.signs s ready c.self.invariant.held) in
-    let arranged = subst (λ (ts : List Sign). IsArranged s k.along.dx k.along.dy k.mark n.row.links k.lineup.row.items r.items ts n.touched.items n.swaps.items (length c.args.failed.now) c.args.steps.now c.arrange.new.steps) (sym same.2)
-    (subst (λ (xs : List ℕ). IsArranged s k.along.dx k.along.dy k.mark n.row.links k.lineup.row.items xs n.row.signs n.touched.items n.swaps.items (length c.args.failed.now) c.args.steps.now c.arrange.new.steps) (sym same.0)
-    (c.in_ok-arrange.ensures.arranged n.row.links held failing)) in
-    let fits = n.linked ∙ sym n.signed ∙ sym (ap length same.2) in (
-      arranged,
-      whole_settle s (real_line_laws s c.requires.real) k.along.dx k.along.dy k.mark k.lineup.row n.row.links r.links r.items k.lineup.row.signs r.signs n.touched.items n.swaps.items c.args.failed.now c.args.steps.now c.arrange.new.steps nothing_told told.told.change
-          ready c.self.invariant.markable held failing arranged told.length fits
-          (λ i l h. told.touched i l (ap (is_in i) touched ∙ h) ∙ ap₂ (λ xs ts. Some (link_for xs ts i)) (sym same.0) (sym same.2)) (λ i h. told.others i (ap (is_in i) touched ∙ h)),
-    )
+    subst (λ (one : Single). AreLive s (along d.slots d.dx d.dy) (marked (marks_for one) k.sorted.items)) (sym c.single.ensures)
+    (marked_live s d.slots d.dx d.dy k.mark k.sorted.items ready)
 
-pub invariant_of-self-2 : goal.invariant_of-self-2
-invariant_of-self-2 g c = record { markable = tt; held = (done g (goal.at.invariant_of-self-2 g c).In_ok-report).1.held }
-
-pub returns : goal.returns
-returns g c =
+pub settle_one-settled-requires-clause-failing : goal.settle_one-settled-requires-clause-failing
+settle_one-settled-requires-clause-failing g c =
+    let s = g.O.Signs.scene c.args.now.now in
     let k = c.self.inside in
-    let (arranged, whole) = done g (goal.at.returns g c).In_ok-report in
-    let told = c.in_ok-report.ensures.told in
-    record {
-      rest = search rules;
-      settled = whole.settled;
-      delta = rw (sym c.self.view_is) (subst (λ (ls : List (Option Link)). HasChanged (map (moved_by c.args.part) (facts_from k.along.dx k.along.dy 0 ls)) (map (moved_by c.args.part) (facts_from k.along.dx k.along.dy 0 c.report.new.row.links)) c.args.out.now c.report.new.out) c.in_ok-arrange.ensures.links (changed_in_part c.args.part _ _ _ _ told));
-      broken = tt;
-      exchanges = rw (sym c.self.view_is) arranged.exchanges;
-      moved = rw (sym c.self.view_is) arranged.moved;
-      tests = rw (sym c.self.view_is) (few_in_part c.args.part k.mark k.lineup.row.items c.report.new.row.items _ _ _ _ c.args.steps.now c.arrange.new.steps told (whole.tests told.changed));
-      same = search rules;
-    }
+    let d = k.sorted.rank in
+    let failing = rw (sym c.self.view_is) at c.requires.failing in
+    subst (λ (one : Single). ListsFailing k.sorted.facts (names_gone (along d.slots d.dx d.dy) (marks_for one) k.sorted.items) s c.args.failed.now) (sym c.single.ensures)
+    (failing_same s d.slots d.dx d.dy k.mark k.sorted.items k.sorted.facts c.args.failed.now failing)
+
+pub returns-clause-settled : goal.returns-clause-settled
+returns-clause-settled g c = for_ok c.settle_one-settled.result _ (λ v ok.
+    let s = g.O.Signs.scene c.args.now.now in
+    let k = c.self.inside in
+    let new = c.settle_one-settled.new.self in
+    let d = new.rank in
+    let ready = rw (sym c.self.view_is) at c.requires.ready in
+    let settled = at_ok c.settle_one-settled.result _ v ok c.settle_one-settled.ensures.settled in
+    let members = at_ok c.settle_one-settled.result _ v ok c.settle_one-settled.ensures.members in
+    settled_along s d.slots d.dx d.dy new.items
+    (λ i. members.same i ∙ ap (λ (one : Single). is_in i (marked (marks_for one) k.sorted.items)) c.single.ensures ∙ ap (is_in i) (marked_same k.mark k.sorted.items)
+    ∙ (lists_marked k.mark k.sorted.items s.live ready).same i) new.facts settled.order settled.exact)
+
+pub returns-clause-exchanges : goal.returns-clause-exchanges
+returns-clause-exchanges g c = for_ok c.settle_one-settled.result _ (λ v ok.
+    let k = c.self.inside in
+    let new = c.settle_one-settled.new.self in
+    let led = subst (λ (one : Single). exchanged new.swaps (without_all (marks_for one).leaving k.sorted.items) ≡ without_all (marks_for one).entering new.items) c.single.ensures
+    (at_ok c.settle_one-settled.result _ v ok c.settle_one-settled.ensures.exchanges) in
+    rw (sym c.self.view_is) (ap (exchanged new.swaps) (sym (staying_same k.mark k.sorted.items)) ∙ led ∙ lasting_same k.mark new.items))
+
+pub returns-clause-tests : goal.returns-clause-tests
+returns-clause-tests g c = for_ok c.settle_one-settled.result _ (λ v ok.
+    let k = c.self.inside in
+    let new = c.settle_one-settled.new.self in
+    let members = at_ok c.settle_one-settled.result _ v ok c.settle_one-settled.ensures.members in
+    let lists : Lists new.items (listing.marked k.mark k.sorted.items) = record {
+      once = members.once;
+      same = λ i. members.same i ∙ ap (λ (one : Single). is_in i (marked (marks_for one) k.sorted.items)) c.single.ensures ∙ ap (is_in i) (marked_same k.mark k.sorted.items);
+    } in
+    let few = subst (λ (one : Single). AreFewTests (length (marks_for one).entering) k.sorted.items new.items c.args.out.now c.settle_one-settled.new.out
+    c.args.steps.now c.settle_one-settled.new.steps) c.single.ensures (at_ok c.settle_one-settled.result _ v ok c.settle_one-settled.ensures.tests) in
+    rw (sym c.self.view_is) (few_same k.mark k.sorted.items new.items _ _ c.args.steps.now c.settle_one-settled.new.steps lists few))

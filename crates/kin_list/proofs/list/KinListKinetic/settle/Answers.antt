@@ -3,7 +3,7 @@ use Rattle.kin_algebra.proofs.Results.{for_ok, at_ok}
 use Rattle.kin_motion.specs.declared.fact.Placed.{Placed}
 use Rattle.kin_motion.specs.Kinetics.{HasChanged}
 use Rattle.kin_motion.specs.Parts.{moved_by}
-use Rattle.kin_list.proofs.TellingLaws.{moved_nowhere}
+use Rattle.kin_sorted.proofs.TellingLaws.{moved_nowhere}
 use Rattle.kin_list.proofs.list.KinListKinetic.settle.Goals as goal
 
 pub returns-clause-delta : goal.returns-clause-delta

@@ -1,5 +1,0 @@
-use Rattle.std.proofs.Common.{rules}
-use Rattle.kin_list.proofs.direction.stands_first.Goals as goal
-
-pub returns-in-Zero : goal.returns-in-Zero
-returns-in-Zero c = search rules

@@ -1,6 +1,0 @@
-use Rattle.std.proofs.Common.{sym, None}
-use Rattle.kin_list.proofs.ReportLaws.{set_same}
-use Rattle.kin_list.proofs.report.unlink.Goals as goal
-
-pub returns-in_default-clause-links : goal.returns-in_default-clause-links
-returns-in_default-clause-links c = sym (set_same c.args.row.now.links c.args.no None c.in_default.ensures)
