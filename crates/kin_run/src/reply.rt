@@ -99,6 +99,17 @@ fn farthest(world: &World) -> Result<Reply, Halt>
     Ok(Reply::Pair(world.farthest()))
 }
 
+/// The pairs of points whose boxes overlap.
+fn overlaps(world: &World) -> Result<Reply, Halt>
+    requires { IsWhole world.now }
+    ensures { RepliesTo world.now asked.Overlaps result }
+{
+    if !world.keeps_boxes() {
+        return Err(Halt::Refused(Refusal::NotKept));
+    }
+    Ok(Reply::Pairs(world.overlaps()?))
+}
+
 /// How many facts are live.
 fn live(world: &World) -> Result<Reply, Halt>
     requires { IsWhole world.now }
@@ -123,6 +134,7 @@ fn reply_to(world: &World, command: &Command) -> Result<Reply, Halt>
         Command::Inside { rect } => inside(world, &rect),
         Command::Nearest { no } => nearest(world, no),
         Command::Farthest => farthest(world),
+        Command::Overlaps => overlaps(world),
         Command::Live => live(world),
         _ => Err(Halt::Refused(Refusal::NotKept)),
     }
