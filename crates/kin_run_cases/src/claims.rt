@@ -2,6 +2,7 @@
 
 ghost use Rattle.std.specs.Prelude.{◌<◌};
 
+use crate::boxes::{EACH_KIND, EACH_KIND_TEXT};
 use crate::runs::source_of;
 use crate::worked::{CROSSING, MEETINGS_BY_NEXT, MEETINGS_BY_NEXT_WHOLE, THREE, THREE_TEXT};
 use kin_io::memory::MemSink;
@@ -11,13 +12,32 @@ use std::alloc::Global;
 use std::test::Fail;
 
 /// Scripts with claimed texts, what is written of them, and the statuses.
-const CLAIMS: [(&str, &str, &str, Status); 13] = [
+const CLAIMS: [(&str, &str, &str, Status); 16] = [
     (CROSSING, "=\n0 1\n0 1\n1 0\n", "yes\n", Status::Done),
     (CROSSING, "=\n0 1\n0 1\n0 1\n", "no\n", Status::Differs),
     // The last line feed is left out, and a line comes more.
     (CROSSING, "=\n0 1\n0 1\n1 0", "no\n", Status::Differs),
     (CROSSING, "=\n0 1\n0 1\n1 0\n1 0\n", "no\n", Status::Differs),
     (CROSSING, "=\n0 1\n0 1\n", "no\n", Status::Differs),
+    // Three boxes in a row, of which each touches the next: both pairs are claimed, and one is left out or comes too soon.
+    (
+        "size 2\nkeep boxes 2 2\ninsert 0 0 0 0 0\ninsert 1 2 2 0 0\ninsert 2 4 4 0 0\noverlaps\n",
+        "=\n0 1\n1 2\n",
+        "yes\n",
+        Status::Done,
+    ),
+    (
+        "size 2\nkeep boxes 2 2\ninsert 0 0 0 0 0\ninsert 1 2 2 0 0\ninsert 2 4 4 0 0\noverlaps\n",
+        "=\n0 1\n",
+        "no\n",
+        Status::Differs,
+    ),
+    (
+        "size 2\nkeep boxes 2 2\ninsert 0 0 0 0 0\ninsert 1 2 2 0 0\ninsert 2 4 4 0 0\noverlaps\n",
+        "=\n1 2\n0 1\n",
+        "no\n",
+        Status::Differs,
+    ),
     // The first line `=` parts.
     (CROSSING, "=\n0 1\n0 1\n1 0\n=\n", "no\n", Status::Differs),
     ("size 1\n=\n", "=\n", "no\n", Status::Differs),
@@ -69,6 +89,7 @@ fn claims_have_their_verdicts(rt: HostRuntime) -> Result<(), Fail> {
 fn the_texts_of_journals_are_true(rt: HostRuntime) -> Result<(), Fail> {
     for (script, text) in [
         (THREE, THREE_TEXT),
+        (EACH_KIND, EACH_KIND_TEXT),
         (MEETINGS_BY_NEXT, MEETINGS_BY_NEXT_WHOLE),
     ] {
         let mut claim = String::from_str(rt.alloc(), "=\n")?;

@@ -102,8 +102,8 @@ pub const HULLS: [(&str, &str, Status); 11] = [
     ),
     // One structure of each kind: nothing, one point, and nothing again.
     (
-        "size 3\nkeep order 1 0\nkeep extreme 0 1\nkeep hull\nkeep closest\nkeep range\nkeep nearest\nkeep diameter\norder 0\nextreme 1\nhull\nclosest\nbox -9 9 -9 9\nfarthest\nlive\nnext\ninsert 5 1 2 0 0\norder 0\nextreme 1\nhull\nclosest\nbox -9 9 -9 9\nnearest 5\nfarthest\nlive\nremove 5\nhull\nfarthest\n",
-        "none\nnone\nnone\nnone\nnone\nnone\n0\nnone\n5\n5\n5\nnone\n5\nnone\nnone\n0\nnone\nnone\n",
+        "size 3\nkeep order 1 0\nkeep extreme 0 1\nkeep hull\nkeep closest\nkeep range\nkeep nearest\nkeep diameter\nkeep boxes 1 0\norder 0\nextreme 1\nhull\nclosest\nbox -9 9 -9 9\nfarthest\noverlaps\nlive\nnext\ninsert 5 1 2 0 0\norder 0\nextreme 1\nhull\nclosest\nbox -9 9 -9 9\nnearest 5\nfarthest\noverlaps\nlive\nremove 5\nhull\nfarthest\noverlaps\n",
+        "none\nnone\nnone\nnone\nnone\nnone\nnone\n0\nnone\n5\n5\n5\nnone\n5\nnone\nnone\nnone\n2\nnone\nnone\nnone\n",
         Status::Done,
     ),
     // A point comes out of the hull.

@@ -8,6 +8,8 @@ mod borders;
 #[cfg(test)]
 mod bounds;
 #[cfg(test)]
+mod boxes;
+#[cfg(test)]
 mod claims;
 #[cfg(test)]
 mod exits;

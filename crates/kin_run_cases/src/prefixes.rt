@@ -25,7 +25,7 @@ const CROSSING: [Line; 10] = [
 ];
 
 /// A line of each kind.
-const KINDS: [Line; 29] = [
+const KINDS: [Line; 31] = [
     ("size 2 # four\n", "-----ooooooooo", ""),
     ("keep order 1 0\n", "-------------oo", ""),
     ("keep extreme 0 1\n", "---------------oo", ""),
@@ -34,20 +34,21 @@ const KINDS: [Line; 29] = [
     ("keep range\n", "---------oo", ""),
     ("keep nearest\n", "-----------oo", ""),
     ("keep diameter\n", "------------oo", ""),
+    ("keep boxes 2 1\n", "-------------oo", ""),
     ("journal on\n", "---------oo", ""),
     ("\r\n", "oo", ""),
     ("insert 0 0 0 1 0\n", "---------------oo", ""),
     ("order 0\n", "------oo", "0\n"),
     ("next \r\n", "---oooo", "none\n"),
     ("insert 1 2 9 0 0\n", "---------------oo", ""),
-    ("at 1/2\n", "---o-oo", ""),
+    ("at 1/2\n", "---o-oo", "! 0+ 7/1 line(1,0,2) 1 0 0 +\n"),
     ("insert\t3 4 6 0 0\n", "---------------oo", ""),
-    ("live\n", "---oo", "57\n"),
+    ("live\n", "---oo", "67\n"),
     ("turn 3 2 -2\n", "----------oo", ""),
     (
         "at root 1 0 -4 hi\n",
         "----------------oo",
-        "! 4/3 3/1 line(1,-1) 3 0 + 0\n! 4/3 5/1 line(1,-1) 3 0 + 0\n! 4/3+ 3/1 line(1,-1) 0 3 0 +\n! 4/3+ 5/1 line(1,-1) 0 3 0 +\n! r(3,34,-53,hi) 3/10 dist 0 3 1 3 - 0\n! r(3,34,-53,hi) 3/15 dist 1 3 0 3 + 0\n! r(3,34,-53,hi)+ 3/10 dist 0 3 1 3 0 +\n! r(3,34,-53,hi)+ 3/15 dist 1 3 0 3 0 -\n! 2 0/0 line(1,0) 0 1 + 0\n! 2 2/4 line(1,0) 0 1 + 0\n! 2 2/5 line(1,0) 0 1 + 0\n! 2 3/2 line(1,0) 0 1 + 0\n! 2 4/0 line(1,0) 0 1 + 0\n! 2 5/2 line(1,0) 0 1 + 0\n",
+        "! 1/2+ 7/1 line(1,0,2) 3 1 0 -\n! 4/3 3/1 line(1,-1) 3 0 + 0\n! 4/3 5/1 line(1,-1) 3 0 + 0\n! 4/3+ 3/1 line(1,-1) 0 3 0 +\n! 4/3+ 5/1 line(1,-1) 0 3 0 +\n! r(3,34,-53,hi) 3/10 dist 0 3 1 3 - 0\n! r(3,34,-53,hi) 3/15 dist 1 3 0 3 + 0\n! r(3,34,-53,hi)+ 3/10 dist 0 3 1 3 0 +\n! r(3,34,-53,hi)+ 3/15 dist 1 3 0 3 0 -\n! 2 0/0 line(1,0) 0 1 + 0\n! 2 2/4 line(1,0) 0 1 + 0\n! 2 2/5 line(1,0) 0 1 + 0\n! 2 3/2 line(1,0) 0 1 + 0\n! 2 4/0 line(1,0) 0 1 + 0\n! 2 5/2 line(1,0) 0 1 + 0\n! 2 7/0 line(1,0) 0 1 + 0\n! 2 7/3 line(1,0) 0 1 + 0\n",
     ),
     ("extreme 1\n", "--------oo", "1\n"),
     ("hull\n", "---oo", "0 3 1\n"),
@@ -57,8 +58,9 @@ const KINDS: [Line; 29] = [
     ("box 0 3 -4 9\n", "-----------oo", "0 1\n"),
     ("nearest 1\n", "--------oo", "0\n"),
     ("farthest\n", "-------oo", "1 3\n"),
+    ("overlaps\n", "-------oo", "none\n"),
     ("remove 3\n", "-------oo", ""),
-    ("live", "---o", "26\n"),
+    ("live", "---o", "32\n"),
 ];
 
 /// How a run ends, and its text.

@@ -3,6 +3,7 @@
 ghost use Rattle.std.specs.Prelude.{◌<◌};
 
 use crate::bounds::CORNERS;
+use crate::boxes::{BOXES, EACH_KIND, EACH_KIND_TEXT};
 use crate::farthest::FARTHEST;
 use crate::kept::{CARRIAGEWAYS, CARRIAGEWAYS_TEXT, CHANGES, CLOSE, HULLS};
 use crate::legs::LEGS;
@@ -70,6 +71,21 @@ fn gives_the_texts_of_nearest_points(rt: HostRuntime) -> Result<(), Fail> {
 #[test]
 fn gives_the_texts_of_farthest_pairs(rt: HostRuntime) -> Result<(), Fail> {
     let wrong = first_wrong(rt.alloc(), &FARTHEST, 64, 400)?;
+    assert!(rt; wrong == None, "script {wrong:?}");
+    Ok(())
+}
+
+#[test]
+fn gives_the_texts_of_boxes(rt: HostRuntime) -> Result<(), Fail> {
+    let wrong = first_wrong(rt.alloc(), &BOXES, 64, 300)?;
+    assert!(rt; wrong == None, "script {wrong:?}");
+    Ok(())
+}
+
+#[test]
+fn gives_the_text_of_a_structure_of_each_kind(rt: HostRuntime) -> Result<(), Fail> {
+    let rows = [(EACH_KIND, EACH_KIND_TEXT, Status::Done)];
+    let wrong = first_wrong(rt.alloc(), &rows, 64, 2000)?;
     assert!(rt; wrong == None, "script {wrong:?}");
     Ok(())
 }
