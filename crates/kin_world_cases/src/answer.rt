@@ -67,6 +67,14 @@ fn has_farthest(world: &World, s: u32, pair: Option<(u32, u32)>) -> bool {
     world.is_whole() && world.farthest() == pair
 }
 
+/// Boxes are kept, and these are the pairs that overlap.
+fn has_overlaps(world: &World, pairs: &[(u32, u32)]) -> Result<bool, NoMemory> {
+    if !world.keeps_boxes() {
+        return Ok(false);
+    }
+    Ok(world.is_whole() && world.overlaps()?.as_slice() == pairs)
+}
+
 fn is_small_border(n: i32) -> bool
     ensures { IsTrue result → unsigned_abs n ≤ 2 ^ 24 }
 {
@@ -103,6 +111,7 @@ pub fn answers(world: &World, call: &Call) -> Result<bool, NoMemory> {
         Call::Inside(s, rect, numbers) => has_inside(world, s, &rect, numbers),
         Call::Nearest(s, no, number) => Ok(has_nearest(world, s, no, number)),
         Call::Farthest(s, pair) => Ok(has_farthest(world, s, pair)),
+        Call::Overlaps(pairs) => has_overlaps(world, pairs),
         _ => Ok(false),
     }
 }

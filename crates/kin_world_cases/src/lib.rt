@@ -10,6 +10,8 @@ mod answer;
 #[cfg(test)]
 mod asked;
 #[cfg(test)]
+mod boxes;
+#[cfg(test)]
 mod change;
 #[cfg(test)]
 mod far;

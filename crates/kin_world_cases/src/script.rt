@@ -58,6 +58,8 @@ pub enum Call {
     Nearest(u32, u32, Option<u32>),
     /// The farthest pair, which a structure keeps.
     Farthest(u32, Option<(u32, u32)>),
+    /// The pairs whose boxes overlap, of the boxes that are kept.
+    Overlaps(&'static [(u32, u32)]),
 }
 
 /// The size, what is kept, and the calls.
