@@ -12,8 +12,8 @@ pub enum Refusal {
     Lost,
     /// A number is outside its range.
     BadNumber,
-    /// The structure at this place of the list can't be kept: its direction isn't small, a size of its boxes isn't in
-    /// 0..4096, there are too many of its kind, or it is a farthest pair with no hull before it.
+    /// The structure at this place of the list can't be kept: its direction isn't small, its boxes are too wide or too high
+    /// or of a negative size, there are too many of its kind, or it is a farthest pair with no hull before it.
     BadKeep(usize),
     /// No such structure is kept.
     NotKept,
