@@ -139,11 +139,10 @@ impl Scene for Seen {
                 goes_on::<KinClosest, L>(alloc, &Keep::Closest, written, steps)
             }
             Seen::Boxes((w, h), ..) => {
-                let keep = Keep::Boxes { w, h };
-                if !keep.is_small() {
+                if !(0..=4096).contains(&w) || !(0..=4096).contains(&h) {
                     return Err(Fault::Differs);
                 }
-                goes_on::<KinBoxes, L>(alloc, &keep, written, steps)
+                goes_on::<KinBoxes, L>(alloc, &Keep::Boxes { w, h }, written, steps)
             }
             Seen::Nearest(..) => { goes_on::<KinNearest, L>(alloc, &Keep::Nearest, written, steps) }
         }
