@@ -1,22 +1,16 @@
-//! All that a row has for a slot, in 8 bytes.
+//! What a row has for a slot beside its place.
 
 ghost use Rattle.std.specs.Prelude.{◌≡◌, None};
 ghost use Rattle.kin_algebra.specs.declared.sign.Sign.TheVariants.{Zero};
 ghost use Rattle.kin_sorted.specs.Cells.{link_in};
-ghost use Rattle.kin_sorted.specs.Rows.{nowhere};
 
 use crate::link::Link;
 use kin_num::Sign;
 
-/// The place of an item that isn't in the row. It is no place: a row has at most `2^15` members.
-pub const NOWHERE: u16 = u16::MAX;
-
-/// What a row has for a slot. A row has room for at most `2^15` slots, so that slots and places
-/// fit 16 bits.
+/// What a row has for a slot beside its place. A row has room for at most `2^15` slots, so that a slot
+/// fits 16 bits.
 #[derive(Clone, Copy, Debug, PartialEq, Eq)]
 pub struct Cell {
-    /// The place of its item, or `NOWHERE`.
-    pub place: u16,
     /// The right slot of the live fact whose left slot it is. It says nothing where there is no
     /// such fact.
     pub right: u16,
@@ -29,10 +23,9 @@ pub struct Cell {
 impl Cell {
     /// The cell of an item that isn't in the row.
     pub fn vacant() -> Cell
-        ensures { result ≡ record { place = nowhere; right = 0; reported = None; sign = Zero } }
+        ensures { result ≡ record { right = 0; reported = None; sign = Zero } }
     {
         Cell {
-            place: NOWHERE,
             right: 0,
             reported: None,
             sign: Sign::Zero,
