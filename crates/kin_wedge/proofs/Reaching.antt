@@ -8,30 +8,30 @@ use Rattle.kin_motion.proofs.SetLaws.{contains_none, contains_head, contains_tai
 use Rattle.kin_list.proofs.PigeonLaws.{few_below}
 use Rattle.kin_wedge.specs.Threads.{Web, PointsAt, IsThreaded, IsReached, walk}
 
-module _ (w : Web) where
-  walk_reads : (n : ℕ) (at : Option ℕ) (xs : List ℕ) → IsReached w at xs → length xs ≤ n → walk n w at ≡ xs
+module _ (bound : ℕ) (next : ℕ → Option ℕ) where
+  walk_reads : (n : ℕ) (at : Option ℕ) (xs : List ℕ) → IsReached bound next at xs → length xs ≤ n → walk n next at ≡ xs
   walk_reads zero at [] r l = refl
-  walk_reads (suc n) at [] r l = ap (walk (suc n) w) r
+  walk_reads (suc n) at [] r l = ap (walk (suc n) next) r
   walk_reads zero at (x ∷ xs) r l = absurd (omega (arith, l))
-  walk_reads (suc n) at (x ∷ xs) r l = ap (walk (suc n) w) r.0 ∙ ap (λ (ys : List ℕ). x ∷ ys) (walk_reads n (w.next x) xs r.2 (omega (arith, l)))
+  walk_reads (suc n) at (x ∷ xs) r l = ap (walk (suc n) next) r.0 ∙ ap (λ (ys : List ℕ). x ∷ ys) (walk_reads n (next x) xs r.2 (omega (arith, l)))
 
-  short_walk : (n : ℕ) (at : Option ℕ) → length (walk n w at) ≤ n
+  short_walk : (n : ℕ) (at : Option ℕ) → length (walk n next at) ≤ n
   short_walk zero at = omega arith
   short_walk (suc n) None = omega arith
-  short_walk (suc n) (Some s) = let l = short_walk n (w.next s) in omega (arith, l)
+  short_walk (suc n) (Some s) = let l = short_walk n (next s) in omega (arith, l)
 
   -- a walk that ends goes on from the next slot, and ends there too
-  pub walk_on : (n s : ℕ) → IsReached w (Some s) (walk n w (Some s)) → (s < length w.targets) × (walk n w (Some s) ≡ s ∷ walk n w (w.next s)) × IsReached w (w.next s) (walk n w (w.next s))
+  pub walk_on : (n s : ℕ) → IsReached bound next (Some s) (walk n next (Some s)) → (s < bound) × (walk n next (Some s) ≡ s ∷ walk n next (next s)) × IsReached bound next (next s) (walk n next (next s))
   walk_on zero s r = absurd cc
   walk_on (suc n) s r =
-      let l = short_walk n (w.next s) in
-      let e = walk_reads (suc n) (w.next s) (walk n w (w.next s)) r.2 (omega (arith, l)) in
-      (r.1, ap (λ (xs : List ℕ). s ∷ xs) (sym e), subst (IsReached w (w.next s)) (sym e) r.2)
+      let l = short_walk n (next s) in
+      let e = walk_reads (suc n) (next s) (walk n next (next s)) r.2 (omega (arith, l)) in
+      (r.1, ap (λ (xs : List ℕ). s ∷ xs) (sym e), subst (IsReached bound next (next s)) (sym e) r.2)
 
 module _ (w : Web) (t : IsThreaded w) (q : ℕ) where
   -- these are reached from a slot on, all of them point at q, and each began before those before it
   record IsRun (at : Option ℕ) (xs : List ℕ) : Type 0 where
-    reached : IsReached w at xs
+    reached : IsReached (length w.targets) w.next at xs
     each : (s : ℕ) → Contains xs s → PointsAt w s q
     once : AreDistinct xs
     past : (now : ℕ) → ((s : ℕ) → at ≡ Some s → t.began s < now) → (s : ℕ) → Contains xs s → t.began s < now
@@ -95,7 +95,7 @@ module _ (w : Web) (t : IsThreaded w) (q : ℕ) where
           let f = t.previous s b q p e in
           r.closed b s (before b f.0 (t.next b s q f.0 f.1).2) f.1
 
-  pub whole : (xs : List ℕ) × IsReached w (w.first q) xs × (length xs ≤ length w.targets) × ListsExactly xs (λ s. PointsAt w s q)
+  pub whole : (xs : List ℕ) × IsReached (length w.targets) w.next (w.first q) xs × (length xs ≤ length w.targets) × ListsExactly xs (λ s. PointsAt w s q)
   whole =
       let r = run t.now (w.first q) (λ s e. ((t.first s q e).0, t.past s)) in (
         r.0,
@@ -104,8 +104,11 @@ module _ (w : Web) (t : IsThreaded w) (q : ℕ) where
         record { once = r.1.once; each = λ s. (r.1.each s, λ p. all r.0 r.1 t.now s p (omega arith)) },
       )
 
-  pub walk_reached : (n : ℕ) → length w.targets ≤ n → IsReached w (w.first q) (walk n w (w.first q))
-  walk_reached n h = let l = whole.2 in subst (IsReached w (w.first q)) (sym (walk_reads w n (w.first q) whole.0 whole.1 (omega (arith, l, h)))) whole.1
+  read_whole : (n : ℕ) → length w.targets ≤ n → walk n w.next (w.first q) ≡ whole.0
+  read_whole n h = let l = whole.2 in walk_reads (length w.targets) w.next n (w.first q) whole.0 whole.1 (omega (arith, l, h))
 
-  pub walk_lists : (n : ℕ) → length w.targets ≤ n → ListsExactly (walk n w (w.first q)) (λ s. PointsAt w s q)
-  walk_lists n h = let l = whole.2 in subst (λ (xs : List ℕ). ListsExactly xs (λ s. PointsAt w s q)) (sym (walk_reads w n (w.first q) whole.0 whole.1 (omega (arith, l, h)))) whole.3
+  pub walk_reached : (n : ℕ) → length w.targets ≤ n → IsReached (length w.targets) w.next (w.first q) (walk n w.next (w.first q))
+  walk_reached n h = subst (IsReached (length w.targets) w.next (w.first q)) (sym (read_whole n h)) whole.1
+
+  pub walk_lists : (n : ℕ) → length w.targets ≤ n → ListsExactly (walk n w.next (w.first q)) (λ s. PointsAt w s q)
+  walk_lists n h = subst (λ (xs : List ℕ). ListsExactly xs (λ s. PointsAt w s q)) (sym (read_whole n h)) whole.3

@@ -1,7 +1,6 @@
 -- What a write of one word makes of a web.
-use Rattle.std.proofs.Common.{◌≡◌, ◌≢◌, ◌⊎◌, inl, inr, refl, sym, ap, ◌∙◌, List, ℕ, ◌<◌, set, map, get_or, length, Some}
+use Rattle.std.proofs.Common.{◌≡◌, ◌≢◌, ◌⊎◌, inl, inr, refl, sym, ap, ◌∙◌, List, ℕ, ◌<◌, set, get_or, length, Option, Some}
 use Rattle.std.specs.Prelude.{slice_get}
-use Rattle.std.proofs.Math.Seq.{map-set_same}
 use Rattle.std.proofs.lemmas.Bool.{cases_eq}
 use Rattle.std.proofs.lemmas.List.{map-set}
 use Rattle.std.proofs.lemmas.Option.{slice_get-get_or, same_Some}
@@ -33,46 +32,31 @@ module _ (ts : List Thread) (s : ℕ) (low : s < length ts) (old new : Thread) (
           ∙ sym (changed_there (λ y. word_of f (slice_get ts y)) (named (f new)) x (Some s) (ap (λ (y : ℕ). Some y) (sym k)))
       at (inr n) = ap (word_of f) (get-set_other ts s x new n) ∙ sym (changed_elsewhere (λ y. word_of f (slice_get ts y)) (named (f new)) x (Some s) (λ z. n (sym (same_Some s x z))))
 
-  same_targets : new.target ≡ old.target → map (λ (t : Thread). named t.target) (set ts s new) ≡ map (λ (t : Thread). named t.target) ts
-  same_targets e = map-set_same (λ (t : Thread). named t.target) ts s new old (ap named (e ∙ ap (λ (t : Thread). t.target) read))
+-- a word of what a slot points at
+pub target_written : (ws : List ℕ) (s word : ℕ) (ts : List Thread) → web (set ws s word) ts ≡ record (web ws ts) { targets = set (web ws ts).targets s (named word) }
+target_written ws s word ts = ap (λ (l : List (Option ℕ)). record (web ws ts) { targets = l }) (map-set named ws s word)
 
-module _ (ts : List Thread) (s word : ℕ) (low : s < length ts) (old : Thread) (read : old ≡ get_or ts s old) where
-  pub target_written : web (set ts s (record old { target = word })) ≡ record (web ts) { targets = set (web ts).targets s (named word) }
-  target_written =
-      let targets = map-set (λ (t : Thread). named t.target) ts s (record old { target = word }) in
-      λ i. record {
-        targets = targets i;
-        next = λ x. kept ts s low old (record old { target = word }) read (λ t. t.next) refl x i;
-        previous = λ x. kept ts s low old (record old { target = word }) read (λ t. t.previous) refl x i;
-        first = λ x. kept ts s low old (record old { target = word }) read (λ t. t.first) refl x i;
-      }
+module _ (ts : List Thread) (s word : ℕ) (low : s < length ts) (old : Thread) (read : old ≡ get_or ts s old) (ws : List ℕ) where
+  pub next_written : web ws (set ts s (record old { next = word })) ≡ record (web ws ts) { next = changed (web ws ts).next (Some s) (named word) }
+  next_written = λ i. record {
+    targets = (web ws ts).targets;
+    next = λ x. written ts s low old (record old { next = word }) read (λ t. t.next) x i;
+    previous = λ x. kept ts s low old (record old { next = word }) read (λ t. t.previous) refl x i;
+    first = λ x. kept ts s low old (record old { next = word }) read (λ t. t.first) refl x i;
+  }
 
-  pub next_written : web (set ts s (record old { next = word })) ≡ record (web ts) { next = changed (web ts).next (Some s) (named word) }
-  next_written =
-      let targets = same_targets ts s low old (record old { next = word }) read refl in
-      λ i. record {
-        targets = targets i;
-        next = λ x. written ts s low old (record old { next = word }) read (λ t. t.next) x i;
-        previous = λ x. kept ts s low old (record old { next = word }) read (λ t. t.previous) refl x i;
-        first = λ x. kept ts s low old (record old { next = word }) read (λ t. t.first) refl x i;
-      }
+  pub previous_written : web ws (set ts s (record old { previous = word })) ≡ record (web ws ts) { previous = changed (web ws ts).previous (Some s) (named word) }
+  previous_written = λ i. record {
+    targets = (web ws ts).targets;
+    next = λ x. kept ts s low old (record old { previous = word }) read (λ t. t.next) refl x i;
+    previous = λ x. written ts s low old (record old { previous = word }) read (λ t. t.previous) x i;
+    first = λ x. kept ts s low old (record old { previous = word }) read (λ t. t.first) refl x i;
+  }
 
-  pub previous_written : web (set ts s (record old { previous = word })) ≡ record (web ts) { previous = changed (web ts).previous (Some s) (named word) }
-  previous_written =
-      let targets = same_targets ts s low old (record old { previous = word }) read refl in
-      λ i. record {
-        targets = targets i;
-        next = λ x. kept ts s low old (record old { previous = word }) read (λ t. t.next) refl x i;
-        previous = λ x. written ts s low old (record old { previous = word }) read (λ t. t.previous) x i;
-        first = λ x. kept ts s low old (record old { previous = word }) read (λ t. t.first) refl x i;
-      }
-
-  pub first_written : web (set ts s (record old { first = word })) ≡ record (web ts) { first = changed (web ts).first (Some s) (named word) }
-  first_written =
-      let targets = same_targets ts s low old (record old { first = word }) read refl in
-      λ i. record {
-        targets = targets i;
-        next = λ x. kept ts s low old (record old { first = word }) read (λ t. t.next) refl x i;
-        previous = λ x. kept ts s low old (record old { first = word }) read (λ t. t.previous) refl x i;
-        first = λ x. written ts s low old (record old { first = word }) read (λ t. t.first) x i;
-      }
+  pub first_written : web ws (set ts s (record old { first = word })) ≡ record (web ws ts) { first = changed (web ws ts).first (Some s) (named word) }
+  first_written = λ i. record {
+    targets = (web ws ts).targets;
+    next = λ x. kept ts s low old (record old { first = word }) read (λ t. t.next) refl x i;
+    previous = λ x. kept ts s low old (record old { first = word }) read (λ t. t.previous) refl x i;
+    first = λ x. written ts s low old (record old { first = word }) read (λ t. t.first) x i;
+  }

@@ -24,16 +24,16 @@ pub record IsThreaded (w : Web) : Type 0 where
   pub previous : (s p q : ℕ) → PointsAt w s q → w.previous s ≡ Some p → PointsAt w p q × (w.next p ≡ Some s)
   pub front : (s q : ℕ) → PointsAt w s q → w.previous s ≡ None → w.first q ≡ Some s
 
--- from a slot on, these are reached by `next`, and then none
-abbrev pub IsReached : Web → Option ℕ → List ℕ → Type 0
-IsReached w at [] = at ≡ None
-IsReached w at (s ∷ rest) = (at ≡ Some s) × (s < length w.targets) × IsReached w (w.next s) rest
+-- from a slot on, these slots below a bound are reached by `next`, and then none
+abbrev pub IsReached : ℕ → (ℕ → Option ℕ) → Option ℕ → List ℕ → Type 0
+IsReached bound next at [] = at ≡ None
+IsReached bound next at (s ∷ rest) = (at ≡ Some s) × (s < bound) × IsReached bound next (next s) rest
 
 -- at most n of them
-abbrev pub walk : ℕ → Web → Option ℕ → List ℕ
-walk zero w at = []
-walk (suc n) w None = []
-walk (suc n) w (Some s) = s ∷ walk n w (w.next s)
+abbrev pub walk : ℕ → (ℕ → Option ℕ) → Option ℕ → List ℕ
+walk zero next at = []
+walk (suc n) next None = []
+walk (suc n) next (Some s) = s ∷ walk n next (next s)
 
 -- a function with another value at one number, if one is given
 abbrev pub changed : {A : Type 0} → (ℕ → A) → Option ℕ → A → ℕ → A
@@ -72,18 +72,23 @@ word_of f None = None
 word_of f (Some t) = named (f t)
 
 abbrev pub vacant_thread : Thread
-vacant_thread = record { target = 65535; next = 65535; previous = 65535; first = 65535 }
+vacant_thread = record { next = 65535; previous = 65535; first = 65535 }
 
--- what the words say
-abbrev pub web : List Thread → Web
-web ts = record {
-  targets = map (λ t. named t.target) ts;
-  next = λ s. word_of (λ t. t.next) (slice_get ts s);
+-- the slot after a slot, by the words of the threads
+abbrev pub next_in : List Thread → ℕ → Option ℕ
+next_in ts s = word_of (λ t. t.next) (slice_get ts s)
+
+-- what the words say of the slots' targets, and of their threads
+abbrev pub web : List ℕ → List Thread → Web
+web words ts = record {
+  targets = map named words;
+  next = next_in ts;
   previous = λ s. word_of (λ t. t.previous) (slice_get ts s);
   first = λ s. word_of (λ t. t.first) (slice_get ts s);
 }
 
--- a word names each slot, and the slots are threaded
-pub record AreThreads (ts : List Thread) : Type 0 where
-  pub small : length ts ≤ 2 ^ 15
-  pub threaded : IsThreaded (web ts)
+-- each slot has a word and a thread, a word names each slot, and the slots are threaded
+pub record AreThreads (words : List ℕ) (ts : List Thread) : Type 0 where
+  pub small : length words ≤ 2 ^ 15
+  pub even : length ts ≡ length words
+  pub threaded : IsThreaded (web words ts)

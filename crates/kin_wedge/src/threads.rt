@@ -1,7 +1,7 @@
 //! Slots, each of which points at a slot or at none. Those that point at one slot are threaded through the slots, so
 //! that no list on the heap is made for it.
 
-ghost use Rattle.std.specs.Prelude.{◌≡◌, ℕ, ◌<◌, ◌≤◌, ◌^◌, Some, None, length, replicate, slice_get, slice_set, IfOk, MatchOption};
+ghost use Rattle.std.specs.Prelude.{◌≡◌, ℕ, ◌<◌, ◌≤◌, ◌^◌, List, Some, None, length, replicate, slice_get, slice_set, IfOk, MatchOption};
 ghost use Rattle.kin_motion.specs.Sets.{ListsExactly};
 ghost use Rattle.kin_wedge.specs.Threads.{named, vacant_thread, web};
 
@@ -14,7 +14,11 @@ use std::marker::Model;
 /// Slots, each of which points at a slot or at none.
 #[derive(Drop)]
 pub struct Threads {
-    slots: Vec<Thread>,
+    /// By slot: the word of the slot at which it points. These are apart from the threads, since most look-ups read
+    /// nothing else.
+    words: Vec<u16>,
+    /// By slot.
+    threads: Vec<Thread>,
 }
 
 impl Model for Threads {
@@ -23,9 +27,9 @@ impl Model for Threads {
 
     ghost Value = { List (Option ℕ) };
 
-    ghost view = { λ t. (web t.slots.items).targets };
+    ghost view = { λ t. (web t.words.items t.threads.items).targets };
 
-    ghost invariant = { λ t. AreThreads t.slots.items };
+    ghost invariant = { λ t. AreThreads t.words.items t.threads.items };
 }
 
 impl Threads {
@@ -34,8 +38,9 @@ impl Threads {
         requires { count ≤ 2 ^ 15 }
         ensures { IfOk result (λ t. t ≡ replicate count None) }
     {
-        let slots = vacant(alloc, count)?;
-        Ok(Threads { slots })
+        let words = vec![in alloc; NONE; count]?;
+        let threads = vacant(alloc, count)?;
+        Ok(Threads { words, threads })
     }
 
     /// At which slot a slot points.
@@ -45,7 +50,7 @@ impl Threads {
         ensures value { slice_get self.now slot ≡ Some result }
         ensures within { MatchOption result (Unit {0}) (λ target. target < length self.now) }
     {
-        named(self.slots[slot as usize].target)
+        named(self.words[slot as usize])
     }
 
     /// The word of the slot at which a slot points.
@@ -54,7 +59,7 @@ impl Threads {
         requires { slot < length self.now }
         ensures { slice_get self.now slot ≡ Some (named result) }
     {
-        self.slots[slot as usize].target
+        self.words[slot as usize]
     }
 
     /// Lets a slot that points at none point at a slot.
@@ -64,7 +69,7 @@ impl Threads {
         requires target { target < length self.old }
         ensures { self.new ≡ slice_set self.old slot (Some target) }
     {
-        link(&mut self.slots, slot, target);
+        link(&mut self.words, &mut self.threads, slot, target);
     }
 
     /// Lets a slot point at none.
@@ -73,8 +78,8 @@ impl Threads {
         requires { slot < length self.old }
         ensures { self.new ≡ slice_set self.old slot None }
     {
-        if let Some(target) = named(self.slots[slot as usize].target) {
-            unlink(&mut self.slots, slot, target);
+        if let Some(target) = named(self.words[slot as usize]) {
+            unlink(&mut self.words, &mut self.threads, slot, target);
         }
     }
 
@@ -83,28 +88,27 @@ impl Threads {
     pub fn pointing(&self, target: usize) -> Walk<'_>
         ensures { ListsExactly result (λ slot. slice_get self.now slot ≡ Some (Some target)) }
     {
-        let slots: &[Thread] = &self.slots;
-        Walk::new(slots, first_of(slots, target))
+        let threads: &[Thread] = &self.threads;
+        Walk::new(threads, first_of(threads, target))
     }
 }
 
 /// The word of the first slot that points at a slot.
 #[inline(always)]
-fn first_of(slots: &[Thread], target: usize) -> u16
-    ensures { named result ≡ (web slots.now).first target }
+fn first_of(threads: &[Thread], target: usize) -> u16
+    ensures { (words : List ℕ) → named result ≡ (web words threads.now).first target }
 {
-    match slots.get(target) {
+    match threads.get(target) {
         Some(thread) => thread.first,
         None => NONE,
     }
 }
 
-/// So many slots, which point at none.
+/// The threads of so many slots, which point at none.
 fn vacant(alloc: Global, count: usize) -> Result<Vec<Thread>, NoMemory>
-    ensures { IfOk result (λ slots. slots.items ≡ replicate count vacant_thread) }
+    ensures { IfOk result (λ threads. threads.items ≡ replicate count vacant_thread) }
 {
     let vacant = Thread {
-        target: NONE,
         next: NONE,
         previous: NONE,
         first: NONE,

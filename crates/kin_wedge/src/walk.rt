@@ -2,7 +2,7 @@
 
 ghost use Rattle.std.specs.Prelude.{◌≡◌, length};
 ghost use Rattle.std.specs.Iterator.{YieldsFirst, item_count};
-ghost use Rattle.kin_wedge.specs.Threads.{IsReached, named, walk, web};
+ghost use Rattle.kin_wedge.specs.Threads.{IsReached, named, next_in, walk};
 
 use crate::thread::{Thread, named};
 use std::marker::Model;
@@ -16,20 +16,20 @@ pub struct Walk<'a> {
 
 impl<'a> Model for Walk<'a> {
     ghost use Rattle.std.specs.Prelude.{List, ℕ, length};
-    ghost use Rattle.kin_wedge.specs.Threads.{IsReached, named, walk, web};
+    ghost use Rattle.kin_wedge.specs.Threads.{IsReached, named, next_in, walk};
 
     ghost Value = { List ℕ };
 
-    ghost view = { λ w. walk (length w.threads.now) (web w.threads.now) (named w.at) };
+    ghost view = { λ w. walk (length w.threads.now) (next_in w.threads.now) (named w.at) };
 
-    ghost invariant = { λ w. IsReached (web w.threads.now) (named w.at) (walk (length w.threads.now) (web w.threads.now) (named w.at)) };
+    ghost invariant = { λ w. IsReached (length w.threads.now) (next_in w.threads.now) (named w.at) (walk (length w.threads.now) (next_in w.threads.now) (named w.at)) };
 }
 
 impl<'a> Walk<'a> {
     /// The slots from the one that a word names on.
     pub fn new(threads: &'a [Thread], at: u16) -> Walk<'a>
-        requires { IsReached (web threads.now) (named at) (walk (length threads.now) (web threads.now) (named at)) }
-        ensures { result ≡ walk (length threads.now) (web threads.now) (named at) }
+        requires { IsReached (length threads.now) (next_in threads.now) (named at) (walk (length threads.now) (next_in threads.now) (named at)) }
+        ensures { result ≡ walk (length threads.now) (next_in threads.now) (named at) }
     {
         Walk { threads, at }
     }

@@ -1,5 +1,9 @@
+use Rattle.std.proofs.lemmas.List.{length-set}
 use Rattle.kin_wedge.proofs.Weaving.{target_written}
 use Rattle.kin_wedge.proofs.thread.set_target.Goals as goal
 
-pub returns : goal.returns
-returns c = target_written c.args.threads.now.items c.args.slot c.args.target c.requires c.index_mut.result.now c.index_mut.ensures.value
+pub returns-clause-web : goal.returns-clause-web
+returns-clause-web c = target_written c.args.words.now.items c.args.slot c.args.target
+
+pub returns-clause-length : goal.returns-clause-length
+returns-clause-length c = length-set c.args.words.now.items c.args.slot c.args.target
