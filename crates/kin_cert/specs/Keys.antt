@@ -1,5 +1,5 @@
 -- What a fact is known by: its seat, which a plan gives by arithmetic, or else its bucket. No public clause cites this module.
-use Rattle.std.specs.Prelude.{◌≡◌, ℕ, ◌+◌, ◌-◌, ◌*◌, ◌/◌, ◌^◌, ◌%◌, nat_lt, if◌then◌else◌, Bool, false, nat_eq, List, Option, Some, None, slice_get}
+use Rattle.std.specs.Prelude.{◌≡◌, ℕ, ◌+◌, ◌-◌, ◌*◌, ◌/◌, ◌^◌, ◌%◌, nat_lt, if◌then◌else◌, Bool, false, cond, nat_eq, List, Option, Some, None, slice_get}
 use Rattle.std.specs.Int.{w32, leading_zeros}
 use Rattle.kin_motion.specs.declared.form.Form.{Form}
 use Rattle.kin_motion.specs.declared.fact.Placed.{Placed}
@@ -21,12 +21,16 @@ merge_seat numbers s part number =
     then (if nat_lt (number % 2 ^ 30) numbers then Some (s.base + (3 * row_of part + number / 2 ^ 30) * numbers + number % 2 ^ 30) else None)
     else None
 
+-- in a section of pairs the parts 2k and 2k + 1 are one list
+abbrev pub list_of : Section → ℕ → ℕ
+list_of s part = cond s.is_paired (part / 2) part
+
 -- a fact of a list sits by its number, one of a tournament by its node, and any other as one of a merge
 abbrev pub seat_in : ℕ → Section → ℕ → ℕ → Option ℕ
 seat_in numbers s part number =
-    if nat_lt part s.lists
-    then (if nat_lt number numbers then Some (s.base + part * numbers + number) else None)
-    else (if nat_lt (part - s.lists) s.nodes then Some (s.base + s.lists * numbers + (part - s.lists)) else merge_seat numbers s part number)
+    if nat_lt (list_of s part) s.lists
+    then (if nat_lt number numbers then Some (s.base + list_of s part * numbers + number) else None)
+    else (if nat_lt (list_of s part - s.lists) s.nodes then Some (s.base + s.lists * numbers + (list_of s part - s.lists)) else merge_seat numbers s part number)
 
 -- the same, where the structure has a section
 abbrev pub seat_at : ℕ → Option Section → ℕ → ℕ → Option ℕ
@@ -53,7 +57,6 @@ is_key (Seat p) (Bucket c) = false
 is_key (Bucket b) (Seat q) = false
 is_key (Bucket b) (Bucket c) = is_bucket b c
 
--- the two facts of the structure have one part and one key
-pub record HaveOneKey (plan : Plan) (structure : ℕ) (old new : Placed) : Type 0 where
-  pub part : new.part ≡ old.part
-  pub key : key_of plan structure new.part new.fact.form ≡ key_of plan structure old.part old.fact.form
+-- the two facts of the structure have one key
+abbrev pub HaveOneKey : Plan → ℕ → Placed → Placed → Type 0
+HaveOneKey plan structure old new = key_of plan structure new.part new.fact.form ≡ key_of plan structure old.part old.fact.form

@@ -46,10 +46,6 @@ with moments id (Some m) = map.insert moments id m
 abbrev pub held : ℕ → Placed → Owned
 held s p = record { structure = s; part = p.part; fact = p.fact }
 
--- another fact of the same owner
-abbrev pub with_fact : Owned → Fact → Owned
-with_fact o f = record { structure = o.structure; part = o.part; fact = f }
-
 -- the entry of an id, if there is one
 abbrev pub entry_at : List (Option Entry) → ℕ → Option Entry
 entry_at slots id = slice_index_or slots id None

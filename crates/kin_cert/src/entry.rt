@@ -3,12 +3,12 @@
 ghost use Rattle.std.specs.Prelude.{◌≡◌, ◌↔◌, Some, is_some, IsTrue};
 ghost use Rattle.kin_fail.specs.Rank.{padded_rank};
 ghost use Rattle.kin_cert.specs.Keys.{owned_key};
-ghost use Rattle.kin_cert.specs.Layout.{entry_rank, with_fact, held, fresh, timed, waiting, queued_at};
+ghost use Rattle.kin_cert.specs.Layout.{entry_rank, held, fresh, timed, waiting, queued_at};
 
 use crate::key::{Key, key_of};
 use crate::plan::Plan;
 use kin_fail::owned::Owned;
-use kin_motion::fact::{Fact, Placed};
+use kin_motion::fact::Placed;
 use kin_motion::form::Form;
 use kin_num::{Instant, Moment, Phase, Shape};
 use std::marker::Model;
@@ -91,11 +91,12 @@ impl Entry {
         self.is_mortal && !self.is_waiting
     }
 
-    /// Replaces the fact by another one of its owner, which never fails as yet.
-    pub(crate) fn replace_with(&mut self, fact: &Fact)
-        ensures { self.new ≡ fresh (with_fact self.old.owned fact.now) }
+    /// Replaces the fact by another one of its structure, which never fails as yet.
+    pub(crate) fn replace_with(&mut self, placed: &Placed)
+        ensures { self.new ≡ fresh (held self.old.owned.structure placed.now) }
     {
-        self.owned.fact = *fact;
+        self.owned.part = placed.part;
+        self.owned.fact = placed.fact;
         self.renew();
     }
 

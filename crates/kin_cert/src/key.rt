@@ -40,12 +40,16 @@ pub(crate) fn key_of(plan: &Plan, structure: u32, part: u32, form: &Form) -> Key
     }
 }
 
-/// Whether two facts of a structure are known by one key, and have one part.
+/// Whether two facts of a structure are known by one key.
 #[inline(always)]
 pub(crate) fn have_one_key(plan: &Plan, structure: u32, old: &Placed, new: &Placed) -> bool
     ensures { IsTrue result → HaveOneKey plan.now structure old.now new.now }
 {
-    new.part == old.part
-        && (bucket_number(&new.fact.form) == bucket_number(&old.fact.form)
-            || plan.is_node(structure, old.part))
+    let number = bucket_number(&new.fact.form);
+    if number == bucket_number(&old.fact.form) {
+        return new.part == old.part
+            || new.part / 2 == old.part / 2
+                && plan.have_one_seat(structure, new.part, old.part, number);
+    }
+    new.part == old.part && plan.is_node(structure, old.part)
 }

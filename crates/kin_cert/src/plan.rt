@@ -2,7 +2,7 @@
 
 ghost use Rattle.std.specs.Prelude.{◌≡◌, ◌+◌, ◌*◌, ◌<◌, ℕ, Some, IsTrue, slice_get};
 ghost use Rattle.kin_motion.specs.declared.form.Form.{Form as Shape};
-ghost use Rattle.kin_cert.specs.Keys.{row_of, merge_seat, seat_in, seat_at, seat_of, key_of};
+ghost use Rattle.kin_cert.specs.Keys.{row_of, list_of, merge_seat, seat_in, seat_at, seat_of, key_of};
 
 use crate::bucket::bucket_number;
 use kin_motion::form::Form;
@@ -17,12 +17,16 @@ pub(crate) struct Section {
     lists: u32,
     nodes: u32,
     rows: u32,
+    /// Whether each list has two parts next to each other.
+    is_paired: bool,
 }
 
 /// The seats of facts, each of which is a place in a vector.
 ///
 /// The first parts of a structure are lists, of which each usually has one live fact of a first number. The parts after
 /// those are nodes of a tournament, of which each has one live fact at a time.
+///
+/// Or the parts 2k and 2k + 1 are one list, so facts of both share its seats.
 ///
 /// Or the parts are merges, those of node v of two trees the parts 2v and 2v + 1. The nodes of one level of a tree have no
 /// number in common, so they share a row of seats: one for each number as the first of a line, of a turn and of a slope.
@@ -58,6 +62,18 @@ impl Plan {
         self.sections.push(section).map_err(|_| NoMemory)
     }
 
+    /// Gives seats to the next structure, which has so many lists, each of two parts next to each other. It gets none if
+    /// there would be `2^32` seats or more.
+    pub fn add_pairs(&mut self, lists: u32) -> Result<(), NoMemory> {
+        let mut section = self.no_section();
+        if let Some(end) = end_of(self.count, lists, self.numbers, 0) {
+            section.lists = lists;
+            section.is_paired = true;
+            self.count = end;
+        }
+        self.sections.push(section).map_err(|_| NoMemory)
+    }
+
     /// Gives seats to the next structure, which has merges in so many rows: each tree has one for each level. It gets none
     /// if there would be `2^32` seats or more.
     pub fn add_merges(&mut self, rows: u32) -> Result<(), NoMemory> {
@@ -76,6 +92,7 @@ impl Plan {
             lists: 0,
             nodes: 0,
             rows: 0,
+            is_paired: false,
         }
     }
 
@@ -112,6 +129,20 @@ impl Plan {
         }
     }
 
+    /// Whether two parts of a structure have one seat for facts that are known by a number.
+    #[inline(always)]
+    pub(crate) fn have_one_seat(&self, structure: u32, part: u32, other: u32, number: u32) -> bool
+        ensures { IsTrue result → (seat : ℕ) × (seat_at self.now.numbers (slice_get self.now.sections.items structure) part number ≡ Some seat) × (seat_at self.now.numbers (slice_get self.now.sections.items structure) other number ≡ Some seat) }
+    {
+        match (
+            self.seat_at(structure, part, number),
+            self.seat_at(structure, other, number),
+        ) {
+            (Some(one), Some(two)) => one == two,
+            _ => false,
+        }
+    }
+
     // The seats of a structure, if it has any.
     #[inline(always)]
     fn section_of(&self, structure: u32) -> Option<Section>
@@ -127,13 +158,14 @@ impl Section {
     fn seat_in(&self, numbers: u32, part: u32, number: u32) -> Option<usize>
         ensures { result ≡ seat_in numbers self.now part number }
     {
-        if part < self.lists {
+        let list = self.list_of(part);
+        if list < self.lists {
             if number < numbers {
-                return Some(seat(self.base, part, numbers, number));
+                return Some(seat(self.base, list, numbers, number));
             }
             return None;
         }
-        let node = part - self.lists;
+        let node = list - self.lists;
         if node < self.nodes {
             return Some(seat(self.base, self.lists, numbers, node));
         }
@@ -163,7 +195,16 @@ impl Section {
     fn has_node(&self, part: u32) -> bool
         ensures { IsTrue result → (numbers m n : ℕ) → (seat : ℕ) × (seat_in numbers self.now part m ≡ Some seat) × (seat_in numbers self.now part n ≡ Some seat) }
     {
-        part >= self.lists && part - self.lists < self.nodes
+        let list = self.list_of(part);
+        list >= self.lists && list - self.lists < self.nodes
+    }
+
+    // The list of a part, if it is below `lists`.
+    #[inline(always)]
+    fn list_of(&self, part: u32) -> u32
+        ensures { result ≡ list_of self.now part }
+    {
+        if self.is_paired { part / 2 } else { part }
     }
 }
 

@@ -178,7 +178,7 @@ impl Roll {
             unreachable!()
         };
         let is_queued = entry.is_queued();
-        entry.replace_with(&new.fact);
+        entry.replace_with(new);
         Some(Vacancy { id, is_queued })
     }
 

@@ -311,20 +311,23 @@ fn plan_of(alloc: Global, size: u32, keeps: &[Keep]) -> Result<Plan, NoMemory>
     for keep in keeps {
         match keep {
             Keep::Hull => plan.add_merges(2 * size)?,
+            // A fact's part says of which kind each of its two ends is. Those that differ in the right end's kind alone
+            // share a list, so there is one for each axis and kind of the left end.
+            Keep::Boxes { .. } => plan.add_pairs(4)?,
             _ => plan.add(lists_of(keep), nodes_of(keep, size))?,
         }
     }
     Ok(plan)
 }
 
-// How many lists a keep has: orders, or the sweep of a farthest pair. Their facts are in its first parts, and each fact is
-// known by its first number. Each order of ends of boxes counts as four: a fact's part says of which kinds its two ends are.
+// How many lists of one part a keep has: orders, or the sweep of a farthest pair. Their facts are in its first parts, and
+// each fact is known by its first number.
 fn lists_of(keep: &Keep) -> u32 {
     match *keep {
         Keep::Order { .. } | Keep::Diameter => 1,
         Keep::Range => 2,
-        Keep::Closest | Keep::Nearest | Keep::Boxes { .. } => 8,
-        Keep::Extreme { .. } | Keep::Hull => 0,
+        Keep::Closest | Keep::Nearest => 8,
+        Keep::Extreme { .. } | Keep::Hull | Keep::Boxes { .. } => 0,
     }
 }
 

@@ -1,7 +1,6 @@
-use Rattle.std.proofs.Common.{◌≡◌, ℕ, List, slice_get, Some, IsSome, is_some, true, false, sym, ap, subst, ◌∙◌, arith}
+use Rattle.std.proofs.Common.{◌≡◌, ℕ, List, IsSome, is_some, true, false, sym, ap, subst, ◌∙◌}
 use Rattle.std.specs.FinMap.{get, remove}
 use Rattle.std.specs.List.{Contains}
-use Rattle.std.proofs.lemmas.Option.{slice_get_within}
 use Rattle.kin_num.specs.declared.instant.Moment.{Moment}
 use Rattle.kin_cert.specs.Schedules.{with_each, AreBeside, just_after}
 use Rattle.kin_cert.proofs.Schedules.{Moments, unmapped_beside, unmapped_is, unlisted_beside, unlisted_is, where_it_is}

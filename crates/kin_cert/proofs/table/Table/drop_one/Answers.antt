@@ -1,4 +1,4 @@
-use Rattle.std.proofs.Common.{◌≡◌, true, List, [], length, Option, None, refl, subst, sym, ap, ◌↔◌, arith}
+use Rattle.std.proofs.Common.{◌≡◌, true, List, length, Option, None, refl, subst, sym, ap, ◌↔◌, arith}
 use Rattle.std.specs.List.{Contains}
 use Rattle.kin_cert.specs.Entries.{Entry}
 use Rattle.kin_cert.specs.Cost.{is_ungiven}
