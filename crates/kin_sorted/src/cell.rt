@@ -1,21 +1,22 @@
-//! What a row has for a slot beside its place.
+//! What a row has for a slot beside its place, in 4 bytes.
 
-ghost use Rattle.std.specs.Prelude.{◌≡◌, None};
+ghost use Rattle.std.specs.Prelude.{◌≡◌, ◌<◌, ◌^◌, None, Some};
 ghost use Rattle.kin_algebra.specs.declared.sign.Sign.TheVariants.{Zero};
-ghost use Rattle.kin_sorted.specs.Cells.{link_in};
+ghost use Rattle.kin_sorted.specs.Cells.{link_in, no_slot};
 
 use crate::link::Link;
 use kin_num::Sign;
 
-/// What a row has for a slot beside its place. A row has room for at most `2^15` slots, so that a slot
-/// fits 16 bits.
+/// The right slot where there is no link. It is no slot: a row has room for at most `2^15`.
+const NO_SLOT: u16 = u16::MAX;
+
+/// What a row has for a slot beside its place.
 #[derive(Clone, Copy, Debug, PartialEq, Eq)]
 pub struct Cell {
-    /// The right slot of the live fact whose left slot it is. It says nothing where there is no
-    /// such fact.
-    pub right: u16,
-    /// The sign of that fact as it was reported, where there is one.
-    pub reported: Option<Sign>,
+    /// The right slot of the live fact whose left slot it is, or `NO_SLOT` where there is no such fact.
+    right: u16,
+    /// The sign of that fact as it was reported. It says nothing where there is no such fact.
+    reported: Sign,
     /// The sign of the form with the right neighbour.
     pub sign: Sign,
 }
@@ -23,11 +24,11 @@ pub struct Cell {
 impl Cell {
     /// The cell of an item that isn't in the row.
     pub fn vacant() -> Cell
-        ensures { result ≡ record { right = 0; reported = None; sign = Zero } }
+        ensures { result ≡ record { right = no_slot; reported = Zero; sign = Zero } }
     {
         Cell {
-            right: 0,
-            reported: None,
+            right: NO_SLOT,
+            reported: Sign::Zero,
             sign: Sign::Zero,
         }
     }
@@ -37,10 +38,31 @@ impl Cell {
     pub fn link(self) -> Option<Link>
         ensures { result ≡ link_in self }
     {
-        let sign = self.reported?;
+        if self.right == NO_SLOT {
+            return None;
+        }
         Some(Link {
             right: self.right as u32,
-            sign,
+            sign: self.reported,
         })
+    }
+
+    /// Writes the link as it is reported.
+    #[inline(always)]
+    pub fn link_to(&mut self, link: Link)
+        requires { link.right < 2 ^ 15 }
+        ensures link { link_in self.new ≡ Some link }
+        ensures sign { self.new.sign ≡ self.old.sign }
+    {
+        self.right = link.right as u16;
+        self.reported = link.sign;
+    }
+
+    /// Takes the link away.
+    pub fn unlink(&mut self)
+        ensures link { link_in self.new ≡ None }
+        ensures sign { self.new.sign ≡ self.old.sign }
+    {
+        self.right = NO_SLOT;
     }
 }
