@@ -12,7 +12,7 @@ use Rattle.kin_cert.specs.declared.plan.Section.{Section}
 use Rattle.kin_fail.specs.declared.owned.Owned.{Owned}
 use Rattle.kin_fail.specs.Rank.{padded_rank, owned_rank}
 use Rattle.kin_cert.specs.Bucket.{bucket_number, bucket_of, is_bucket}
-use Rattle.kin_cert.specs.Keys.{list_of, merge_seat, seat_in, seat_at, seat_or, key_of, owned_key, is_key}
+use Rattle.kin_cert.specs.Keys.{list_seat, shared_seat, seat_in, seat_at, seat_or, key_of, owned_key, is_key}
 use Rattle.kin_cert.specs.Holders.{HasHolder, AreSame, MayHaveLeft}
 use Rattle.kin_cert.specs.Rolls.{IsKnownBy, IsShared}
 use Rattle.kin_fail.proofs.Ranks.{both_hold, rank_names}
@@ -69,10 +69,10 @@ rank-key_of plan o s p f e = rank-key plan o (record { structure = s; part = p; 
 -- ---- seats
 
 -- a node has one seat, whatever the number
-pub node_seat : (numbers : ℕ) (s : Section) (part : ℕ) → nat_lt (list_of s part) s.lists ≡ false → nat_lt (list_of s part - s.lists) s.nodes ≡ true → (n : ℕ) → seat_in numbers s part n ≡ Some (s.base + s.lists * numbers + (list_of s part - s.lists))
+pub node_seat : (numbers : ℕ) (s : Section) (part : ℕ) → nat_lt part s.lists ≡ false → nat_lt (part - s.lists) s.nodes ≡ true → (n : ℕ) → seat_in numbers s part n ≡ Some (s.base + s.lists * numbers + (part - s.lists))
 node_seat numbers s part past node n =
-    ap (λ (b : Bool). if b then (if nat_lt n numbers then Some (s.base + list_of s part * numbers + n) else None) else (if nat_lt (list_of s part - s.lists) s.nodes then Some (s.base + s.lists * numbers + (list_of s part - s.lists)) else merge_seat numbers s part n)) past
-    ∙ ap (λ (b : Bool). if b then Some (s.base + s.lists * numbers + (list_of s part - s.lists)) else merge_seat numbers s part n) node
+    ap (λ (b : Bool). if b then list_seat numbers s part n else (if nat_lt (part - s.lists) s.nodes then Some (s.base + s.lists * numbers + (part - s.lists)) else shared_seat numbers s part n)) past
+    ∙ ap (λ (b : Bool). if b then Some (s.base + s.lists * numbers + (part - s.lists)) else shared_seat numbers s part n) node
 
 -- the key of a form that has a seat
 pub seated-key : (plan : Plan) (structure part : ℕ) (s : Section) → slice_get plan.sections.items structure ≡ Some s → (f : Form) (seat : ℕ) → seat_in plan.numbers s part (bucket_number f) ≡ Some seat → key_of plan structure part f ≡ Seat seat

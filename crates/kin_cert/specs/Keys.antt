@@ -21,16 +21,20 @@ merge_seat numbers s part number =
     then (if nat_lt (number % 2 ^ 30) numbers then Some (s.base + (3 * row_of part + number / 2 ^ 30) * numbers + number % 2 ^ 30) else None)
     else None
 
--- in a section of pairs the parts 2k and 2k + 1 are one list
-abbrev pub list_of : Section → ℕ → ℕ
-list_of s part = cond s.is_paired (part / 2) part
+-- in a section: a fact of a list sits by its number
+abbrev pub list_seat : ℕ → Section → ℕ → ℕ → Option ℕ
+list_seat numbers s list number = if nat_lt number numbers then Some (s.base + list * numbers + number) else None
 
--- a fact of a list sits by its number, one of a tournament by its node, and any other as one of a merge
+-- a fact of two parts 2k and 2k + 1 sits as one of the list k, and any other as one of a merge
+abbrev pub shared_seat : ℕ → Section → ℕ → ℕ → Option ℕ
+shared_seat numbers s part number = if nat_lt (part / 2) s.pairs then list_seat numbers s (part / 2) number else merge_seat numbers s part number
+
+-- a fact of a list sits by its number, one of a tournament by its node, and any other in a seat of several parts
 abbrev pub seat_in : ℕ → Section → ℕ → ℕ → Option ℕ
 seat_in numbers s part number =
-    if nat_lt (list_of s part) s.lists
-    then (if nat_lt number numbers then Some (s.base + list_of s part * numbers + number) else None)
-    else (if nat_lt (list_of s part - s.lists) s.nodes then Some (s.base + s.lists * numbers + (list_of s part - s.lists)) else merge_seat numbers s part number)
+    if nat_lt part s.lists
+    then list_seat numbers s part number
+    else (if nat_lt (part - s.lists) s.nodes then Some (s.base + s.lists * numbers + (part - s.lists)) else shared_seat numbers s part number)
 
 -- the same, where the structure has a section
 abbrev pub seat_at : ℕ → Option Section → ℕ → ℕ → Option ℕ

@@ -46,10 +46,11 @@ pub(crate) fn have_one_key(plan: &Plan, structure: u32, old: &Placed, new: &Plac
     ensures { IsTrue result → HaveOneKey plan.now structure old.now new.now }
 {
     let number = bucket_number(&new.fact.form);
-    if number == bucket_number(&old.fact.form) {
-        return new.part == old.part
-            || new.part / 2 == old.part / 2
-                && plan.have_one_seat(structure, new.part, old.part, number);
+    let is_alike = number == bucket_number(&old.fact.form);
+    if new.part == old.part {
+        return is_alike || plan.is_node(structure, old.part);
     }
-    new.part == old.part && plan.is_node(structure, old.part)
+    is_alike
+        && new.part / 2 == old.part / 2
+        && plan.have_one_seat(structure, new.part, old.part, number)
 }

@@ -2,7 +2,7 @@
 
 ghost use Rattle.std.specs.Prelude.{◌≡◌, ◌+◌, ◌*◌, ◌<◌, ℕ, Some, IsTrue, slice_get};
 ghost use Rattle.kin_motion.specs.declared.form.Form.{Form as Shape};
-ghost use Rattle.kin_cert.specs.Keys.{row_of, list_of, merge_seat, seat_in, seat_at, seat_of, key_of};
+ghost use Rattle.kin_cert.specs.Keys.{row_of, list_seat, merge_seat, seat_in, seat_at, seat_of, key_of};
 
 use crate::bucket::bucket_number;
 use kin_motion::form::Form;
@@ -10,15 +10,15 @@ use kin_num::NoMemory;
 use std::alloc::Global;
 
 /// What a structure has of the seats, from the base on: for each list as many as there are numbers, and after them one
-/// for each node of its tournament; or for each row of its merges three times as many as there are numbers.
+/// for each node of its tournament; or for each pair of parts as many as there are numbers; or for each row of its merges
+/// three times as many.
 #[derive(Clone, Copy)]
 pub(crate) struct Section {
     base: u32,
     lists: u32,
     nodes: u32,
+    pairs: u32,
     rows: u32,
-    /// Whether each list has two parts next to each other.
-    is_paired: bool,
 }
 
 /// The seats of facts, each of which is a place in a vector.
@@ -26,7 +26,7 @@ pub(crate) struct Section {
 /// The first parts of a structure are lists, of which each usually has one live fact of a first number. The parts after
 /// those are nodes of a tournament, of which each has one live fact at a time.
 ///
-/// Or the parts 2k and 2k + 1 are one list, so facts of both share its seats.
+/// Or the parts 2k and 2k + 1 are one list, whose seats facts of both share.
 ///
 /// Or the parts are merges, those of node v of two trees the parts 2v and 2v + 1. The nodes of one level of a tree have no
 /// number in common, so they share a row of seats: one for each number as the first of a line, of a turn and of a slope.
@@ -67,8 +67,7 @@ impl Plan {
     pub fn add_pairs(&mut self, lists: u32) -> Result<(), NoMemory> {
         let mut section = self.no_section();
         if let Some(end) = end_of(self.count, lists, self.numbers, 0) {
-            section.lists = lists;
-            section.is_paired = true;
+            section.pairs = lists;
             self.count = end;
         }
         self.sections.push(section).map_err(|_| NoMemory)
@@ -91,8 +90,8 @@ impl Plan {
             base: self.count,
             lists: 0,
             nodes: 0,
+            pairs: 0,
             rows: 0,
-            is_paired: false,
         }
     }
 
@@ -158,18 +157,28 @@ impl Section {
     fn seat_in(&self, numbers: u32, part: u32, number: u32) -> Option<usize>
         ensures { result ≡ seat_in numbers self.now part number }
     {
-        let list = self.list_of(part);
-        if list < self.lists {
-            if number < numbers {
-                return Some(seat(self.base, list, numbers, number));
-            }
-            return None;
+        if part < self.lists {
+            return self.list_seat(numbers, part, number);
         }
-        let node = list - self.lists;
+        let node = part - self.lists;
         if node < self.nodes {
             return Some(seat(self.base, self.lists, numbers, node));
         }
+        if part / 2 < self.pairs {
+            return self.list_seat(numbers, part / 2, number);
+        }
         self.merge_seat(numbers, part, number)
+    }
+
+    // The seat of a fact of a list, which is known by a number.
+    #[inline(always)]
+    fn list_seat(&self, numbers: u32, list: u32, number: u32) -> Option<usize>
+        ensures { result ≡ list_seat numbers self.now list number }
+    {
+        if number < numbers {
+            return Some(seat(self.base, list, numbers, number));
+        }
+        None
     }
 
     // The seat of a fact of a merge. Its number says of which kind the form is, in steps of `2^30`, and which number it
@@ -195,16 +204,7 @@ impl Section {
     fn has_node(&self, part: u32) -> bool
         ensures { IsTrue result → (numbers m n : ℕ) → (seat : ℕ) × (seat_in numbers self.now part m ≡ Some seat) × (seat_in numbers self.now part n ≡ Some seat) }
     {
-        let list = self.list_of(part);
-        list >= self.lists && list - self.lists < self.nodes
-    }
-
-    // The list of a part, if it is below `lists`.
-    #[inline(always)]
-    fn list_of(&self, part: u32) -> u32
-        ensures { result ≡ list_of self.now part }
-    {
-        if self.is_paired { part / 2 } else { part }
+        part >= self.lists && part - self.lists < self.nodes
     }
 }
 
