@@ -45,12 +45,18 @@ pub(crate) fn key_of(plan: &Plan, structure: u32, part: u32, form: &Form) -> Key
 pub(crate) fn have_one_key(plan: &Plan, structure: u32, old: &Placed, new: &Placed) -> bool
     ensures { IsTrue result → HaveOneKey plan.now structure old.now new.now }
 {
-    let number = bucket_number(&new.fact.form);
-    let is_alike = number == bucket_number(&old.fact.form);
     if new.part == old.part {
-        return is_alike || plan.is_node(structure, old.part);
+        return bucket_number(&new.fact.form) == bucket_number(&old.fact.form)
+            || plan.is_node(structure, old.part);
     }
-    is_alike
-        && new.part / 2 == old.part / 2
-        && plan.have_one_seat(structure, new.part, old.part, number)
+    new.part / 2 == old.part / 2 && share_seat(plan, structure, old, new)
+}
+
+/// Whether two facts of a structure share a seat that their numbers have in both parts.
+#[inline(never)]
+fn share_seat(plan: &Plan, structure: u32, old: &Placed, new: &Placed) -> bool
+    ensures { IsTrue result → HaveOneKey plan.now structure old.now new.now }
+{
+    let seat = plan.seat_of(structure, new.part, &new.fact.form);
+    seat.is_some() && seat == plan.seat_of(structure, old.part, &old.fact.form)
 }

@@ -128,20 +128,6 @@ impl Plan {
         }
     }
 
-    /// Whether two parts of a structure have one seat for facts that are known by a number.
-    #[inline(always)]
-    pub(crate) fn have_one_seat(&self, structure: u32, part: u32, other: u32, number: u32) -> bool
-        ensures { IsTrue result → (seat : ℕ) × (seat_at self.now.numbers (slice_get self.now.sections.items structure) part number ≡ Some seat) × (seat_at self.now.numbers (slice_get self.now.sections.items structure) other number ≡ Some seat) }
-    {
-        match (
-            self.seat_at(structure, part, number),
-            self.seat_at(structure, other, number),
-        ) {
-            (Some(one), Some(two)) => one == two,
-            _ => false,
-        }
-    }
-
     // The seats of a structure, if it has any.
     #[inline(always)]
     fn section_of(&self, structure: u32) -> Option<Section>
