@@ -1,6 +1,6 @@
 //! Buckets of facts.
 
-ghost use Rattle.std.specs.Prelude.{◌≡◌};
+ghost use Rattle.std.specs.Prelude.{◌≡◌, IsTrue};
 ghost use Rattle.kin_cert.specs.Bucket.{bucket_number, bucket_of};
 
 use kin_motion::form::Form;
@@ -28,4 +28,22 @@ pub fn bucket_number(form: &Form) -> u32
         Form::Slope { i, .. } => i.wrapping_add(1 << 31),
         Form::Dist { .. } => 0,
     }
+}
+
+/// Whether two forms have one number. Two lines are compared in line, without a table of jumps.
+#[inline(always)]
+pub fn have_one_number(one: &Form, two: &Form) -> bool
+    ensures { IsTrue result → bucket_number one.now ≡ bucket_number two.now }
+{
+    match (one, two) {
+        (Form::Line { i, .. }, Form::Line { i: j, .. }) => *i == *j,
+        _ => others_have_one_number(one, two),
+    }
+}
+
+#[inline(never)]
+fn others_have_one_number(one: &Form, two: &Form) -> bool
+    ensures { IsTrue result → bucket_number one.now ≡ bucket_number two.now }
+{
+    bucket_number(one) == bucket_number(two)
 }
