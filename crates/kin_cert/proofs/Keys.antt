@@ -1,7 +1,8 @@
 -- What keys and their holders say, and what a change of a holder keeps.
-use Rattle.std.proofs.Common.{◌≡◌, ℕ, ◌+◌, ◌-◌, ◌*◌, nat_lt, if◌then◌else◌, Bool, true, false, cond, List, [], ◌∷◌, Option, Some, None, slice_get, nat_eq, eqb-true, refl, sym, ap, ap₂, ◌∙◌, inl, inr}
+use Rattle.std.proofs.Common.{◌≡◌, ℕ, ◌+◌, ◌-◌, ◌*◌, ◌/◌, ◌%◌, ◌^◌, nat_lt, arith, not, if◌then◌else◌, Bool, true, false, cond, List, [], ◌∷◌, Option, Some, None, slice_get, nat_eq, eqb-true, refl, sym, ap, ap₂, subst, ◌∙◌, inl, inr}
 use Rattle.std.proofs.lemmas.Option.{same_Some}
 use Rattle.std.proofs.lemmas.Cmp.{nat_eq_equiv, lists_equiv}
+use Rattle.std.proofs.lemmas.Bool.Decides.{nat_tests}
 use Rattle.std.specs.Map.{lookup_key}
 use Rattle.kin_motion.specs.declared.form.Form.{Form}
 use Rattle.kin_cert.specs.declared.holder.Holder.{Holder}
@@ -12,13 +13,17 @@ use Rattle.kin_cert.specs.declared.plan.Section.{Section}
 use Rattle.kin_fail.specs.declared.owned.Owned.{Owned}
 use Rattle.kin_fail.specs.Rank.{padded_rank, owned_rank}
 use Rattle.kin_cert.specs.Bucket.{bucket_number, bucket_of, is_bucket}
-use Rattle.kin_cert.specs.Keys.{list_seat, shared_seat, seat_in, seat_at, seat_or, key_of, owned_key, is_key}
-use Rattle.kin_cert.specs.Holders.{HasHolder, AreSame, MayHaveLeft}
+use Rattle.kin_cert.specs.Keys.{list_seat, merge_seat, joint_seat, seat_in, seat_at, seat_or, key_of, owned_key, is_key}
+use Rattle.kin_cert.specs.Holders.{HasHolder, AreSame, HasLeft, MayHaveLeft}
 use Rattle.kin_cert.specs.Rolls.{IsKnownBy, IsShared}
 use Rattle.kin_fail.proofs.Ranks.{both_hold, rank_names}
 
 pub some_none : {A : Type 0} (x : A) → Some x ≡ None → ⊥
 some_none x e = cc
+
+pub not_true : (b : Bool) → not b ≡ true → b ≡ false
+not_true true e = absurd (cc)
+not_true false e = refl
 
 -- ---- buckets
 
@@ -71,8 +76,18 @@ rank-key_of plan o s p f e = rank-key plan o (record { structure = s; part = p; 
 -- a node has one seat, whatever the number
 pub node_seat : (numbers : ℕ) (s : Section) (part : ℕ) → nat_lt part s.lists ≡ false → nat_lt (part - s.lists) s.nodes ≡ true → (n : ℕ) → seat_in numbers s part n ≡ Some (s.base + s.lists * numbers + (part - s.lists))
 node_seat numbers s part past node n =
-    ap (λ (b : Bool). if b then list_seat numbers s part n else (if nat_lt (part - s.lists) s.nodes then Some (s.base + s.lists * numbers + (part - s.lists)) else shared_seat numbers s part n)) past
-    ∙ ap (λ (b : Bool). if b then Some (s.base + s.lists * numbers + (part - s.lists)) else shared_seat numbers s part n) node
+    ap (λ (b : Bool). if b then list_seat numbers s part n else (if nat_lt (part - s.lists) s.nodes then Some (s.base + s.lists * numbers + (part - s.lists)) else joint_seat numbers s part n)) past
+    ∙ ap (λ (b : Bool). if b then Some (s.base + s.lists * numbers + (part - s.lists)) else joint_seat numbers s part n) node
+
+-- where there are neither lists nor nodes, two parts have one seat
+pub pair_seat : (numbers : ℕ) (s : Section) → s.lists ≡ 0 → s.nodes ≡ 0 → (n : ℕ) → nat_lt (n % 2 ^ 30) numbers ≡ true → (part : ℕ) → nat_lt (part / 2) s.pairs ≡ true → seat_in numbers s part n ≡ Some (s.base + part / 2 * numbers + n % 2 ^ 30)
+pair_seat numbers s no_lists no_nodes n low part pair =
+    let past : nat_lt part s.lists ≡ false = grind (arith, nat_tests, no_lists) in
+    let inner : nat_lt (part - s.lists) s.nodes ≡ false = grind (arith, nat_tests, no_nodes) in
+    ap (λ (b : Bool). if b then list_seat numbers s part n else (if nat_lt (part - s.lists) s.nodes then Some (s.base + s.lists * numbers + (part - s.lists)) else joint_seat numbers s part n)) past
+    ∙ ap (λ (b : Bool). if b then Some (s.base + s.lists * numbers + (part - s.lists)) else joint_seat numbers s part n) inner
+    ∙ ap (λ (b : Bool). if b then list_seat numbers s (part / 2) n else merge_seat numbers s part n) pair
+    ∙ ap (λ (b : Bool). if b then Some (s.base + part / 2 * numbers + n % 2 ^ 30) else None) low
 
 -- the key of a form that has a seat
 pub seated-key : (plan : Plan) (structure part : ℕ) (s : Section) → slice_get plan.sections.items structure ≡ Some s → (f : Form) (seat : ℕ) → seat_in plan.numbers s part (bucket_number f) ≡ Some seat → key_of plan structure part f ≡ Seat seat
@@ -85,6 +100,12 @@ seated-key plan structure part s there f seat is =
 -- what was done to holders that are the same, at a key that is the same
 pub has-after : (holders same after : Key → Option Holder) (key k : Key) (holder : Holder) → AreSame holders same → k ≡ key → HasHolder same k holder after → HasHolder holders key holder after
 has-after holders same after key k holder are k_is has q = has q ∙ ap (cond (is_key k q) (Some holder)) (are q) ∙ ap (λ (p : Key). cond (is_key p q) (Some holder) (holders q)) k_is
+
+pub left-after : (holders same after : Key → Option Holder) (key k : Key) → AreSame holders same → k ≡ key → MayHaveLeft same k after → MayHaveLeft holders key after
+left-after holders same after key k are k_is (inl h) =
+    inl (subst (λ (p : Key). HasLeft holders p after) k_is
+    (record { was = record { holder = h.was.holder; known = sym (are k) ∙ h.was.known; unshared = h.was.unshared }; gone = λ q. h.gone q ∙ ap (cond (is_key k q) None) (are q) }))
+left-after holders same after key k are k_is (inr same_after) = inr (λ q. same_after q ∙ are q)
 
 module _ (holders : Key → Option Holder) where
   -- one id knows a key
@@ -135,7 +156,7 @@ module _ (holders : Key → Option Holder) where
       left-shared (inr same) q x = kept-shared q (same q) x
       left-shared (inl h) q x =
           let n : key ≡ q → ⊥ = λ e.
-          let is : x.holder ≡ h.holder = same_Some x.holder h.holder (sym x.known ∙ ap holders (sym e) ∙ h.known) in
-          let both : true ≡ false = sym x.shared ∙ ap (λ (k : Holder). k.is_shared) is ∙ h.unshared in
+          let is : x.holder ≡ h.was.holder = same_Some x.holder h.was.holder (sym x.known ∙ ap holders (sym e) ∙ h.was.known) in
+          let both : true ≡ false = sym x.shared ∙ ap (λ (k : Holder). k.is_shared) is ∙ h.was.unshared in
           absurd cc in
           kept-shared q (h.gone q ∙ ap (λ (b : Bool). cond b None (holders q)) (key_differs key q n)) x

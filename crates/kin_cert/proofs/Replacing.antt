@@ -17,10 +17,14 @@ use Rattle.kin_fail.specs.declared.owned.Owned.{Owned}
 use Rattle.kin_cert.specs.Facts.{LiveFact, NoneAlike}
 use Rattle.kin_cert.specs.Applied.{IsOf, IsLiveIn, MayApply, IsBorn, HasApplied}
 use Rattle.kin_fail.specs.Rank.{owned_rank}
-use Rattle.kin_cert.specs.Layout.{entry_at, live_fact, live_in, held, fresh, timed, HasSlot, IsTakenOver, IsTimed, HasReplaced, HasBorn}
+use Rattle.kin_cert.specs.Layout.{entry_at, live_fact, live_in, held, fresh, timed, HasSlot, IsThere, IsTakenOver, IsTimed, HasReplaced, HasBorn}
 use Rattle.kin_cert.proofs.Changes.{is-at, once-same}
 use Rattle.kin_cert.proofs.Slots.{live-from, live-set-count}
 use Rattle.kin_cert.proofs.Tables.{at-rank, rank-of-live, table-once, has-slot, gained-exactly, replaced-exactly}
+
+-- a live fact has an entry
+pub live-there : (slots : List (Option Entry)) (s : ℕ) (p : Placed) → IsLiveIn (live_in slots) s p → IsThere slots (owned_rank (held s p))
+live-there slots s p (l, there, is) = let h = live-from slots l there in (h.id, (h.entry, h.there, rank-of-live slots s p.part p.fact.form l (is-at s p l is) h))
 
 -- a slot that is written twice
 pub twice : (slots after later : List (Option Entry)) (id : ℕ) (o o' : Option Entry) → HasSlot slots after id o → HasSlot after later id o' → HasSlot slots later id o'

@@ -10,7 +10,7 @@ use Rattle.kin_cert.specs.declared.key.Key.{Key}
 use Rattle.kin_cert.specs.declared.plan.Plan.{Plan}
 use Rattle.kin_fail.specs.declared.owned.Owned.{Owned}
 use Rattle.kin_fail.specs.Rank.{padded_rank, is_rank, owned_rank}
-use Rattle.kin_cert.specs.Layout.{entry_at, entry_rank, fresh, HasSlot, NoneTwice, IsNotFound}
+use Rattle.kin_cert.specs.Layout.{entry_at, entry_rank, fresh, HasSlot, NoneTwice, IsThere, IsNotFound}
 use Rattle.kin_cert.specs.Keys.{key_of, owned_key}
 use Rattle.kin_cert.specs.Rolls.{IsKnownBy, IsShared, IsRoll, IsFirstAt, IsIdOf, HasNoId, MayFollow, IsSameIndex}
 use Rattle.kin_cert.proofs.Keys.{some_none, rank-key, rank-key_of, known-once, kept-known, kept-shared}
@@ -84,13 +84,40 @@ module _ {T : Type 0} (plan : Plan) (slots : List (Option Entry)) (holders : Key
             absurd cc
       ] refl
 
+  -- the key of an entry has a holder
+  pub key-held : (s p : ℕ) (f : Form) → IsThere slots (padded_rank s p f) → (h : Holder) × (holders (key_of plan s p f) ≡ Some h)
+  key-held s p f (id, (e, there, ranked)) =
+      let at : owned_key plan e.owned ≡ key_of plan s p f = rank-key_of plan e.owned s p f ranked in
+      elim (roll.found id e there) [
+        | inl x ↦ (x.holder, ap holders (sym at) ∙ x.known)
+        | inr y ↦
+            let k = roll.other (entry_rank e) id y in
+            (k.shared.holder, ap holders (sym at ∙ rank-key plan e.owned k.entry.owned (sym k.ranked)) ∙ k.shared.known)
+      ]
+
+  -- and is its own, where the key isn't shared
+  pub unshared-first : (s p : ℕ) (f : Form) → IsThere slots (padded_rank s p f) → (h : Holder) → holders (key_of plan s p f) ≡ Some h → h.is_shared ≡ false → IsFirstAt plan slots holders s p f h.id
+  unshared-first s p f (id, (e, there, ranked)) h known unshared =
+      let at : owned_key plan e.owned ≡ key_of plan s p f = rank-key_of plan e.owned s p f ranked in
+      elim (roll.found id e there) [
+        | inl x ↦
+            let same : h ≡ x.holder = same_Some h x.holder (sym known ∙ ap holders (sym at) ∙ x.known) in
+            record { known = record { holder = h; known = known; id_is = refl }; entry = e; there = ap (λ (k : Holder). entry_at slots k.id) same ∙ ap (entry_at slots) x.id_is ∙ there; ranked = ranked }
+        | inr y ↦ absurd (some_none id (sym y ∙ unshared-unlisted e.owned h (ap holders at ∙ known) unshared))
+      ]
+
+  -- the holder of a key that may be taken has the old fact
+  pub follows-first : (old new : Owned) (holder : Holder) → IsThere slots (owned_rank old) → holders (owned_key plan old) ≡ Some holder → MayFollow slots others holder old new → IsFirstAt plan slots holders old.structure old.part old.fact.form holder.id
+  follows-first old new holder live known (inl unshared) = unshared-first old.structure old.part old.fact.form live holder known unshared
+  follows-first old new holder live known (inr (first, free)) = record { known = record { holder = holder; known = known; id_is = refl }; entry = first.0; there = first.1; ranked = first.2 }
+
   -- what may follow the entry by which its key is known isn't among the others
   pub follows-unlisted : (old new : Owned) (holder : Holder) → holders (owned_key plan old) ≡ Some holder → owned_key plan new ≡ owned_key plan old
-      → IsFirstAt plan slots holders old.structure old.part old.fact.form holder.id → MayFollow others holder old new → look_up is_rank others (owned_rank new) ≡ None
+      → IsFirstAt plan slots holders old.structure old.part old.fact.form holder.id → MayFollow slots others holder old new → look_up is_rank others (owned_rank new) ≡ None
   follows-unlisted old new holder known placed first (inl unshared) = unshared-unlisted new holder (ap holders placed ∙ known) unshared
-  follows-unlisted old new holder known placed first (inr (inl same)) =
+  follows-unlisted old new holder known placed first (inr (had, inl same)) =
       ap (look_up is_rank others) (same ∙ sym first.ranked) ∙ roll.alone holder.id first.entry first.there (first-known old.structure old.part old.fact.form holder.id first)
-  follows-unlisted old new holder known placed first (inr (inr free)) = free
+  follows-unlisted old new holder known placed first (inr (had, inr free)) = free
 
   -- an entry that keeps its owner and form
   module _ (after : List (Option Entry)) (id : ℕ) (e e' : Entry) (there : entry_at slots id ≡ Some e) (slot : HasSlot slots after id (Some e')) (same : e.owned ≡ e'.owned) where

@@ -9,16 +9,19 @@ use Rattle.kin_cert.specs.declared.plan.Plan.{Plan}
 use Rattle.kin_fail.specs.declared.owned.Owned.{Owned}
 use Rattle.kin_cert.specs.Entries.{Entry}
 use Rattle.kin_fail.specs.Rank.{is_rank, owned_rank}
-use Rattle.kin_cert.specs.Layout.{entry_at, entry_rank, fresh, queued_at, HasSlot, IsTakenOver}
+use Rattle.kin_cert.specs.Layout.{entry_at, entry_rank, fresh, queued_at, HasSlot, IsThere, IsTakenOver}
 use Rattle.kin_cert.specs.Keys.{owned_key}
 use Rattle.kin_cert.specs.Rolls.{IsFirstAt, IsKnownBy, IsRoll, MayFollow}
 use Rattle.kin_cert.proofs.Keys.{rank-key_of}
-use Rattle.kin_cert.proofs.Rolls.{once, follows-unlisted, only-there, taken-over-roll}
+use Rattle.kin_cert.proofs.Rolls.{once, follows-first, follows-unlisted, only-there, taken-over-roll}
 use Rattle.kin_cert.proofs.Tables.{has-slot}
 
 module _ {T : Type 0} {plan : Plan} {slots : List (Option Entry)} {holders : Key → Option Holder} {others : IndexMap (List ℤ) ℕ T} (roll : IsRoll plan slots holders others) (old new : Owned) (holder : Holder)
-    (known : holders (owned_key plan old) ≡ Some holder) (first : IsFirstAt plan slots holders old.structure old.part old.fact.form holder.id) (placed : owned_key plan new ≡ owned_key plan old) (follows : MayFollow others holder old new)
+    (live : IsThere slots (owned_rank old)) (known : holders (owned_key plan old) ≡ Some holder) (placed : owned_key plan new ≡ owned_key plan old) (follows : MayFollow slots others holder old new)
     (e : Entry) (there : entry_at slots holder.id ≡ Some e) where
+  first : IsFirstAt plan slots holders old.structure old.part old.fact.form holder.id
+  first = follows-first plan slots holders others roll old new holder live known follows
+
   entry_is : first.entry ≡ e
   entry_is = same_Some first.entry e (sym first.there ∙ there)
 
@@ -34,6 +37,10 @@ module _ {T : Type 0} {plan : Plan} {slots : List (Option Entry)} {holders : Key
   slot : HasSlot slots (slice_set slots holder.id (Some (fresh new))) holder.id (Some (fresh new))
   slot = has-slot slots holder.id e (Some (fresh new)) there
 
+  -- the entry has the rank of the old fact
+  pub ranked_there : entry_rank e ≡ owned_rank old
+  ranked_there = ap entry_rank (sym entry_is) ∙ first.ranked
+
   -- the indices serve the roll as it is then
   pub succession_roll : IsRoll plan (slice_set slots holder.id (Some (fresh new))) holders others
   succession_roll = taken-over-roll plan slots holders others roll _ holder.id e new there known_there (placed ∙ sym key_is) unlisted slot
@@ -41,7 +48,7 @@ module _ {T : Type 0} {plan : Plan} {slots : List (Option Entry)} {holders : Key
   -- no other entry has the new owner and form
   pub succeeds : (is_queued : Bool) → is_queued ≡ is_some (queued_at (Some e)) → IsTakenOver slots (owned_rank old) new (record { id = holder.id; is_queued = is_queued }) (slice_set slots holder.id (Some (fresh new)))
   succeeds is_queued queued = record {
-    vacancy_of = record { entry = e; there = there; ranked = ap entry_rank (sym entry_is) ∙ first.ranked; queued = queued };
+    vacancy_of = record { entry = e; there = there; ranked = ranked_there; queued = queued };
     slots = refl;
     free = only-there plan slots holders others roll _ holder.id e new there known_there (placed ∙ sym key_is) unlisted slot;
     once = once plan slots holders others roll;

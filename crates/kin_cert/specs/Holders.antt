@@ -26,11 +26,15 @@ HasHolder holders key holder holders' = (q : Key) → holders' q ≡ cond (is_ke
 abbrev pub AreSame : (Key → Option Holder) → (Key → Option Holder) → Type 0
 AreSame holders holders' = (q : Key) → holders' q ≡ holders q
 
--- the key isn't shared, and has no holder any more, and every other one is as it was
-pub record HasLeft (holders : Key → Option Holder) (key : Key) (holders' : Key → Option Holder) : Type 0 where
+-- the key has a holder, and isn't shared
+pub record IsUnshared (holders : Key → Option Holder) (key : Key) : Type 0 where
   pub holder : Holder
   pub known : holders key ≡ Some holder
   pub unshared : holder.is_shared ≡ false
+
+-- the key wasn't shared, and has no holder any more, and every other one is as it was
+pub record HasLeft (holders : Key → Option Holder) (key : Key) (holders' : Key → Option Holder) : Type 0 where
+  pub was : IsUnshared holders key
   pub gone : (q : Key) → holders' q ≡ cond (is_key key q) None (holders q)
 
 -- the key has no holder any more, or all is as it was
@@ -42,10 +46,10 @@ pub record StandsAt {S : Type 0} (index : IndexMap (List ℕ) Holder S) (bucket 
   pub at : slice_get index.entries spot.position ≡ Some (bucket, spot.holder)
   pub known : look_up is_bucket index bucket ≡ Some spot.holder
 
--- the seat has this holder, and every other one is as it was
-abbrev pub HasSeated : List ℕ → ℕ → Holder → List ℕ → Type 0
-HasSeated seats seat holder seats' = (q : ℕ) → holder_in (slice_index_or seats' q 0) ≡ cond (nat_eq seat q) (Some holder) (holder_in (slice_index_or seats q 0))
+-- the seat has this holder, or none, and every other one is as it was
+abbrev pub HasSeated : List ℕ → ℕ → Option Holder → List ℕ → Type 0
+HasSeated seats seat holder seats' = (q : ℕ) → holder_in (slice_index_or seats' q 0) ≡ cond (nat_eq seat q) holder (holder_in (slice_index_or seats q 0))
 
--- the bucket has this holder in the index, and every other one is as it was
-abbrev pub HasPut : {S T : Type 0} → IndexMap (List ℕ) Holder S → List ℕ → Holder → IndexMap (List ℕ) Holder T → Type 0
-HasPut index bucket holder index' = (q : List ℕ) → look_up is_bucket index' q ≡ cond (is_bucket bucket q) (Some holder) (look_up is_bucket index q)
+-- the bucket has this holder in the index, or isn't there, and every other one is as it was
+abbrev pub HasPut : {S T : Type 0} → IndexMap (List ℕ) Holder S → List ℕ → Option Holder → IndexMap (List ℕ) Holder T → Type 0
+HasPut index bucket holder index' = (q : List ℕ) → look_up is_bucket index' q ≡ cond (is_bucket bucket q) holder (look_up is_bucket index q)

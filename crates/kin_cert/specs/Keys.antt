@@ -1,5 +1,5 @@
 -- What a fact is known by: its seat, which a plan gives by arithmetic, or else its bucket. No public clause cites this module.
-use Rattle.std.specs.Prelude.{◌≡◌, ℕ, ◌+◌, ◌-◌, ◌*◌, ◌/◌, ◌^◌, ◌%◌, nat_lt, if◌then◌else◌, Bool, false, cond, nat_eq, List, Option, Some, None, slice_get}
+use Rattle.std.specs.Prelude.{◌≡◌, ℕ, ◌+◌, ◌-◌, ◌*◌, ◌/◌, ◌^◌, ◌%◌, nat_lt, if◌then◌else◌, Bool, false, nat_eq, List, Option, Some, None, slice_get}
 use Rattle.std.specs.Int.{w32, leading_zeros}
 use Rattle.kin_motion.specs.declared.form.Form.{Form}
 use Rattle.kin_motion.specs.declared.fact.Placed.{Placed}
@@ -14,27 +14,24 @@ use Rattle.kin_cert.specs.Bucket.{bucket_number, bucket_of, is_bucket}
 abbrev pub row_of : ℕ → ℕ
 row_of part = 2 * (30 - leading_zeros w32 part) + part % 2
 
--- in a section: a fact of a merge sits by its row and its first number, in one part of the row for lines, one for turns and one for slopes
-abbrev pub merge_seat : ℕ → Section → ℕ → ℕ → Option ℕ
-merge_seat numbers s part number =
-    if nat_lt (row_of part) s.rows
-    then (if nat_lt (number % 2 ^ 30) numbers then Some (s.base + (3 * row_of part + number / 2 ^ 30) * numbers + number % 2 ^ 30) else None)
-    else None
-
--- in a section: a fact of a list sits by its number
+-- in a section: a fact of a list sits by the number that its form names first
 abbrev pub list_seat : ℕ → Section → ℕ → ℕ → Option ℕ
-list_seat numbers s list number = if nat_lt number numbers then Some (s.base + list * numbers + number) else None
+list_seat numbers s list number = if nat_lt (number % 2 ^ 30) numbers then Some (s.base + list * numbers + number % 2 ^ 30) else None
+
+-- a row of merges has three lists, one for lines, one for turns and one for slopes
+abbrev pub merge_seat : ℕ → Section → ℕ → ℕ → Option ℕ
+merge_seat numbers s part number = if nat_lt (row_of part) s.rows then list_seat numbers s (3 * row_of part + number / 2 ^ 30) number else None
 
 -- a fact of two parts 2k and 2k + 1 sits as one of the list k, and any other as one of a merge
-abbrev pub shared_seat : ℕ → Section → ℕ → ℕ → Option ℕ
-shared_seat numbers s part number = if nat_lt (part / 2) s.pairs then list_seat numbers s (part / 2) number else merge_seat numbers s part number
+abbrev pub joint_seat : ℕ → Section → ℕ → ℕ → Option ℕ
+joint_seat numbers s part number = if nat_lt (part / 2) s.pairs then list_seat numbers s (part / 2) number else merge_seat numbers s part number
 
 -- a fact of a list sits by its number, one of a tournament by its node, and any other in a seat of several parts
 abbrev pub seat_in : ℕ → Section → ℕ → ℕ → Option ℕ
 seat_in numbers s part number =
     if nat_lt part s.lists
     then list_seat numbers s part number
-    else (if nat_lt (part - s.lists) s.nodes then Some (s.base + s.lists * numbers + (part - s.lists)) else shared_seat numbers s part number)
+    else (if nat_lt (part - s.lists) s.nodes then Some (s.base + s.lists * numbers + (part - s.lists)) else joint_seat numbers s part number)
 
 -- the same, where the structure has a section
 abbrev pub seat_at : ℕ → Option Section → ℕ → ℕ → Option ℕ

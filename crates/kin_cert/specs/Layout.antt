@@ -71,9 +71,17 @@ pub record HasSlot (old new : List (Option Entry)) (id : ℕ) (slot : Option Ent
   pub changed : entry_at new id ≡ slot
   pub others : (j : ℕ) → j ≢ id → entry_at new j ≡ entry_at old j
 
+-- the entry of the id has this rank
+abbrev pub HasRank : List (Option Entry) → ℕ → List ℤ → Type 0
+HasRank slots id rank = (e : Entry) × (entry_at slots id ≡ Some e) × (entry_rank e ≡ rank)
+
 -- an entry of this rank is there, and this holds of it
 abbrev pub IsFoundAt : List (Option Entry) → List ℤ → (Entry → Type 0) → Type 0
 IsFoundAt slots rank which = (id : ℕ) × (e : Entry) × (entry_at slots id ≡ Some e) × (entry_rank e ≡ rank) × which e
+
+-- an entry of this rank is there
+abbrev pub IsThere : List (Option Entry) → List ℤ → Type 0
+IsThere slots rank = (id : ℕ) × HasRank slots id rank
 
 abbrev pub IsNotFound : List (Option Entry) → List ℤ → Type 0
 IsNotFound slots rank = (id : ℕ) (e : Entry) → entry_at slots id ≡ Some e → entry_rank e ≢ rank

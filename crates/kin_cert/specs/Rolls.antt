@@ -10,7 +10,7 @@ use Rattle.kin_cert.specs.declared.plan.Plan.{Plan}
 use Rattle.kin_fail.specs.Rank.{padded_rank, is_rank, owned_rank}
 use Rattle.kin_cert.specs.Keys.{key_of, owned_key}
 use Rattle.kin_cert.specs.Holders.{HasHolder, AreSame, MayHaveLeft}
-use Rattle.kin_cert.specs.Layout.{entry_at, entry_rank}
+use Rattle.kin_cert.specs.Layout.{entry_at, entry_rank, HasRank}
 
 -- the key is known by this id, of which the fact may be gone
 pub record IsKnownBy (holders : Key → Option Holder) (key : Key) (id : ℕ) : Type 0 where
@@ -59,9 +59,9 @@ IsStruck plan slots holders others structure part form id holders' others' =
     (IsFirstAt plan slots holders structure part form id × MayHaveLeft holders (key_of plan structure part form) holders' × ((q : List ℤ) → look_up is_rank others' q ≡ look_up is_rank others q))
     ⊎ ((look_up is_rank others (padded_rank structure part form) ≡ Some id) × AreSame holders holders' × ((q : List ℤ) → look_up is_rank others' q ≡ cond (is_rank (padded_rank structure part form) q) None (look_up is_rank others q)))
 
--- the new fact isn't among the others, unless it has the owner and form of the old one, or the key isn't shared
-abbrev pub MayFollow : {T : Type 0} → IndexMap (List ℤ) ℕ T → Holder → Owned → Owned → Type 0
-MayFollow others holder old new = (holder.is_shared ≡ false) ⊎ (owned_rank new ≡ owned_rank old) ⊎ (look_up is_rank others (owned_rank new) ≡ None)
+-- the key isn't shared; or its holder has the old fact, and the new one has the owner and form of the old one or isn't among the others
+abbrev pub MayFollow : {T : Type 0} → List (Option Entry) → IndexMap (List ℤ) ℕ T → Holder → Owned → Owned → Type 0
+MayFollow slots others holder old new = (holder.is_shared ≡ false) ⊎ (HasRank slots holder.id (owned_rank old) × ((owned_rank new ≡ owned_rank old) ⊎ (look_up is_rank others (owned_rank new) ≡ None)))
 
 -- the id holds a key that had no entry, and which is shared if it was
 pub record HoldsKey (plan : Plan) (slots : List (Option Entry)) (holders : Key → Option Holder) (key : Key) (id : ℕ) (holders' : Key → Option Holder) : Type 0 where

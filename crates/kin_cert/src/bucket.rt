@@ -1,9 +1,12 @@
 //! Buckets of facts.
 
-ghost use Rattle.std.specs.Prelude.{◌≡◌, IsTrue};
+ghost use Rattle.std.specs.Prelude.{◌≡◌};
 ghost use Rattle.kin_cert.specs.Bucket.{bucket_number, bucket_of};
 
 use kin_motion::form::Form;
+
+/// The number of a form is the first one that it names, and this more for a turn, twice this more for a slope.
+pub(crate) const KIND: u32 = 1 << 30;
 
 /// Structure, part and a number of the form.
 pub type Bucket = [u32; 3];
@@ -24,26 +27,19 @@ pub fn bucket_number(form: &Form) -> u32
 {
     match *form {
         Form::Line { i, .. } => i,
-        Form::Turn { i, .. } => i.wrapping_add(1 << 30),
-        Form::Slope { i, .. } => i.wrapping_add(1 << 31),
+        _ => curve_number(form),
+    }
+}
+
+// The same, out of line: only the number of a line is read in place, without a table of jumps.
+#[inline(never)]
+fn curve_number(form: &Form) -> u32
+    ensures { result ≡ bucket_number form.now }
+{
+    match *form {
+        Form::Line { i, .. } => i,
+        Form::Turn { i, .. } => i.wrapping_add(KIND),
+        Form::Slope { i, .. } => i.wrapping_add(2 * KIND),
         Form::Dist { .. } => 0,
     }
-}
-
-/// Whether two forms have one number. Two lines are compared in line, without a table of jumps.
-#[inline(always)]
-pub fn have_one_number(one: &Form, two: &Form) -> bool
-    ensures { IsTrue result → bucket_number one.now ≡ bucket_number two.now }
-{
-    match (one, two) {
-        (Form::Line { i, .. }, Form::Line { i: j, .. }) => *i == *j,
-        _ => others_have_one_number(one, two),
-    }
-}
-
-#[inline(never)]
-fn others_have_one_number(one: &Form, two: &Form) -> bool
-    ensures { IsTrue result → bucket_number one.now ≡ bucket_number two.now }
-{
-    bucket_number(one) == bucket_number(two)
 }

@@ -121,6 +121,7 @@ impl Table {
         now: &Moment,
         steps: &mut Steps<L>,
     ) -> Result<bool, NoMemory>
+        requires live { IsLiveIn self.old.live structure dropped.now }
         requires askable { IsAskable (live_of motions.now) born.now.fact.form }
         requires holds { Holds (scene_at motions.now now.now) born.now.fact }
         ensures { IfOk result (λ is. HasTriedToReplace structure (scene_at motions.now) now.now dropped.now born.now is self.old self.new steps.old steps.new) }
@@ -153,6 +154,7 @@ impl Table {
         now: &Moment,
         steps: &mut Steps<L>,
     ) -> Result<bool, NoMemory>
+        requires live { IsLiveIn self.old.live structure dropped.now }
         requires askable { IsAskable (live_of motions.now) born.now.fact.form }
         requires holds { Holds (scene_at motions.now now.now) born.now.fact }
         ensures { IfOk result (λ is. HasTriedToReplace structure (scene_at motions.now) now.now dropped.now born.now is self.old self.new steps.old steps.new) }

@@ -1,10 +1,10 @@
 //! The holders of keys: by seat, or in an index of buckets.
 
-ghost use Rattle.std.specs.Prelude.{◌≡◌, ◌∷◌, ℕ, List, [], true, Some, OnOk, OnErr, slice_index_or};
+ghost use Rattle.std.specs.Prelude.{◌≡◌, ◌∷◌, ℕ, List, [], true, ◌⊎◌, Some, None, OnOk, OnErr, slice_index_or};
 ghost use Rattle.indexmap.specs.IndexMap.{get as look_up};
 ghost use Rattle.kin_cert.specs.Bucket.{is_bucket};
 ghost use Rattle.kin_cert.specs.Keys.{key_of};
-ghost use Rattle.kin_cert.specs.Holders.{holder_in, holder_of, HasHolder, HasSeated, HasPut, MayHaveLeft, AreSame, StandsAt};
+ghost use Rattle.kin_cert.specs.Holders.{holder_in, holder_of, HasHolder, HasSeated, HasPut, IsUnshared, MayHaveLeft, AreSame, StandsAt};
 
 use crate::bucket::{Bucket, bucket_number};
 use crate::guesses::{Guesses, Spot};
@@ -139,7 +139,7 @@ impl Holders {
     // Lets a bucket have this holder. Its position is the next guess.
     #[inline(never)]
     fn set_bucket(&mut self, bucket: &Bucket, holder: Holder) -> Result<(), NoMemory>
-        ensures ok { OnOk result (HasPut self.old.index bucket.now holder self.new.index) }
+        ensures ok { OnOk result (HasPut self.old.index bucket.now (Some holder) self.new.index) }
         ensures err { OnErr result ((q : List ℕ) → look_up is_bucket self.new.index q ≡ look_up is_bucket self.old.index q) }
         ensures seats { self.new.seats ≡ self.old.seats }
     {
@@ -174,28 +174,25 @@ impl Holders {
         }
     }
 
-    /// Lets the bucket of a fact that goes out of the index, where this has far more buckets than there are facts.
+    /// Lets a key go whose only fact goes. Its seat is free then. Its bucket stays in the index, where another fact will
+    /// find it, unless there are far more buckets than facts.
     #[inline(always)]
     pub(crate) fn leave(&mut self, key: &Key, facts: usize)
+        requires { IsUnshared (holder_of self.old) key.now }
         ensures { MayHaveLeft (holder_of self.old) key.now (holder_of self.new) }
     {
-        if self.index.len() / WIDTH > facts.max(FEW) {
-            self.take_away(key);
+        match key {
+            Key::Seat(seat) => free_seat(&mut self.seats, *seat),
+            Key::Bucket(bucket) => self.leave_bucket(bucket, facts),
         }
     }
 
-    // Takes a bucket out of the index, unless it is shared.
-    #[inline(never)]
-    fn take_away(&mut self, key: &Key)
-        ensures { MayHaveLeft (holder_of self.old) key.now (holder_of self.new) }
+    // Takes a bucket out of the index, where this has far more buckets than there are facts.
+    fn leave_bucket(&mut self, bucket: &Bucket, facts: usize)
+        ensures index { HasPut self.old.index bucket.now None self.new.index ⊎ (self.new.index ≡ self.old.index) }
+        ensures seats { self.new.seats ≡ self.old.seats }
     {
-        let Key::Bucket(bucket) = key else {
-            return;
-        };
-        let Some(holder) = self.index.get(bucket) else {
-            return;
-        };
-        if !holder.is_shared {
+        if self.index.len() / WIDTH > facts.max(FEW) {
             self.index.swap_remove(bucket);
         }
     }
@@ -214,7 +211,7 @@ fn seated(seats: &Vec<u32>, seat: usize) -> Option<Holder>
 
 // Lets a seat have this holder.
 fn set_seat(seats: &mut Vec<u32>, seat: usize, holder: Holder) -> Result<(), NoMemory>
-    ensures ok { OnOk result (HasSeated seats.old.items seat holder seats.new.items) }
+    ensures ok { OnOk result (HasSeated seats.old.items seat (Some holder) seats.new.items) }
     ensures err { OnErr result (seats.new ≡ seats.old) }
 {
     let word = word_of(holder)?;
@@ -225,10 +222,20 @@ fn set_seat(seats: &mut Vec<u32>, seat: usize, holder: Holder) -> Result<(), NoM
     Ok(())
 }
 
+// Lets a seat have no holder.
+#[inline(always)]
+fn free_seat(seats: &mut Vec<u32>, seat: usize)
+    ensures { HasSeated seats.old.items seat None seats.new.items }
+{
+    if let Some(place) = seats.get_mut(seat) {
+        *place = 0;
+    }
+}
+
 // Marks a seat that has this holder as one of which there are further facts.
 fn share_seat(seats: &mut Vec<u32>, seat: usize, holder: Holder)
     requires { holder_in (slice_index_or seats.old.items seat 0) ≡ Some holder }
-    ensures { HasSeated seats.old.items seat (record { id = holder.id; is_shared = true }) seats.new.items }
+    ensures { HasSeated seats.old.items seat (Some (record { id = holder.id; is_shared = true })) seats.new.items }
 {
     let _ = holder;
     let Some(word) = seats.get_mut(seat) else {
@@ -240,7 +247,7 @@ fn share_seat(seats: &mut Vec<u32>, seat: usize, holder: Holder)
 // Gives a known bucket another holder.
 fn hand_over(index: &mut IndexMap<Bucket, Holder>, bucket: &Bucket, spot: Spot, holder: Holder)
     requires { StandsAt index.old bucket.now spot }
-    ensures { HasPut index.old bucket.now holder index.new }
+    ensures { HasPut index.old bucket.now (Some holder) index.new }
 {
     let _ = bucket;
     let Some(known) = index.get_index_mut(spot.position) else {

@@ -6,8 +6,8 @@ ghost use Rattle.kin_cert.specs.Entries.{Entry as Kept};
 ghost use Rattle.kin_fail.specs.Rank.{padded_rank, is_rank, owned_rank};
 ghost use Rattle.kin_cert.specs.Keys.{owned_key};
 ghost use Rattle.kin_cert.specs.Holders.{holder_of};
-ghost use Rattle.kin_cert.specs.Layout.{entry_at, entry_rank, held};
-ghost use Rattle.kin_cert.specs.Rolls.{IsIdOf, HasNoId, IsStruck, MayFollow, IsEnrolled, IsSameIndex};
+ghost use Rattle.kin_cert.specs.Layout.{entry_at, held, HasRank, IsThere};
+ghost use Rattle.kin_cert.specs.Rolls.{IsRoll, IsIdOf, HasNoId, IsStruck, MayFollow, IsEnrolled, IsSameIndex};
 
 use crate::entry::Entry;
 use crate::holder::Holder;
@@ -30,7 +30,7 @@ pub(crate) fn has_fact(
     part: u32,
     form: &Form,
 ) -> bool
-    ensures { IsTrue result ↔ ((e : Kept) × (entry_at entries.now.slots id ≡ Some e) × (entry_rank e ≡ padded_rank structure part form.now)) }
+    ensures { IsTrue result ↔ HasRank entries.now.slots id (padded_rank structure part form.now) }
 {
     match entries.get(id) {
         Some(entry) => entry.is_of(structure, part, form),
@@ -55,13 +55,15 @@ pub(crate) fn id_of(
     if has_fact(entries, holder.id, structure, part, form) {
         return Some(holder.id);
     }
-    if !holder.is_shared {
-        return None;
+    if holder.is_shared {
+        others.get(&rank(structure, part, *form)).copied()
+    } else {
+        None
     }
-    others.get(&rank(structure, part, *form)).copied()
 }
 
-/// Strikes an owner's form out of the indices. Answers its id, if it has one. Its key usually stays known by the id.
+/// Strikes a live form of an owner out of the indices, and answers its id. A key that isn't shared has no other fact, so no
+/// form is compared there.
 pub(crate) fn strike(
     entries: &Slab<Entry>,
     plan: &Plan,
@@ -70,38 +72,61 @@ pub(crate) fn strike(
     structure: u32,
     part: u32,
     form: &Form,
-) -> Option<usize>
-    ensures some { IfSome result (λ id. IsStruck plan.now entries.now.slots (holder_of holders.old) others.old structure part form.now id (holder_of holders.new) others.new) }
-    ensures none { IfNone result (HasNoId plan.now entries.now.slots (holder_of holders.old) others.old structure part form.now) }
+) -> usize
+    requires roll { IsRoll plan.now entries.now.slots (holder_of holders.old) others.old }
+    requires there { IsThere entries.now.slots (padded_rank structure part form.now) }
+    ensures { IsStruck plan.now entries.now.slots (holder_of holders.old) others.old structure part form.now result (holder_of holders.new) others.new }
 {
     let key = key_of(plan, structure, part, form);
-    let holder = holders.find(&key)?;
-    if has_fact(entries, holder.id, structure, part, form) {
+    let Some(holder) = holders.find(&key) else {
+        unreachable!()
+    };
+    if !holder.is_shared {
         holders.leave(&key, entries.len());
-        return Some(holder.id);
+        return holder.id;
     }
-    others.swap_remove(&rank(structure, part, *form))
+    if has_fact(entries, holder.id, structure, part, form) {
+        return holder.id;
+    }
+    let Some(id) = others.swap_remove(&rank(structure, part, *form)) else {
+        unreachable!()
+    };
+    id
 }
 
-/// Whether the new fact isn't among the others, where the old one holds its key.
+/// Whether a new fact may take the key of an old one, which is live: the holder of the key has the old one, and the new
+/// one isn't among the others. Where the key isn't shared, both are so, and no form is compared.
 #[inline(always)]
 pub(crate) fn may_follow(
+    entries: &Slab<Entry>,
     others: &IndexMap<Rank, usize>,
     holder: Holder,
     structure: u32,
     old: &Placed,
     new: &Placed,
 ) -> bool
-    ensures { IsTrue result → MayFollow others.now holder (held structure old.now) (held structure new.now) }
+    ensures { IsTrue result → MayFollow entries.now.slots others.now holder (held structure old.now) (held structure new.now) }
 {
-    if !holder.is_shared {
-        return true;
-    }
-    is_none_of(others, structure, old, new)
+    !holder.is_shared || may_follow_shared(entries, others, holder.id, structure, old, new)
+}
+
+// The same where the key is shared, out of line.
+#[inline(never)]
+fn may_follow_shared(
+    entries: &Slab<Entry>,
+    others: &IndexMap<Rank, usize>,
+    id: usize,
+    structure: u32,
+    old: &Placed,
+    new: &Placed,
+) -> bool
+    ensures { IsTrue result → HasRank entries.now.slots id (owned_rank (held structure old.now)) × ((owned_rank (held structure new.now) ≡ owned_rank (held structure old.now)) ⊎ (look_up is_rank others.now (owned_rank (held structure new.now)) ≡ None)) }
+{
+    has_fact(entries, id, structure, old.part, &old.fact.form)
+        && is_none_of(others, structure, old, new)
 }
 
 // Whether the new fact has the owner and form of the old one, or isn't among the others.
-#[inline(never)]
 fn is_none_of(others: &IndexMap<Rank, usize>, structure: u32, old: &Placed, new: &Placed) -> bool
     ensures { IsTrue result → (owned_rank (held structure new.now) ≡ owned_rank (held structure old.now)) ⊎ (look_up is_rank others.now (owned_rank (held structure new.now)) ≡ None) }
 {

@@ -3,7 +3,7 @@
 ghost use Rattle.std.specs.Prelude.{◌≡◌, ◌↔◌, IsTrue};
 ghost use Rattle.kin_cert.specs.Keys.{key_of, HaveOneKey};
 
-use crate::bucket::{Bucket, bucket, have_one_number};
+use crate::bucket::{Bucket, bucket, bucket_number};
 use crate::plan::Plan;
 use kin_motion::fact::Placed;
 use kin_motion::form::Form;
@@ -45,18 +45,12 @@ pub(crate) fn key_of(plan: &Plan, structure: u32, part: u32, form: &Form) -> Key
 pub(crate) fn have_one_key(plan: &Plan, structure: u32, old: &Placed, new: &Placed) -> bool
     ensures { IsTrue result → HaveOneKey plan.now structure old.now new.now }
 {
+    let number = bucket_number(&old.fact.form);
+    let is_one_number = bucket_number(&new.fact.form) == number;
     if new.part == old.part {
-        return have_one_number(&old.fact.form, &new.fact.form) || plan.is_node(structure, old.part);
+        return is_one_number || plan.is_node(structure, old.part);
     }
-    new.part / 2 == old.part / 2 && share_seat(plan, structure, old, new)
-}
-
-/// Whether two facts of a structure share a seat that their numbers have in both parts. Out of line, since only facts of
-/// pairs of parts do.
-#[inline(never)]
-fn share_seat(plan: &Plan, structure: u32, old: &Placed, new: &Placed) -> bool
-    ensures { IsTrue result → HaveOneKey plan.now structure old.now new.now }
-{
-    let seat = plan.seat_of(structure, new.part, &new.fact.form);
-    seat.is_some() && seat == plan.seat_of(structure, old.part, &old.fact.form)
+    is_one_number
+        && new.part / 2 == old.part / 2
+        && plan.has_pair_seat(structure, old.part, number)
 }

@@ -1,10 +1,11 @@
 //! A plan of seats.
 
-ghost use Rattle.std.specs.Prelude.{◌≡◌, ◌+◌, ◌*◌, ◌<◌, ℕ, Some, IsTrue, slice_get};
+ghost use Rattle.std.specs.Prelude.{◌≡◌, ◌+◌, ◌*◌, ◌/◌, ◌<◌, ℕ, Some, IsTrue, slice_get};
 ghost use Rattle.kin_motion.specs.declared.form.Form.{Form as Shape};
+ghost use Rattle.kin_cert.specs.Bucket.{bucket_number};
 ghost use Rattle.kin_cert.specs.Keys.{row_of, list_seat, merge_seat, seat_in, seat_at, seat_of, key_of};
 
-use crate::bucket::bucket_number;
+use crate::bucket::{KIND, bucket_number};
 use kin_motion::form::Form;
 use kin_num::NoMemory;
 use std::alloc::Global;
@@ -128,6 +129,17 @@ impl Plan {
         }
     }
 
+    /// Whether a fact that is known by a number has one seat in a part and in the part that makes a list with it.
+    #[inline(always)]
+    pub(crate) fn has_pair_seat(&self, structure: u32, part: u32, number: u32) -> bool
+        ensures { IsTrue result → (other : ℕ) (f g : Shape) → other / 2 ≡ part / 2 → bucket_number f ≡ number → bucket_number g ≡ number → key_of self.now structure other f ≡ key_of self.now structure part g }
+    {
+        match self.section_of(structure) {
+            Some(section) => section.has_pair_seat(self.numbers, part, number),
+            None => false,
+        }
+    }
+
     // The seats of a structure, if it has any.
     #[inline(always)]
     fn section_of(&self, structure: u32) -> Option<Section>
@@ -156,19 +168,19 @@ impl Section {
         self.merge_seat(numbers, part, number)
     }
 
-    // The seat of a fact of a list, which is known by a number.
+    // The seat of a fact of a list, by the number that its form names first.
     #[inline(always)]
     fn list_seat(&self, numbers: u32, list: u32, number: u32) -> Option<usize>
         ensures { result ≡ list_seat numbers self.now list number }
     {
-        if number < numbers {
-            return Some(seat(self.base, list, numbers, number));
+        let first = number % KIND;
+        if first < numbers {
+            return Some(seat(self.base, list, numbers, first));
         }
         None
     }
 
-    // The seat of a fact of a merge. Its number says of which kind the form is, in steps of `2^30`, and which number it
-    // names first.
+    // The seat of a fact of a merge, by the kind of its form and the number that it names first.
     #[inline(always)]
     fn merge_seat(&self, numbers: u32, part: u32, number: u32) -> Option<usize>
         ensures { result ≡ merge_seat numbers self.now part number }
@@ -177,12 +189,7 @@ impl Section {
         if row >= self.rows {
             return None;
         }
-        let kind = number / (1 << 30);
-        let first = number % (1 << 30);
-        if first < numbers {
-            return Some(seat(self.base, 3 * row + kind, numbers, first));
-        }
-        None
+        self.list_seat(numbers, 3 * row + number / KIND, number)
     }
 
     // Whether a part is a node.
@@ -191,6 +198,17 @@ impl Section {
         ensures { IsTrue result → (numbers m n : ℕ) → (seat : ℕ) × (seat_in numbers self.now part m ≡ Some seat) × (seat_in numbers self.now part n ≡ Some seat) }
     {
         part >= self.lists && part - self.lists < self.nodes
+    }
+
+    // Whether a number has one seat in a part and in the part that makes a list with it.
+    #[inline(always)]
+    fn has_pair_seat(&self, numbers: u32, part: u32, number: u32) -> bool
+        ensures { IsTrue result → (other : ℕ) → other / 2 ≡ part / 2 → (seat : ℕ) × (seat_in numbers self.now other number ≡ Some seat) × (seat_in numbers self.now part number ≡ Some seat) }
+    {
+        if part / 2 >= self.pairs || number % KIND >= numbers {
+            return false;
+        }
+        self.lists == 0 && self.nodes == 0
     }
 }
 

@@ -1,14 +1,14 @@
 //! The roll of the live facts: an entry by id, and the id of each owner's form.
 
-ghost use Rattle.std.specs.Prelude.{◌≡◌, ◌≤◌, length, ◌+◌, [], Some, None, is_some, count_by, OnOk, OnErr, IfOk, IfSome, IfNone, IsSome, slice_set, ⊤};
+ghost use Rattle.std.specs.Prelude.{◌≡◌, ◌≤◌, length, ◌+◌, [], Some, None, is_some, count_by, OnOk, OnErr, IfOk, IfSome, IfNone, IsSome, slice_set};
 ghost use Rattle.kin_cert.specs.Entries.{Entry as Kept};
 ghost use Rattle.kin_fail.specs.Rank.{padded_rank, owned_rank};
-ghost use Rattle.kin_cert.specs.Layout.{entry_at, fresh, waiting, timed, held, HasSlot, NoneTwice, IsFoundAt, IsNotFound, IsVacancyOf, IsTakenOver};
+ghost use Rattle.kin_cert.specs.Layout.{entry_at, fresh, waiting, timed, held, HasSlot, NoneTwice, IsFoundAt, IsThere, IsNotFound, IsVacancyOf, IsTakenOver};
 ghost use Rattle.kin_cert.specs.Names.{form_in, IsFreed};
 
 use crate::entry::{Entry, Vacancy};
 use crate::holders::Holders;
-use crate::index::{enrol, has_fact, id_of, may_follow, strike};
+use crate::index::{enrol, id_of, may_follow, strike};
 use crate::key::have_one_key;
 use crate::plan::Plan;
 use indexmap::IndexMap;
@@ -125,13 +125,13 @@ impl Roll {
 
     /// Takes out the fact of an owner's form, which is there.
     pub(crate) fn take_out(&mut self, structure: u32, part: u32, form: &Form) -> Vacancy
-        requires there { IsFoundAt self.old (padded_rank structure part form.now) (λ _. ⊤) }
+        requires there { IsThere self.old (padded_rank structure part form.now) }
         ensures vacancy { IsVacancyOf self.old (padded_rank structure part form.now) result }
         ensures slots { self.new ≡ slice_set self.old result.id None }
         ensures count { count_by is_some self.new + 1 ≡ count_by is_some self.old }
         ensures once { NoneTwice self.old }
     {
-        let Some(id) = strike(
+        let id = strike(
             &self.entries,
             &self.plan,
             &mut self.holders,
@@ -139,9 +139,7 @@ impl Roll {
             structure,
             part,
             form,
-        ) else {
-            unreachable!()
-        };
+        );
         let entry = self.entries.remove(id);
         Vacancy {
             id,
@@ -150,7 +148,7 @@ impl Roll {
     }
 
     /// Replaces a live fact by one of the same key, where the key is known by the old one and no other fact has the owner
-    /// and the form of the new one. The new one never fails as yet. Otherwise nothing changes. It is in line, for lines on
+    /// and the form of the new one. The new one never fails as yet. Otherwise nothing changes. It is inlined, for lines on
     /// their own.
     #[inline(always)]
     pub(crate) fn take_over(
@@ -159,6 +157,7 @@ impl Roll {
         old: &Placed,
         new: &Placed,
     ) -> Option<Vacancy>
+        requires there { IsThere self.old (owned_rank (held structure old.now)) }
         ensures taken { IfSome result (λ vacancy. IsTakenOver self.old (owned_rank (held structure old.now)) (held structure new.now) vacancy self.new) }
         ensures none { IfNone result (self.new ≡ self.old) }
     {
@@ -166,20 +165,21 @@ impl Roll {
             return None;
         }
         let form = &old.fact.form;
-        let holder = self.holders.find_of(&self.plan, structure, old.part, form)?;
-        let id = holder.id;
-        if !has_fact(&self.entries, id, structure, old.part, form) {
+        let Some(holder) = self.holders.find_of(&self.plan, structure, old.part, form) else {
+            unreachable!()
+        };
+        if !may_follow(&self.entries, &self.others, holder, structure, old, new) {
             return None;
         }
-        if !may_follow(&self.others, holder, structure, old, new) {
-            return None;
-        }
-        let Some(entry) = self.entries.get_mut(id) else {
+        let Some(entry) = self.entries.get_mut(holder.id) else {
             unreachable!()
         };
         let is_queued = entry.is_queued();
         entry.replace_with(new);
-        Some(Vacancy { id, is_queued })
+        Some(Vacancy {
+            id: holder.id,
+            is_queued,
+        })
     }
 
     /// Whether a dropped fact and a born one of a structure are known by one key.

@@ -3,12 +3,12 @@ use Rattle.std.specs.List.{Contains}
 use Rattle.kin_cert.specs.Entries.{Entry}
 use Rattle.kin_cert.specs.Cost.{is_ungiven}
 use Rattle.kin_cert.specs.Facts.{Facts, NoneAlike}
-use Rattle.kin_cert.specs.Applied.{IsOf}
+use Rattle.kin_cert.specs.Applied.{IsOf, IsLiveIn}
 use Rattle.kin_cert.specs.Layout.{live_in, HasSlot}
-use Rattle.kin_cert.proofs.Changes.{is-at}
-use Rattle.kin_cert.proofs.Slots.{live-from, live-count}
+use Rattle.kin_cert.proofs.Slots.{live-count}
 use Rattle.kin_cert.proofs.Naming.{renamed}
-use Rattle.kin_cert.proofs.Tables.{at-rank, rank-of-live, has-slot, unqueued-table, dropped-rest, table-once}
+use Rattle.kin_cert.proofs.Replacing.{live-there}
+use Rattle.kin_cert.proofs.Tables.{at-rank, has-slot, unqueued-table, dropped-rest, table-once}
 use Rattle.kin_cert.proofs.Costs.{in_queue}
 use Rattle.kin_cert.proofs.QueueSizes.{few-queued-of}
 use Rattle.kin_cert.proofs.Ungiven.{cost_if, queued-ungiven}
@@ -16,11 +16,7 @@ use Rattle.kin_cert.proofs.table.Table.drop_one.Goals as goal
 
 pub take_out-vacancy-requires : goal.take_out-vacancy-requires
 take_out-vacancy-requires g c =
-    let l = c.requires.live.0 in
-    let there = subst (λ (t : Facts). Contains t.live l) (sym c.self.view_is) c.requires.live.1 in
-    let h = live-from c.self.inside.roll l there in
-    let at = is-at c.args.structure c.args.placed.now l c.requires.live.2 in
-    record { there = (h.id, h.entry, h.there, rank-of-live c.self.inside.roll c.args.structure c.args.placed.now.part c.args.placed.now.fact.form l at h, tt) }
+    record { there = live-there c.self.inside.roll c.args.structure c.args.placed.now (subst (λ (t : Facts). IsLiveIn t.live c.args.structure c.args.placed.now) (sym c.self.view_is) c.requires.live) }
 
 pub invariant_of-self : goal.invariant_of-self
 invariant_of-self g c =

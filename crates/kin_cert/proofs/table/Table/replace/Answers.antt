@@ -1,6 +1,7 @@
 use Rattle.std.proofs.Common.{◌≡◌, true, List, length, Option, Some, IsSome, refl, sym, ap, subst, ◌∙◌, arith}
 use Rattle.kin_motion.specs.Scene.{scene_at}
 use Rattle.kin_cert.specs.Entries.{Entry}
+use Rattle.kin_cert.specs.Applied.{IsLiveIn}
 use Rattle.kin_cert.specs.Cost.{is_ungiven}
 use Rattle.kin_cert.specs.Facts.{Facts}
 use Rattle.kin_fail.specs.Rank.{owned_rank}
@@ -9,12 +10,16 @@ use Rattle.kin_cert.specs.Names.{IsListed}
 use Rattle.kin_cert.proofs.Schedules.{Moments}
 use Rattle.kin_cert.proofs.Naming.{renamed, still-named, same-facts}
 use Rattle.kin_cert.proofs.Tables.{unqueued-table, timed-slot, timed-table}
-use Rattle.kin_cert.proofs.Replacing.{taken-slot, has-replaced}
+use Rattle.kin_cert.proofs.Replacing.{live-there, taken-slot, has-replaced}
 use Rattle.kin_cert.proofs.Slots.{live-set-count}
 use Rattle.kin_cert.proofs.Costs.{gone_and_back}
 use Rattle.kin_cert.proofs.QueueSizes.{few-queued, few-queued-of}
 use Rattle.kin_cert.proofs.Ungiven.{cost_if, queued-ungiven}
 use Rattle.kin_cert.proofs.table.Table.replace.Goals as goal
+
+pub take_over-requires : goal.take_over-requires
+take_over-requires g c =
+    record { there = live-there c.self.inside.roll c.args.structure c.args.dropped.now (subst (λ (t : Facts). IsLiveIn t.live c.args.structure c.args.dropped.now) (sym c.self.view_is) c.requires.live) }
 
 pub time-requires-clause-there : goal.time-requires-clause-there
 time-requires-clause-there g c =

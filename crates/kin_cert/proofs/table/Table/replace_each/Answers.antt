@@ -18,6 +18,10 @@ use Rattle.kin_cert.proofs.table.Table.replace_each.Goals.{In-Some-split_first, 
 is_not : (b : Bool) → b ≡ false → ¬ (IsTrue b)
 is_not b f t = cc
 
+-- the first dropped fact is live
+dropped-live : (g : given.Over) (c : In-Some-split_first g) → IsLiveIn c.loop-dropped.self.live c.args.structure c.in-Some.dropped.now
+dropped-live g c = let d_is = c.in-Some.ensures.cases.0 in (rw d_is at c.loop-dropped.invariant.may.dropped_live) 0 c.in-Some.dropped.now (omega arith)
+
 -- the first born fact may be asked for, and holds
 askable : (g : given.Over) (c : In-Some-split_first g) → IsAskable (live_of c.args.motions.now) c.in-Some-split_first.born.now.fact.form
 askable g c =
@@ -37,10 +41,10 @@ tried g c = elim c.if-is_line.branch [
 ]
 
 pub replace-requires : goal.replace-requires
-replace-requires g c = let b = (goal.at.replace-requires g c).In-Some-split_first in record { askable = askable g b; holds = holding g b }
+replace-requires g c = let b = (goal.at.replace-requires g c).In-Some-split_first in record { live = dropped-live g b; askable = askable g b; holds = holding g b }
 
 pub replace_curve-requires : goal.replace_curve-requires
-replace_curve-requires g c = let b = (goal.at.replace_curve-requires g c).In-Some-split_first in record { askable = askable g b; holds = holding g b }
+replace_curve-requires g c = let b = (goal.at.replace_curve-requires g c).In-Some-split_first in record { live = dropped-live g b; askable = askable g b; holds = holding g b }
 
 pub loop-dropped-preserved-then-is_replaced : goal.loop-dropped-preserved-then-is_replaced
 loop-dropped-preserved-then-is_replaced g c =
@@ -73,12 +77,8 @@ pub drop_one-requires : goal.drop_one-requires
 drop_one-requires g c =
     let t = tried g (goal.at.drop_one-requires g c).Joined-is_line in
     let s = c.args.structure in
-    let d_is = c.in-Some.ensures.cases.0 in
     let same = t.no (is_not _ c.if-is_replaced.false) in
-    record {
-      live = subst (λ (t : Facts). IsLiveIn t.live s c.in-Some.dropped.now) (sym same)
-          ((rw d_is at c.loop-dropped.invariant.may.dropped_live) 0 c.in-Some.dropped.now (omega arith));
-    }
+    record { live = subst (λ (t : Facts). IsLiveIn t.live s c.in-Some.dropped.now) (sym same) (dropped-live g (goal.at.drop_one-requires g c).In-Some-split_first) }
 
 pub loop-dropped-preserved : goal.loop-dropped-preserved
 loop-dropped-preserved g c =
