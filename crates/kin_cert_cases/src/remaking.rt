@@ -172,8 +172,9 @@ fn meeting(alloc: Global) -> Result<Motions, NoMemory> {
 }
 
 /// No plan, a plan in which no fact has a seat, one in which each first number has one, one in which only the number 0
-/// has one, one in which all facts have the same, and one in which they are facts of merges.
-fn plans() -> [Seats; 6] {
+/// has one, one in which all facts have the same, one in which two parts share their seats, and one in which they are facts
+/// of merges.
+fn plans() -> [Seats; 7] {
     [
         Seats::None,
         Seats::Planned {
@@ -196,6 +197,7 @@ fn plans() -> [Seats; 6] {
             lists: 0,
             nodes: 1,
         },
+        Seats::Pairs { size: 2, lists: 1 },
         Seats::Merges { size: 2, rows: 4 },
     ]
 }

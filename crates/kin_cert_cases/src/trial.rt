@@ -111,6 +111,8 @@ pub enum Seats {
     None,
     /// It has seats in so many lists of the numbers below `2^size`, and in so many nodes.
     Planned { size: u32, lists: u32, nodes: u32 },
+    /// It has seats in so many lists of two parts of the numbers below `2^size`.
+    Pairs { size: u32, lists: u32 },
     /// It has seats in so many rows of merges of the numbers below `2^size`.
     Merges { size: u32, rows: u32 },
 }
@@ -124,6 +126,11 @@ fn table_with(alloc: Global, seats: Seats) -> Result<Table, NoMemory>
         Seats::Planned { size, lists, nodes } => {
             let mut plan = Plan::new(alloc, size);
             plan.add(lists, nodes)?;
+            Table::with_room(alloc, 4, plan)
+        }
+        Seats::Pairs { size, lists } => {
+            let mut plan = Plan::new(alloc, size);
+            plan.add_pairs(lists)?;
             Table::with_room(alloc, 4, plan)
         }
         Seats::Merges { size, rows } => {
