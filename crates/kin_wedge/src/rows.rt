@@ -2,6 +2,7 @@
 
 ghost use Rattle.std.specs.Prelude.{◌≡◌, ℕ, suc, ◌+◌, ◌*◌, ◌^◌, ◌<◌, Some, [], true, length, slice_get, IfOk, OnOk};
 ghost use Rattle.kin_motion.specs.Numbers.{is_in, IsOnce};
+ghost use Rattle.kin_motion.specs.Sets.{AreDistinct};
 ghost use Rattle.kin_list.specs.declared.mark.Mark.TheVariants.{Rest};
 ghost use Rattle.kin_list.specs.Listing.{staying, lasting, without};
 ghost use Rattle.kin_list.specs.Rows.{exchange, exchanged};
@@ -121,35 +122,22 @@ impl Row {
         }
     }
 
-    /// Becomes that of a list.
-    fn copy(&mut self, list: &KinList) -> Result<(), NoMemory>
-        ensures { OnOk result (self.new ≡ list.now.items) }
-    {
-        self.numbers.clear();
-        self.numbers.extend_from_slice(list.items())?;
-        Ok(())
-    }
-
-    /// Takes in the number of a mark that has entered a list.
+    /// Takes in the number of a mark that has entered a list, at its place there.
     fn take_in(&mut self, mark: Mark, list: &KinList) -> Result<(), NoMemory>
-        requires { self.old ≡ lasting mark list.now.items }
+        requires once { AreDistinct list.now.items }
+        requires others { self.old ≡ lasting mark list.now.items }
         ensures { OnOk result (self.new ≡ list.now.items) }
     {
-        if let Mark::Enters(_) = mark {
-            return self.copy(list);
-        }
+        let Mark::Enters(no) = mark else {
+            return Ok(());
+        };
+        let Some(place) = list.place_of(no) else {
+            return Ok(());
+        };
+        let Ok(()) = self.numbers.insert(place as usize, no) else {
+            return Err(NoMemory);
+        };
         Ok(())
-    }
-
-    /// Follows a list in which nothing was exchanged.
-    fn follow_mark(&mut self, mark: Mark, list: &KinList) -> Result<(), NoMemory>
-        requires { staying mark self.old ≡ lasting mark list.now.items }
-        ensures { OnOk result (self.new ≡ list.now.items) }
-    {
-        match mark {
-            Mark::Rest | Mark::Broken => Ok(()),
-            Mark::Enters(_) | Mark::Leaves(_) => self.copy(list),
-        }
     }
 
     /// Makes the exchanges of a list, and notes the slots that they can have touched.
@@ -174,9 +162,6 @@ impl Row {
         ensures offered { OnOk result ((a b : ℕ) → WereExchanged list.now.swaps (staying mark self.old) a b → HasOfferedBoth (rows_of orders.now.lists.items) table.now part a b touches.new.all.items) }
         ensures touched { OnOk result (HasTouched table.now touches.old.all.items touches.new.all.items) }
     {
-        if list.swaps().is_empty() {
-            return self.follow_mark(mark, list);
-        }
         self.let_go(mark);
         follow_row(
             &mut self.numbers,

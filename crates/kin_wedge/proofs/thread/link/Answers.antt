@@ -1,4 +1,4 @@
-use Rattle.std.proofs.Common.{sym, subst, ℕ, ◌<◌, ◌∙◌, length}
+use Rattle.std.proofs.Common.{sym, subst, ℕ, ◌<◌, ◌∙◌}
 use Rattle.kin_wedge.specs.Threads.{web}
 use Rattle.kin_wedge.proofs.Linking.{first_below, linked_so}
 use Rattle.kin_wedge.proofs.thread.link.Goals as goal

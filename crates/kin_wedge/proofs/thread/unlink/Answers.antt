@@ -1,4 +1,4 @@
-use Rattle.std.proofs.Common.{sym, subst, ℕ, ◌<◌, ◌∙◌, length}
+use Rattle.std.proofs.Common.{sym, subst, ℕ, ◌<◌, ◌∙◌}
 use Rattle.kin_wedge.specs.Threads.{web}
 use Rattle.kin_wedge.proofs.Linking.{slot_below, target_below, next_below, previous_below, unlinked_so}
 use Rattle.kin_wedge.proofs.thread.unlink.Goals as goal

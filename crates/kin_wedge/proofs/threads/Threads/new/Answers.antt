@@ -1,6 +1,5 @@
-use Rattle.std.proofs.Common.{ap, ap₂, sym, ◌∙◌, subst, List, ℕ}
-use Rattle.kin_wedge.specs.declared.thread.Thread.{Thread}
-use Rattle.kin_wedge.specs.Threads.{AreThreads, vacant_thread, web}
+use Rattle.std.proofs.Common.{ap, sym, ◌∙◌, subst, List, ℕ}
+use Rattle.kin_wedge.specs.Threads.{AreThreads, web}
 use Rattle.kin_wedge.proofs.Pointing.{vacant_targets, vacant_threads}
 use Rattle.kin_wedge.proofs.threads.Threads.new.Goals as goal
 

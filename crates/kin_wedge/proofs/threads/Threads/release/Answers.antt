@@ -1,6 +1,5 @@
-use Rattle.std.proofs.Common.{◌≡◌, ap, sym, ◌∙◌, subst, List, ℕ, Some, Option}
+use Rattle.std.proofs.Common.{ap, sym, ◌∙◌, List, ℕ, Some, Option}
 use Rattle.std.specs.Prelude.{slice_get, None}
-use Rattle.kin_wedge.specs.Threads.{named, web}
 use Rattle.kin_wedge.proofs.Pointing.{slot_room, target_there, threads_unlinked}
 use Rattle.kin_wedge.proofs.Renewing.{set_as_it_is}
 use Rattle.kin_wedge.proofs.threads.Threads.release.Goals as goal
