@@ -50,7 +50,5 @@ pub(crate) fn have_one_key(plan: &Plan, structure: u32, old: &Placed, new: &Plac
     if new.part == old.part {
         return is_one_number || plan.is_node(structure, old.part);
     }
-    is_one_number
-        && new.part / 2 == old.part / 2
-        && plan.has_pair_seat(structure, old.part, number)
+    is_one_number && new.part / 2 == old.part / 2 && plan.has_pair_seat(structure, old.part, number)
 }
