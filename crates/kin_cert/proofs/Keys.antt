@@ -8,12 +8,13 @@ use Rattle.kin_motion.specs.declared.form.Form.{Form}
 use Rattle.kin_cert.specs.declared.holder.Holder.{Holder}
 use Rattle.kin_cert.specs.declared.key.Key.{Key}
 use Rattle.kin_cert.specs.declared.key.Key.TheVariants.{Seat, Bucket}
+use Rattle.kin_cert.specs.declared.bucket.Label.{Label}
 use Rattle.kin_cert.specs.declared.plan.Plan.{Plan}
 use Rattle.kin_cert.specs.declared.plan.Section.{Section}
 use Rattle.kin_fail.specs.declared.owned.Owned.{Owned}
 use Rattle.kin_fail.specs.Rank.{padded_rank, owned_rank}
-use Rattle.kin_cert.specs.Bucket.{bucket_number, bucket_of, is_bucket}
-use Rattle.kin_cert.specs.Keys.{list_seat, merge_seat, joint_seat, seat_in, seat_at, seat_or, key_of, owned_key, is_key}
+use Rattle.kin_cert.specs.Bucket.{is_bucket}
+use Rattle.kin_cert.specs.Keys.{list_seat, merge_seat, joint_seat, seat_in, seat_at, seat_or, key_at, key_of, owned_key, is_key}
 use Rattle.kin_cert.specs.Holders.{HasHolder, AreSame, HasLeft, MayHaveLeft}
 use Rattle.kin_cert.specs.Rolls.{IsKnownBy, IsShared}
 use Rattle.kin_fail.proofs.Ranks.{both_hold, rank_names}
@@ -89,11 +90,11 @@ pair_seat numbers s no_lists no_nodes n low part pair =
     ∙ ap (λ (b : Bool). if b then list_seat numbers s (part / 2) n else merge_seat numbers s part n) pair
     ∙ ap (λ (b : Bool). if b then Some (s.base + part / 2 * numbers + n % 2 ^ 30) else None) low
 
--- the key of a form that has a seat
-pub seated-key : (plan : Plan) (structure part : ℕ) (s : Section) → slice_get plan.sections.items structure ≡ Some s → (f : Form) (seat : ℕ) → seat_in plan.numbers s part (bucket_number f) ≡ Some seat → key_of plan structure part f ≡ Seat seat
-seated-key plan structure part s there f seat is =
-    ap (λ (o : Option Section). seat_or (seat_at plan.numbers o part (bucket_number f)) (bucket_of structure part f)) there
-    ∙ ap (λ (o : Option ℕ). seat_or o (bucket_of structure part f)) is
+-- the key of a label that has a seat
+pub seated-key : (plan : Plan) (structure : ℕ) (l : Label) (s : Section) → slice_get plan.sections.items structure ≡ Some s → (seat : ℕ) → seat_in plan.numbers s l.part l.number ≡ Some seat → key_at plan structure l ≡ Seat seat
+seated-key plan structure l s there seat is =
+    ap (λ (o : Option Section). seat_or (seat_at plan.numbers o l.part l.number) (structure ∷ l.part ∷ l.number ∷ [])) there
+    ∙ ap (λ (o : Option ℕ). seat_or o (structure ∷ l.part ∷ l.number ∷ [])) is
 
 -- ---- holders
 

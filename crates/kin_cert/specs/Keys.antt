@@ -1,14 +1,14 @@
 -- What a fact is known by: its seat, which a plan gives by arithmetic, or else its bucket. No public clause cites this module.
-use Rattle.std.specs.Prelude.{◌≡◌, ℕ, ◌+◌, ◌-◌, ◌*◌, ◌/◌, ◌^◌, ◌%◌, nat_lt, if◌then◌else◌, Bool, false, nat_eq, List, Option, Some, None, slice_get}
+use Rattle.std.specs.Prelude.{ℕ, ◌+◌, ◌-◌, ◌*◌, ◌/◌, ◌^◌, ◌%◌, nat_lt, if◌then◌else◌, Bool, false, nat_eq, List, [], ◌∷◌, Option, Some, None, slice_get}
 use Rattle.std.specs.Int.{w32, leading_zeros}
 use Rattle.kin_motion.specs.declared.form.Form.{Form}
-use Rattle.kin_motion.specs.declared.fact.Placed.{Placed}
 use Rattle.kin_fail.specs.declared.owned.Owned.{Owned}
+use Rattle.kin_cert.specs.declared.bucket.Label.{Label}
 use Rattle.kin_cert.specs.declared.plan.Section.{Section}
 use Rattle.kin_cert.specs.declared.plan.Plan.{Plan}
 use Rattle.kin_cert.specs.declared.key.Key.{Key}
 use Rattle.kin_cert.specs.declared.key.Key.TheVariants.{Seat, Bucket}
-use Rattle.kin_cert.specs.Bucket.{bucket_number, bucket_of, is_bucket}
+use Rattle.kin_cert.specs.Bucket.{bucket_number, is_bucket}
 
 -- twice the level of node v, and one more in the second tree; node v has the parts 2v and 2v + 1, and nodes of one level have equally many leading zeros
 abbrev pub row_of : ℕ → ℕ
@@ -46,8 +46,14 @@ abbrev pub seat_or : Option ℕ → List ℕ → Key
 seat_or None bucket = Bucket bucket
 seat_or (Some seat) bucket = Seat seat
 
+abbrev pub key_at : Plan → ℕ → Label → Key
+key_at plan structure l = seat_or (seat_at plan.numbers (slice_get plan.sections.items structure) l.part l.number) (structure ∷ l.part ∷ l.number ∷ [])
+
+abbrev pub label_of : ℕ → Form → Label
+label_of part form = record { part = part; number = bucket_number form }
+
 abbrev pub key_of : Plan → ℕ → ℕ → Form → Key
-key_of plan structure part form = seat_or (seat_of plan structure part form) (bucket_of structure part form)
+key_of plan structure part form = key_at plan structure (label_of part form)
 
 abbrev pub owned_key : Plan → Owned → Key
 owned_key plan o = key_of plan o.structure o.part o.fact.form
@@ -57,7 +63,3 @@ is_key (Seat p) (Seat q) = nat_eq p q
 is_key (Seat p) (Bucket c) = false
 is_key (Bucket b) (Seat q) = false
 is_key (Bucket b) (Bucket c) = is_bucket b c
-
--- the two facts of the structure have one key
-abbrev pub HaveOneKey : Plan → ℕ → Placed → Placed → Type 0
-HaveOneKey plan structure old new = key_of plan structure new.part new.fact.form ≡ key_of plan structure old.part old.fact.form

@@ -2,11 +2,33 @@
 
 ghost use Rattle.std.specs.Prelude.{◌≡◌};
 ghost use Rattle.kin_cert.specs.Bucket.{bucket_number, bucket_of};
+ghost use Rattle.kin_cert.specs.Keys.{label_of};
 
+use kin_motion::fact::Placed;
 use kin_motion::form::Form;
 
 /// The number of a form is the first one that it names, and this more for a turn, twice this more for a slope.
 pub(crate) const KIND: u32 = 1 << 30;
+
+/// What a structure knows a fact by: its part, and a number of its form.
+#[derive(Clone, Copy)]
+pub(crate) struct Label {
+    pub(crate) part: u32,
+    pub(crate) number: u32,
+}
+
+impl Label {
+    /// The label of a fact.
+    #[inline(always)]
+    pub(crate) fn of(placed: &Placed) -> Label
+        ensures { result ≡ label_of placed.now.part placed.now.fact.form }
+    {
+        Label {
+            part: placed.part,
+            number: bucket_number(&placed.fact.form),
+        }
+    }
+}
 
 /// Structure, part and a number of the form.
 pub type Bucket = [u32; 3];

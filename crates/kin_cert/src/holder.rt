@@ -41,6 +41,16 @@ pub(crate) fn word_of(holder: Holder) -> Result<u32, NoMemory>
     Ok(2 * short + if holder.is_shared { 3 } else { 2 })
 }
 
+/// The same, or nothing where there is no memory for the id.
+pub(crate) fn word_or_none(holder: Holder) -> u32
+    ensures { (h : Kept) → holder_in result ≡ Some h → h ≡ holder }
+{
+    match word_of(holder) {
+        Ok(word) => word,
+        Err(_) => 0,
+    }
+}
+
 /// What a seat says once it is marked as one of which there are further facts.
 pub(crate) fn marked(word: u32) -> u32
     ensures { (h : Kept) → holder_in word ≡ Some h → holder_in result ≡ Some (record { id = h.id; is_shared = true }) }

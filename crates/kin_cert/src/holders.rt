@@ -3,16 +3,16 @@
 ghost use Rattle.std.specs.Prelude.{◌≡◌, ◌∷◌, ℕ, List, [], true, ◌⊎◌, Some, None, OnOk, OnErr, slice_index_or};
 ghost use Rattle.indexmap.specs.IndexMap.{get as look_up};
 ghost use Rattle.kin_cert.specs.Bucket.{is_bucket};
-ghost use Rattle.kin_cert.specs.Keys.{key_of};
+ghost use Rattle.kin_cert.specs.declared.holder.Holder.{Holder as Kept};
+ghost use Rattle.kin_cert.specs.Keys.{key_at};
 ghost use Rattle.kin_cert.specs.Holders.{holder_in, holder_of, HasHolder, HasSeated, HasPut, IsUnshared, MayHaveLeft, AreSame, StandsAt};
 
-use crate::bucket::{Bucket, bucket_number};
+use crate::bucket::{Bucket, Label};
 use crate::guesses::{Guesses, Spot};
-use crate::holder::{Holder, holder_in, marked, word_of};
+use crate::holder::{Holder, holder_in, marked, word_of, word_or_none};
 use crate::key::Key;
 use crate::plan::Plan;
 use indexmap::IndexMap;
-use kin_motion::form::Form;
 use kin_num::NoMemory;
 use std::alloc::Global;
 
@@ -60,33 +60,30 @@ impl Holders {
         })
     }
 
-    /// The holder of the key of an owner's form, if it has one. In line, and no key is made of a seat.
+    /// What a seat says of the holder of a fact's key, or would say if the fact had one: nothing where the key has none, or
+    /// where the id is too great. It is inlined, no key is made of a seat, and the word is taken apart once for both ways.
     #[inline(always)]
-    pub(crate) fn find_of(
-        &mut self,
-        plan: &Plan,
-        structure: u32,
-        part: u32,
-        form: &Form,
-    ) -> Option<Holder>
-        ensures value { result ≡ holder_of self.old (key_of plan.now structure part form.now) }
+    pub(crate) fn find_word(&mut self, plan: &Plan, structure: u32, label: Label) -> u32
+        ensures value { (h : Kept) → holder_in result ≡ Some h → holder_of self.old (key_at plan.now structure label) ≡ Some h }
         ensures same { AreSame (holder_of self.old) (holder_of self.new) }
     {
-        let number = bucket_number(form);
-        match plan.seat_at(structure, part, number) {
-            Some(seat) => seated(&self.seats, seat),
-            None => self.find_unseated(structure, part, number),
+        match plan.seat_at(structure, label.part, label.number) {
+            Some(seat) => word_at(&self.seats, seat),
+            None => self.find_unseated(structure, label),
         }
     }
 
-    // The holder of the bucket of a fact without a seat. Out of line, so that the others make no bucket.
+    // The same of a fact without a seat. Out of line, so that the others make no bucket.
     #[inline(never)]
-    fn find_unseated(&mut self, structure: u32, part: u32, number: u32) -> Option<Holder>
-        ensures value { result ≡ look_up is_bucket self.old.index (structure ∷ part ∷ number ∷ []) }
+    fn find_unseated(&mut self, structure: u32, label: Label) -> u32
+        ensures value { (h : Kept) → holder_in result ≡ Some h → look_up is_bucket self.old.index (structure ∷ label.part ∷ label.number ∷ []) ≡ Some h }
         ensures index { self.new.index ≡ self.old.index }
         ensures seats { self.new.seats ≡ self.old.seats }
     {
-        self.find_bucket(&[structure, part, number])
+        match self.find_bucket(&[structure, label.part, label.number]) {
+            Some(holder) => word_or_none(holder),
+            None => 0,
+        }
     }
 
     /// The holder of a key, if it has one. It may be noted where it was found.
@@ -198,15 +195,23 @@ impl Holders {
     }
 }
 
+// What a seat says of its holder.
+#[inline(always)]
+fn word_at(seats: &Vec<u32>, seat: usize) -> u32
+    ensures { result ≡ slice_index_or seats.now.items seat 0 }
+{
+    match seats.get(seat) {
+        Some(word) => *word,
+        None => 0,
+    }
+}
+
 // The holder that a seat says it has.
 #[inline(always)]
 fn seated(seats: &Vec<u32>, seat: usize) -> Option<Holder>
     ensures { result ≡ holder_in (slice_index_or seats.now.items seat 0) }
 {
-    match seats.get(seat) {
-        Some(word) => holder_in(*word),
-        None => None,
-    }
+    holder_in(word_at(seats, seat))
 }
 
 // Lets a seat have this holder.

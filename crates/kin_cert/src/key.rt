@@ -1,11 +1,10 @@
 //! What facts are known by.
 
 ghost use Rattle.std.specs.Prelude.{◌≡◌, ◌↔◌, IsTrue};
-ghost use Rattle.kin_cert.specs.Keys.{key_of, HaveOneKey};
+ghost use Rattle.kin_cert.specs.Keys.{key_of, key_at};
 
-use crate::bucket::{Bucket, bucket, bucket_number};
+use crate::bucket::{Bucket, Label, bucket};
 use crate::plan::Plan;
-use kin_motion::fact::Placed;
 use kin_motion::form::Form;
 
 /// What a fact is known by: its seat or, where it has none, its bucket. Most keys have one live fact at a time, and a
@@ -40,15 +39,14 @@ pub(crate) fn key_of(plan: &Plan, structure: u32, part: u32, form: &Form) -> Key
     }
 }
 
-/// Whether two facts of a structure are known by one key.
+/// Whether facts of a structure with these labels are known by one key.
 #[inline(always)]
-pub(crate) fn have_one_key(plan: &Plan, structure: u32, old: &Placed, new: &Placed) -> bool
-    ensures { IsTrue result → HaveOneKey plan.now structure old.now new.now }
+pub(crate) fn have_one_key(plan: &Plan, structure: u32, old: Label, new: Label) -> bool
+    ensures { IsTrue result → key_at plan.now structure new ≡ key_at plan.now structure old }
 {
-    let number = bucket_number(&old.fact.form);
-    let is_one_number = bucket_number(&new.fact.form) == number;
+    let is_one_number = new.number == old.number;
     if new.part == old.part {
         return is_one_number || plan.is_node(structure, old.part);
     }
-    is_one_number && new.part / 2 == old.part / 2 && plan.has_pair_seat(structure, old.part, number)
+    is_one_number && new.part / 2 == old.part / 2 && plan.has_pair_seat(structure, old)
 }

@@ -1,11 +1,9 @@
 //! A plan of seats.
 
 ghost use Rattle.std.specs.Prelude.{◌≡◌, ◌+◌, ◌*◌, ◌/◌, ◌<◌, ℕ, Some, IsTrue, slice_get};
-ghost use Rattle.kin_motion.specs.declared.form.Form.{Form as Shape};
-ghost use Rattle.kin_cert.specs.Bucket.{bucket_number};
-ghost use Rattle.kin_cert.specs.Keys.{row_of, list_seat, merge_seat, seat_in, seat_at, seat_of, key_of};
+ghost use Rattle.kin_cert.specs.Keys.{row_of, list_seat, merge_seat, seat_in, seat_at, seat_of, key_at};
 
-use crate::bucket::{KIND, bucket_number};
+use crate::bucket::{KIND, Label, bucket_number};
 use kin_motion::form::Form;
 use kin_num::NoMemory;
 use std::alloc::Global;
@@ -121,7 +119,7 @@ impl Plan {
     /// Whether a part of a structure is a node of a tournament, whose facts all have one seat.
     #[inline(always)]
     pub(crate) fn is_node(&self, structure: u32, part: u32) -> bool
-        ensures { IsTrue result → (f g : Shape) → key_of self.now structure part f ≡ key_of self.now structure part g }
+        ensures { IsTrue result → (m n : ℕ) → key_at self.now structure (record { part = part; number = m }) ≡ key_at self.now structure (record { part = part; number = n }) }
     {
         match self.section_of(structure) {
             Some(section) => section.has_node(part),
@@ -129,13 +127,13 @@ impl Plan {
         }
     }
 
-    /// Whether a fact that is known by a number has one seat in a part and in the part that makes a list with it.
+    /// Whether a fact has the seat that a fact of its number has in the part that makes a list with its own.
     #[inline(always)]
-    pub(crate) fn has_pair_seat(&self, structure: u32, part: u32, number: u32) -> bool
-        ensures { IsTrue result → (other : ℕ) (f g : Shape) → other / 2 ≡ part / 2 → bucket_number f ≡ number → bucket_number g ≡ number → key_of self.now structure other f ≡ key_of self.now structure part g }
+    pub(crate) fn has_pair_seat(&self, structure: u32, label: Label) -> bool
+        ensures { IsTrue result → (part : ℕ) → part / 2 ≡ label.part / 2 → key_at self.now structure (record { part = part; number = label.number }) ≡ key_at self.now structure label }
     {
         match self.section_of(structure) {
-            Some(section) => section.has_pair_seat(self.numbers, part, number),
+            Some(section) => section.has_pair_seat(self.numbers, label.part, label.number),
             None => false,
         }
     }

@@ -6,7 +6,9 @@ ghost use Rattle.kin_fail.specs.Rank.{padded_rank, owned_rank};
 ghost use Rattle.kin_cert.specs.Layout.{entry_at, fresh, waiting, timed, held, HasSlot, NoneTwice, IsFoundAt, IsThere, IsNotFound, IsVacancyOf, IsTakenOver};
 ghost use Rattle.kin_cert.specs.Names.{form_in, IsFreed};
 
+use crate::bucket::Label;
 use crate::entry::{Entry, Vacancy};
+use crate::holder::holder_in;
 use crate::holders::Holders;
 use crate::index::{enrol, id_of, may_follow, strike};
 use crate::key::have_one_key;
@@ -161,13 +163,12 @@ impl Roll {
         ensures taken { IfSome result (λ vacancy. IsTakenOver self.old (owned_rank (held structure old.now)) (held structure new.now) vacancy self.new) }
         ensures none { IfNone result (self.new ≡ self.old) }
     {
-        if !have_one_key(&self.plan, structure, old, new) {
+        let label = Label::of(old);
+        if !have_one_key(&self.plan, structure, label, Label::of(new)) {
             return None;
         }
-        let form = &old.fact.form;
-        let Some(holder) = self.holders.find_of(&self.plan, structure, old.part, form) else {
-            unreachable!()
-        };
+        let word = self.holders.find_word(&self.plan, structure, label);
+        let holder = holder_in(word)?;
         if !may_follow(&self.entries, &self.others, holder, structure, old, new) {
             return None;
         }
@@ -184,7 +185,7 @@ impl Roll {
 
     /// Whether a dropped fact and a born one of a structure are known by one key.
     pub(crate) fn have_one_key(&self, structure: u32, old: &Placed, new: &Placed) -> bool {
-        have_one_key(&self.plan, structure, old, new)
+        have_one_key(&self.plan, structure, Label::of(old), Label::of(new))
     }
 
     /// Notes when a live fact fails first.
