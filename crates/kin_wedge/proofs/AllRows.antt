@@ -90,8 +90,8 @@ pub record AreFollowed (mark : Mark) (lists : List Listing) (candidates : List (
   pub touched : HasTouched candidates first ts
 
 module _ (mark : Mark) (lists : List Listing) (candidates : List (Option ℕ)) (old : List (List ℕ)) (first : List Touch) where
-  pub followed_none : AreFollowed mark lists candidates old old first first 0
-  followed_none = record { count = refl; done = λ part h. absurd (omega (arith, h)); left = λ part h. refl; offered = λ part a b h. absurd (omega (arith, h)); touched = touched_none candidates first }
+  pub followed_none : (ts : List Touch) → HasTouched candidates first ts → AreFollowed mark lists candidates old old first ts 0
+  followed_none ts t = record { count = refl; done = λ part h. absurd (omega (arith, h)); left = λ part h. refl; offered = λ part a b h. absurd (omega (arith, h)); touched = t }
 
   pub followed_more : (now : List (List ℕ)) (row : List ℕ) (ts us : List Touch) (i : ℕ) (l : Listing) → slice_get lists i ≡ Some l → i < length now → AreFollowed mark lists candidates old now first ts i → row ≡ l.items
       → ((a b : ℕ) → WereExchanged l.swaps (staying mark (row_of now i)) a b → HasOfferedBoth (rows_of lists) candidates i a b us) → HasTouched candidates ts us → AreFollowed mark lists candidates old (set now i row) first us (i + 1)

@@ -45,7 +45,7 @@ module _ (rows : List (List ℕ)) (candidates : List (Option ℕ)) (no : ℕ) (f
       at k p v o (inr d) l h g m n = t.keeps (8 * p + v) (Some no) (a.offered k p v o l (omega (arith, h, d)) g m n)
 
 -- who is the apex of an octant with a member is in the row of the octant's first order
-apex_in : (rows : List (List ℕ)) (o : Octant) (p q : ℕ) → is_in_wedge rows o p q ≡ true → is_in p (row_of rows o.first.part) ≡ true
+pub apex_in : (rows : List (List ℕ)) (o : Octant) (p q : ℕ) → is_in_wedge rows o p q ≡ true → is_in p (row_of rows o.first.part) ≡ true
 apex_in rows o p q h = at o.first.from_end (and_parts _ _ h).0
   where
     at : (e : Bool) → cond e (stands_before (row_of rows o.first.part) q p) (stands_before (row_of rows o.first.part) p q) ≡ true → is_in p (row_of rows o.first.part) ≡ true

@@ -14,7 +14,7 @@ use Rattle.kin_list.specs.Rows.{exchanged}
 use Rattle.kin_wedge.specs.declared.touch.Touch.{Touch}
 use Rattle.kin_wedge.specs.Passages.{AreAnswered, AreBeside, AreChanged, AreExchangesOffered, HasNoted, IsMarkOffered, IsPassage}
 use Rattle.kin_wedge.specs.Rows.{row_of, stands_after, IsFirstAnswer, WereExchanged}
-use Rattle.kin_wedge.specs.Touched.{offers_for, AreKnown, ComesFirst, HasOffered, IsBoundedAs, IsLeftOut, IsAnswered, IsAwaited, IsOffered, IsOnItsWay}
+use Rattle.kin_wedge.specs.Touched.{offers_for, AreKnown, ComesFirst, HasOffered, IsBoundedAs, IsLeftOut, IsAnswered, IsAwaited, IsOffered, IsOnItsWay, MayGain}
 use Rattle.kin_wedge.proofs.Exchanges.{kept_or_exchanged, order-without}
 use Rattle.kin_wedge.proofs.Places.{first_is_in, second_is_in}
 use Rattle.kin_wedge.proofs.StillThere.{HasPassed, AreOffered, awaited_first}
@@ -203,9 +203,13 @@ module _ (mark : Mark) (swaps old new : List (List ℕ)) (h : IsPassage mark swa
       left (Leaves i) g c e k = g.1 (8 * p + w) (held ∙ ap (λ (x : Option ℕ). Some x) (e ∙ ap (λ (x : ℕ). Some x) k))
       left Broken g c e k = absurd k
 
-      by_bounds : (q : ℕ) → WereBothExchanged o.first.part p q ⊎ WereBothExchanged o.second.part p q → ComesFirst new candidates o p w q → Contains (offers_for (8 * p + w) ts) (Some q)
-      by_bounds q (inl x) k = offer_among ts (8 * p + w) (Some q) ((exchange_offered o.first.part p q x).comes w o here (inl refl) k)
-      by_bounds q (inr x) k = offer_among ts (8 * p + w) (Some q) ((exchange_offered o.second.part p q x).comes w o here (inr refl) k)
+      gained : (q : ℕ) → MayGain ts (8 * p + w) q → Contains (offers_for (8 * p + w) ts) (Some q) ⊎ Contains (offers_for (8 * p + w) ts) None
+      gained q (inl x) = inl (offer_among ts (8 * p + w) (Some q) x)
+      gained q (inr x) = inr (offer_among ts (8 * p + w) None x)
+
+      by_bounds : (q : ℕ) → WereBothExchanged o.first.part p q ⊎ WereBothExchanged o.second.part p q → ComesFirst new candidates o p w q → MayGain ts (8 * p + w) q
+      by_bounds q (inl x) k = (exchange_offered o.first.part p q x).comes w o here (inl refl) k
+      by_bounds q (inr x) k = (exchange_offered o.second.part p q x).comes w o here (inr refl) k
 
       left_out : (q : ℕ) (r : Reading) → IsBoundedAs o r → stands_after new r p q ≡ false → IsLeftOut new o r.part p q
       left_out q r bound out = record { from_end = r.from_end; bound = bound; out = out }
@@ -213,9 +217,9 @@ module _ (mark : Mark) (swaps old new : List (List ℕ)) (h : IsPassage mark swa
       pub are_offered : AreOffered old new passed o p now (offers_for (8 * p + w) ts)
       unfolding passed
       are_offered = record {
-        comes = λ q x k first. by_bounds q x (k, λ c f. first c (same_Some now (Some c) (sym held ∙ f)));
+        comes = λ q x k first. gained q (by_bounds q x (k, λ c f. first c (same_Some now (Some c) (sym held ∙ f))));
         goes = λ q r bound x out e. offer_among ts (8 * p + w) None ((exchange_offered r.part p q x).goes w o here (left_out q r bound out) (held ∙ ap (λ (v : Option ℕ). Some v) e));
-        ranked = λ c q e x k. offer_among ts (8 * p + w) (Some q) ((exchange_offered o.third.part c q x).ranked p w o here refl (held ∙ ap (λ (v : Option ℕ). Some v) e) k);
+        ranked = λ c q e x k. gained q ((exchange_offered o.third.part c q x).ranked p w o here refl (held ∙ ap (λ (v : Option ℕ). Some v) e) k);
         entered = λ q e k first. offer_among ts (8 * p + w) (Some q) (entered mark number q e (k, λ c f. first c (same_Some now (Some c) (sym held ∙ f))));
         apex = λ e. offer_among ts (8 * p + w) None (apex mark number e);
         left = λ c e k. offer_among ts (8 * p + w) None (left mark number c e k);

@@ -15,6 +15,7 @@ pub mod Threading
 pub mod Reaching
 pub mod Weaving
 pub mod Linking
+mod LookingUp
 pub mod Pointing
 pub mod Hitting
 pub mod Lost

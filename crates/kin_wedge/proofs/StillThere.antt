@@ -22,9 +22,9 @@ pub record HasPassed (old new : List (List ℕ)) : Type 1 where
 
 -- what is offered to the slot of p that had this candidate
 pub record AreOffered (old new : List (List ℕ)) (passed : HasPassed old new) (o : Octant) (p : ℕ) (now : Option ℕ) (offers : List (Option ℕ)) : Type 0 where
-  pub comes : (q : ℕ) → passed.Exchanged o.first.part p q ⊎ passed.Exchanged o.second.part p q → is_in_wedge new o p q ≡ true → ((c : ℕ) → now ≡ Some c → stands_after new o.third c q ≡ false) → Contains offers (Some q)
+  pub comes : (q : ℕ) → passed.Exchanged o.first.part p q ⊎ passed.Exchanged o.second.part p q → is_in_wedge new o p q ≡ true → ((c : ℕ) → now ≡ Some c → stands_after new o.third c q ≡ false) → Contains offers (Some q) ⊎ Contains offers None
   pub goes : (q : ℕ) (r : Reading) → IsBoundedAs o r → passed.Exchanged r.part p q → stands_after new r p q ≡ false → now ≡ Some q → Contains offers None
-  pub ranked : (c q : ℕ) → now ≡ Some c → passed.Exchanged o.third.part c q → HasPassedBy new o p c q → Contains offers (Some q)
+  pub ranked : (c q : ℕ) → now ≡ Some c → passed.Exchanged o.third.part c q → HasPassedBy new o p c q → Contains offers (Some q) ⊎ Contains offers None
   pub entered : (q : ℕ) → passed.Enters q → is_in_wedge new o p q ≡ true → ((c : ℕ) → now ≡ Some c → stands_after new o.third c q ≡ false) → Contains offers (Some q)
   pub apex : passed.Enters p ⊎ passed.Leaves p → Contains offers None
   pub left : (c : ℕ) → now ≡ Some c → passed.Leaves c → Contains offers None
@@ -72,7 +72,7 @@ module _ (old new : List (List ℕ)) (passed : HasPassed old new) (o : Octant) (
         where
           within : (is_in_wedge new o p q ≡ is_in_wedge old o p q) ⊎ (passed.Exchanged o.first.part p q ⊎ passed.Exchanged o.second.part p q) → Contains offers (Some q) ⊎ Contains offers None
           within (inl e) = absurd (both_ways (is_in_wedge old o p q) (first q) (sym e ∙ k))
-          within (inr x) = inl (given.comes q x k (λ c e. absurd cc))
+          within (inr x) = given.comes q x k (λ c e. absurd cc)
       of_number q k a (inr (inl b)) = inl (given.entered q b k (λ c e. absurd cc))
       of_number q k a (inr (inr b)) = absurd (passed.gone_second o.first p q b (and_parts _ _ k).0)
 
@@ -95,7 +95,7 @@ module _ (old new : List (List ℕ)) (passed : HasPassed old new) (o : Octant) (
             where
               turned : (stands_after new o.third d q ≡ true) ⊎ (stands_after new o.third d q ≡ false) → ((q ≡ d) ⊎ (stands_after new o.third d q ≡ true)) ⊎ (Contains offers (Some q) ⊎ Contains offers None)
               turned (inl e) = inl (inr e)
-              turned (inr e) = inr (inl (given.ranked d q refl x (k, e)))
+              turned (inr e) = inr (given.ranked d q refl x (k, e))
 
           within : (is_in_wedge new o p q ≡ is_in_wedge old o p q) ⊎ (passed.Exchanged o.first.part p q ⊎ passed.Exchanged o.second.part p q) → ((q ≡ d) ⊎ (stands_after new o.third d q ≡ true)) ⊎ (Contains offers (Some q) ⊎ Contains offers None)
           within (inl e) = order (first.first q (sym e ∙ k)) (passed.kept o.third d q s b)
@@ -103,7 +103,7 @@ module _ (old new : List (List ℕ)) (passed : HasPassed old new) (o : Octant) (
             where
               leads : (stands_after new o.third d q ≡ true) ⊎ (stands_after new o.third d q ≡ false) → ((q ≡ d) ⊎ (stands_after new o.third d q ≡ true)) ⊎ (Contains offers (Some q) ⊎ Contains offers None)
               leads (inl e) = inl (inr e)
-              leads (inr e) = inr (inl (given.comes q x k (λ c f. subst (λ (y : ℕ). stands_after new o.third y q ≡ false) (same_Some d c f) e)))
+              leads (inr e) = inr (given.comes q x k (λ c f. subst (λ (y : ℕ). stands_after new o.third y q ≡ false) (same_Some d c f) e))
 
       of_candidate : (q : ℕ) → is_in_wedge new o p q ≡ true → passed.Stays p → passed.Stays q → passed.Stays d ⊎ (passed.Enters d ⊎ passed.Leaves d) → ((q ≡ d) ⊎ (stands_after new o.third d q ≡ true)) ⊎ (Contains offers (Some q) ⊎ Contains offers None)
       of_candidate q k a b (inl s) = of_both q k a b s

@@ -10,7 +10,7 @@ use Rattle.kin_motion.specs.Sets.{AreDistinct}
 use Rattle.kin_wedge.specs.declared.touch.Touch.{Touch}
 use Rattle.kin_wedge.specs.Rows.{row_of, stands_after}
 use Rattle.kin_wedge.specs.Sides.{bounded_first, bounded_second}
-use Rattle.kin_wedge.specs.Touched.{IsOffered, AreKnown, HasTouched, HasOfferedBoth, AreLeft, IsOfferedIn, IsOfferedWithin, IsBoundedAs, IsBoundedBy, IsLeftOut, HasPassedBy}
+use Rattle.kin_wedge.specs.Touched.{IsOffered, MayGain, AreKnown, HasTouched, HasOfferedBoth, AreLeft, IsOfferedIn, IsOfferedWithin, IsBoundedAs, IsBoundedBy, IsLeftOut, HasPassedBy}
 use Rattle.kin_wedge.proofs.Halves.{bounded_as, bounds_low, read_by, third_high}
 use Rattle.kin_wedge.proofs.Passing.{turned_false}
 
@@ -106,9 +106,13 @@ module _ (rows : List (List ℕ)) (apart : (part : ℕ) → AreDistinct (row_of 
 -- what is offered of an exchange stays offered
 pub offered_stays : (rows : List (List ℕ)) (candidates : List (Option ℕ)) (now next : List Touch) (part a b : ℕ) → HasTouched candidates now next → HasOfferedBoth rows candidates part a b now → HasOfferedBoth rows candidates part a b next
 offered_stays rows candidates now next part a b t h = (
-  record { comes = λ w o e k m. t.keeps _ _ (h.0.comes w o e k m); goes = λ w o e k m. t.keeps _ _ (h.0.goes w o e k m); ranked = λ apex w o e p k m. t.keeps _ _ (h.0.ranked apex w o e p k m) },
-  record { comes = λ w o e k m. t.keeps _ _ (h.1.comes w o e k m); goes = λ w o e k m. t.keeps _ _ (h.1.goes w o e k m); ranked = λ apex w o e p k m. t.keeps _ _ (h.1.ranked apex w o e p k m) },
+  record { comes = λ w o e k m. gains _ _ (h.0.comes w o e k m); goes = λ w o e k m. t.keeps _ _ (h.0.goes w o e k m); ranked = λ apex w o e p k m. gains _ _ (h.0.ranked apex w o e p k m) },
+  record { comes = λ w o e k m. gains _ _ (h.1.comes w o e k m); goes = λ w o e k m. t.keeps _ _ (h.1.goes w o e k m); ranked = λ apex w o e p k m. gains _ _ (h.1.ranked apex w o e p k m) },
 )
+  where
+    gains : (slot q : ℕ) → MayGain now slot q → MayGain next slot q
+    gains slot q (inl x) = inl (t.keeps slot (Some q) x)
+    gains slot q (inr x) = inr (t.keeps slot None x)
 
 -- what is offered to the slots whose candidate a number is in the octants that an order ranks
 abbrev pub IsOfferedBeside : List (List ℕ) → List (Option ℕ) → List Touch → ℕ → ℕ → ℕ → Type 0
@@ -131,8 +135,8 @@ module _ (rows : List (List ℕ)) (candidates : List (Option ℕ)) (s t : List T
   -- the last four orders bound no octant
   pub both_beside : 4 ≤ part → IsOfferedBeside rows candidates s part a b → IsOfferedBeside rows candidates t part b a → HasOfferedBoth rows candidates part a b t
   both_beside large p q = (
-    record { comes = λ w o e k. absurd (bounds_none w o e k); goes = λ w o e k. absurd (left_none w o k.from_end e k.bound); ranked = λ apex w o e r k m. h.keeps _ _ (p apex w o e r k m) },
-    record { comes = λ w o e k. absurd (bounds_none w o e k); goes = λ w o e k. absurd (left_none w o k.from_end e k.bound); ranked = q },
+    record { comes = λ w o e k. absurd (bounds_none w o e k); goes = λ w o e k. absurd (left_none w o k.from_end e k.bound); ranked = λ apex w o e r k m. inl (h.keeps _ _ (p apex w o e r k m)) },
+    record { comes = λ w o e k. absurd (bounds_none w o e k); goes = λ w o e k. absurd (left_none w o k.from_end e k.bound); ranked = λ apex w o e r k m. inl (q apex w o e r k m) },
   )
     where
       bounds_none : (w : ℕ) (o : Octant) → slice_get octants w ≡ Some o → IsBoundedBy o part → ⊥
@@ -148,8 +152,8 @@ pub both_within : (rows : List (List ℕ)) (candidates : List (Option ℕ)) (ts 
     → ((w : ℕ) (o : Octant) → slice_get octants w ≡ Some o → IsLeftOut rows o part a b → slice_get candidates (8 * a + w) ≡ Some (Some b) → IsOffered ts (8 * a + w) None)
     → ((w : ℕ) (o : Octant) → slice_get octants w ≡ Some o → IsLeftOut rows o part b a → slice_get candidates (8 * b + w) ≡ Some (Some a) → IsOffered ts (8 * b + w) None) → HasOfferedBoth rows candidates part a b ts
 both_within rows candidates ts part a b small p q f g = (
-  record { comes = p; goes = f; ranked = λ apex w o e r. absurd (let high = third_high w o e in omega (arith, small, high, r)) },
-  record { comes = q; goes = g; ranked = λ apex w o e r. absurd (let high = third_high w o e in omega (arith, small, high, r)) },
+  record { comes = λ w o e k m. inl (p w o e k m); goes = f; ranked = λ apex w o e r. absurd (let high = third_high w o e in omega (arith, small, high, r)) },
+  record { comes = λ w o e k m. inl (q w o e k m); goes = g; ranked = λ apex w o e r. absurd (let high = third_high w o e in omega (arith, small, high, r)) },
 )
 
 -- of two members of which the second stands behind the first, either is offered to the slots of the other in the octant where it has passed it by

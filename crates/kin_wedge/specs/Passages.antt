@@ -36,6 +36,10 @@ AreExchangesOffered mark swaps old new candidates ts = (part a b : ℕ) → Were
 abbrev pub IsLookedUp : ℕ → List Touch → Type 0
 IsLookedUp i ts = (w : ℕ) → w < 8 → IsOffered ts (8 * i + w) None
 
+-- all slots of all members are looked up
+abbrev pub AreAllLookedUp : List (List ℕ) → List Touch → Type 0
+AreAllLookedUp rows ts = (i : ℕ) → is_in i (row_of rows 0) ≡ true → IsLookedUp i ts
+
 -- a number is offered to each octant that it is in, where no candidate comes before it
 abbrev pub IsOfferedAround : List (List ℕ) → List (Option ℕ) → ℕ → List Touch → Type 0
 IsOfferedAround rows candidates i ts = (p w : ℕ) (o : Octant) → slice_get octants w ≡ Some o → ComesFirst rows candidates o p w i → IsOffered ts (8 * p + w) (Some i)

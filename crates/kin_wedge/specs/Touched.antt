@@ -27,6 +27,10 @@ pub record IsRenewed (rows : List (List ℕ)) (o : Octant) (p : ℕ) (old offer 
 abbrev pub IsOffered : List Touch → ℕ → Option ℕ → Type 0
 IsOffered ts slot x = (t : Touch) × Contains ts t × (t.slot ≡ slot) × (t.offer ≡ x)
 
+-- the number is offered to the slot, or the slot is looked up
+abbrev pub MayGain : List Touch → ℕ → ℕ → Type 0
+MayGain ts slot q = IsOffered ts slot (Some q) ⊎ IsOffered ts slot None
+
 -- each touch knows the candidate that its slot has
 abbrev pub AreKnown : List (Option ℕ) → List Touch → Type 0
 AreKnown candidates ts = (t : Touch) → Contains ts t → slice_get candidates t.slot ≡ Some t.old
@@ -70,12 +74,12 @@ AreLeft candidates ts r a b = (w : ℕ) (o : Octant) → slice_get octants w ≡
 abbrev pub IsOfferedWithin : List (List ℕ) → List (Option ℕ) → List Touch → ℕ → ℕ → ℕ → Type 0
 IsOfferedWithin rows candidates ts part a b = (w : ℕ) (o : Octant) → slice_get octants w ≡ Some o → IsBoundedBy o part → ComesFirst rows candidates o a w b → IsOffered ts (8 * a + w) (Some b)
 
--- of the exchange of a and b in an order: in the octants that the order bounds, b is offered to the slots of a where it comes first now, and those that it
--- has left are looked up; in the octants that the order ranks, b is offered to the slots whose candidate is a, where it has passed by a
+-- of the exchange of a and b in an order: in the octants that the order bounds, b may be gained by the slots of a where it comes first now, and those that
+-- it has left are looked up; in the octants that the order ranks, b may be gained by the slots whose candidate is a, where it has passed by a
 pub record HasOffered (rows : List (List ℕ)) (candidates : List (Option ℕ)) (part a b : ℕ) (ts : List Touch) : Type 0 where
-  pub comes : IsOfferedWithin rows candidates ts part a b
+  pub comes : (w : ℕ) (o : Octant) → slice_get octants w ≡ Some o → IsBoundedBy o part → ComesFirst rows candidates o a w b → MayGain ts (8 * a + w) b
   pub goes : (w : ℕ) (o : Octant) → slice_get octants w ≡ Some o → IsLeftOut rows o part a b → slice_get candidates (8 * a + w) ≡ Some (Some b) → IsOffered ts (8 * a + w) None
-  pub ranked : (apex w : ℕ) (o : Octant) → slice_get octants w ≡ Some o → o.third.part ≡ part → slice_get candidates (8 * apex + w) ≡ Some (Some a) → HasPassedBy rows o apex a b → IsOffered ts (8 * apex + w) (Some b)
+  pub ranked : (apex w : ℕ) (o : Octant) → slice_get octants w ≡ Some o → o.third.part ≡ part → slice_get candidates (8 * apex + w) ≡ Some (Some a) → HasPassedBy rows o apex a b → MayGain ts (8 * apex + w) b
 
 abbrev pub HasOfferedBoth : List (List ℕ) → List (Option ℕ) → ℕ → ℕ → ℕ → List Touch → Type 0
 HasOfferedBoth rows candidates part a b ts = HasOffered rows candidates part a b ts × HasOffered rows candidates part b a ts

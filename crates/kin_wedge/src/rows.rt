@@ -1,13 +1,13 @@
 //! The rows of the eight orders as they were before a settle follow the exchanges.
 
-ghost use Rattle.std.specs.Prelude.{◌≡◌, ℕ, suc, ◌+◌, ◌*◌, ◌^◌, ◌<◌, Some, [], true, length, slice_get, IfOk, OnOk};
+ghost use Rattle.std.specs.Prelude.{◌≡◌, ℕ, suc, ◌+◌, ◌*◌, ◌^◌, ◌<◌, ◌≤◌, Some, [], true, length, slice_get, IfOk, OnOk};
 ghost use Rattle.kin_motion.specs.Numbers.{is_in, IsOnce};
 ghost use Rattle.kin_motion.specs.Sets.{AreDistinct};
 ghost use Rattle.kin_list.specs.declared.mark.Mark.TheVariants.{Rest};
 ghost use Rattle.kin_list.specs.Listing.{staying, lasting, without};
 ghost use Rattle.kin_list.specs.Rows.{exchange, exchanged};
 ghost use Rattle.kin_wedge.specs.Parts.{swaps_of, AreQuiet};
-ghost use Rattle.kin_wedge.specs.Passages.{AreExchangesOffered, AreVacantRows};
+ghost use Rattle.kin_wedge.specs.Passages.{AreAllLookedUp, AreExchangesOffered, AreVacantRows};
 ghost use Rattle.kin_wedge.specs.Rows.{row_of, AreAlike, AreRows, HaveSlots, WereExchanged};
 ghost use Rattle.kin_wedge.specs.Seen.{rows_of};
 ghost use Rattle.kin_wedge.specs.Sides.{AreParted};
@@ -21,6 +21,10 @@ use kin_list::{KinList, Mark};
 use kin_num::memory::NoMemory;
 use std::alloc::Global;
 use std::marker::Model;
+
+/// More exchanges than this many for each member count as many. An exchange takes about as long as the look-up of a slot
+/// where few are near, so eight would do for most points; a look-up may also go over all members.
+const MANY: usize = 64;
 
 /// Whether a list is as it was before it settled.
 fn stands_still(mark: Mark, list: &KinList) -> bool
@@ -140,9 +144,19 @@ impl Row {
         Ok(())
     }
 
-    /// Makes the exchanges of a list, and notes the slots that they can have touched.
+    /// Becomes that of a list.
+    fn copy(&mut self, list: &KinList) -> Result<(), NoMemory>
+        ensures { OnOk result (self.new ≡ list.now.items) }
+    {
+        self.numbers.clear();
+        self.numbers.extend_from_slice(list.items())?;
+        Ok(())
+    }
+
+    /// Makes the exchanges of a list, and notes the slots that they can have touched, unless all slots are looked up anyway.
     fn follow(
         &mut self,
+        is_looked_up: bool,
         mark: Mark,
         part: u32,
         list: &KinList,
@@ -150,6 +164,7 @@ impl Row {
         table: &Table,
         touches: &mut Touches,
     ) -> Result<(), NoMemory>
+        requires looked_up { is_looked_up ≡ true → AreAllLookedUp (rows_of orders.now.lists.items) touches.old.all.items }
         requires rows { AreRows (rows_of orders.now.lists.items) }
         requires parted { AreParted (rows_of orders.now.lists.items) }
         requires alike { AreAlike (rows_of orders.now.lists.items) }
@@ -162,6 +177,9 @@ impl Row {
         ensures offered { OnOk result ((a b : ℕ) → WereExchanged list.now.swaps (staying mark self.old) a b → HasOfferedBoth (rows_of orders.now.lists.items) table.now part a b touches.new.all.items) }
         ensures touched { OnOk result (HasTouched table.now touches.old.all.items touches.new.all.items) }
     {
+        if is_looked_up {
+            return self.copy(list);
+        }
         self.let_go(mark);
         follow_row(
             &mut self.numbers,
@@ -180,6 +198,33 @@ fn take_out(row: &mut Vec<u32>, no: u32)
     ensures { row.new.items ≡ without no row.old.items }
 {
     row.retain(|x| *x != no);
+}
+
+/// Notes all slots for a look-up where the lists of the parts from the first to before the second have made many exchanges,
+/// and answers whether it has. That takes less than to follow them one by one, as where many points meet.
+fn look_up_all(
+    from: usize,
+    end: usize,
+    orders: &Orders,
+    table: &Table,
+    touches: &mut Touches,
+) -> Result<bool, NoMemory>
+    requires count { length orders.now.lists.items ≡ 8 }
+    requires end { end ≤ 8 }
+    requires members { HaveSlots (rows_of orders.now.lists.items) (length table.now) }
+    requires small { length table.now < 2 ^ 32 }
+    ensures all { IfOk result (λ is. is ≡ true → AreAllLookedUp (rows_of orders.now.lists.items) touches.new.all.items) }
+    ensures touched { OnOk result (HasTouched table.now touches.old.all.items touches.new.all.items) }
+{
+    let mut exchanges = 0_usize;
+    for part in from..end {
+        exchanges = exchanges.saturating_add(orders.list(part as u32).swaps().len());
+    }
+    if exchanges / MANY <= orders.list(0).items().len() {
+        return Ok(false);
+    }
+    touches.add_all(orders, table)?;
+    Ok(true)
 }
 
 /// The rows of the eight orders as they were before a settle.
@@ -224,12 +269,13 @@ impl Rows {
         ensures touched { OnOk result (HasTouched table.now touches.old.all.items touches.new.all.items) }
     {
         let (from, end) = orders.span(mark);
+        let is_looked_up = look_up_all(from, end, orders, table, touches)?;
         for part in from..end {
             let part = part as u32;
             let list = orders.list(part);
             if !stands_still(mark, list) {
                 let row = &mut self.rows[part as usize];
-                row.follow(mark, part, list, orders, table, touches)?;
+                row.follow(is_looked_up, mark, part, list, orders, table, touches)?;
             }
         }
         Ok(())

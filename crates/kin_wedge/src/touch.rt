@@ -4,6 +4,7 @@ ghost use Rattle.std.specs.Prelude.{◌≡◌, ◌≢◌, ℕ, ◌+◌, ◌*◌,
 ghost use Rattle.kin_motion.specs.Records.{stands_before};
 ghost use Rattle.kin_motion.specs.Octants.{Octant as Bounds, octants};
 ghost use Rattle.kin_motion.specs.Numbers.{is_in};
+ghost use Rattle.kin_wedge.specs.Passages.{AreAllLookedUp};
 ghost use Rattle.kin_wedge.specs.Rows.{row_of, is_in_wedge, AreAlike, AreRows, HaveSlots};
 ghost use Rattle.kin_wedge.specs.Seen.{reading_seen, rows_of};
 ghost use Rattle.kin_wedge.specs.Sides.{AreParted};
@@ -103,6 +104,20 @@ impl Touches {
     {
         for w in 0..8 {
             self.add(table, apex, w, None)?;
+        }
+        Ok(())
+    }
+
+    /// Notes all slots of all members for a look-up.
+    pub fn add_all(&mut self, orders: &Orders, table: &Table) -> Result<(), NoMemory>
+        requires count { 0 < length orders.now.lists.items }
+        requires members { HaveSlots (rows_of orders.now.lists.items) (length table.now) }
+        requires small { length table.now < 2 ^ 32 }
+        ensures all { OnOk result (AreAllLookedUp (rows_of orders.now.lists.items) self.new.all.items) }
+        ensures touched { OnOk result (HasTouched table.now self.old.all.items self.new.all.items) }
+    {
+        for apex in orders.list(0).items() {
+            self.add_apex(table, *apex)?;
         }
         Ok(())
     }
