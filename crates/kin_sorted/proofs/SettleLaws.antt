@@ -59,7 +59,6 @@ module _ (s : Scene) (r : Ranks) (items : List ℕ) (signs : List Sign) (touched
           leads = w.before;
           link = every_link i bound ∙ ap (λ (o : Option Link). Some o) (link_for-at items signs p i apart a ∙ ap₂ linked (ap (slice_get items) (sym (add-one p)) ∙ b) w.sign);
         };
-    inside = λ p h. absurd cc;
     kept = λ p i bound a out away. every_link i (omega arith) ∙ ap (λ (o : Option Link). Some o)
         (link_for-at items signs p i apart a ∙ ap (λ (o : Option ℕ). linked o (slice_get signs i)) (ap (slice_get items) (sym (add-one p))));
     gone = λ i bound out away. every_link i (omega arith) ∙ ap (λ (o : Option Link). Some o) (link_for-absent items signs i out);

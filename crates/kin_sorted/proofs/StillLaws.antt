@@ -25,7 +25,6 @@ module _ (s : Scene) (r : Ranks) (law : IsRanking r) (laws : IsStrict s r) (link
   none_covered = record {
     covered = λ f i j p c. absurd (contains_none f c);
     keeps = λ q h. h;
-    inside = λ q h. absurd cc;
     few = omega arith;
   }
 

@@ -108,7 +108,6 @@ no_links (suc n) (suc i) l = no_links n i (omega arith)
 pub empty_held : (r : Ranks) (n : ℕ) (links : List (Option Link)) (signs : List Sign) → links ≡ replicate n None → IsHeld r links [] signs [] []
 empty_held r n links signs e = subst (λ ls. IsHeld r ls [] signs [] []) (sym e) (record {
   ahead = λ p i j a b out. absurd cc;
-  inside = λ p h. absurd cc;
   kept = λ p i bound a out away. absurd cc;
   gone = λ i bound out away. no_links n i bound;
 })

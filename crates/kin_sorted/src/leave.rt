@@ -5,7 +5,7 @@ ghost use Rattle.kin_motion.specs.Numbers.{is_in, IsOnce};
 ghost use Rattle.kin_sorted.specs.Lineups.{IsCleared, StaysHeld};
 ghost use Rattle.kin_sorted.specs.Marks.{without_all};
 ghost use Rattle.kin_motion.specs.Ranks.{Ranks};
-ghost use Rattle.kin_sorted.specs.Repairs.{IsTakenOut, AreCovered, AreGaps, AreInside};
+ghost use Rattle.kin_sorted.specs.Repairs.{IsTakenOut, AreCovered, AreGaps, NeedTwo};
 
 use crate::doubts::Doubts;
 use crate::lineup::Lineup;
@@ -14,7 +14,7 @@ use crate::row::Row;
 use kin_motion::fact::Placed;
 use std::alloc::AllocError;
 
-/// Puts the left places of the failed facts into doubt.
+/// Puts the left items of the failed facts into doubt.
 pub fn doubt_failed<R: Ranked>(
     row: &Row,
     doubts: &mut Doubts,
@@ -46,7 +46,7 @@ pub fn place_of_fact<R: Ranked>(row: &Row, rank: &R, placed: &Placed) -> Option<
     }
 }
 
-/// Puts the place of the left item of a fact into doubt.
+/// Puts the left item of a fact into doubt.
 fn doubt_fact<R: Ranked>(
     row: &Row,
     doubts: &mut Doubts,
@@ -54,34 +54,31 @@ fn doubt_fact<R: Ranked>(
     placed: &Placed,
 ) -> Result<(), AllocError>
     ensures covered { OnOk result ((i j p : ℕ) → placed.now.part ≡ (R.ranks rank.now).part i j → placed.now.fact.form ≡ (R.ranks rank.now).form i j
-        → slice_get row.now.items p ≡ Some i → slice_get row.now.items (p + 1) ≡ Some j → is_in p doubts.new ≡ true) }
-    ensures keeps { OnOk result ((q : ℕ) → is_in q doubts.old ≡ true → is_in q doubts.new ≡ true) }
-    ensures inside { OnOk result ((q : ℕ) → is_in q doubts.new ≡ true → (is_in q doubts.old ≡ true) ⊎ (q + 1 < length row.now.items)) }
+        → slice_get row.now.items p ≡ Some i → slice_get row.now.items (p + 1) ≡ Some j → is_in i doubts.new ≡ true) }
+    ensures keeps { OnOk result ((x : ℕ) → is_in x doubts.old ≡ true → is_in x doubts.new ≡ true) }
     ensures few { length doubts.new ≤ length doubts.old + 1 }
 {
-    match place_of_fact(row, rank, placed) {
-        Some(place) => doubts.put(place as usize),
-        None => Ok(()),
+    let room = row.room();
+    match rank.left(placed) {
+        Some(left) if (left as usize) < room => doubts.put(left),
+        _ => Ok(()),
     }
 }
 
-/// Puts the place of a member into doubt, where it has a next one.
+/// Puts a member into doubt, where it has a next one.
 fn doubt_gap(row: &Row, doubts: &mut Doubts, slot: u32) -> Result<(), AllocError>
-    ensures covered { OnOk result ((p : ℕ) → slice_get row.now.items p ≡ Some slot → p + 1 < length row.now.items → is_in p doubts.new ≡ true) }
-    ensures keeps { OnOk result ((q : ℕ) → is_in q doubts.old ≡ true → is_in q doubts.new ≡ true) }
-    ensures inside { OnOk result ((q : ℕ) → is_in q doubts.new ≡ true → (is_in q doubts.old ≡ true) ⊎ (q + 1 < length row.now.items)) }
+    ensures covered { OnOk result ((p : ℕ) → slice_get row.now.items p ≡ Some slot → p + 1 < length row.now.items → is_in slot doubts.new ≡ true) }
+    ensures keeps { OnOk result ((x : ℕ) → is_in x doubts.old ≡ true → is_in x doubts.new ≡ true) }
+    ensures two { OnOk result ((x : ℕ) → is_in x doubts.new ≡ true → (is_in x doubts.old ≡ true) ⊎ (2 ≤ length row.now.items)) }
     ensures few { length doubts.new ≤ length doubts.old + 1 }
 {
-    if slot as usize >= row.room() {
-        return Ok(());
-    }
-    match row.place_of_left(slot) {
-        Some(place) => doubts.put(place as usize),
+    match row.place_before_next(slot) {
+        Some(_) => doubts.put(slot),
         None => Ok(()),
     }
 }
 
-/// Puts the places of touched members into doubt.
+/// Puts touched members into doubt.
 fn doubt_gaps(row: &Row, doubts: &mut Doubts, touched: &[u32]) -> Result<(), AllocError>
     ensures { OnOk result (AreGaps row.now.items touched.now doubts.old doubts.new) }
 {
@@ -120,7 +117,7 @@ impl Lineup {
         requires cleared { IsCleared self.old }
         ensures items { OnOk result (self.new.row.items ≡ without_all leaving.now self.old.row.items) }
         ensures held { OnOk result ((r : Ranks) → StaysHeld r self.old self.new) }
-        ensures inside { OnOk result (AreInside self.new.doubts self.new.row.items) }
+        ensures two { OnOk result (NeedTwo self.new.doubts self.new.row.items) }
         ensures few { OnOk result (length self.new.doubts ≤ 2 * length leaving.now) }
         ensures swaps { OnOk result (self.new.swaps.items ≡ []) }
         ensures room { self.new.row.room ≡ self.old.row.room }

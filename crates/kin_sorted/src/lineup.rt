@@ -11,7 +11,7 @@ use std::alloc::{AllocError, Global};
 #[derive(Drop)]
 pub struct Lineup {
     pub row: Row,
-    /// Places that have to be tested.
+    /// Items that have to be tested.
     pub doubts: Doubts,
     /// The slots whose link may have changed in this repair.
     pub touched: Vec<u32>,

@@ -1,7 +1,5 @@
 -- Numbers of a list that loses one.
-use Rattle.std.proofs.Common.{◌≡◌, ◌≢◌, refl, sym, ap, ◌∙◌, subst, arith, List, [], ◌∷◌, ℕ, zero, suc, true, false, inl, inr, ◌⊎◌, ◌≤◌, length, Some}
-use Rattle.std.specs.Prelude.{slice_get, insert, remove}
-use Rattle.std.proofs.lemmas.Option.{same_Some}
+use Rattle.std.proofs.Common.{◌≡◌, ◌≢◌, refl, sym, ap, ◌∙◌, subst, arith, List, [], ◌∷◌, ℕ, zero, suc, true, false, inl, inr, ◌⊎◌}
 use Rattle.std.proofs.lemmas.Bool.{cases_eq, false_from_ne_true}
 use Rattle.kin_motion.specs.Numbers.{is_in, IsOnce}
 use Rattle.kin_motion.specs.Sets.{AreDistinct}
@@ -37,17 +35,6 @@ staying_in Rest x xs h = h
 staying_in (Enters i) x xs h = h
 staying_in (Leaves i) x xs h = (in_without x i xs h).1
 staying_in Broken x xs h = h
-
--- a number that was taken out is put in again at its place
-pub insert-remove : (p who : ℕ) (xs : List ℕ) → slice_get xs p ≡ Some who → insert (remove xs p) p who ≡ xs
-insert-remove p who [] at = absurd cc
-insert-remove zero who (x ∷ xs) at = ap (λ (y : ℕ). y ∷ xs) (sym (same_Some x who at))
-insert-remove (suc p) who (x ∷ xs) at = ap (λ (l : List ℕ). x ∷ l) (insert-remove p who xs at)
-
-pub place-remove : (p who : ℕ) (xs : List ℕ) → slice_get xs p ≡ Some who → p ≤ length (remove xs p)
-place-remove p who [] at = absurd cc
-place-remove zero who (x ∷ xs) at = omega arith
-place-remove (suc p) who (x ∷ xs) at = let low = place-remove p who xs at in omega (arith, low)
 
 -- no number stands twice in the list from which exchanges lead to one without repetition
 exchange-behind : (p x : ℕ) (xs : List ℕ) → exchange (suc p) (x ∷ xs) ≡ x ∷ exchange p xs

@@ -4,7 +4,7 @@ use Rattle.std.proofs.lemmas.Option.{slice_get-get_or}
 use Rattle.kin_algebra.proofs.Results.{for_ok, at_ok}
 use Rattle.kin_algebra.specs.declared.sign.Sign.{Sign}
 use Rattle.kin_motion.specs.Numbers.{is_in}
-use Rattle.kin_sorted.specs.Repairs.{AreInside, AreGaps, IsThinned}
+use Rattle.kin_sorted.specs.Repairs.{NeedTwo, AreGaps, IsThinned}
 use Rattle.kin_sorted.proofs.HeldLaws.{thinned_start, thinned_more, held_thinned}
 use Rattle.kin_sorted.proofs.ListLaws.{without_none}
 use Rattle.kin_sorted.proofs.PutLaws.{still_there, one_less}
@@ -48,15 +48,14 @@ loop-slot-preserved c =
       links = c.take_out.ensures.links ∙ c.loop-slot.invariant.links;
     }
 
-gaps_inside : (items touched before doubts : List ℕ) → before ≡ [] → AreGaps items touched before doubts → AreInside doubts items
-gaps_inside items touched before doubts none gaps q h = elim (gaps.inside q h) [
-  | inl o ↦ absurd (both_ways _ (ap (is_in q) none) o)
+gaps_two : (items touched before doubts : List ℕ) → before ≡ [] → AreGaps items touched before doubts → NeedTwo doubts items
+gaps_two items touched before doubts none gaps x h = elim (gaps.two x h) [
+  | inl o ↦ absurd (both_ways _ (ap (is_in x) none) o)
   | inr l ↦ l
 ]
 
 pub returns-clause-held : goal.returns-clause-held
 returns-clause-held c = for_ok c.doubt_gaps.result _ (λ v e. λ r links held.
     held_thinned r links c.loop-slot.self.row.items c.loop-slot.self.row.signs c.loop-slot.self.touched.items c.loop-slot.self.doubts c.doubt_gaps.new.doubts
-    (c.loop-slot.invariant.doubts ∙ c.requires.cleared.0)
     (subst (λ (ts : List ℕ). AreGaps c.loop-slot.self.row.items ts c.loop-slot.self.doubts c.doubt_gaps.new.doubts) c.deref.ensures.value (at_ok c.doubt_gaps.result _ v e c.doubt_gaps.ensures))
     (c.loop-slot.invariant.thinned r links held))

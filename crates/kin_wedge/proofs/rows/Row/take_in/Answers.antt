@@ -1,8 +1,7 @@
 use Rattle.std.proofs.Common.{◌≡◌, List, ℕ, ◌≤◌, length, refl, sym, ap, ◌∙◌, subst}
 use Rattle.std.specs.Prelude.{insert, remove}
 use Rattle.kin_list.specs.Listing.{lasting, without}
-use Rattle.kin_list.proofs.ListLaws.{without-absent, without-remove}
-use Rattle.kin_wedge.proofs.Departing.{insert-remove, place-remove}
+use Rattle.kin_list.proofs.ListLaws.{without-absent, without-remove, insert-remove, place-remove}
 use Rattle.kin_wedge.proofs.rows.Row.take_in.Goals as goal
 use Rattle.kin_wedge.proofs.rows.Row.take_in.Goals.{In-Enters, In-Some}
 
